@@ -1,0 +1,44 @@
+-- Worked examples of sentences whose answer is the first name that is needed and has no value, at the place of its
+-- first byte.
+use Rattle.std.proofs.Common.{[], ◌∷◌, codes, refl}
+use Rattle.subst.specs.Tree.{Escaped, Short, Braced, Default, Then}
+use Rattle.subst.specs.Fault.{NoSuchVariable}
+use Rattle.subst.specs.Answer.{Answers, Refuses}
+use Rattle.subst.proofs.WorkedExamples.Forms.{lacks}
+use Rattle.subst.proofs.WorkedExamples.Words.{nothing, looking_up, plain, only_plain, only}
+
+-- the place is that of the name, and not of the dollar
+pub absent : Answers (codes "Hello $name!") nothing (Refuses (NoSuchVariable 7 (codes "name")))
+absent = lacks _ _ _ _ (plain (codes "Hello ") (Then (Short (codes "name")) (only_plain (codes "!")))) refl refl refl
+
+-- nor of the opening brace
+pub absent_in_braces : Answers (codes "Hello ${name}!") nothing (Refuses (NoSuchVariable 8 (codes "name")))
+absent_in_braces = lacks _ _ _ _ (plain (codes "Hello ") (Then (Braced (codes "name")) (only_plain (codes "!")))) refl refl refl
+
+-- a name in a default that is needed
+pub absent_in_default : Answers (codes "${a:$z}") nothing (Refuses (NoSuchVariable 5 (codes "z")))
+absent_in_default = lacks _ _ _ _ (only (Default (codes "a") (only (Short (codes "z"))))) refl refl refl
+
+-- an escape takes two bytes, and a name in braces stands behind two more
+pub absent_behind_items : Answers (codes "${a:\\:${b}$z}") (looking_up ((codes "b", codes "value") ∷ [])) (Refuses (NoSuchVariable 11 (codes "z")))
+absent_behind_items = lacks _ _ _ _ (only (Default (codes "a") (Then (Escaped 58) (Then (Braced (codes "b")) (only (Short (codes "z"))))))) refl refl refl
+
+-- two defaults deep
+pub absent_in_defaults : Answers (codes "${one:x${two:y${three}}}") nothing (Refuses (NoSuchVariable 16 (codes "three")))
+absent_in_defaults = lacks _ _ _ _ (only (Default (codes "one") (plain (codes "x") (only (Default (codes "two") (plain (codes "y") (only (Braced (codes "three"))))))))) refl refl refl
+
+-- the first of two
+pub first_absent : Answers (codes "$x$y") nothing (Refuses (NoSuchVariable 1 (codes "x")))
+first_absent = lacks _ _ _ _ (Then (Short (codes "x")) (only (Short (codes "y")))) refl refl refl
+
+-- the first that has no value
+pub second_absent : Answers (codes "$x$y") (looking_up ((codes "x", codes "long value") ∷ [])) (Refuses (NoSuchVariable 3 (codes "y")))
+second_absent = lacks _ _ _ _ (Then (Short (codes "x")) (only (Short (codes "y")))) refl refl refl
+
+-- a name in an unused default isn't needed, and the next one is
+pub absent_behind_unused_default : Answers (codes "${a:$x}$y") (looking_up ((codes "a", codes "1") ∷ [])) (Refuses (NoSuchVariable 8 (codes "y")))
+absent_behind_unused_default = lacks _ _ _ _ (Then (Default (codes "a") (only (Short (codes "x")))) (only (Short (codes "y")))) refl refl refl
+
+-- a longer name that begins alike is another name
+pub absent_beside_longer : Answers (codes "$a") (looking_up ((codes "ab", codes "1") ∷ [])) (Refuses (NoSuchVariable 1 (codes "a")))
+absent_beside_longer = lacks _ _ _ _ (only (Short (codes "a"))) refl refl refl

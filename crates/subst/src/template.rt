@@ -1,0 +1,79 @@
+//! Templates: sources that are parsed once and expanded any number of times.
+
+ghost use Rattle.std.specs.Prelude.{◌≡◌, ℕ, List, IfOk, IfErr, IfSome};
+ghost use Rattle.subst.specs.Tree.{Tree};
+ghost use Rattle.subst.specs.Sentence.{Spells, IsSentence};
+ghost use Rattle.subst.specs.Value.{value};
+ghost use Rattle.subst.specs.Fault.{HasFault};
+ghost use Rattle.subst.specs.ErrorFault.{parse_fault};
+ghost use Rattle.subst.specs.LookUp.{ReadsAs, look_up_of};
+ghost use Rattle.subst.specs.Expansion.{Expands};
+
+use crate::error::{ExpandError, ParseError};
+use crate::map::VariableMap;
+use raw::Part;
+use std::alloc::Global;
+use std::convert::AsSlice;
+use std::marker::Model;
+
+mod raw;
+
+/// A template over a byte source that it borrows. Contracts see it as its source.
+#[derive(Drop)]
+pub struct ByteTemplate<'a> {
+    source: &'a [u8],
+    parts: Vec<Part>,
+}
+
+impl<'a> Model for ByteTemplate<'a> {
+    ghost use Rattle.std.specs.Prelude.{ℕ, List};
+    ghost use Rattle.subst.specs.Parts.{AreTemplate};
+
+    ghost Value = { List ℕ };
+
+    ghost view = { λ t. t.source.now };
+
+    ghost invariant = { λ t. AreTemplate t.source.now t.parts.items };
+}
+
+impl<'a> ByteTemplate<'a> {
+    /// The template of a source.
+    ///
+    /// # Errors
+    ///
+    /// The fault of the source where it is no sentence of the template language, or want of memory.
+    pub fn from_slice(alloc: Global, source: &'a [u8]) -> Result<Self, ParseError>
+        // Only a sentence has a template, which is that of the source.
+        ensures ok { IfOk result (λ template. IsSentence source.now × (template ≡ source.now)) }
+        ensures err { IfErr result (λ e. IfSome (parse_fault e) (HasFault 0 source.now)) }
+    {
+        let parts = raw::parse(alloc, source)?;
+        Ok(ByteTemplate { source, parts })
+    }
+
+    /// The source.
+    pub fn source(&self) -> &[u8]
+        ensures { result.now ≡ self.now }
+    {
+        self.source
+    }
+
+    /// The bytes of the source with its variables filled in from `variables`.
+    ///
+    /// # Errors
+    ///
+    /// `NoSuchVariable` for the first name that is needed and that `variables` hasn't, or want of memory. The names in
+    /// a default that isn't used aren't needed.
+    pub fn expand<'b, M: VariableMap<'b>>(
+        &self,
+        alloc: Global,
+        variables: &'b M,
+    ) -> Result<Vec<u8>, ExpandError>
+    where
+        M::Value: AsSlice<u8> + Drop,
+        ensures { (bytes : M.Seen → List ℕ) → ReadsAs M.Value.items M.see bytes → (t : Tree) → Spells t self.now
+            → Expands result (value 0 t (look_up_of bytes (M.look_up variables.now))) }
+    {
+        raw::expand(alloc, self.source, &self.parts, variables)
+    }
+}

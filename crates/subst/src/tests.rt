@@ -1,0 +1,55 @@
+//! Callers over a map of their own choice, and each public call once.
+
+ghost use Rattle.std.specs.Prelude.{IfSome};
+ghost use Rattle.std.specs.Option.{option_map};
+ghost use Rattle.std.specs.BTreeMap.{get_by_text};
+ghost use Rattle.subst.specs.Answer.{Answers};
+ghost use Rattle.subst.specs.Result.{answer_of};
+
+use crate::{ByteTemplate, Error, substitute_bytes};
+use std::alloc::Global;
+use std::collections::BTreeMap;
+use std::test::Fail;
+
+/// What a caller with a map of byte strings may rely on: the answer of the source under what the map has.
+fn filled(
+    alloc: Global,
+    source: &[u8],
+    variables: &BTreeMap<String, Vec<u8>>,
+) -> Result<Vec<u8>, Error>
+    ensures { IfSome (answer_of result)
+        (Answers source.now (λ name. option_map (λ v. v.items) (get_by_text variables.now name))) }
+{
+    substitute_bytes(alloc, source, variables)
+}
+
+fn one_variable(alloc: Global) -> Result<BTreeMap<String, Vec<u8>>, Fail> {
+    let mut variables = BTreeMap::new(alloc);
+    variables.insert(
+        String::from_str(alloc, "name")?,
+        Vec::from_slice(alloc, b"world")?,
+    )?;
+    Ok(variables)
+}
+
+#[test]
+fn fills_in_a_source(rt: HostRuntime) -> Result<(), Fail> {
+    let alloc = rt.alloc();
+    let variables = one_variable(alloc)?;
+    let output = filled(alloc, b"Hello $name!", &variables)?;
+    assert_eq!(rt; output.as_slice(), b"Hello world!".as_slice());
+    Ok(())
+}
+
+#[test]
+fn expands_a_template_twice(rt: HostRuntime) -> Result<(), Fail> {
+    let alloc = rt.alloc();
+    let variables = one_variable(alloc)?;
+    let template = ByteTemplate::from_slice(alloc, b"${greeting:Hello} ${name}!")?;
+    assert_eq!(rt; template.source(), b"${greeting:Hello} ${name}!".as_slice());
+    for _ in 0..2 {
+        let output = template.expand(alloc, &variables)?;
+        assert_eq!(rt; output.as_slice(), b"Hello world!".as_slice());
+    }
+    Ok(())
+}
