@@ -1,0 +1,37 @@
+-- The words of a command line, and the variables that they give.
+use Rattle.std.specs.Prelude.{ℕ, ◌==◌, Bool, false, ◌&&◌, List, [], ◌∷◌, reverse, find, codes, String, string_bytes}
+use Rattle.std.specs.Global.{Global}
+use Rattle.std.specs.List.{before_first, after_first, list_any, list_all}
+use Rattle.std.specs.Option.{option_map}
+use Rattle.std.specs.Str.{bytes_eq}
+use Rattle.subst.specs.Value.{LookUp}
+
+-- `=`, which stands between a name and its value
+abbrev pub is_equals_sign : ℕ → Bool
+is_equals_sign b = b == 61
+
+-- the word has the form NAME=VALUE
+abbrev pub is_pair : List ℕ → Bool
+is_pair word = list_any is_equals_sign word
+
+-- the name of such a word: its bytes before the first `=`
+abbrev pub name_in : List ℕ → List ℕ
+name_in word = before_first is_equals_sign word
+
+-- the value: the bytes behind it
+abbrev pub value_in : List ℕ → List ℕ
+value_in word = after_first is_equals_sign word
+
+-- the word gives a value to this name
+abbrev pub gives_value_to : List ℕ → List ℕ → Bool
+gives_value_to name word = is_pair word && bytes_eq name (name_in word)
+
+-- the value that these words give to each name: the last of them that gives it one counts
+abbrev pub look_up_in : List (String Global) → LookUp
+look_up_in words name =
+    option_map (λ word. value_in (string_bytes word)) (find (λ word. gives_value_to name (string_bytes word)) (reverse words))
+
+-- the words say what to do: `bytes`, and then words of the form NAME=VALUE
+abbrev pub are_right : List (String Global) → Bool
+are_right [] = false
+are_right (first ∷ pairs) = bytes_eq (string_bytes first) (codes "bytes") && list_all (λ word. is_pair (string_bytes word)) pairs

@@ -1,0 +1,122 @@
+use super::*;
+use crate::devices::{FromReader, ToWriter};
+use crate::fakes::{Drip, NEVER, Trickle};
+use std::alloc::AllocError;
+use std::test::Fail;
+use subst::error::{Error, MissingVariableName};
+
+/// What wrong words are answered with.
+const USAGE_LINE: &[u8] = b"usage: subst_filter bytes|text|env [NAME=VALUE]...\n";
+
+/// How a run ended, and what it wrote.
+#[derive(Drop)]
+struct End {
+    status: u8,
+    output: Vec<u8>,
+    errors: Vec<u8>,
+}
+
+/// Runs the program with these words over `source`. The input fails at call `fault`.
+fn run(alloc: Global, line: &str, source: &[u8], fault: usize) -> Result<End, AllocError> {
+    let mut words = Vec::new(alloc);
+    for word in line.split_whitespace() {
+        words.push(String::from_str(alloc, word)?)?;
+    }
+    let mut output = Vec::new(alloc);
+    let mut errors = Vec::new(alloc);
+    let status = run_program(
+        alloc,
+        &words,
+        Vec::new(alloc),
+        &mut FromReader::new(Trickle::new(source, fault)),
+        &mut ToWriter::new(&mut output),
+        &mut ToWriter::new(&mut errors),
+    );
+    Ok(End {
+        status,
+        output,
+        errors,
+    })
+}
+
+#[test]
+fn wrong_words(rt: HostRuntime) -> Result<(), Fail> {
+    for line in ["", "text", "env", "text a=1", "bytes name"] {
+        let end = run(rt.alloc(), line, b"a", NEVER)?;
+        assert_eq!(rt; end.status, 2, "at {line}");
+        assert!(rt; end.output.is_empty(), "at {line}");
+        assert_eq!(rt; end.errors.as_slice(), USAGE_LINE, "at {line}");
+    }
+    Ok(())
+}
+
+#[test]
+fn a_failing_reader(rt: HostRuntime) -> Result<(), Fail> {
+    let end = run(rt.alloc(), "bytes", b"a", 1)?;
+    assert_eq!(rt; end.status, 3);
+    assert!(rt; end.output.is_empty());
+    assert_eq!(rt; end.errors.as_slice(), b"subst: read failed\n".as_slice());
+    Ok(())
+}
+
+#[test]
+fn filled_in(rt: HostRuntime) -> Result<(), Fail> {
+    let rows = [
+        ("bytes name=world", "Hello $name!", "Hello world!"),
+        ("bytes A=1 A=2", "$A", "2"),
+        ("bytes =x a=b=c", "$a", "b=c"),
+        ("bytes", "", ""),
+    ];
+    for (line, source, output) in rows {
+        let end = run(rt.alloc(), line, source.as_bytes(), NEVER)?;
+        assert_eq!(rt; end.status, 0, "at {line}");
+        assert_eq!(rt; end.output.as_slice(), output.as_bytes(), "at {line}");
+        assert!(rt; end.errors.is_empty(), "at {line}");
+    }
+    Ok(())
+}
+
+#[test]
+fn a_refused_source(rt: HostRuntime) -> Result<(), Fail> {
+    let end = run(rt.alloc(), "bytes", b"$", NEVER)?;
+    assert_eq!(rt; end.status, 1);
+    assert!(rt; end.output.is_empty());
+    assert_eq!(rt;
+        end.errors.as_slice(),
+        b"subst: Missing variable name\n".as_slice()
+    );
+    Ok(())
+}
+
+#[test]
+fn each_fault_is_told(rt: HostRuntime) -> Result<(), Fail> {
+    let alloc = rt.alloc();
+    let missing = Error::MissingVariableName(MissingVariableName {
+        position: 0,
+        len: 1,
+    });
+    let shown = String::from_str(alloc, "  $\n  ^\n")?;
+    let refused = RunError::Subst(missing, shown);
+    let rows = [
+        (RunError::Read, 3, "subst: read failed\n"),
+        (RunError::Write, 3, "subst: write failed\n"),
+        (RunError::NotUtf8, 1, "subst: input is not UTF-8\n"),
+        (refused, 1, "subst: Missing variable name\n  $\n  ^\n"),
+        (RunError::OutOfMemory, 4, "subst: out of memory\n"),
+    ];
+    for (error, status, text) in &rows {
+        let mut errors = Vec::new(alloc);
+        let ended = end_with(error, &mut ToWriter::new(&mut errors));
+        assert_eq!(rt; ended, *status, "at {text}");
+        assert_eq!(rt; errors.as_slice(), text.as_bytes(), "at {text}");
+    }
+    Ok(())
+}
+
+#[test]
+fn a_fault_of_errors_changes_nothing(rt: HostRuntime) {
+    let mut drip = Drip::new(Vec::new(rt.alloc()), 3);
+    let status = end_with(&RunError::OutOfMemory, &mut ToWriter::new(&mut drip));
+    assert_eq!(rt; status, 4);
+    assert_eq!(rt; drip.taken.as_slice(), b"sub".as_slice());
+}
