@@ -1,7 +1,8 @@
 -- What a run of the filter reads and writes, and how that is the answer of what it read.
-use Rattle.std.specs.Prelude.{◌≡◌, ℕ, Bool, true, ⊤, List, [], take, string_bytes, Option, Some, IsSome, IfSome, IsSomeAnd, Result, Ok, Err}
+use Rattle.std.specs.Prelude.{◌≡◌, ℕ, Bool, true, ⊤, List, [], take, codes, string_bytes, Option, Some, IsSome, IfSome, IsSomeAnd, Result, Ok, Err}
 use Rattle.std.specs.Io.KnownBytes.{Appends}
 use Rattle.subst.specs.Answer.{Answers, Gives, Refuses}
+use Rattle.subst.specs.Display.{display_of_error}
 use Rattle.subst.specs.ErrorFault.{error_fault}
 use Rattle.subst.specs.Fault.{Fault}
 use Rattle.subst.specs.Value.{LookUp}
@@ -86,3 +87,11 @@ status_of NotUtf8 = 1
 status_of Read = 3
 status_of Write = 3
 status_of OutOfMemory = 4
+
+-- what is said of the fault of a run, where that is known: what is said of a refusal is the text of its error
+abbrev pub display_of_run : RunError → Option (List ℕ)
+display_of_run Read = Some (codes "read failed")
+display_of_run Write = Some (codes "write failed")
+display_of_run NotUtf8 = Some (codes "input is not UTF-8")
+display_of_run (Subst e shown) = display_of_error (error_fault e)
+display_of_run OutOfMemory = Some (codes "out of memory")

@@ -85,6 +85,10 @@ pub enum RunError {
 }
 
 impl fmt::Display for RunError {
+    ghost use Rattle.subst_filter.specs.Run.{display_of_run};
+
+    ghost output = { display_of_run };
+
     fn fmt<W: fmt::Write>(&self, f: &mut fmt::Formatter<W>) -> fmt::Result {
         match self {
             RunError::Read => f.write_str("read failed"),
