@@ -26,6 +26,8 @@ pub use template::ByteTemplate;
 pub mod error;
 pub mod laws;
 mod map;
+#[cfg(test)]
+mod refused_memory;
 mod template;
 #[cfg(test)]
 mod tests;

@@ -11,6 +11,8 @@ mod engine;
 #[cfg(test)]
 mod fakes;
 mod program;
+#[cfg(test)]
+mod refused_memory;
 mod words;
 
 use devices::{FromReader, ToWriter};

@@ -1,0 +1,78 @@
+/* A library to preload that refuses one request for memory.
+ *
+ * REFUSE_REQUEST says which of the program's requests is answered with NULL, counted from 1. Where that request comes,
+ * the file that REFUSE_REPORT names is made, so that its absence tells that no request was refused. With GNU's C
+ * library alone.
+ */
+#include <errno.h>
+#include <fcntl.h>
+#include <stddef.h>
+#include <stdlib.h>
+#include <unistd.h>
+
+void *__libc_malloc(size_t size);
+void *__libc_calloc(size_t count, size_t size);
+void *__libc_realloc(void *block, size_t size);
+void *__libc_memalign(size_t alignment, size_t size);
+
+/* How many requests there are until the refused one, that one too; 0 where none is to be refused any more. */
+static unsigned long requests_left;
+
+__attribute__((constructor)) static void begin(void)
+{
+    const char *request = getenv("REFUSE_REQUEST");
+    requests_left = request ? strtoul(request, NULL, 10) : 0;
+}
+
+/* Tells that a request is refused. A report that can't be made ends the program, with a status of its own. */
+static void report(void)
+{
+    const char *path = getenv("REFUSE_REPORT");
+    int file = path ? open(path, O_WRONLY | O_CREAT | O_TRUNC, 0600) : -1;
+    if (file < 0 || close(file) != 0)
+        _exit(99);
+}
+
+/* Whether this request is the one to refuse. */
+static int is_refused(void)
+{
+    if (requests_left == 0)
+        return 0;
+    requests_left -= 1;
+    if (requests_left > 0)
+        return 0;
+    report();
+    errno = ENOMEM;
+    return 1;
+}
+
+void *malloc(size_t size)
+{
+    return is_refused() ? NULL : __libc_malloc(size);
+}
+
+void *calloc(size_t count, size_t size)
+{
+    return is_refused() ? NULL : __libc_calloc(count, size);
+}
+
+void *realloc(void *block, size_t size)
+{
+    return is_refused() ? NULL : __libc_realloc(block, size);
+}
+
+void *aligned_alloc(size_t alignment, size_t size)
+{
+    return is_refused() ? NULL : __libc_memalign(alignment, size);
+}
+
+int posix_memalign(void **block, size_t alignment, size_t size)
+{
+    if (is_refused())
+        return ENOMEM;
+    void *made = __libc_memalign(alignment, size);
+    if (made == NULL)
+        return ENOMEM;
+    *block = made;
+    return 0;
+}
