@@ -26,6 +26,7 @@ pub use template::ByteTemplate;
 pub mod error;
 pub mod laws;
 mod map;
+pub mod steps;
 mod template;
 #[cfg(test)]
 mod tests;
