@@ -36,7 +36,7 @@ pub record Level (s : List ℕ) (start at i : ℕ) (parts : List Part) : Type 0 
   pub mean : Mean s i parts start tree
 
 -- The same up to the place literal, and from there up to the place at plain bytes that have no part yet. Where the
--- text is fresh, no plain byte stands right before the place literal.
+-- text is fresh, no plain item stands right before the place literal.
 pub record Current (fresh : Bool) (s : List ℕ) (start literal at i : ℕ) (parts : List Part) : Type 0 where
   pub level : Level s start literal i parts
   pub run : IsRun IsPlain s literal at
