@@ -1,4 +1,4 @@
--- How far an expansion has come.
+-- How far an expansion has come, and how many turns it has made.
 use Rattle.std.proofs.Common.{◌≡◌, ℕ, ◌+◌, ◌-◌, ◌<◌, ◌≤◌, zero, suc, Option, Some, None, List, [], ◌∷◌, ◌++◌, length, get_or, drop, take, append-nil, refl, sym, ap, ◌∙◌, subst, arith}
 use Rattle.std.proofs.lemmas.List.{drop_more, drop_all, drop-drop, take-append-drop, length-take-le}
 use Rattle.std.specs.Prelude.{IfSome}
@@ -180,3 +180,18 @@ pub states_lack : (stated : Option Fault) {v : Value} {place : ℕ} {name : List
     → IfSome stated (λ f. f ≡ NoSuchVariable place name) → IfSome stated (IsLack v)
 states_lack None lacks is = tt
 states_lack (Some f) {place = place} {name = name} lacks is = (place, name, lacks, is)
+
+-- the turns so far, and the parts that are met from the place at on, are together the parts that are met
+pub record CountsSoFar (parts : List Part) (s : List ℕ) (look : LookUp) (before turns at : ℕ) : Type 0 where
+  pub together : turns + length (met_parts (drop at parts) at 0 s look) ≡ before + length (met_parts parts 0 0 s look)
+
+-- each part is a turn
+pub one_turn : {parts : List Part} {s : List ℕ} {look : LookUp} {before turns at : ℕ} {part : Part} {next after : ℕ}
+    → CountsSoFar parts s look before turns at → GoesOn parts s look at part next → after ≡ turns + 1 → CountsSoFar parts s look before after next
+one_turn so_far goes_on is = record { together = omega (arith, so_far.together, ap length goes_on.met, is) }
+
+-- behind the last part the turns are the parts that are met
+pub all_turns : {parts : List Part} {s : List ℕ} {look : LookUp} {before turns at : ℕ}
+    → CountsSoFar parts s look before turns at → length parts ≤ at → turns ≡ before + length (met_parts parts 0 0 s look)
+all_turns {parts = parts} {s = s} {look = look} {at = at} so_far above =
+    omega (arith, so_far.together, ap (λ (rest : List Part). length (met_parts rest at 0 s look)) (drop_all at parts above))

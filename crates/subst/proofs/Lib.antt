@@ -2,6 +2,7 @@ pub mod BalancedLemmas
 pub mod CharacterLemmas
 pub mod ClosesOrNotLemmas
 pub mod ClosingLemmas
+pub mod CountLemmas
 pub mod CutLemmas
 pub mod ExpandLemmas
 pub mod FaultLemmas

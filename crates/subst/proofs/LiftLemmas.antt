@@ -1,5 +1,5 @@
 -- From what the parser has read to the fault of the whole source.
-use Rattle.std.proofs.Common.{◌≡◌, ℕ, suc, ◌+◌, ◌-◌, ◌<◌, List, [], ◌∷◌, ◌++◌, length, drop, refl, sym, ap, ◌∙◌, subst, append_assoc, append-nil, arith}
+use Rattle.std.proofs.Common.{◌≡◌, ℕ, suc, ◌+◌, ◌-◌, ◌<◌, false, List, [], ◌∷◌, ◌++◌, length, drop, refl, sym, ap, ◌∙◌, subst, append_assoc, append-nil, arith}
 use Rattle.std.proofs.lemmas.List.{append_cancel_right}
 use Rattle.subst.specs.Bytes.{colon, closing_brace}
 use Rattle.subst.specs.Name.{IsName}
@@ -103,7 +103,7 @@ close_all s (default ∷ inner) outermost depth parts literal at within closes =
 -- where the outermost default stands
 pub find_outermost : (s : List ℕ) (inner : List OpenDefault) (outermost : OpenDefault) (depth : ℕ) (parts : List Part) (literal at : ℕ)
     → Within s (inner ++ outermost ∷ []) depth parts literal at
-    → (before : List Part) × (place : ℕ) × IsInBraces s place outermost.name colon × Current s 0 place place 0 before
+    → (before : List Part) × (place : ℕ) × IsInBraces s place outermost.name colon × Current false s 0 place place 0 before
 find_outermost s [] outermost depth parts literal at within = (within.before, within.place, within.front, within.around.1)
 find_outermost s (default ∷ inner) outermost depth parts literal at within =
     find_outermost s inner outermost default.depth within.before within.place within.place within.around

@@ -1,5 +1,5 @@
 -- The parser's states, from one to the next.
-use Rattle.std.proofs.Common.{◌≡◌, ◌≢◌, ℕ, suc, ◌+◌, ◌-◌, ◌<◌, ◌≤◌, List, [], ◌∷◌, ◌++◌, length, drop, reverse, set, Option, Some, None, Vec, Global, refl, sym, ap, ◌∙◌, subst, length-append, length-drop, arith}
+use Rattle.std.proofs.Common.{◌≡◌, ◌≢◌, ℕ, suc, ◌+◌, ◌-◌, ◌<◌, ◌≤◌, true, List, [], ◌∷◌, ◌++◌, length, drop, reverse, set, Option, Some, None, Vec, Global, refl, sym, ap, ◌∙◌, subst, length-append, length-drop, arith}
 use Rattle.std.proofs.lemmas.List.{reverse-append, drop_all}
 use Rattle.std.specs.List.{slice_get}
 use Rattle.subst.specs.Bytes.{colon, closing_brace}
@@ -13,7 +13,7 @@ use Rattle.subst.specs.declared.error.ParseError.{ParseError}
 use Rattle.std.specs.Option.{IfSome, IsSomeAnd}
 use Rattle.subst.specs.Tree.{Empty}
 use Rattle.subst.specs.Placeholder.{IsInBraces, IsBadHowever}
-use Rattle.subst.specs.Parsing.{Within, IsReading, IsPart}
+use Rattle.subst.specs.Parsing.{Nested, Within, IsReading, IsPart}
 use Rattle.subst.specs.declared.template.raw.Span.{Span}
 use Rattle.subst.specs.declared.template.raw.Part.{Part}
 use Rattle.subst.specs.declared.template.raw.Part.TheVariants.{Default}
@@ -22,12 +22,12 @@ use Rattle.subst.specs.declared.template.raw.parse.Parser.{Parser}
 use Rattle.subst.proofs.RunLemmas.{run_nothing}
 use Rattle.subst.proofs.StackLemmas.{split_last, split_first, reverse_last}
 use Rattle.subst.proofs.PartsLemmas.{mean_nothing}
-use Rattle.subst.proofs.WithinLemmas.{within_tree, within_byte, within_opening, within_closing, within_default, within_closed, within_run}
+use Rattle.subst.proofs.WithinLemmas.{within_tree, within_byte, within_opening, within_closing, within_default, within_closed, within_run, within_any}
 use Rattle.subst.proofs.LiftLemmas.{lift, unclosed_outermost, find_outermost, within_some, template_at_end}
 use Rattle.subst.proofs.ClosingLemmas.{closes_nothing}
 
 -- before anything is read
-pub within_start : (s : List ℕ) → Within s [] 0 [] 0 0
+pub within_start : (s : List ℕ) → Nested true s [] 0 [] 0 0
 within_start s = (
   refl,
   record {
@@ -37,6 +37,7 @@ within_start s = (
       mean = mean_nothing s 0 0;
     };
     run = run_nothing IsPlain s 0;
+    begins = λ fresh. refl;
   },
 )
 
@@ -55,7 +56,7 @@ reading_added old mid parts part end reading given pushed is within forward =
     let defaults = ap (λ (p : Parser). p.defaults) given.0 in
     let depth = ap (λ (p : Parser). p.depth) given.0 in
     let added = within_tree old.tape.source.now (reverse old.defaults.items) old.depth mid.parts.items (part ∷ []) old.at end
-    is.tree is.stands is.balanced (is.mean (length mid.parts.items)) given.1 in (
+    is.tree is.stands is.balanced is.apart (is.mean (length mid.parts.items)) given.1 in (
       record {
         small = rw tape reading.small;
         within = rw tape within;
@@ -134,13 +135,13 @@ reading_closed old mid front parts defaults innermost reading given inside reads
 
 -- where some brace is open, some default is
 pub within_open : (s : List ℕ) (defaults : List OpenDefault) (depth : ℕ) (parts : List Part) (literal at : ℕ) → 0 < depth
-    → Within s defaults depth parts literal at → (default : OpenDefault) × (rest : List OpenDefault) × (defaults ≡ default ∷ rest)
+    → Nested true s defaults depth parts literal at → (default : OpenDefault) × (rest : List OpenDefault) × (defaults ≡ default ∷ rest)
 within_open s [] depth parts literal at some within = absurd (omega (arith, within.0))
 within_open s (default ∷ rest) depth parts literal at some within = (default, rest, refl)
 
 -- where none is open, no default is
 pub within_top : (s : List ℕ) (defaults : List OpenDefault) (depth : ℕ) (parts : List Part) (literal at : ℕ) → depth ≡ 0
-    → Within s defaults depth parts literal at → defaults ≡ []
+    → Nested true s defaults depth parts literal at → defaults ≡ []
 within_top s [] depth parts literal at none within = refl
 within_top s (default ∷ rest) depth parts literal at none within = absurd (omega (arith, within.braces))
 
@@ -158,7 +159,7 @@ reading_bare p innermost reading inside some reads last other =
       within = omega arith;
       shallow = omega (arith, reading.shallow);
       nested = rw stack (within_closing s innermost (reverse split.0) p.depth p.parts.items p.literal p.at other reads
-          (subst (λ ds. Within s ds p.depth p.parts.items p.literal p.at) stack reading.nested));
+          (subst (λ ds. Nested true s ds p.depth p.parts.items p.literal p.at) stack reading.nested));
     }
 
 -- inside a default, a byte that has no meaning
@@ -173,7 +174,7 @@ reading_byte p b reading inside some no_dollar no_backslash no_opening no_closin
       within = omega arith;
       shallow = omega (arith, reading.shallow);
       nested = rw stack (within_byte s default rest p.depth p.parts.items p.literal p.at b (no_dollar, no_backslash) no_opening no_closing reads
-          (subst (λ ds. Within s ds p.depth p.parts.items p.literal p.at) stack reading.nested));
+          (subst (λ ds. Nested true s ds p.depth p.parts.items p.literal p.at) stack reading.nested));
     }
 
 -- inside a default, a bare opening brace
@@ -188,7 +189,7 @@ reading_opening p reading inside some reads =
       within = omega arith;
       shallow = omega (arith, reading.shallow);
       nested = rw stack (within_opening s default rest p.depth p.parts.items p.literal p.at reads
-          (subst (λ ds. Within s ds p.depth p.parts.items p.literal p.at) stack reading.nested));
+          (subst (λ ds. Nested true s ds p.depth p.parts.items p.literal p.at) stack reading.nested));
     }
 
 -- where no brace is open, a run of plain bytes
@@ -197,15 +198,20 @@ pub reading_run : (p : Parser) (to : ℕ) → IsReading p → p.depth ≡ 0 → 
 reading_run p to reading top forward within run =
     let s = p.tape.source.now in
     let stack = within_top s (reverse p.defaults.items) p.depth p.parts.items p.literal p.at top reading.nested in
-    let nested : Within s [] 0 p.parts.items p.literal p.at =
-    subst (λ d. Within s [] d p.parts.items p.literal p.at) top
-    (subst (λ ds. Within s ds p.depth p.parts.items p.literal p.at) stack reading.nested) in
+    let nested : Nested true s [] 0 p.parts.items p.literal p.at =
+    subst (λ d. Nested true s [] d p.parts.items p.literal p.at) top
+    (subst (λ ds. Nested true s ds p.depth p.parts.items p.literal p.at) stack reading.nested) in
     record {
       small = reading.small;
       within = within;
       shallow = omega arith;
       nested = rw (stack, top) (within_run s p.parts.items p.literal p.at to run nested);
     }
+
+-- how far the parser has read, whether the innermost text is fresh or not
+reading_within : (p : Parser) → IsReading p → Within p.tape.source.now (reverse p.defaults.items) p.depth p.parts.items p.literal p.at
+reading_within p reading =
+    within_any p.tape.source.now (reverse p.defaults.items) p.depth p.parts.items p.literal p.at reading.nested
 
 -- the fault of a default that is never closed
 pub fault_unclosed : (p : Parser) (outermost : OpenDefault) → IsReading p → slice_get p.defaults.items 0 ≡ Some outermost
@@ -215,7 +221,7 @@ fault_unclosed p outermost reading first unclosed =
     let split = split_first p.defaults.items outermost first in
     let stack : reverse p.defaults.items ≡ reverse split.0 ++ outermost ∷ [] = ap reverse split.1 ∙ reverse-append (outermost ∷ []) split.0 in
     unclosed_outermost s (reverse split.0) outermost p.depth p.parts.items p.literal p.at
-    (subst (λ ds. Within s ds p.depth p.parts.items p.literal p.at) stack reading.nested) unclosed
+    (subst (λ ds. Within s ds p.depth p.parts.items p.literal p.at) stack (reading_within p reading)) unclosed
 
 -- the name of an open default stands behind a dollar and a brace
 pub outermost_starts : (p : Parser) (outermost : OpenDefault) → IsReading p → slice_get p.defaults.items 0 ≡ Some outermost → 0 < outermost.name.start
@@ -224,7 +230,7 @@ outermost_starts p outermost reading first =
     let split = split_first p.defaults.items outermost first in
     let stack : reverse p.defaults.items ≡ reverse split.0 ++ outermost ∷ [] = ap reverse split.1 ∙ reverse-append (outermost ∷ []) split.0 in
     let found = find_outermost s (reverse split.0) outermost p.depth p.parts.items p.literal p.at
-    (subst (λ ds. Within s ds p.depth p.parts.items p.literal p.at) stack reading.nested) in
+    (subst (λ ds. Within s ds p.depth p.parts.items p.literal p.at) stack (reading_within p reading)) in
     omega (arith, found.2.starts)
 
 -- what is bad at the place that was reached is the fault of the source, where all open braces close
@@ -232,14 +238,14 @@ pub fault_closed : (p : Parser) (f : Fault) → IsReading p → IsBadHowever p.a
     → ClosesAll p.depth (drop p.at p.tape.source.now) → HasFault 0 p.tape.source.now f
 fault_closed p f reading bad closes =
     let s = p.tape.source.now in
-    lift s (reverse p.defaults.items) p.depth p.parts.items p.literal p.at [] (drop p.at s) f reading.nested refl empty bad.bad bad.cut closes
+    lift s (reverse p.defaults.items) p.depth p.parts.items p.literal p.at [] (drop p.at s) f (reading_within p reading) refl empty bad.bad bad.cut closes
 
 -- where no default is open, no brace is
 pub closes_top : (p : Parser) → IsReading p → p.defaults.items ≡ [] → ClosesAll p.depth (drop p.at p.tape.source.now)
 closes_top p reading none =
     let s = p.tape.source.now in
-    let nested : Within s [] p.depth p.parts.items p.literal p.at =
-    subst (λ ds. Within s ds p.depth p.parts.items p.literal p.at) (ap reverse none) reading.nested in
+    let nested : Nested true s [] p.depth p.parts.items p.literal p.at =
+    subst (λ ds. Nested true s ds p.depth p.parts.items p.literal p.at) (ap reverse none) reading.nested in
     subst (λ d. ClosesAll d (drop p.at s)) (sym nested.0) tt
 
 -- the parts at the end of the source
@@ -269,7 +275,7 @@ fault_at_end p outermost reading end first =
     let split = split_first p.defaults.items outermost first in
     let stack : reverse p.defaults.items ≡ reverse split.0 ++ outermost ∷ [] = ap reverse split.1 ∙ reverse-append (outermost ∷ []) split.0 in
     let some = within_some s (reverse split.0) outermost p.depth p.parts.items p.literal p.at
-    (subst (λ ds. Within s ds p.depth p.parts.items p.literal p.at) stack reading.nested) in
+    (subst (λ ds. Within s ds p.depth p.parts.items p.literal p.at) stack (reading_within p reading)) in
     let depth : p.depth ≡ suc (p.depth - 1) = omega arith in
     fault_unclosed p outermost reading first
     (λ closes. closes_nothing (p.depth - 1) (subst (λ d. ClosesAll d []) depth (subst (ClosesAll p.depth) (drop_all p.at s end) closes)))

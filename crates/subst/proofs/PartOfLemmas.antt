@@ -1,5 +1,5 @@
 -- The part of each item that stands in a source.
-use Rattle.std.proofs.Common.{ℕ, ◌+◌, ◌<◌, ◌≤◌, List, length, ap, append-nil, length-drop, arith}
+use Rattle.std.proofs.Common.{ℕ, ◌+◌, ◌<◌, ◌≤◌, List, length, refl, ap, append-nil, length-drop, arith}
 use Rattle.std.proofs.lemmas.Bool.Decides.{nat_tests}
 use Rattle.subst.specs.Bytes.{closing_brace, IsSpecial}
 use Rattle.subst.specs.Tree.{Tree, Empty, Then}
@@ -9,6 +9,7 @@ use Rattle.subst.specs.Placeholder.{IsEscape, IsShort, IsInBraces}
 use Rattle.subst.specs.Parsing.{IsPart}
 use Rattle.subst.specs.declared.template.raw.Span.{Span}
 use Rattle.subst.specs.declared.template.raw.Part.TheVariants.{Escaped, Variable}
+use Rattle.subst.proofs.CountLemmas.{item_apart}
 use Rattle.subst.proofs.ItemLemmas.{escape_balanced, short_balanced, braced_balanced}
 use Rattle.subst.proofs.PartsLemmas.{mean_escaped, mean_short, mean_braced}
 use Rattle.subst.proofs.StandsLemmas.{escape_stands, short_stands, braced_stands}
@@ -23,6 +24,7 @@ escape_part s at b is = record {
   tree = Then (tree.Escaped b) Empty;
   stands = escape_stands s at b is;
   balanced = escape_balanced b;
+  apart = item_apart (tree.Escaped b) refl;
   mean = λ i. mean_escaped s i b at (special_small b is.special);
 }
 
@@ -32,6 +34,7 @@ short_part s at name is = record {
   tree = Then (tree.Short (span_bytes name s)) Empty;
   stands = short_stands s at name is;
   balanced = rw append-nil (short_balanced (span_bytes name s) is.named.valid);
+  apart = item_apart (tree.Short (span_bytes name s)) refl;
   mean = λ i. mean_short s i name at is.named.inside is.named.valid is.starts;
 }
 
@@ -41,6 +44,7 @@ braced_part s at name is = record {
   tree = Then (tree.Braced (span_bytes name s)) Empty;
   stands = braced_stands s at name is;
   balanced = rw append-nil (braced_balanced (span_bytes name s) is.named.valid);
+  apart = item_apart (tree.Braced (span_bytes name s)) refl;
   mean = λ i. mean_braced s i name at is.named.inside is.named.valid is.starts;
 }
 

@@ -1,10 +1,11 @@
 -- Lists of parts: where they fit, what an expansion meets of them, and what they give.
-use Rattle.std.proofs.Common.{◌≡◌, ℕ, ◌+◌, ◌<◌, ◌≤◌, suc, lt-ltb, le-ltb, Option, Some, None, inl, inr, List, [], ◌∷◌, ◌++◌, length, length-append, refl, sym, ap, ◌∙◌, subst, arith}
+use Rattle.std.proofs.Common.{◌≡◌, ℕ, ◌+◌, ◌<◌, ◌≤◌, suc, lt-ltb, le-ltb, false, Option, Some, None, inl, inr, List, [], ◌∷◌, ◌++◌, length, length-append, refl, sym, ap, ◌∙◌, subst, arith}
 use Rattle.std.proofs.lemmas.Bool.{cases_lt}
 use Rattle.subst.specs.Name.{IsName}
 use Rattle.subst.specs.Tree.{Item, Short, Braced, Tree, Empty, Then, text}
 use Rattle.subst.specs.Tree as tree
 use Rattle.subst.specs.Value.{LookUp, Bytes, Lacks, in_row, found_or, item_value, value}
+use Rattle.subst.specs.Counts.{ends_plain, if_missing, met_behind, met}
 use Rattle.subst.specs.Span.{IsSpan, span_bytes}
 use Rattle.subst.specs.Parts.{FitsAt, Fit, part_value, if_found, goes_on_at, met_parts, row_value, Mean}
 use Rattle.subst.specs.declared.template.raw.Span.{Span}
@@ -12,6 +13,7 @@ use Rattle.subst.specs.declared.template.raw.Part.{Part}
 use Rattle.subst.specs.declared.template.raw.Part.TheVariants.{Literal, Escaped, Variable, Default}
 use Rattle.subst.proofs.PlainLemmas.{plains, value_plains}
 use Rattle.subst.proofs.TreeLemmas.{join, value_join}
+use Rattle.subst.proofs.CountLemmas.{met_join, met_plains}
 use Rattle.subst.proofs.ValueLemmas.{in_row_assoc, in_row_left, in_row_right}
 
 -- two lists of parts in a row give the values of both in a row
@@ -113,12 +115,14 @@ met_jumped i from s (part ∷ xs) look above =
 
 -- no parts mean nothing
 pub mean_nothing : (s : List ℕ) (i p : ℕ) → Mean s i [] p Empty
-mean_nothing s i p = record { fit = tt; same_value = λ look. refl }
+mean_nothing s i p = record { fit = tt; same_value = λ look. refl; same_count = λ look. refl }
 
--- two lists of parts in a row mean the two trees that they mean, in a row
+-- two lists of parts in a row mean the two trees that they mean, in a row, where no run of plain bytes goes on from the
+-- first into the second
 pub mean_append : (s : List ℕ) (i : ℕ) (xs ys : List Part) (p : ℕ) (t u : Tree)
+    → ((look : LookUp) → met_behind (ends_plain false t) u look ≡ met u look)
     → Mean s i xs p t → Mean s (i + length xs) ys (p + length (text t)) u → Mean s i (xs ++ ys) p (join t u)
-mean_append s i xs ys p t u first second = record {
+mean_append s i xs ys p t u apart first second = record {
   fit = fit_append i (i + length (xs ++ ys)) s xs ys
       (fit_widen i (i + length xs) (i + length (xs ++ ys)) s xs (omega (arith, length-append xs ys)) first.fit)
       (fit_widen (i + length xs) (i + length xs + length ys) (i + length (xs ++ ys)) s ys (omega (arith, length-append xs ys)) second.fit);
@@ -126,43 +130,56 @@ mean_append s i xs ys p t u first second = record {
       ap (λ met. row_value met s look) (met_append i (i + length xs) 0 s xs ys look first.fit (omega arith) (omega arith))
       ∙ row_append (met_parts xs i 0 s look) (met_parts ys (i + length xs) 0 s look) s look
       ∙ rw (first.same_value look, second.same_value look) (sym (value_join p t u look));
+  same_count = λ look.
+      omega (
+        arith,
+        ap length (met_append i (i + length xs) 0 s xs ys look first.fit (omega arith) (omega arith)),
+        length-append (met_parts xs i 0 s look) (met_parts ys (i + length xs) 0 s look),
+        first.same_count look,
+        second.same_count look,
+        apart look,
+        met_join false t u look,
+      );
 }
 
 -- a part that goes on behind itself, and gives what an item gives, means the item
 mean_one : (s : List ℕ) (i : ℕ) (part : Part) (p : ℕ) (item : Item) → FitsAt i (i + 1) s part
-    → ((look : LookUp) → part_value part s look ≡ item_value p item look) → Mean s i (part ∷ []) p (Then item Empty)
-mean_one s i part p item fits same = record {
+    → ((look : LookUp) → part_value part s look ≡ item_value p item look)
+    → ((look : LookUp) → met (Then item Empty) look ≡ 1) → Mean s i (part ∷ []) p (Then item Empty)
+mean_one s i part p item fits same one = record {
   fit = (fits, tt);
   same_value = λ look. row_front part [] i 0 s look (omega arith) ∙ ap (λ v. in_row v (Bytes [])) (same look);
+  same_count = λ look. ap length (met_from part [] i 0 s look (omega arith)) ∙ sym (one look);
 }
 
--- a literal means the bytes of its range, each for itself
-pub mean_literal : (s : List ℕ) (i : ℕ) (span : Span) (p : ℕ) (x : List ℕ) → IsSpan s span → span_bytes span s ≡ x
+-- a literal means the bytes of its range, each for itself, where there are some
+pub mean_literal : (s : List ℕ) (i : ℕ) (span : Span) (p : ℕ) (x : List ℕ) → 0 < length x → IsSpan s span → span_bytes span s ≡ x
     → Mean s i (Literal span ∷ []) p (plains x)
-mean_literal s i span p x inside reads = record {
+mean_literal s i span p x some inside reads = record {
   fit = (inside, tt);
   same_value = λ look.
       row_front (Literal span) [] i 0 s look (omega arith)
       ∙ in_row_right (Bytes (span_bytes span s))
       ∙ ap Bytes reads
       ∙ sym (value_plains p x look);
+  same_count = λ look. ap length (met_from (Literal span) [] i 0 s look (omega arith)) ∙ sym (met_plains x look some);
 }
 
 -- an escaped byte means its escape
 pub mean_escaped : (s : List ℕ) (i b p : ℕ) → b < 256 → Mean s i (Escaped b ∷ []) p (Then (tree.Escaped b) Empty)
-mean_escaped s i b p fits = mean_one s i (Escaped b) p (tree.Escaped b) fits (λ look. refl)
+mean_escaped s i b p fits = mean_one s i (Escaped b) p (tree.Escaped b) fits (λ look. refl) (λ look. refl)
 
 -- a variable whose name stands behind a dollar means the name without braces
 pub mean_short : (s : List ℕ) (i : ℕ) (name : Span) (p : ℕ) → IsSpan s name → IsName (span_bytes name s) → name.start ≡ p + 1
     → Mean s i (Variable name ∷ []) p (Then (Short (span_bytes name s)) Empty)
 mean_short s i name p inside named starts = mean_one s i (Variable name) p (Short (span_bytes name s)) (inside, named)
-    (λ look. ap (λ place. found_or (look (span_bytes name s)) (Lacks place (span_bytes name s))) starts)
+    (λ look. ap (λ place. found_or (look (span_bytes name s)) (Lacks place (span_bytes name s))) starts) (λ look. refl)
 
 -- a variable whose name stands behind a dollar and a brace means the name in braces
 pub mean_braced : (s : List ℕ) (i : ℕ) (name : Span) (p : ℕ) → IsSpan s name → IsName (span_bytes name s) → name.start ≡ p + 2
     → Mean s i (Variable name ∷ []) p (Then (Braced (span_bytes name s)) Empty)
 mean_braced s i name p inside named starts = mean_one s i (Variable name) p (Braced (span_bytes name s)) (inside, named)
-    (λ look. ap (λ place. found_or (look (span_bytes name s)) (Lacks place (span_bytes name s))) starts)
+    (λ look. ap (λ place. found_or (look (span_bytes name s)) (Lacks place (span_bytes name s))) starts) (λ look. refl)
 
 -- what a default's part and the parts behind it give: what was found, or else what the parts give
 default_row : (found : Option (List ℕ)) (parts : List Part) (i : ℕ) (s : List ℕ) (look : LookUp)
@@ -171,6 +188,12 @@ default_row : (found : Option (List ℕ)) (parts : List Part) (i : ℕ) (s : Lis
 default_row (Some x) parts i s look =
     ap (λ met. in_row (Bytes x) (row_value met s look)) (met_jumped i (i + length parts) s parts look (omega arith)) ∙ in_row_right (Bytes x)
 default_row None parts i s look = in_row_left (row_value (met_parts parts i 0 s look) s look)
+
+-- the parts of a default are met where nothing was found
+default_count : (found : Option (List ℕ)) (parts : List Part) (i : ℕ) (s : List ℕ) (look : LookUp)
+    → length (met_parts parts i (if_found found (i + length parts)) s look) ≡ if_missing found (length (met_parts parts i 0 s look))
+default_count (Some x) parts i s look = ap length (met_jumped i (i + length parts) s parts look (omega arith))
+default_count None parts i s look = refl
 
 -- a default's part that jumps over the parts behind it means the name with the tree that those mean
 pub mean_default : (s : List ℕ) (i : ℕ) (name : Span) (parts : List Part) (p : ℕ) (t : Tree) → IsSpan s name → IsName (span_bytes name s)
@@ -186,4 +209,11 @@ mean_default s i name parts p t inside named mean = record {
       ∙ default_row (look (span_bytes name s)) parts (i + 1) s look
       ∙ ap (found_or (look (span_bytes name s))) (mean.same_value look)
       ∙ sym (in_row_right (found_or (look (span_bytes name s)) (value (p + 3 + length (span_bytes name s)) t look)));
+  same_count = λ look.
+      omega (
+        arith,
+        ap length (met_from (Default name (i + 1 + length parts)) parts i 0 s look (omega arith)),
+        default_count (look (span_bytes name s)) parts (i + 1) s look,
+        ap (if_missing (look (span_bytes name s))) (mean.same_count look),
+      );
 }

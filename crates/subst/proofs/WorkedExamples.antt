@@ -15,12 +15,13 @@ use Rattle.std.proofs.Common.{◌≡◌, ℕ, List, [], ◌∷◌, ◌++◌, cod
 use Rattle.std.specs.List.{range_with_len}
 use Rattle.subst.specs.Tree.{Escaped, Short, Braced, Default, Tree, Empty, Then}
 use Rattle.subst.specs.Value.{LookUp}
+use Rattle.subst.specs.Counts.{parts_of, met}
 use Rattle.subst.specs.Answer.{Answers, Gives}
 use Rattle.subst.proofs.WorkedExamples.Forms.{gives}
 use Rattle.subst.proofs.WorkedExamples.Words.{nothing, looking_up, plain, only_plain, only}
 
 -- `Hello ${a:cruel ${b:round ${c:world}}}!`, as a tree
-abbrev nested : Tree
+abbrev pub nested : Tree
 nested = plain (codes "Hello ") (Then (Default (codes "a") (plain (codes "cruel ") (only (Default (codes "b") (plain (codes "round ") (only (Default (codes "c") (only_plain (codes "world"))))))))) (only_plain (codes "!")))
 
 -- defaults in defaults, none of whose names has a value
@@ -38,6 +39,22 @@ nested_with_middle = gives _ _ _ nested refl refl refl
 -- and the outermost
 pub nested_with_outermost : Answers (codes "Hello ${a:cruel ${b:round ${c:world}}}!") (looking_up ((codes "c", codes "planet") ∷ (codes "b", codes "sphere") ∷ (codes "a", codes "spaceship") ∷ [])) (Gives (codes "Hello spaceship!"))
 nested_with_outermost = gives _ _ _ nested refl refl refl
+
+-- the three names and the five runs of plain bytes between them are its parts
+pub nested_parts : parts_of nested ≡ 8
+nested_parts = refl
+
+-- all of them are met where no name has a value
+pub nested_met : met nested nothing ≡ 8
+nested_met = refl
+
+-- where the middle name has a value, those of its default are not
+pub nested_met_middle : met nested (looking_up ((codes "b", codes "sphere") ∷ [])) ≡ 5
+nested_met_middle = refl
+
+-- where the outermost has one, the two others aren't either
+pub nested_met_outermost : met nested (looking_up ((codes "a", codes "spaceship") ∷ [])) ≡ 3
+nested_met_outermost = refl
 
 -- the empty source gives nothing, whatever the look-up
 pub empty_source : (look : LookUp) → Answers [] look (Gives [])

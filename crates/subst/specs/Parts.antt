@@ -4,6 +4,7 @@ use Rattle.subst.specs.Name.{IsName}
 use Rattle.subst.specs.Tree.{Tree}
 use Rattle.subst.specs.Sentence.{Spells}
 use Rattle.subst.specs.Value.{LookUp, Value, Bytes, Lacks, in_row, found_or, value}
+use Rattle.subst.specs.Counts.{met}
 use Rattle.subst.specs.Span.{IsSpan, span_bytes}
 use Rattle.subst.specs.declared.template.raw.Part.{Part}
 use Rattle.subst.specs.declared.template.raw.Part.TheVariants.{Literal, Escaped, Variable, Default}
@@ -57,6 +58,7 @@ parts_value parts s look = row_value (met_parts parts 0 0 s look) s look
 pub record Mean (s : List ℕ) (i : ℕ) (parts : List Part) (p : ℕ) (t : Tree) : Type 0 where
   pub fit : Fit i (i + length parts) s parts
   pub same_value : (look : LookUp) → row_value (met_parts parts i 0 s look) s look ≡ value p t look
+  pub same_count : (look : LookUp) → length (met_parts parts i 0 s look) ≡ met t look
 
 -- the parts are those of a template: they mean the tree of the source
 pub record AreTemplate (s : List ℕ) (parts : List Part) : Type 0 where

@@ -28,6 +28,7 @@ pub mod laws;
 mod map;
 #[cfg(test)]
 mod refused_memory;
+pub mod steps;
 mod template;
 #[cfg(test)]
 mod tests;

@@ -1,9 +1,10 @@
 //! Templates: sources that are parsed once and expanded any number of times.
 
-ghost use Rattle.std.specs.Prelude.{◌≡◌, ℕ, List, IfOk, IfErr, IfSome};
+ghost use Rattle.std.specs.Prelude.{◌≡◌, ◌≤◌, ◌+◌, ℕ, List, IfOk, IfErr, IfSome, OnOk};
 ghost use Rattle.subst.specs.Tree.{Tree};
 ghost use Rattle.subst.specs.Sentence.{Spells, IsSentence};
 ghost use Rattle.subst.specs.Value.{value};
+ghost use Rattle.subst.specs.Counts.{met};
 ghost use Rattle.subst.specs.Fault.{HasFault};
 ghost use Rattle.subst.specs.ErrorFault.{parse_fault};
 ghost use Rattle.subst.specs.LookUp.{ReadsAs, look_up_of};
@@ -11,6 +12,7 @@ ghost use Rattle.subst.specs.Expansion.{Expands};
 
 use crate::error::{ExpandError, ParseError};
 use crate::map::VariableMap;
+use crate::steps::Turns;
 use raw::Part;
 use std::alloc::Global;
 use std::convert::AsSlice;
@@ -74,6 +76,32 @@ impl<'a> ByteTemplate<'a> {
         ensures { (bytes : M.Seen → List ℕ) → ReadsAs M.Value.items M.see bytes → (t : Tree) → Spells t self.now
             → Expands result (value 0 t (look_up_of bytes (M.look_up variables.now))) }
     {
-        raw::expand(alloc, self.source, &self.parts, variables)
+        let mut turns = Turns::new();
+        self.expand_counted(alloc, variables, &mut turns)
+    }
+
+    /// The same, with its turns counted: one for each part of the source that is met. Where a name has a value, no part
+    /// of its default is met.
+    ///
+    /// # Errors
+    ///
+    /// Those of `expand`. Some parts may then not be met.
+    pub fn expand_counted<'b, M: VariableMap<'b>>(
+        &self,
+        alloc: Global,
+        variables: &'b M,
+        turns: &mut Turns,
+    ) -> Result<Vec<u8>, ExpandError>
+    where
+        M::Value: AsSlice<u8> + Drop,
+        ensures value { (bytes : M.Seen → List ℕ) → ReadsAs M.Value.items M.see bytes → (t : Tree) → Spells t self.now
+            → Expands result (value 0 t (look_up_of bytes (M.look_up variables.now))) }
+        ensures counted { (bytes : M.Seen → List ℕ) → ReadsAs M.Value.items M.see bytes → (t : Tree) → Spells t self.now
+            → OnOk result (turns.new ≡ turns.old + met t (look_up_of bytes (M.look_up variables.now))) }
+        ensures at_most { (bytes : M.Seen → List ℕ) → ReadsAs M.Value.items M.see bytes → (t : Tree) → Spells t self.now
+            → turns.new ≤ turns.old + met t (look_up_of bytes (M.look_up variables.now)) }
+        ensures grown { turns.old ≤ turns.new }
+    {
+        raw::expand(alloc, self.source, &self.parts, variables, turns)
     }
 }

@@ -1,22 +1,23 @@
 //! Expanding a list of parts over its source.
 
-ghost use Rattle.std.specs.Prelude.{◌≡◌, ℕ, List, length, IfSome};
+ghost use Rattle.std.specs.Prelude.{◌≡◌, ◌≤◌, ◌+◌, ℕ, List, length, IfSome, OnOk};
 ghost use Rattle.subst.specs.ErrorFault.{expand_fault};
 ghost use Rattle.subst.specs.Fault as spec;
 ghost use Rattle.subst.specs.Name.{IsName};
 ghost use Rattle.subst.specs.Span.{IsSpan, span_bytes};
-ghost use Rattle.subst.specs.Parts.{Fit, parts_value};
+ghost use Rattle.subst.specs.Parts.{Fit, parts_value, met_parts};
 ghost use Rattle.subst.specs.LookUp.{ReadsAs, look_up_of};
 ghost use Rattle.subst.specs.Expansion.{Expands};
 
 use super::{Part, Span};
 use crate::error::{ExpandError, NoSuchVariable};
 use crate::map::VariableMap;
+use crate::steps::Turns;
 use std::alloc::Global;
 use std::convert::AsSlice;
 use std::str;
 
-/// What the parts of a source give, with the values that `variables` has.
+/// What the parts of a source give, with the values that `variables` has. Each part that is met is a turn.
 ///
 /// # Errors
 ///
@@ -26,16 +27,23 @@ pub(in crate::template) fn expand<'a, M: VariableMap<'a>>(
     source: &[u8],
     parts: &[Part],
     variables: &'a M,
+    turns: &mut Turns,
 ) -> Result<Vec<u8>, ExpandError>
 where
     M::Value: AsSlice<u8> + Drop,
     requires { Fit 0 (length parts.now) source.now parts.now }
-    ensures { (bytes : M.Seen → List ℕ) → ReadsAs M.Value.items M.see bytes
+    ensures value { (bytes : M.Seen → List ℕ) → ReadsAs M.Value.items M.see bytes
         → Expands result (parts_value parts.now source.now (look_up_of bytes (M.look_up variables.now))) }
+    ensures counted { (bytes : M.Seen → List ℕ) → ReadsAs M.Value.items M.see bytes
+        → OnOk result (turns.new ≡ turns.old + length (met_parts parts.now 0 0 source.now (look_up_of bytes (M.look_up variables.now)))) }
+    ensures at_most { (bytes : M.Seen → List ℕ) → ReadsAs M.Value.items M.see bytes
+        → turns.new ≤ turns.old + length (met_parts parts.now 0 0 source.now (look_up_of bytes (M.look_up variables.now))) }
+    ensures grown { turns.old ≤ turns.new }
 {
     let mut output = Vec::with_capacity(alloc, source.len())?;
     let mut at = 0;
     while at < parts.len() {
+        turns.add_one();
         match parts[at] {
             Part::Literal(span) => {
                 output.extend_from_slice(bytes_at(source, span))?;
