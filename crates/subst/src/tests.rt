@@ -6,6 +6,7 @@ ghost use Rattle.std.specs.BTreeMap.{get_by_text};
 ghost use Rattle.subst.specs.Answer.{Answers};
 ghost use Rattle.subst.specs.Result.{answer_of};
 
+use crate::steps::Reads;
 use crate::{ByteTemplate, Error, substitute_bytes};
 use std::alloc::Global;
 use std::collections::BTreeMap;
@@ -51,5 +52,20 @@ fn expands_a_template_twice(rt: HostRuntime) -> Result<(), Fail> {
         let output = template.expand(alloc, &variables)?;
         assert_eq!(rt; output.as_slice(), b"Hello world!".as_slice());
     }
+    Ok(())
+}
+
+#[test]
+fn counts_reads(rt: HostRuntime) -> Result<(), Fail> {
+    let alloc = rt.alloc();
+    let variables = one_variable(alloc)?;
+    let mut reads = Reads::new();
+    let template = ByteTemplate::from_slice_counted(
+        alloc,
+        b"${greeting:Hello} $name!",
+        &mut reads,
+    )?;
+    let output = template.expand(alloc, &variables)?;
+    assert_eq!(rt; output.as_slice(), b"Hello world!".as_slice());
     Ok(())
 }

@@ -7,9 +7,9 @@ pub returns-then-not-is_name_byte-clause-run : goal.returns-then-not-is_name_byt
 returns-then-not-is_name_byte-clause-run c =
     run_of IsNameByte c.args.self.now.source.now c.args.from (c.args.from + c.loop-i.i) (omega arith)
     (omega (arith, simp length-drop at (ap length c.rest-b-items.ensures)))
-    (λ k below. c.loop-i.invariant k (omega arith))
+    (λ k below. c.loop-i.invariant.named k (omega arith))
 
 pub returns-clause-run : goal.returns-clause-run
 returns-clause-run c =
     run_of IsNameByte c.args.self.now.source.now c.args.from (length c.args.self.now.source.now) (omega arith) (omega arith)
-    (λ k below. c.loop-i.invariant k (omega (arith, simp length-drop at (ap length c.rest-b-items.ensures))))
+    (λ k below. c.loop-i.invariant.named k (omega (arith, simp length-drop at (ap length c.rest-b-items.ensures))))
