@@ -15,13 +15,14 @@ end_of_name (Short name) = name.end
 end_of_name (Braced name) = name.end
 end_of_name (Default name) = name.end
 
--- a step of the parser: a read at the least and four at the most for each byte that it goes on; where it ends in an
--- error, two at the most for each byte that is left, and eight more
+-- A step of the parser adds one read at the least and three at the most for each byte that it goes on; where it ends
+-- in an error, two at the most for each byte that is left, and eight more.
 abbrev pub StepAdds : Parser → Result (Unit {0}) ParseError → Parser → (old new : ℕ) → Type 0
-StepAdds before (Ok _) after old new = Adds (after.at - before.at) (4 * (after.at - before.at)) old new
+StepAdds before (Ok _) after old new = Adds (after.at - before.at) (3 * (after.at - before.at)) old new
 StepAdds before (Err e) after old new = Adds 0 (2 * (length before.tape.source.now - before.at) + 8) old new
 
--- the same of a step whose first byte has been read already
+-- The same of a step whose first byte has been read already: one read at the least for each byte behind it, and less
+-- than two at the most for each byte.
 abbrev pub StepBehindAdds : Parser → Result (Unit {0}) ParseError → Parser → (old new : ℕ) → Type 0
-StepBehindAdds before (Ok _) after old new = Adds (after.at - before.at - 1) (after.at - before.at + 1) old new
+StepBehindAdds before (Ok _) after old new = Adds (after.at - before.at - 1) (2 * (after.at - before.at) - 1) old new
 StepBehindAdds before (Err e) after old new = Adds 0 (2 * (length before.tape.source.now - before.at) + 6) old new
