@@ -2,6 +2,7 @@ pub mod Answer
 pub mod Balanced
 pub mod Bytes
 pub mod Closing
+pub mod Cost
 pub mod Counts
 pub mod Display
 pub mod ErrorFault

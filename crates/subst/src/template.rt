@@ -1,6 +1,6 @@
 //! Templates: sources that are parsed once and expanded any number of times.
 
-ghost use Rattle.std.specs.Prelude.{◌≡◌, ◌≤◌, ◌+◌, ℕ, List, IfOk, IfErr, IfSome, OnOk};
+ghost use Rattle.std.specs.Prelude.{◌≡◌, ◌+◌, ◌*◌, ◌≤◌, ℕ, List, length, IfOk, OnOk, IfErr, IfSome};
 ghost use Rattle.subst.specs.Tree.{Tree};
 ghost use Rattle.subst.specs.Sentence.{Spells, IsSentence};
 ghost use Rattle.subst.specs.Value.{value};
@@ -12,7 +12,7 @@ ghost use Rattle.subst.specs.Expansion.{Expands};
 
 use crate::error::{ExpandError, ParseError};
 use crate::map::VariableMap;
-use crate::steps::Turns;
+use crate::steps::{Reads, Turns};
 use raw::Part;
 use std::alloc::Global;
 use std::convert::AsSlice;
@@ -49,7 +49,27 @@ impl<'a> ByteTemplate<'a> {
         ensures ok { IfOk result (λ template. IsSentence source.now × (template ≡ source.now)) }
         ensures err { IfErr result (λ e. IfSome (parse_fault e) (HasFault 0 source.now)) }
     {
-        let parts = raw::parse(alloc, source)?;
+        ByteTemplate::from_slice_counted(alloc, source, &mut Reads::new())
+    }
+
+    /// The template of a source, and to `reads` is added how many reads that takes: each byte of a template is read,
+    /// and no source, refused or not, takes more than eight for each of its bytes and eight more.
+    ///
+    /// # Errors
+    ///
+    /// As `from_slice`.
+    pub fn from_slice_counted(
+        alloc: Global,
+        source: &'a [u8],
+        reads: &mut Reads,
+    ) -> Result<Self, ParseError>
+        ensures ok { IfOk result (λ template. IsSentence source.now × (template ≡ source.now)) }
+        ensures err { IfErr result (λ e. IfSome (parse_fault e) (HasFault 0 source.now)) }
+        ensures bound { reads.new ≤ reads.old + 8 * length source.now + 8 }
+        ensures grows { reads.old ≤ reads.new }
+        ensures whole { OnOk result (reads.old + length source.now ≤ reads.new) }
+    {
+        let parts = raw::parse(alloc, source, reads)?;
         Ok(ByteTemplate { source, parts })
     }
 

@@ -6,7 +6,7 @@ ghost use Rattle.std.specs.BTreeMap.{get_by_text};
 ghost use Rattle.subst.specs.Answer.{Answers};
 ghost use Rattle.subst.specs.Result.{answer_of};
 
-use crate::steps::Turns;
+use crate::steps::{Reads, Turns};
 use crate::{ByteTemplate, Error, substitute_bytes};
 use std::alloc::Global;
 use std::collections::BTreeMap;
@@ -62,6 +62,21 @@ fn expands_a_template_with_its_turns_counted(rt: HostRuntime) -> Result<(), Fail
     let template = ByteTemplate::from_slice(alloc, b"Hello ${name:$nobody}${greeting:!}")?;
     let mut turns = Turns::new();
     let output = template.expand_counted(alloc, &variables, &mut turns)?;
+    assert_eq!(rt; output.as_slice(), b"Hello world!".as_slice());
+    Ok(())
+}
+
+#[test]
+fn parses_a_template_with_its_reads_counted(rt: HostRuntime) -> Result<(), Fail> {
+    let alloc = rt.alloc();
+    let variables = one_variable(alloc)?;
+    let mut reads = Reads::new();
+    let template = ByteTemplate::from_slice_counted(
+        alloc,
+        b"${greeting:Hello} $name!",
+        &mut reads,
+    )?;
+    let output = template.expand(alloc, &variables)?;
     assert_eq!(rt; output.as_slice(), b"Hello world!".as_slice());
     Ok(())
 }

@@ -1,7 +1,8 @@
 //! Reading a source once, from the left, into a list of parts.
 
-ghost use Rattle.std.specs.Prelude.{◌≡◌, ◌+◌, ◌-◌, ◌<◌, ◌≤◌, ℕ, List, ◌∷◌, length, drop, reverse, slice_get, vec_len, IfOk, OnOk, IfErr, IfSome, IsSomeAnd};
+ghost use Rattle.std.specs.Prelude.{◌≡◌, ◌+◌, ◌-◌, ◌*◌, ◌<◌, ◌≤◌, ℕ, List, ◌∷◌, length, drop, reverse, slice_get, vec_len, IfOk, OnOk, IfErr, IfSome, IsSomeAnd};
 ghost use Rattle.subst.specs.Bytes.{dollar, colon, backslash, closing_brace};
+ghost use Rattle.subst.specs.Cost.{Adds, StepAdds, StepBehindAdds};
 ghost use Rattle.subst.specs.ErrorFault.{parse_fault};
 ghost use Rattle.subst.specs.Fault.{HasFault, MissingClosingBrace};
 ghost use Rattle.subst.specs.Parts.{AreTemplate};
@@ -12,6 +13,7 @@ use super::scan::closes_all;
 use super::tape::Tape;
 use super::{Part, Span};
 use crate::error::{self, ParseError};
+use crate::steps::Reads;
 use std::alloc::{AllocError, Global};
 
 /// A default whose closing brace hasn't been met.
@@ -45,13 +47,20 @@ pub(super) struct Parser<'s> {
 /// # Errors
 ///
 /// The fault of the source where it is no sentence, or want of memory.
-pub(in crate::template) fn parse(alloc: Global, source: &[u8]) -> Result<Vec<Part>, ParseError>
+pub(in crate::template) fn parse(
+    alloc: Global,
+    source: &[u8],
+    reads: &mut Reads,
+) -> Result<Vec<Part>, ParseError>
     ensures ok { IfOk result (λ parts. AreTemplate source.now parts.items) }
     ensures err { IfErr result (λ e. IfSome (parse_fault e) (HasFault 0 source.now)) }
+    ensures bound { reads.new ≤ reads.old + 8 * length source.now + 8 }
+    ensures grows { reads.old ≤ reads.new }
+    ensures whole { OnOk result (reads.old + length source.now ≤ reads.new) }
 {
     let mut parser = Parser::new(alloc, Tape::new(source));
     while parser.at < source.len() {
-        parser.read_item()?;
+        parser.read_item(reads)?;
     }
     parser.finish()
 }
@@ -62,6 +71,7 @@ impl<'s> Parser<'s> {
     fn new(alloc: Global, tape: Tape<'s>) -> Self
         ensures reading { IsReading result }
         ensures source { result.tape ≡ tape.entry }
+        ensures start { result.at ≡ 0 }
     {
         Parser {
             tape,
@@ -74,44 +84,47 @@ impl<'s> Parser<'s> {
     }
 
     /// Reads up to behind the next byte that has a meaning.
-    fn read_item(&mut self) -> Result<(), ParseError>
+    fn read_item(&mut self, reads: &mut Reads) -> Result<(), ParseError>
         requires reading { IsReading self.old }
         requires more { self.old.at < length self.old.tape.source.now }
-        ensures { Steps self.old result self.new }
+        ensures answer { Steps self.old result self.new }
+        ensures cost { StepAdds self.old result self.new reads.old reads.new }
     {
         if self.depth == 0 {
-            self.read_at_top()
+            self.read_at_top(reads)
         } else {
-            self.read_in_default()
+            self.read_in_default(reads)
         }
     }
 
     /// Where no brace is open: plain bytes, and the escape or placeholder behind them.
-    fn read_at_top(&mut self) -> Result<(), ParseError>
+    fn read_at_top(&mut self, reads: &mut Reads) -> Result<(), ParseError>
         requires reading { IsReading self.old }
         requires more { self.old.at < length self.old.tape.source.now }
         requires top { self.old.depth ≡ 0 }
-        ensures { Steps self.old result self.new }
+        ensures answer { Steps self.old result self.new }
+        ensures cost { StepAdds self.old result self.new reads.old reads.new }
     {
-        self.at = self.tape.plain_end(self.at);
-        match self.tape.byte_at(self.at) {
+        self.at = self.tape.plain_end(self.at, reads);
+        match self.tape.byte_at(self.at, reads) {
             None => Ok(()),
-            Some(b'\\') => self.read_escape(),
-            Some(_) => self.read_placeholder(),
+            Some(b'\\') => self.read_escape(reads),
+            Some(_) => self.read_placeholder(reads),
         }
     }
 
     /// Inside a default: one byte, or an escape or a placeholder.
-    fn read_in_default(&mut self) -> Result<(), ParseError>
+    fn read_in_default(&mut self, reads: &mut Reads) -> Result<(), ParseError>
         requires reading { IsReading self.old }
         requires more { self.old.at < length self.old.tape.source.now }
         requires inside { 0 < self.old.depth }
-        ensures { Steps self.old result self.new }
+        ensures answer { Steps self.old result self.new }
+        ensures cost { StepAdds self.old result self.new reads.old reads.new }
     {
-        match self.tape.byte_at(self.at) {
+        match self.tape.byte_at(self.at, reads) {
             None => unreachable!(),
-            Some(b'\\') => self.read_escape(),
-            Some(b'$') => self.read_placeholder(),
+            Some(b'\\') => self.read_escape(reads),
+            Some(b'$') => self.read_placeholder(reads),
             Some(b'{') => {
                 self.depth += 1;
                 self.at += 1;
@@ -126,28 +139,30 @@ impl<'s> Parser<'s> {
     }
 
     /// Reads the escape at `at`.
-    fn read_escape(&mut self) -> Result<(), ParseError>
+    fn read_escape(&mut self, reads: &mut Reads) -> Result<(), ParseError>
         requires reading { IsReading self.old }
         requires stands { (rest : List ℕ) × (drop self.old.at self.old.tape.source.now ≡ backslash ∷ rest) }
-        ensures { Steps self.old result self.new }
+        ensures answer { Steps self.old result self.new }
+        ensures cost { StepBehindAdds self.old result self.new reads.old reads.new }
     {
-        match read_escape(&self.tape, self.at) {
+        match read_escape(&self.tape, self.at, reads) {
             Ok(byte) => self.add_part(Part::Escaped(byte), self.at + 2),
-            Err(fault) => Err(self.fault_of_source(fault)),
+            Err(fault) => Err(self.fault_of_source(fault, reads)),
         }
     }
 
     /// Reads the placeholder at `at`, of one with a default the front.
-    fn read_placeholder(&mut self) -> Result<(), ParseError>
+    fn read_placeholder(&mut self, reads: &mut Reads) -> Result<(), ParseError>
         requires reading { IsReading self.old }
         requires stands { (rest : List ℕ) × (drop self.old.at self.old.tape.source.now ≡ dollar ∷ rest) }
-        ensures { Steps self.old result self.new }
+        ensures answer { Steps self.old result self.new }
+        ensures cost { StepBehindAdds self.old result self.new reads.old reads.new }
     {
-        match read_placeholder(&self.tape, self.at) {
+        match read_placeholder(&self.tape, self.at, reads) {
             Ok(Placeholder::Short(name)) => self.add_part(Part::Variable(name), name.end),
             Ok(Placeholder::Braced(name)) => self.add_part(Part::Variable(name), name.end + 1),
             Ok(Placeholder::Default(name)) => self.open_default(name),
-            Err(fault) => Err(self.fault_of_source(fault)),
+            Err(fault) => Err(self.fault_of_source(fault, reads)),
         }
     }
 
@@ -174,7 +189,8 @@ impl<'s> Parser<'s> {
         requires part { IsPart self.old.tape.source.now self.old.at end part }
         requires within { end ≤ length self.old.tape.source.now }
         requires forward { self.old.at < end }
-        ensures { Steps self.old result self.new }
+        ensures answer { Steps self.old result self.new }
+        ensures place { OnOk result (self.new.at ≡ end) }
     {
         self.push_literal()?;
         self.parts.push(part)?;
@@ -187,7 +203,8 @@ impl<'s> Parser<'s> {
     fn open_default(&mut self, name: Span) -> Result<(), ParseError>
         requires reading { IsReading self.old }
         requires front { IsInBraces self.old.tape.source.now self.old.at name colon }
-        ensures { Steps self.old result self.new }
+        ensures answer { Steps self.old result self.new }
+        ensures place { OnOk result (self.new.at ≡ name.end + 1) }
     {
         self.push_literal()?;
         self.defaults.push(OpenDefault {
@@ -208,7 +225,8 @@ impl<'s> Parser<'s> {
         requires inside { 0 < self.old.depth }
         requires stands { drop self.old.at self.old.tape.source.now
             ≡ closing_brace ∷ drop (self.old.at + 1) self.old.tape.source.now }
-        ensures { Steps self.old result self.new }
+        ensures answer { Steps self.old result self.new }
+        ensures place { OnOk result (self.new.at ≡ self.old.at + 1) }
     {
         match self.defaults.last().copied() {
             Some(innermost) if innermost.depth + 1 == self.depth => self.close_default(innermost),
@@ -227,7 +245,8 @@ impl<'s> Parser<'s> {
         requires closes { innermost.depth + 1 ≡ self.old.depth }
         requires stands { drop self.old.at self.old.tape.source.now
             ≡ closing_brace ∷ drop (self.old.at + 1) self.old.tape.source.now }
-        ensures { Steps self.old result self.new }
+        ensures answer { Steps self.old result self.new }
+        ensures place { OnOk result (self.new.at ≡ self.old.at + 1) }
     {
         self.push_literal()?;
         let _ = self.defaults.pop();
@@ -244,13 +263,16 @@ impl<'s> Parser<'s> {
 
     /// The fault of the source, where a bad item stands at `at`: a default that is never closed comes before what is
     /// wrong inside it.
-    fn fault_of_source(&self, fault: ParseError) -> ParseError
+    fn fault_of_source(&self, fault: ParseError, reads: &mut Reads) -> ParseError
         requires reading { IsReading self.now }
         requires bad { IsSomeAnd (parse_fault fault) (IsBadHowever self.now.at (drop self.now.at self.now.tape.source.now)) }
-        ensures { IfSome (parse_fault result) (HasFault 0 self.now.tape.source.now) }
+        ensures answer { IfSome (parse_fault result) (HasFault 0 self.now.tape.source.now) }
+        ensures cost { Adds 0 (length self.now.tape.source.now - self.now.at + 1) reads.old reads.new }
     {
         match self.defaults.first() {
-            Some(outermost) if !closes_all(&self.tape, self.at, self.depth) => unclosed(*outermost),
+            Some(outermost) if !closes_all(&self.tape, self.at, self.depth, reads) => unclosed(
+                *outermost,
+            ),
             _ => fault,
         }
     }

@@ -16,4 +16,4 @@ pub returns-in-Some-2-clause-err : goal.returns-in-Some-2-clause-err
 returns-in-Some-2-clause-err c =
     rw c.into-in-Some-2.ensures
     (other_escape_at c.args.tape.now.source.now c.args.at c.requires.0 c.requires.1 c.in-Some.byte c.character_at.result c.in-Some.ensures.byte
-    (sym c.is_special.ensures ∙ c.if-is_special.false) c.character_at.ensures)
+    (sym c.is_special.ensures ∙ c.if-is_special.false) c.character_at.ensures.answer)

@@ -6,8 +6,8 @@ use Rattle.subst.proofs.StackLemmas.{no_last}
 use Rattle.subst.proofs.template.raw.parse.Parser.close_brace.Goals as goal
 use Rattle.subst.proofs.template.raw.parse.Parser.close_brace.Goals.{in_default-via-in-Some+else-innermost-self, in_default-via-in_default}
 
-pub returns-in_default : goal.returns-in_default
-returns-in_default c =
+pub returns-in_default-clause-answer : goal.returns-in_default-clause-answer
+returns-in_default-clause-answer c =
     let p = c.args.self.now in
     let s = p.tape.source.now in
     let inside = place_inside s p.at _ _ c.requires.stands in

@@ -10,8 +10,8 @@ index_mut-requires c =
     let split = split_last c.args.self.now.defaults.items c.args.innermost c.requires.innermost in
     variable_inside c.args.self.now c.push_literal.new.self split.0 c.args.innermost (given.kept, given.nested) split.1
 
-pub returns : goal.returns
-returns c =
+pub returns-clause-answer : goal.returns-clause-answer
+returns-clause-answer c =
     let old = c.args.self.now in
     let mid = c.push_literal.new.self in
     let given = c.in_ok-push_literal.ensures in

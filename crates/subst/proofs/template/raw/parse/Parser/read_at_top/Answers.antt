@@ -12,8 +12,8 @@ read_placeholder-requires-clause-reading c =
     let found = c.plain_end-self.ensures in
     reading_run c.args.self.now c.plain_end-self.result c.requires.reading c.requires.top (omega (arith, found.run.ends)) found.within found.run
 
-pub returns-in-None : goal.returns-in-None
-returns-in-None c =
+pub returns-in-None-clause-answer : goal.returns-in-None-clause-answer
+returns-in-None-clause-answer c =
     let found = c.plain_end-self.ensures in (
       reading_run c.args.self.now c.plain_end-self.result c.requires.reading c.requires.top (omega (arith, found.run.ends)) found.within found.run,
       refl,
