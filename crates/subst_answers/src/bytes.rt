@@ -1,0 +1,45 @@
+//! Records of the kind `bytes`.
+
+ghost use Rattle.std.specs.Prelude.{IfOk};
+ghost use Rattle.subst.specs.Sentence.{IsSentence};
+ghost use Rattle.subst_answers.specs.Told.{IsAnswerTo, values_of};
+
+use crate::answer::Answer;
+use crate::record::Pairs;
+use std::alloc::{AllocError, Global};
+use subst::{ByteTemplate, Error, substitute_bytes};
+
+/// The answer of `substitute_bytes`, where a template that is parsed once and expanded twice gives it too.
+pub fn answer(alloc: Global, source: &[u8], pairs: &Pairs) -> Result<Answer, AllocError>
+    ensures { IfOk result (IsAnswerTo source.now (values_of pairs.now)) }
+{
+    let whole = at_once(alloc, source, pairs)?;
+    let parsed = by_template(alloc, source, pairs)?;
+    Ok(whole.agreed_with(&parsed))
+}
+
+fn at_once(alloc: Global, source: &[u8], pairs: &Pairs) -> Result<Answer, AllocError>
+    ensures { IfOk result (IsAnswerTo source.now (values_of pairs.now)) }
+{
+    Answer::of(substitute_bytes(alloc, source, pairs))
+}
+
+fn by_template(alloc: Global, source: &[u8], pairs: &Pairs) -> Result<Answer, AllocError>
+    ensures { IfOk result (IsAnswerTo source.now (values_of pairs.now)) }
+{
+    match ByteTemplate::from_slice(alloc, source) {
+        Ok(template) => {
+            let first = expanded(alloc, &template, pairs)?;
+            let second = expanded(alloc, &template, pairs)?;
+            Ok(first.agreed_with(&second))
+        }
+        Err(fault) => Answer::of(Err(Error::from(fault))),
+    }
+}
+
+fn expanded(alloc: Global, template: &ByteTemplate<'_>, pairs: &Pairs) -> Result<Answer, AllocError>
+    requires { IsSentence template.now }
+    ensures { IfOk result (IsAnswerTo template.now (values_of pairs.now)) }
+{
+    Answer::of(template.expand(alloc, pairs).map_err(Error::from))
+}

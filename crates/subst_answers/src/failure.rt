@@ -1,0 +1,82 @@
+//! Why the program ends before the end of its input.
+
+ghost use Rattle.std.specs.Prelude.{◌≡◌, ℕ, List};
+ghost use Rattle.subst_answers.specs.declared.failure.Failure.TheVariants.{OutOfMemory};
+
+use crate::record::{Column, RecordError};
+use std::alloc::AllocError;
+use std::io::ErrorKind;
+use std::{fmt, io};
+
+/// Why the program ends before the end of its input.
+#[derive(Clone, Copy, Debug)]
+pub enum Failure {
+    /// A record is malformed.
+    Malformed {
+        /// The number of the record, from 1.
+        number: u64,
+        /// The first column that is malformed.
+        column: Column,
+    },
+    /// The input can't be read, or an answer can't be printed.
+    Io(io::Error),
+    /// No memory was to be had.
+    OutOfMemory,
+}
+
+impl Failure {
+    ghost use Rattle.subst_answers.specs.Failure.{IsFailureAt, status_of};
+    ghost use Rattle.subst_answers.specs.Record.{IsRefused};
+
+    /// The failure at the record of this number.
+    pub fn at_record(number: u64, error: RecordError) -> Failure
+        ensures { (line : List ℕ) → IsRefused line error → IsFailureAt number line result }
+    {
+        match error {
+            RecordError::Malformed(column) => Failure::Malformed { number, column },
+            RecordError::OutOfMemory(e) => Failure::from(e),
+        }
+    }
+
+    /// The status that the program ends with.
+    pub fn status(&self) -> u8
+        ensures { result ≡ status_of self.now }
+    {
+        match self {
+            Failure::Malformed { .. } => 1,
+            Failure::Io(_) => 3,
+            Failure::OutOfMemory => 4,
+        }
+    }
+}
+
+impl fmt::Display for Failure {
+    fn fmt<W: fmt::Write>(&self, f: &mut fmt::Formatter<W>) -> fmt::Result {
+        match self {
+            Failure::Malformed { number, column } => {
+                write!(f, "record {number}: malformed column {column}")
+            }
+            Failure::Io(e) => write!(f, "{e}"),
+            Failure::OutOfMemory => write!(f, "out of memory"),
+        }
+    }
+}
+
+impl std::error::Error for Failure {}
+
+impl From<AllocError> for Failure {
+    ghost from_gives = { λ _ failure. failure ≡ OutOfMemory };
+
+    fn from(_e: AllocError) -> Failure {
+        Failure::OutOfMemory
+    }
+}
+
+impl From<io::Error> for Failure {
+    fn from(e: io::Error) -> Failure {
+        match e.kind() {
+            ErrorKind::OutOfMemory => Failure::OutOfMemory,
+            _ => Failure::Io(e),
+        }
+    }
+}

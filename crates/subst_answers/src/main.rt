@@ -1,0 +1,58 @@
+//! Answers records: reads records from standard input, one a line, and prints one answer a line.
+//!
+//! A record is three columns, parted by tabs: `KIND`, `SOURCE` and `PAIRS`.
+//!
+//! - `KIND` says how the source is filled in: `bytes` is by `substitute_bytes`.
+//! - `SOURCE` is the source, in lower-case hexadecimal. An empty text of bytes is `-`, here as everywhere.
+//! - `PAIRS` is `-`, or `NAME=VALUE` for each variable, parted by commas, with names and values in hexadecimal. A name
+//!   is UTF-8 and comes once.
+//!
+//! An answer is `ok` and the output, or `fault`, the case, its place, its detail, the words for what was expected (`-`
+//! where the case has none) and the text of the error, parted by tabs. The output, the words and the text are in
+//! hexadecimal. The detail of an invalid escape sequence is its character or `none`, of a missing variable name the
+//! length in decimal, of an unexpected character the character, of a missing closing brace `-`, and of an absent
+//! variable its name in hexadecimal. A character is `c` and its number in upper-case hexadecimal; a byte that begins
+//! none is `b` and its two digits. Where the other ways to an answer don't give the same, `differs` is printed.
+//!
+//! A line that begins with `#` is a comment: it gets no answer and isn't counted. An empty line is no record.
+//!
+//! The status is 0, or 1 where a record is malformed, 3 where the input can't be read or an answer can't be printed, and
+//! 4 where no memory is to be had. Each of the last three has one line on standard error, and the answers of the records
+//! before it are printed.
+#![tactic(auto)]
+
+use failure::Failure;
+use std::io;
+use std::io::{BufReader, BufWriter, Write};
+use std::process::ExitCode;
+
+mod answer;
+mod bytes;
+mod column;
+mod failure;
+mod fault;
+mod record;
+mod run;
+#[cfg(test)]
+mod tests;
+
+fn answer_input<R: Input + Print + AllocGlobal>(rt: &R) -> Result<(), Failure> {
+    let mut input = BufReader::new(rt.alloc(), rt.reader())?;
+    let mut output = BufWriter::new(rt.alloc(), io::writer(rt))?;
+    let answered = run::answer_records(rt.alloc(), &mut input, &mut output);
+    // The answers before a failure are printed too.
+    let flushed = output.flush();
+    answered?;
+    flushed?;
+    Ok(())
+}
+
+fn main(rt: HostRuntime) -> ExitCode {
+    match answer_input(&rt) {
+        Ok(()) => ExitCode::SUCCESS,
+        Err(failure) => {
+            let _ = eprintln!(rt; "subst_answers: {failure}");
+            ExitCode::from(failure.status())
+        }
+    }
+}

@@ -1,0 +1,171 @@
+//! What is printed, and which failure ends a run.
+
+use crate::failure::Failure;
+use crate::run::answer_records;
+use std::alloc::{AllocError, Global};
+use std::io;
+use std::io::{BufReader, Read, Write};
+use std::process::Abort;
+use std::test::Fail;
+
+/// What a run says at its end, with its status.
+fn said(alloc: Global, run: &Result<(), Failure>) -> Result<String, AllocError> {
+    match run {
+        Ok(()) => String::from_str(alloc, "0"),
+        Err(failure) => format!(in alloc; "{} {failure}", failure.status()),
+    }
+}
+
+/// A run over `input` prints `printed`, and says `end` at its end.
+fn expect(
+    rt: &impl Abort,
+    alloc: Global,
+    input: &str,
+    printed: &str,
+    end: &str,
+) -> Result<(), Fail> {
+    let mut left = input.as_bytes();
+    let mut output = Vec::new(alloc);
+    let run = answer_records(alloc, &mut left, &mut output);
+    assert_eq!(rt; output.as_slice(), printed.as_bytes(), "{input:?}");
+    assert_eq!(rt; said(alloc, &run)?.as_str(), end, "{input:?}");
+    Ok(())
+}
+
+#[test]
+fn answers(rt: HostRuntime) -> Result<(), Fail> {
+    let rows = [
+        ("", ""),
+        ("bytes\t-\t-\n", "ok\t-\n"),
+        ("bytes\t2461\t61=2d,62=-\n", "ok\t2d\n"),
+        ("bytes\t2461\t-=31,61=-", "ok\t-\n"),
+        (
+            "bytes\t5c\t-\nbytes\t30\t-\n",
+            "fault\tInvalidEscapeSequence\t0\tnone\t-\t496e76616c6964206573636170652073657175656e63653a206d697373696e672065736361706520636861726163746572\nok\t30\n",
+        ),
+    ];
+    for (input, printed) in rows {
+        expect(&rt, rt.alloc(), input, printed, "0")?;
+    }
+    Ok(())
+}
+
+#[test]
+fn comments(rt: HostRuntime) -> Result<(), Fail> {
+    let input = "# one\nbytes\t-\t-\n#\n#bytes\n";
+    expect(&rt, rt.alloc(), input, "ok\t-\n", "0")?;
+    let input = "# one\n#\n\n";
+    expect(
+        &rt,
+        rt.alloc(),
+        input,
+        "",
+        "1 record 1: malformed column kind",
+    )
+}
+
+#[test]
+fn malformed_kinds(rt: HostRuntime) -> Result<(), Fail> {
+    for kind in ["", "byte", "Bytes", "bytes ", " bytes", "bytes\r", "-"] {
+        let input = format!(in rt.alloc(); "bytes\t30\t-\n{kind}\t-\t-\nbytes\t30\t-\n")?;
+        let end = "1 record 2: malformed column kind";
+        expect(&rt, rt.alloc(), input.as_str(), "ok\t30\n", end)?;
+    }
+    Ok(())
+}
+
+#[test]
+fn malformed_sources(rt: HostRuntime) -> Result<(), Fail> {
+    for source in ["", "0", "2A", "2g", "--", " 24", "24 ", "é"] {
+        let input = format!(in rt.alloc(); "bytes\t{source}\t-\n")?;
+        let end = "1 record 1: malformed column source";
+        expect(&rt, rt.alloc(), input.as_str(), "", end)?;
+    }
+    expect(
+        &rt,
+        rt.alloc(),
+        "bytes\n",
+        "",
+        "1 record 1: malformed column source",
+    )
+}
+
+#[test]
+fn malformed_pairs(rt: HostRuntime) -> Result<(), Fail> {
+    let rows = [
+        "",
+        "61",
+        "61=",
+        "=31",
+        "61=31,",
+        ",61=31",
+        "61=3",
+        "61=31=32",
+        "61=31,61=32",
+        "ff=31",
+        "-\t-",
+        "-\r",
+        "61=4A",
+    ];
+    for pairs in rows {
+        let input = format!(in rt.alloc(); "bytes\t-\t{pairs}\n")?;
+        let end = "1 record 1: malformed column pairs";
+        expect(&rt, rt.alloc(), input.as_str(), "", end)?;
+    }
+    expect(
+        &rt,
+        rt.alloc(),
+        "bytes\t-",
+        "",
+        "1 record 1: malformed column pairs",
+    )
+}
+
+/// A reader that gives one record and then fails.
+#[derive(Drop)]
+struct Broken {
+    is_read: bool,
+}
+
+impl Read for Broken {
+    fn read(&mut self, buf: &mut [u8]) -> io::Result<usize> {
+        if self.is_read {
+            return Err(io::Error::other("broken"));
+        }
+        self.is_read = true;
+        let mut record = b"bytes\t30\t-\nbytes".as_slice();
+        record.read(buf)
+    }
+}
+
+#[test]
+fn failed_read(rt: HostRuntime) -> Result<(), Fail> {
+    let mut input = BufReader::new(rt.alloc(), Broken { is_read: false })?;
+    let mut output = Vec::new(rt.alloc());
+    let run = answer_records(rt.alloc(), &mut input, &mut output);
+    assert_eq!(rt; output.as_slice(), b"ok\t30\n".as_slice());
+    assert_eq!(rt; said(rt.alloc(), &run)?.as_str(), "3 broken");
+    Ok(())
+}
+
+/// A writer that takes nothing.
+#[derive(Drop)]
+struct Full;
+
+impl Write for Full {
+    fn write(&mut self, _buf: &[u8]) -> io::Result<usize> {
+        Err(io::Error::other("full"))
+    }
+
+    fn flush(&mut self) -> io::Result<()> {
+        Ok(())
+    }
+}
+
+#[test]
+fn failed_write(rt: HostRuntime) -> Result<(), Fail> {
+    let mut input = b"bytes\t30\t-\n".as_slice();
+    let run = answer_records(rt.alloc(), &mut input, &mut Full);
+    assert_eq!(rt; said(rt.alloc(), &run)?.as_str(), "3 full");
+    Ok(())
+}

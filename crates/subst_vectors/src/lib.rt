@@ -1,0 +1,24 @@
+//! Tests of `subst` over its public calls, by subject.
+//!
+//! A row is a source, its variables and what is answered. What is answered was taken from runs of the Rust crate, or
+//! worked out by hand from the rules of the language.
+#![tactic(auto)]
+
+#[cfg(test)]
+mod characters;
+#[cfg(test)]
+mod deep;
+#[cfg(test)]
+mod defaults;
+#[cfg(test)]
+mod escapes;
+#[cfg(test)]
+mod faults;
+#[cfg(test)]
+mod names;
+#[cfg(test)]
+mod places;
+#[cfg(test)]
+mod plain;
+#[cfg(test)]
+mod rows;

@@ -1,0 +1,89 @@
+//! Rows: what is answered for a source and its variables, both ways.
+
+use Told::{Absent, BadEscape, Gives, NoMemory, NoName, Unclosed, Unexpected};
+use std::alloc::Global;
+use std::collections::BTreeMap;
+use std::process::Abort;
+use std::test::Fail;
+use subst::error::CharOrByte;
+use subst::{ByteTemplate, Error, substitute_bytes};
+
+/// What was answered: bytes, or a fault with its fields but the words for what was expected.
+#[derive(Clone, Copy, Debug, PartialEq)]
+pub enum Told<'a> {
+    Gives(&'a [u8]),
+    BadEscape(usize, Option<CharOrByte>),
+    NoName(usize, usize),
+    Unexpected(usize, CharOrByte),
+    Unclosed(usize),
+    Absent(usize, &'a str),
+    NoMemory,
+}
+
+pub fn tell(answer: &Result<Vec<u8>, Error>) -> Told<'_> {
+    match answer {
+        Ok(bytes) => Gives(bytes.as_slice()),
+        Err(Error::InvalidEscapeSequence(e)) => BadEscape(e.position, e.character),
+        Err(Error::MissingVariableName(e)) => NoName(e.position, e.len),
+        Err(Error::UnexpectedCharacter(e)) => Unexpected(e.position, e.character),
+        Err(Error::MissingClosingBrace(e)) => Unclosed(e.position),
+        Err(Error::NoSuchVariable(e)) => Absent(e.position, e.name.as_str()),
+        Err(Error::OutOfMemory(_)) => NoMemory,
+    }
+}
+
+pub type Map = BTreeMap<String, Vec<u8>>;
+
+/// The map of pairs as `a=1,b=2`.
+pub fn map_of(alloc: Global, pairs: &str) -> Result<Map, Fail> {
+    let mut map = BTreeMap::new(alloc);
+    for pair in pairs.split(',') {
+        if let Some((name, value)) = pair.split_once('=') {
+            let value = Vec::from_slice(alloc, value.as_bytes())?;
+            let _ = map.insert(String::from_str(alloc, name)?, value)?;
+        }
+    }
+    Ok(map)
+}
+
+/// The answer of a template, which is parsed first and expanded then.
+pub fn by_template(alloc: Global, source: &[u8], map: &Map) -> Result<Vec<u8>, Error> {
+    let template = ByteTemplate::from_slice(alloc, source)?;
+    Ok(template.expand(alloc, map)?)
+}
+
+/// Both ways answer `want`.
+pub fn expect(
+    rt: &impl Abort,
+    alloc: Global,
+    source: &[u8],
+    pairs: &str,
+    want: &Told<'_>,
+) -> Result<(), Fail> {
+    let map = map_of(alloc, pairs)?;
+    let whole = substitute_bytes(alloc, source, &map);
+    assert_eq!(rt; &tell(&whole), want, "{source:?} at once");
+    let parsed = by_template(alloc, source, &map);
+    assert_eq!(rt; &tell(&parsed), want, "{source:?} by a template");
+    Ok(())
+}
+
+/// Both ways answer `want`, with some variables and with none.
+pub fn expect_fault(
+    rt: &impl Abort,
+    alloc: Global,
+    source: &[u8],
+    want: &Told<'_>,
+) -> Result<(), Fail> {
+    expect(rt, alloc, source, "", want)?;
+    expect(rt, alloc, source, "a=1,x=}", want)
+}
+
+/// The text of the fault of `source`, with no variables.
+pub fn fault_text(alloc: Global, source: &[u8]) -> Result<String, Fail> {
+    let map: Map = BTreeMap::new(alloc);
+    match substitute_bytes(alloc, source, &map) {
+        Ok(_) => Ok(String::from_str(alloc, "no fault")?),
+        Err(fault) => Ok(format!(in alloc; "{fault}")?),
+    }
+}
