@@ -3,7 +3,6 @@ use Rattle.std.specs.Char.{is_ascii_uppercase}
 use Rattle.std.specs.List.{list_any}
 use Rattle.std.proofs.lemmas.Bool.{eqb-true, false≢true}
 use Rattle.hex.proofs.HexLemmas.{decode_of-ok}
-use Rattle.hex.specs.Hex.{decode_of}
 use Rattle.subst_answers.specs.Column.{column_of}
 use Rattle.subst_answers.proofs.ColumnLemmas.{column_back, column_decodes, column_none_upper, column_not_empty}
 use Rattle.subst_answers.proofs.column.read_bytes.Goals as goal
