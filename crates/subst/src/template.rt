@@ -52,8 +52,8 @@ impl<'a> ByteTemplate<'a> {
         ByteTemplate::from_slice_counted(alloc, source, &mut Reads::new())
     }
 
-    /// The template of a source, and to `reads` is added how many reads that takes: each byte of a template is read,
-    /// and no source, refused or not, takes more than eight for each of its bytes and eight more.
+    /// The template of a source, as `from_slice`, with the reads counted. Each byte of a template is read, and no source,
+    /// refused or not, takes more than eight reads for each of its bytes and eight more.
     ///
     /// # Errors
     ///
@@ -100,8 +100,8 @@ impl<'a> ByteTemplate<'a> {
         self.expand_counted(alloc, variables, &mut turns)
     }
 
-    /// The same, with its turns counted: one for each part of the source that is met. Where a name has a value, no part
-    /// of its default is met.
+    /// The bytes of the source with its variables filled in, as `expand`, with the turns counted: one for each part of
+    /// the source that is met. Where a name has a value, no part of its default is met.
     ///
     /// # Errors
     ///
