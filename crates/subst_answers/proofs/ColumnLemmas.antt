@@ -8,16 +8,19 @@ use Rattle.subst_answers.specs.Column.{column_of}
 use Rattle.hex.specs.Hex.{decode_of, decode_pairs, digit_or_error, encode_lower, encode_with, hex_digit_value, lower_digits, pair_value, value_at, IsBytes, ◌>>=◌}
 use Rattle.hex.specs.declared.error.FromHexError.{FromHexError}
 
--- what reads as the value of a digit, and is no upper-case letter, is the digit of that value
+-- an upper-case letter, or what is no digit, or the digit of the value that it has as a digit
 abbrev reads_back : ℕ → Bool
 reads_back c = is_ascii_uppercase c || (not (is_some (hex_digit_value c)) || slice_index lower_digits (unwrap_or (hex_digit_value c) 99) == c)
 
+-- each ASCII byte is one of these
 all_read_back : (c : ℕ) → c < 128 → reads_back c ≡ true
 all_read_back c low = agree_below_at reads_back (λ _. true) 128 c refl low
 
+-- a digit is ASCII
 value_is_low : (c v : ℕ) → hex_digit_value c ≡ Some v → c < 128
 value_is_low c v h = grind arith
 
+-- a digit that is no upper-case letter is the digit of its value
 digit_back : (c v : ℕ) → hex_digit_value c ≡ Some v → is_ascii_uppercase c ≡ false → slice_index lower_digits v ≡ c
 digit_back c v h lower =
     let read = all_read_back c (value_is_low c v h) in

@@ -42,11 +42,13 @@ behind : ℕ → Option (List ℕ) → List ℕ
 behind byte None = []
 behind byte (Some rest) = byte ∷ rest
 
+-- a text is its front and what stands behind it
 joined : (byte : ℕ) (text front : List ℕ) (rest : Option (List ℕ)) → IsParted byte text front rest → text ≡ front ++ behind byte rest
 unfolding behind
 joined byte text front None is = is ∙ sym (append-nil front)
 joined byte text front (Some rest) is = is
 
+-- what stands behind a front says what the rest is
 same_behind : (byte : ℕ) (r q : Option (List ℕ)) → behind byte r ≡ behind byte q → r ≡ q
 unfolding behind
 same_behind byte None None e = refl
@@ -54,12 +56,13 @@ same_behind byte None (Some q) e = cc e
 same_behind byte (Some r) None e = cc e
 same_behind byte (Some r) (Some q) e = cc e
 
--- what is behind a front without the byte, if anything, begins with it
+-- what stands behind a front, if anything, begins with the byte
 front_ends : (byte c : ℕ) (r : Option (List ℕ)) (x : List ℕ) → behind byte r ≡ c ∷ x → c ≢ byte → ⊥
 unfolding behind
 front_ends byte c None x e other = cc e
 front_ends byte c (Some r) x e other = other (cc e)
 
+-- two fronts without the byte, each with the byte or nothing behind it, are the same where the texts are
 same_front : (byte : ℕ) (x y : List ℕ) (r q : Option (List ℕ)) → HasNo byte x → HasNo byte y → x ++ behind byte r ≡ y ++ behind byte q
     → (x ≡ y) × (r ≡ q)
 same_front byte [] [] r q h k e = (refl, same_behind byte r q e)
@@ -75,11 +78,12 @@ pub one_cut : (byte : ℕ) (text x y : List ℕ) (r q : Option (List ℕ)) → I
 one_cut byte text x y r q a b =
     same_front byte x y r q a.1 b.1 (sym (joined byte text x r a.0) ∙ joined byte text y q b.0)
 
--- no digit is the byte, and neither is a dash
+-- the byte is neither a digit nor a dash
 pub record IsNoDigit (byte : ℕ) : Type 0 where
   pub digits : agree_below (λ d. slice_index lower_digits d == byte) (λ _. false) 16 ≡ true
   pub dash : 45 ≢ byte
 
+-- hexadecimal has digits alone
 encoded_has_no : (byte : ℕ) → IsNoDigit byte → (bytes : List ℕ) → IsBytes bytes → HasNo byte (encode_lower bytes)
 unfolding encode_with
 encoded_has_no byte other [] are = tt

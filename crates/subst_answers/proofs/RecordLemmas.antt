@@ -16,9 +16,11 @@ use Rattle.subst_answers.specs.declared.record.Kind.{Kind}
 use Rattle.subst_answers.specs.declared.record.Kind.TheVariants as kinds
 use Rattle.subst_answers.proofs.CutLemmas.{column_has_no, one_cut, IsNoDigit}
 
+-- no column of bytes has a tab
 tab_no_digit : IsNoDigit tab
 tab_no_digit = record { digits = refl; dash = λ e. cc e }
 
+-- nor `=`
 equals_no_digit : IsNoDigit equals
 equals_no_digit = record { digits = refl; dash = λ e. cc e }
 
