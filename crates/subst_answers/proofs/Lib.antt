@@ -1,6 +1,8 @@
-pub mod AnswerLemmas
+pub mod AgreementLemmas
+pub mod AnswerLineLemmas
 pub mod ColumnLemmas
-pub mod CutLemmas
+pub mod PairLemmas
+pub mod PrintingLemmas
+pub mod ReadPairsLemmas
 pub mod RecordLemmas
-pub mod RunLemmas
-pub mod ToldLemmas
+pub mod SeparatorLemmas

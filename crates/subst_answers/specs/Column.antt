@@ -12,7 +12,7 @@ column_of (b ∷ bytes) = encode_lower (b ∷ bytes)
 abbrev pub IsNoColumn : List ℕ → Type 0
 IsNoColumn text = (bytes : List ℕ) → IsBytes bytes → text ≢ column_of bytes
 
--- what reading a column gives: the byte string whose column it is, or nothing where it is the column of none
+-- what reading a column gives: the byte string whose column it is, or nothing if there is no such one
 abbrev pub IsReadAs : List ℕ → Option (List ℕ) → Type 0
 IsReadAs text (Some bytes) = (text ≡ column_of bytes) × IsBytes bytes
 IsReadAs text None = IsNoColumn text
@@ -21,11 +21,11 @@ IsReadAs text None = IsNoColumn text
 abbrev pub HasNo : ℕ → List ℕ → Type 0
 HasNo byte text = AllByRecursion (λ b. b ≢ byte) text
 
--- the text is the front alone, or the front, the byte and the rest
-abbrev pub IsParted : ℕ → List ℕ → List ℕ → Option (List ℕ) → Type 0
-IsParted byte text front None = text ≡ front
-IsParted byte text front (Some rest) = text ≡ front ++ (byte ∷ rest)
+-- the text is the prefix alone, or the prefix, the byte and the rest
+abbrev pub IsSeparated : ℕ → List ℕ → List ℕ → Option (List ℕ) → Type 0
+IsSeparated byte text prefix None = text ≡ prefix
+IsSeparated byte text prefix (Some rest) = text ≡ prefix ++ (byte ∷ rest)
 
--- the same, where the front ends at the first such byte
+-- the same, with the prefix ending at the first such byte
 abbrev pub IsCutAt : ℕ → List ℕ → List ℕ → Option (List ℕ) → Type 0
-IsCutAt byte text front rest = IsParted byte text front rest × HasNo byte front
+IsCutAt byte text prefix rest = IsSeparated byte text prefix rest × HasNo byte prefix

@@ -3,8 +3,8 @@ use Rattle.std.specs.Prelude.{◌≡◌, ℕ, true, List, ◌++◌, Option, Some
 use Rattle.std.specs.Fmt.{digits}
 use Rattle.subst.specs.Display.{two_digits}
 use Rattle.subst.specs.Fault.{Fault, InvalidEscapeSequence, MissingVariableName, UnexpectedCharacter, MissingClosingBrace, NoSuchVariable}
-use Rattle.subst.specs.declared.error.CharOrByte.{CharOrByte}
-use Rattle.subst.specs.declared.error.CharOrByte.TheVariants.{Char, Byte}
+use Rattle.subst.specs.Errors.{CharOrByte}
+use Rattle.subst.specs.Errors.character.{Char, Byte}
 use Rattle.subst_answers.specs.Column.{column_of}
 use Rattle.subst_answers.specs.declared.fault.FaultColumns.{FaultColumns}
 
@@ -13,7 +13,7 @@ abbrev pub character_column : CharOrByte → List ℕ
 character_column (Char c) = codes "c" ++ digits 16 true c
 character_column (Byte b) = codes "b" ++ two_digits b
 
--- the character behind a backslash, or that there is none
+-- the character after a backslash, or that there is none
 abbrev pub detail_of_escape : Option CharOrByte → List ℕ
 detail_of_escape (Some c) = character_column c
 detail_of_escape None = codes "none"
@@ -26,15 +26,15 @@ case_of (UnexpectedCharacter position c expected) = codes "UnexpectedCharacter"
 case_of (MissingClosingBrace position) = codes "MissingClosingBrace"
 case_of (NoSuchVariable position name) = codes "NoSuchVariable"
 
--- its place
-abbrev pub place_of : Fault → ℕ
-place_of (InvalidEscapeSequence position c) = position
-place_of (MissingVariableName position len) = position
-place_of (UnexpectedCharacter position c expected) = position
-place_of (MissingClosingBrace position) = position
-place_of (NoSuchVariable position name) = position
+-- its position
+abbrev pub position_of : Fault → ℕ
+position_of (InvalidEscapeSequence position c) = position
+position_of (MissingVariableName position len) = position
+position_of (UnexpectedCharacter position c expected) = position
+position_of (MissingClosingBrace position) = position
+position_of (NoSuchVariable position name) = position
 
--- what else its case has, but for the words for what was expected
+-- what else its case has, except the words for what was expected
 abbrev pub detail_of : Fault → List ℕ
 detail_of (InvalidEscapeSequence position c) = detail_of_escape c
 detail_of (MissingVariableName position len) = decimal len
@@ -50,11 +50,11 @@ expected_of _ = codes "-"
 -- the columns are those of the fault
 pub record ShowsFault (columns : FaultColumns) (f : Fault) : Type 0 where
   pub case : columns.case.now ≡ case_of f
-  pub place : columns.position ≡ place_of f
+  pub position : columns.position ≡ position_of f
   pub detail : string_bytes columns.detail ≡ detail_of f
   pub expected : string_bytes columns.expected ≡ expected_of f
 
--- the columns, parted by tabs
+-- the columns, separated by tabs
 abbrev pub columns_text : FaultColumns → List ℕ
-columns_text columns = columns.case.now ++ (codes "\t" ++ (decimal columns.position
-    ++ (codes "\t" ++ (string_bytes columns.detail ++ (codes "\t" ++ string_bytes columns.expected)))))
+columns_text columns = columns.case.now ++ (codes "\t" ++ (decimal columns.position ++ (codes "\t"
+    ++ (string_bytes columns.detail ++ (codes "\t" ++ string_bytes columns.expected)))))

@@ -1,7 +1,7 @@
-pub mod Answer
+pub mod Agreement
+pub mod AnswerLine
 pub mod Column
 pub mod Failure
 pub mod FaultColumns
+pub mod Printing
 pub mod Record
-pub mod Run
-pub mod Told

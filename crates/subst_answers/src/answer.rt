@@ -1,16 +1,16 @@
 //! Answers, and the lines that they are printed as.
 
-ghost use Rattle.std.specs.Prelude.{◌≡◌, ◌≢◌, IfOk, OnErr, IsSome, IfSome, None, string_bytes};
-ghost use Rattle.subst.specs.Result.{answer_of};
-ghost use Rattle.subst_answers.specs.Told.{told_by};
-ghost use Rattle.subst_answers.specs.Answer.{line_of};
+ghost use Rattle.std.specs.Prelude.{◌≡◌, ◌≢◌, IfOk, OnErr, IsSome, None, string_bytes};
+ghost use Rattle.subst.specs.Calls.Outcome.{answer_of};
+ghost use Rattle.subst_answers.specs.Agreement.{stated_by};
+ghost use Rattle.subst_answers.specs.AnswerLine.{IsLineOf};
 
 use crate::column::written;
 use crate::fault::fault_line;
 use std::alloc::{AllocError, Global};
 use subst::Error;
 
-/// What is answered for a record.
+/// The answer of a record.
 #[derive(Debug, PartialEq, Drop)]
 pub enum Answer {
     /// The bytes of the source with its variables filled in.
@@ -22,11 +22,12 @@ pub enum Answer {
 }
 
 impl Answer {
-    /// The answer that a result says, unless it is want of memory.
+    /// The answer that a result states, unless it is out of memory.
     pub fn of(filled: Result<Vec<u8>, Error>) -> Result<Answer, AllocError>
-        ensures told { IfOk result (λ answer. told_by answer ≡ answer_of filled) }
-        ensures some { IfOk result (λ answer. IsSome (told_by answer)) }
-        ensures err { OnErr result (answer_of filled ≡ None) }
+        ensures stated { IfOk result
+            (λ answer. stated_by answer ≡ answer_of (λ output. output.items) filled) }
+        ensures some { IfOk result (λ answer. IsSome (stated_by answer)) }
+        ensures err { OnErr result (answer_of (λ output. output.items) filled ≡ None) }
     {
         match filled {
             Ok(bytes) => Ok(Answer::Gives(bytes)),
@@ -35,10 +36,11 @@ impl Answer {
         }
     }
 
-    /// The answer, where another way gives it too.
+    /// The answer, if another way gives the same.
     pub fn agreed_with(self, other: &Answer) -> Answer
-        ensures same { IsSome (told_by self) → told_by self ≡ told_by other.now → result ≡ self }
-        ensures differs { told_by self ≢ told_by other.now → result ≡ Answer.Differs }
+        ensures same { IsSome (stated_by self)
+            → stated_by self ≡ stated_by other.now → result ≡ self }
+        ensures differs { stated_by self ≢ stated_by other.now → result ≡ Answer.Differs }
     {
         if self == *other {
             self
@@ -49,8 +51,7 @@ impl Answer {
 
     /// The line that the answer is printed as, with the byte that ends it.
     pub fn line(&self, alloc: Global) -> Result<String, AllocError>
-        // Of a text that quotes a character past ASCII nothing is claimed.
-        ensures { IfOk result (λ line. IfSome (line_of self.now) (λ text. string_bytes line ≡ text)) }
+        ensures { IfOk result (λ line. IsLineOf self.now (string_bytes line)) }
     {
         match self {
             Answer::Gives(bytes) => {

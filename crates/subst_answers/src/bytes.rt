@@ -1,17 +1,17 @@
 //! Records of the kind `bytes`.
 
 ghost use Rattle.std.specs.Prelude.{IfOk};
-ghost use Rattle.subst.specs.Sentence.{IsSentence};
-ghost use Rattle.subst_answers.specs.Told.{IsAnswerTo, values_of};
+ghost use Rattle.subst.specs.Language.Sentence.{IsSentence};
+ghost use Rattle.subst_answers.specs.Agreement.{IsTrueAnswer, values_of};
 
 use crate::answer::Answer;
 use crate::record::Pairs;
 use std::alloc::{AllocError, Global};
 use subst::{ByteTemplate, Error, substitute_bytes};
 
-/// The answer of `substitute_bytes`, where a template that is parsed once and expanded twice gives it too.
+/// The answer of `substitute_bytes`, if a template that is parsed once and expanded twice gives the same.
 pub fn answer(alloc: Global, source: &[u8], pairs: &Pairs) -> Result<Answer, AllocError>
-    ensures { IfOk result (IsAnswerTo source.now (values_of pairs.now)) }
+    ensures { IfOk result (IsTrueAnswer source.now (values_of pairs.now)) }
 {
     let whole = at_once(alloc, source, pairs)?;
     let parsed = by_template(alloc, source, pairs)?;
@@ -19,13 +19,13 @@ pub fn answer(alloc: Global, source: &[u8], pairs: &Pairs) -> Result<Answer, All
 }
 
 fn at_once(alloc: Global, source: &[u8], pairs: &Pairs) -> Result<Answer, AllocError>
-    ensures { IfOk result (IsAnswerTo source.now (values_of pairs.now)) }
+    ensures { IfOk result (IsTrueAnswer source.now (values_of pairs.now)) }
 {
     Answer::of(substitute_bytes(alloc, source, pairs))
 }
 
 fn by_template(alloc: Global, source: &[u8], pairs: &Pairs) -> Result<Answer, AllocError>
-    ensures { IfOk result (IsAnswerTo source.now (values_of pairs.now)) }
+    ensures { IfOk result (IsTrueAnswer source.now (values_of pairs.now)) }
 {
     match ByteTemplate::from_slice(alloc, source) {
         Ok(template) => {
@@ -39,7 +39,7 @@ fn by_template(alloc: Global, source: &[u8], pairs: &Pairs) -> Result<Answer, Al
 
 fn expanded(alloc: Global, template: &ByteTemplate<'_>, pairs: &Pairs) -> Result<Answer, AllocError>
     requires { IsSentence template.now }
-    ensures { IfOk result (IsAnswerTo template.now (values_of pairs.now)) }
+    ensures { IfOk result (IsTrueAnswer template.now (values_of pairs.now)) }
 {
     Answer::of(template.expand(alloc, pairs).map_err(Error::from))
 }

@@ -1,4 +1,4 @@
-//! Columns: the parts of a line between its tabs, and byte strings written in them.
+//! Columns: the parts of a line between its tabs, and the byte strings written in them.
 
 ghost use Rattle.std.specs.Prelude.{◌≡◌, IfOk, string_bytes};
 ghost use Rattle.std.specs.Option.{option_map, option_copied};
@@ -9,7 +9,7 @@ ghost use Rattle.subst_answers.specs.Column.{column_of, IsCutAt, IsReadAs};
 use hex::FromHexError;
 use std::alloc::{AllocError, Global};
 
-/// What stands before the first of these bytes, and what stands behind it, if the text has one.
+/// The text before the first `byte` and the text after it; the whole text and `None` if it has no such byte.
 pub fn cut(text: &[u8], byte: u8) -> (&[u8], Option<&[u8]>)
     ensures { IsCutAt byte text.now result.0.now (option_copied result.1) }
 {
@@ -25,7 +25,7 @@ fn has_capital(text: &[u8]) -> bool
     text.iter().any(|b| b.is_ascii_uppercase())
 }
 
-/// The bytes that are written in a column, or nothing where it isn't lower-case hexadecimal.
+/// The bytes that are written in a column, or `None` if it isn't lower-case hexadecimal.
 pub fn read_bytes(alloc: Global, column: &[u8]) -> Result<Option<Vec<u8>>, AllocError>
     ensures { IfOk result (λ read. IsReadAs column.now (option_map (λ v. v.items) read)) }
 {

@@ -20,7 +20,7 @@ pub enum Failure {
     },
     /// The input can't be read, or an answer can't be printed.
     Io(io::Error),
-    /// No memory was to be had.
+    /// Memory ran out.
     OutOfMemory,
 }
 
@@ -51,6 +51,10 @@ impl Failure {
 }
 
 impl fmt::Display for Failure {
+    ghost use Rattle.subst_answers.specs.Failure.{text_of};
+
+    ghost output = { text_of };
+
     fn fmt<W: fmt::Write>(&self, f: &mut fmt::Formatter<W>) -> fmt::Result {
         match self {
             Failure::Malformed { number, column } => {
@@ -73,6 +77,16 @@ impl From<AllocError> for Failure {
 }
 
 impl From<io::Error> for Failure {
+    ghost use Rattle.std.specs.Prelude.{◌≢◌, ◌⊎◌};
+    ghost use Rattle.std.specs.IoError.{error_kind, os_error_kind};
+    ghost use Rattle.subst_answers.specs.Failure.{ENOMEM};
+    ghost use Rattle.subst_answers.specs.declared.failure.Failure.TheVariants.{Io};
+
+    // The kind of the system's error `ENOMEM` is `ErrorKind::OutOfMemory`.
+    ghost from_gives = { λ e failure.
+        ((error_kind e ≡ os_error_kind ENOMEM) × (failure ≡ OutOfMemory))
+        ⊎ ((error_kind e ≢ os_error_kind ENOMEM) × (failure ≡ Io e)) };
+
     fn from(e: io::Error) -> Failure {
         match e.kind() {
             ErrorKind::OutOfMemory => Failure::OutOfMemory,

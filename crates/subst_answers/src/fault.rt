@@ -1,8 +1,8 @@
 //! The lines of faults.
 
-ghost use Rattle.std.specs.Prelude.{◌≡◌, IfOk, IfSome, Some, string_bytes};
+ghost use Rattle.std.specs.Prelude.{◌≡◌, IfOk, IsSomeAnd, Some, string_bytes};
 ghost use Rattle.subst.specs.ErrorFault.{error_fault};
-ghost use Rattle.subst_answers.specs.Answer.{line_of_error};
+ghost use Rattle.subst_answers.specs.AnswerLine.{IsLineOfError};
 ghost use Rattle.subst_answers.specs.FaultColumns.{character_column, detail_of_escape, columns_text, ShowsFault};
 
 use crate::column::written;
@@ -13,8 +13,7 @@ use subst::error::CharOrByte;
 
 /// The line that a fault is printed as, with the byte that ends it.
 pub fn fault_line(alloc: Global, fault: &Error) -> Result<String, AllocError>
-    // Of a text that quotes a character past ASCII nothing is claimed.
-    ensures { IfOk result (λ line. IfSome (line_of_error (error_fault fault.now)) (λ text. string_bytes line ≡ text)) }
+    ensures { IfOk result (λ line. IsLineOfError (error_fault fault.now) (string_bytes line)) }
 {
     let columns = FaultColumns::of(alloc, fault)?;
     let shown = fault.to_string(alloc)?;
@@ -22,7 +21,7 @@ pub fn fault_line(alloc: Global, fault: &Error) -> Result<String, AllocError>
     format!(in alloc; "fault\t{columns}\t{text}\n")
 }
 
-/// The columns of a fault, but for its text.
+/// The columns of a fault, except its text.
 #[derive(Debug, Drop)]
 struct FaultColumns {
     case: &'static str,
@@ -32,9 +31,9 @@ struct FaultColumns {
 }
 
 impl FaultColumns {
-    /// The columns of the fault that an error states, unless it is want of memory.
+    /// The columns of the fault that an error states, unless it is out of memory.
     fn of(alloc: Global, fault: &Error) -> Result<FaultColumns, AllocError>
-        ensures { IfOk result (λ columns. IfSome (error_fault fault.now) (ShowsFault columns)) }
+        ensures { IfOk result (λ columns. IsSomeAnd (error_fault fault.now) (ShowsFault columns)) }
     {
         let nothing = String::from_str(alloc, "-")?;
         match fault {
@@ -94,7 +93,7 @@ fn detail_of_escape(alloc: Global, character: Option<CharOrByte>) -> Result<Stri
     }
 }
 
-/// A character or a byte, as a column has it.
+/// A character or a byte, as it is written in a column.
 #[derive(Clone, Copy, Debug)]
 struct CharacterColumn(CharOrByte);
 

@@ -1,24 +1,26 @@
-//! Answers records: reads records from standard input, one a line, and prints one answer a line.
+//! Reads records from standard input, one per line, and prints one answer per line.
 //!
-//! A record is three columns, parted by tabs: `KIND`, `SOURCE` and `PAIRS`.
+//! A record is three columns, separated by tabs: `KIND`, `SOURCE` and `PAIRS`.
 //!
 //! - `KIND` says how the source is filled in: `bytes` is by `substitute_bytes`.
-//! - `SOURCE` is the source, in lower-case hexadecimal. An empty text of bytes is `-`, here as everywhere.
-//! - `PAIRS` is `-`, or `NAME=VALUE` for each variable, parted by commas, with names and values in hexadecimal. A name
-//!   is UTF-8 and comes once.
+//! - `SOURCE` is the source, in lower-case hexadecimal. An empty byte string is `-`, here and everywhere.
+//! - `PAIRS` is `-`, or `NAME=VALUE` for each variable, separated by commas, with names and values in
+//!   hexadecimal. A name is UTF-8 and comes once.
 //!
-//! An answer is `ok` and the output, or `fault`, the case, its place, its detail, the words for what was expected (`-`
-//! where the case has none) and the text of the error, parted by tabs. The output, the words and the text are in
-//! hexadecimal. The detail of an invalid escape sequence is its character or `none`, of a missing variable name the
-//! length in decimal, of an unexpected character the character, of a missing closing brace `-`, and of an absent
-//! variable its name in hexadecimal. A character is `c` and its number in upper-case hexadecimal; a byte that begins
-//! none is `b` and its two digits. Where the other ways to an answer don't give the same, `differs` is printed.
+//! An answer is `ok` and the output, or `fault`, the case, its position, its detail, the words for what was
+//! expected (`-` if the case has none) and the text of the error, separated by tabs. The output, the words
+//! and the text are in hexadecimal. The detail of an invalid escape sequence is its character or `none`, of a
+//! missing variable name the length in decimal, of an unexpected character the character, of a missing
+//! closing brace `-`, and of an absent variable its name in hexadecimal. A character is `c` and its number in
+//! upper-case hexadecimal; a byte that begins no character is `b` and its two digits. If the other ways to an
+//! answer don't give the same, `differs` is printed.
 //!
-//! A line that begins with `#` is a comment: it gets no answer and isn't counted. An empty line is no record.
+//! A line that begins with `#` is a comment: it gets no answer and isn't counted. An empty line isn't a
+//! record.
 //!
-//! The status is 0, or 1 where a record is malformed, 3 where the input can't be read or an answer can't be printed, and
-//! 4 where no memory is to be had. Each of the last three has one line on standard error, and the answers of the records
-//! before it are printed.
+//! The status is 0 on success, 1 if a record is malformed, 3 if the input can't be read or an answer can't be
+//! printed, and 4 if memory runs out. Each of the last three prints one line on standard error; the answers
+//! of the records before it are printed.
 #![tactic(auto)]
 
 use failure::Failure;

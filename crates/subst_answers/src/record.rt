@@ -1,7 +1,7 @@
-//! Records: what is asked.
+//! Records: a source, its variables, and how to fill them in.
 
-ghost use Rattle.std.specs.Prelude.{◌≡◌, IfOk, IfErr, IfSome};
-ghost use Rattle.subst_answers.specs.Record.{HoldPairs, IsNameOf, IsPairRead};
+ghost use Rattle.std.specs.Prelude.{◌≡◌, IfOk, IfErr};
+ghost use Rattle.subst_answers.specs.Record.{ArePairsRead, IsNameOf, IsPairRead};
 
 use crate::column::{cut, read_bytes};
 use std::alloc::{AllocError, AllocFailed, Global};
@@ -29,7 +29,7 @@ impl Kind {
 /// The variables of a record, each with its value.
 pub type Pairs = BTreeMap<String, Vec<u8>>;
 
-/// What is asked.
+/// A source and its variables, and how to fill them in.
 #[derive(Drop)]
 pub struct Record {
     /// How the source is filled in.
@@ -47,11 +47,16 @@ pub enum Column {
     Kind,
     /// The source.
     Source,
-    /// The variables, and what may follow them on the line.
+    /// The variables, and what comes after them on the line.
     Pairs,
 }
 
 impl fmt::Display for Column {
+    ghost use Rattle.std.specs.Prelude.{Some};
+    ghost use Rattle.subst_answers.specs.Record.{column_word};
+
+    ghost output = { λ column. Some (column_word column) };
+
     fn fmt<W: fmt::Write>(&self, f: &mut fmt::Formatter<W>) -> fmt::Result {
         match self {
             Column::Kind => write!(f, "kind"),
@@ -61,12 +66,12 @@ impl fmt::Display for Column {
     }
 }
 
-/// Why a line is not read as a record.
+/// Why a line isn't a record.
 #[derive(Clone, Copy, Debug, PartialEq, Eq)]
 pub enum RecordError {
-    /// A column is malformed, or the line has none.
+    /// A column is malformed or missing.
     Malformed(Column),
-    /// No memory was to be had.
+    /// Memory ran out.
     OutOfMemory(AllocError),
 }
 
@@ -87,19 +92,19 @@ impl Record {
     ///
     /// # Errors
     ///
-    /// The first column that is malformed, or want of memory.
+    /// The first column that is malformed, or out of memory.
     pub fn read(alloc: Global, line: &[u8]) -> Result<Record, RecordError>
         ensures ok { IfOk result (IsRecord line.now) }
         ensures err { IfErr result (IsRefused line.now) }
     {
-        let (kind, behind_kind) = cut(line, b'\t');
+        let (kind, after_kind) = cut(line, b'\t');
         let Some(kind) = Kind::named(kind) else {
             return Err(RecordError::Malformed(Column::Kind));
         };
-        let Some(behind_kind) = behind_kind else {
+        let Some(after_kind) = after_kind else {
             return Err(RecordError::Malformed(Column::Source));
         };
-        let (source, pairs) = cut(behind_kind, b'\t');
+        let (source, pairs) = cut(after_kind, b'\t');
         let Some(source) = read_bytes(alloc, source)? else {
             return Err(RecordError::Malformed(Column::Source));
         };
@@ -117,9 +122,9 @@ impl Record {
     }
 }
 
-/// The variables of a column, or nothing where it is malformed.
+/// The variables of a column, or `None` if it is malformed.
 fn read_pairs(alloc: Global, column: &[u8]) -> Result<Option<Pairs>, AllocError>
-    ensures { IfOk result (λ read. IfSome read (HoldPairs column.now)) }
+    ensures { IfOk result (ArePairsRead column.now) }
 {
     let mut pairs = BTreeMap::new(alloc);
     if column == b"-".as_slice() {
@@ -136,7 +141,7 @@ fn read_pairs(alloc: Global, column: &[u8]) -> Result<Option<Pairs>, AllocError>
     Ok(Some(pairs))
 }
 
-/// A name and its value, or nothing where they are malformed.
+/// A name and its value, or `None` if they are malformed.
 fn read_pair(alloc: Global, pair: &[u8]) -> Result<Option<(String, Vec<u8>)>, AllocError>
     ensures { IfOk result (IsPairRead pair.now) }
 {

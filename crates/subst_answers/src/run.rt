@@ -2,7 +2,7 @@
 
 ghost use Rattle.std.specs.Prelude.{◌≡◌, IfErr, IfOk, OnOk, string_bytes};
 ghost use Rattle.subst_answers.specs.Failure.{IsFailureAt};
-ghost use Rattle.subst_answers.specs.Run.{is_comment, IsAnswerBy, IsAnswered, Prints, ReadsLine};
+ghost use Rattle.subst_answers.specs.Printing.{is_comment, FailsBy, IsAnswerBy, IsAnswered, Prints, ReadsLine};
 
 use crate::answer::Answer;
 use crate::bytes;
@@ -16,14 +16,17 @@ use std::io::{BufRead, Write};
 ///
 /// # Errors
 ///
-/// The first record that is malformed, the first read or write that fails, or want of memory. The answers of the records
-/// before it are written.
+/// The first record that is malformed, the first read or write that fails, or out of memory. The answers of
+/// the records before it are written.
 pub fn answer_records<R: BufRead, W: Write>(
     alloc: Global,
     input: &mut R,
     output: &mut W,
 ) -> Result<(), Failure>
-    ensures { OnOk result (Prints (R.remaining input.old) (W.contents output.old) (W.contents output.new)) }
+    ensures ok { OnOk result
+        (Prints (R.remaining input.old) (W.contents output.old) (W.contents output.new)) }
+    ensures err { IfErr result
+        (FailsBy (R.remaining input.old) (W.contents output.old) (W.contents output.new)) }
 {
     let mut line = Vec::new(alloc);
     let mut number = 0;
@@ -41,9 +44,10 @@ pub fn answer_records<R: BufRead, W: Write>(
     Err(Failure::from(io::Error::other("too many lines")))
 }
 
-/// Reads a line, without the byte that ends it, and answers whether there was one.
+/// Reads a line, without the byte that ends it, and returns whether there was one.
 fn read_line<R: BufRead>(input: &mut R, line: &mut Vec<u8>) -> io::Result<bool>
-    ensures { IfOk result (λ read. ReadsLine read (R.remaining input.old) (R.remaining input.new) line.new.items) }
+    ensures { IfOk result
+        (λ read. ReadsLine read (R.remaining input.old) (R.remaining input.new) line.new.items) }
 {
     line.clear();
     if input.read_until(b'\n', line)? == 0 {
@@ -61,7 +65,7 @@ fn is_comment(line: &[u8]) -> bool
     line.first() == Some(&b'#')
 }
 
-/// The line that is printed for the record of a line, which is the record of this number.
+/// The line that is printed for a line's record, whose number is `number`.
 fn answer_line(alloc: Global, number: u64, line: &[u8]) -> Result<String, Failure>
     ensures ok { IfOk result (λ printed. IsAnswered line.now (string_bytes printed)) }
     ensures err { IfErr result (IsFailureAt number line.now) }

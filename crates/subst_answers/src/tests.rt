@@ -8,7 +8,7 @@ use std::io::{BufReader, Read, Write};
 use std::process::Abort;
 use std::test::Fail;
 
-/// What a run says at its end, with its status.
+/// The status of a run, and its message if it failed.
 fn said(alloc: Global, run: &Result<(), Failure>) -> Result<String, AllocError> {
     match run {
         Ok(()) => String::from_str(alloc, "0"),
@@ -16,7 +16,7 @@ fn said(alloc: Global, run: &Result<(), Failure>) -> Result<String, AllocError> 
     }
 }
 
-/// A run over `input` prints `printed`, and says `end` at its end.
+/// A run over `input` prints `printed`, and ends with the status and message `end`.
 fn expect(
     rt: &impl Abort,
     alloc: Global,
@@ -33,25 +33,28 @@ fn expect(
 }
 
 #[test]
-fn answers(rt: HostRuntime) -> Result<(), Fail> {
-    let rows = [
+fn each_record_gets_its_answer(rt: HostRuntime) -> Result<(), Fail> {
+    let rows: &[(&str, &str)] = &[
         ("", ""),
         ("bytes\t-\t-\n", "ok\t-\n"),
         ("bytes\t2461\t61=2d,62=-\n", "ok\t2d\n"),
         ("bytes\t2461\t-=31,61=-", "ok\t-\n"),
         (
             "bytes\t5c\t-\nbytes\t30\t-\n",
-            "fault\tInvalidEscapeSequence\t0\tnone\t-\t496e76616c6964206573636170652073657175656e63653a206d697373696e672065736361706520636861726163746572\nok\t30\n",
+            "fault\tInvalidEscapeSequence\t0\tnone\t-\t\
+             496e76616c6964206573636170652073657175656e63653a20\
+             6d697373696e672065736361706520636861726163746572\n\
+             ok\t30\n",
         ),
     ];
-    for (input, printed) in rows {
+    for &(input, printed) in rows {
         expect(&rt, rt.alloc(), input, printed, "0")?;
     }
     Ok(())
 }
 
 #[test]
-fn comments(rt: HostRuntime) -> Result<(), Fail> {
+fn comments_get_no_answer(rt: HostRuntime) -> Result<(), Fail> {
     let input = "# one\nbytes\t-\t-\n#\n#bytes\n";
     expect(&rt, rt.alloc(), input, "ok\t-\n", "0")?;
     let input = "# one\n#\n\n";
@@ -65,8 +68,9 @@ fn comments(rt: HostRuntime) -> Result<(), Fail> {
 }
 
 #[test]
-fn malformed_kinds(rt: HostRuntime) -> Result<(), Fail> {
-    for kind in ["", "byte", "Bytes", "bytes ", " bytes", "bytes\r", "-"] {
+fn malformed_kind_ends_the_run(rt: HostRuntime) -> Result<(), Fail> {
+    let kinds: &[&str] = &["", "byte", "Bytes", "bytes ", " bytes", "bytes\r", "-"];
+    for &kind in kinds {
         let input = format!(in rt.alloc(); "bytes\t30\t-\n{kind}\t-\t-\nbytes\t30\t-\n")?;
         let end = "1 record 2: malformed column kind";
         expect(&rt, rt.alloc(), input.as_str(), "ok\t30\n", end)?;
@@ -75,8 +79,9 @@ fn malformed_kinds(rt: HostRuntime) -> Result<(), Fail> {
 }
 
 #[test]
-fn malformed_sources(rt: HostRuntime) -> Result<(), Fail> {
-    for source in ["", "0", "2A", "2g", "--", " 24", "24 ", "é"] {
+fn malformed_source_ends_the_run(rt: HostRuntime) -> Result<(), Fail> {
+    let sources: &[&str] = &["", "0", "2A", "2g", "--", " 24", "24 ", "é"];
+    for &source in sources {
         let input = format!(in rt.alloc(); "bytes\t{source}\t-\n")?;
         let end = "1 record 1: malformed column source";
         expect(&rt, rt.alloc(), input.as_str(), "", end)?;
@@ -91,8 +96,8 @@ fn malformed_sources(rt: HostRuntime) -> Result<(), Fail> {
 }
 
 #[test]
-fn malformed_pairs(rt: HostRuntime) -> Result<(), Fail> {
-    let rows = [
+fn malformed_pairs_end_the_run(rt: HostRuntime) -> Result<(), Fail> {
+    let rows: &[&str] = &[
         "",
         "61",
         "61=",
@@ -107,7 +112,7 @@ fn malformed_pairs(rt: HostRuntime) -> Result<(), Fail> {
         "-\r",
         "61=4A",
     ];
-    for pairs in rows {
+    for &pairs in rows {
         let input = format!(in rt.alloc(); "bytes\t-\t{pairs}\n")?;
         let end = "1 record 1: malformed column pairs";
         expect(&rt, rt.alloc(), input.as_str(), "", end)?;
@@ -139,7 +144,7 @@ impl Read for Broken {
 }
 
 #[test]
-fn failed_read(rt: HostRuntime) -> Result<(), Fail> {
+fn failed_read_ends_the_run(rt: HostRuntime) -> Result<(), Fail> {
     let mut input = BufReader::new(rt.alloc(), Broken { is_read: false })?;
     let mut output = Vec::new(rt.alloc());
     let run = answer_records(rt.alloc(), &mut input, &mut output);
@@ -163,7 +168,7 @@ impl Write for Full {
 }
 
 #[test]
-fn failed_write(rt: HostRuntime) -> Result<(), Fail> {
+fn failed_write_ends_the_run(rt: HostRuntime) -> Result<(), Fail> {
     let mut input = b"bytes\t30\t-\n".as_slice();
     let run = answer_records(rt.alloc(), &mut input, &mut Full);
     assert_eq!(rt; said(rt.alloc(), &run)?.as_str(), "3 full");

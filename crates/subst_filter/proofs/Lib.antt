@@ -1,4 +1,4 @@
-pub mod AnswerLemmas
-pub mod RunLemmas
+pub mod DeviceLemmas
+pub mod FilterRunLemmas
+pub mod StatusLemmas
 pub mod WordLemmas
-pub mod WrittenLemmas

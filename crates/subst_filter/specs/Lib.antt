@@ -1,2 +1,4 @@
-pub mod Run
+pub mod Device
+pub mod FilterRun
+pub mod RunError
 pub mod Words

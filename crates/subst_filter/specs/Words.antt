@@ -1,14 +1,18 @@
--- The words of a command line, and the variables that they give.
+-- The words of a command line, and the look-up of the variables that they give.
 use Rattle.std.specs.Prelude.{ℕ, ◌==◌, Bool, false, ◌&&◌, List, [], ◌∷◌, reverse, find, codes, String, string_bytes}
 use Rattle.std.specs.Global.{Global}
 use Rattle.std.specs.List.{before_first, after_first, list_any, list_all}
 use Rattle.std.specs.Option.{option_map}
 use Rattle.std.specs.Str.{bytes_eq}
-use Rattle.subst.specs.Value.{LookUp}
+use Rattle.subst.specs.Language.LookUp.{LookUp}
 
--- `=`, which stands between a name and its value
+-- the byte `=`, which separates a name and its value
+abbrev pub equals_sign : ℕ
+equals_sign = 61
+
+-- the byte is `=`
 abbrev pub is_equals_sign : ℕ → Bool
-is_equals_sign b = b == 61
+is_equals_sign b = b == equals_sign
 
 -- the word has the form NAME=VALUE
 abbrev pub is_pair : List ℕ → Bool
@@ -18,7 +22,7 @@ is_pair word = list_any is_equals_sign word
 abbrev pub name_in : List ℕ → List ℕ
 name_in word = before_first is_equals_sign word
 
--- the value: the bytes behind it
+-- the value of such a word: its bytes after the first `=`
 abbrev pub value_in : List ℕ → List ℕ
 value_in word = after_first is_equals_sign word
 
@@ -26,12 +30,14 @@ value_in word = after_first is_equals_sign word
 abbrev pub gives_value_to : List ℕ → List ℕ → Bool
 gives_value_to name word = is_pair word && bytes_eq name (name_in word)
 
--- the value that these words give to each name: the last of them that gives it one counts
+-- the value that these words give to each name: that of the last word that gives it one
 abbrev pub look_up_in : List (String Global) → LookUp
 look_up_in words name =
-    option_map (λ word. value_in (string_bytes word)) (find (λ word. gives_value_to name (string_bytes word)) (reverse words))
+    option_map (λ word. value_in (string_bytes word))
+    (find (λ word. gives_value_to name (string_bytes word)) (reverse words))
 
--- the words say what to do: `bytes`, and then words of the form NAME=VALUE
+-- the words say what to do: the first is `bytes`, and each other has the form NAME=VALUE
 abbrev pub are_right : List (String Global) → Bool
 are_right [] = false
-are_right (first ∷ pairs) = bytes_eq (string_bytes first) (codes "bytes") && list_all (λ word. is_pair (string_bytes word)) pairs
+are_right (first ∷ pairs) =
+    bytes_eq (string_bytes first) (codes "bytes") && list_all (λ word. is_pair (string_bytes word)) pairs

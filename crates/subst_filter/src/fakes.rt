@@ -1,12 +1,13 @@
-//! A reader and a writer that give and take a byte a call and fail at one call, counted from 0.
+//! A reader and a writer that move one byte per call and fail from a given call on, counted from 0, and a
+//! writer that takes nothing.
 
 use std::io;
 use std::io::{ErrorKind, Read, Write};
 
-/// No call fails.
+/// The number of the failing call of a reader or a writer that never fails.
 pub const NEVER: usize = usize::MAX;
 
-/// A reader of these bytes.
+/// A reader of the bytes that it is given.
 #[derive(Drop)]
 pub struct Trickle<'a> {
     rest: &'a [u8],
@@ -14,6 +15,7 @@ pub struct Trickle<'a> {
 }
 
 impl<'a> Trickle<'a> {
+    /// A reader whose call number `fault`, and each later one, fails.
     pub fn new(bytes: &'a [u8], fault: usize) -> Self {
         Trickle {
             rest: bytes,
@@ -40,7 +42,7 @@ impl Read for Trickle<'_> {
     }
 }
 
-/// A writer that keeps what it took, and counts the bytes that it has passed on.
+/// A writer that keeps the bytes that were written, and counts those that were flushed.
 #[derive(Drop)]
 pub struct Drip {
     pub taken: Vec<u8>,
@@ -49,6 +51,7 @@ pub struct Drip {
 }
 
 impl Drip {
+    /// A writer that adds to `taken`, and whose call number `fault`, and each later one, fails.
     pub fn new(taken: Vec<u8>, fault: usize) -> Self {
         Drip {
             taken,
@@ -57,6 +60,7 @@ impl Drip {
         }
     }
 
+    /// Counts a call, of `write` or of `flush`, or fails it.
     fn count_call(&mut self) -> io::Result<()> {
         if self.calls_to_fault == 0 {
             return Err(io::Error::from(ErrorKind::BrokenPipe));

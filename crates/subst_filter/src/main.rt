@@ -1,23 +1,27 @@
 //! Fills in shell-like variables from standard input to standard output.
 //!
-//! `subst_filter bytes NAME=VALUE ..` copies its input and puts the values in the place of the names.
+//! `subst_filter bytes NAME=VALUE ..` copies its input, with each variable replaced by its value.
+//!
+//! The statuses are those of the module `status`.
 #![tactic(auto)]
 
 ghost use Rattle.std.specs.Prelude.{◌≡◌, ◌≢◌};
 ghost use Rattle.std.specs.IoError.{error_kind};
 
-mod devices;
+mod device;
 mod engine;
 #[cfg(test)]
 mod fakes;
 mod program;
 #[cfg(test)]
 mod refused_memory;
+mod run_error;
+mod status;
 mod words;
 
-use devices::{FromReader, ToWriter};
-use engine::RunError;
+use device::standard::{FromReader, ToWriter};
 use program::{end_with, run_program};
+use run_error::RunError;
 use std::io::ErrorKind;
 use std::process::ExitCode;
 use std::{env, io};
@@ -43,13 +47,13 @@ fn main(rt: HostRuntime) -> ExitCode {
     ExitCode::from(status)
 }
 
-/// The words behind the program's name.
+/// The words after the program's name.
 fn words_of(rt: &HostRuntime) -> io::Result<Vec<String>> {
     let words = env::args(rt)?.skip(1).collect(rt.alloc())?;
     Ok(words)
 }
 
-/// What the program ends with where it can't read its words.
+/// The error that the program ends with if it can't read its words.
 fn fault(e: &io::Error) -> RunError
     ensures memory { error_kind e.now ≡ ErrorKind.OutOfMemory → result ≡ RunError.OutOfMemory }
     ensures other { error_kind e.now ≢ ErrorKind.OutOfMemory → result ≡ RunError.Read }

@@ -1,14 +1,16 @@
-//! Want of memory. `tools/refuse-memory.sh` runs each of these tests again and again, and refuses one request for
-//! memory in each run: the first, then the second, and so on until a run meets no refusal.
+//! Runs in which memory runs out. `tools/refuse-memory.sh` runs each of these tests many times and makes one
+//! allocation fail in each: the first, then the second, and so on until a run has none left to fail.
 //!
-//! A run meets one refusal at most, so what is asked for twice is there. Where its call answers want of memory, a test
-//! says so on a line, sees that nothing was written, and asks again over the same source. Without a refusal it says
-//! nothing.
+//! At most one allocation fails in a run, so what is asked for a second time is always given. If the call
+//! under test returns out of memory, the test prints a line, checks that nothing was written, and calls again
+//! over the same source. If no allocation fails, it prints nothing.
 
-use crate::devices::{FromReader, ToWriter};
-use crate::engine::{RunError, run_bytes};
+use crate::device::standard::{FromReader, ToWriter};
+use crate::engine::run_bytes;
 use crate::fakes::{Drip, NEVER, Trickle};
 use crate::program::run_program;
+use crate::run_error::RunError;
+use crate::status::{DONE, OUT_OF_MEMORY};
 use std::alloc::{AllocError, Global};
 use std::collections::BTreeMap;
 use std::io::Print;
@@ -16,43 +18,43 @@ use std::process::Abort;
 use std::test::Fail;
 use subst::Error;
 
-/// A default in a default, escapes, and a variable.
+/// A sentence with a default in a default, escapes, and a variable.
 const SENTENCE: &[u8] = b"Hi ${hi:\\{${who:you}\\}} and $name!";
 
-/// What it gives.
+/// The bytes that it gives.
 const GIVEN: &[u8] = b"Hi {you} and the whole round world with all that is in it!";
 
-/// A sentence that needs a variable which isn't there.
-const LACKING: &[u8] = b"Hi ${hi:$name and ${who:$absent}}!";
+/// A sentence that needs a variable which is missing.
+const MISSING: &[u8] = b"Hi ${hi:$name and ${who:$absent}}!";
 
-/// The place of that variable's name.
-const LACK: usize = 25;
+/// The byte offset of that variable's name.
+const MISSING_POSITION: usize = 25;
 
 /// A source with a bad escape in its inner default.
-const REFUSED: &[u8] = b"Hi ${hi:$name and ${who:\\!}}!";
+const BAD_ESCAPE: &[u8] = b"Hi ${hi:$name and ${who:\\!}}!";
 
-/// The place of that escape.
-const BAD_ESCAPE: usize = 24;
+/// The byte offset of that escape.
+const BAD_ESCAPE_POSITION: usize = 24;
 
 /// The value of `name`, longer than each source.
 const VALUE: &[u8] = b"the whole round world with all that is in it";
 
-/// Room for all that is written.
+/// How many bytes a writer has room for: more than any test writes.
 const ROOM: usize = 128;
 
-fn ask_for_variables(alloc: Global) -> Result<BTreeMap<String, Vec<u8>>, AllocError> {
+fn try_variables(alloc: Global) -> Result<BTreeMap<String, Vec<u8>>, AllocError> {
     let mut variables = BTreeMap::new(alloc);
     let name = String::from_str(alloc, "name")?;
     variables.insert(name, Vec::from_slice(alloc, VALUE)?)?;
     Ok(variables)
 }
 
-/// The variables, asked for again where they are refused.
+/// The variables. If an allocation fails, they are made again.
 fn variables(alloc: Global) -> Result<BTreeMap<String, Vec<u8>>, AllocError> {
-    ask_for_variables(alloc).or_else(|_| ask_for_variables(alloc))
+    try_variables(alloc).or_else(|_| try_variables(alloc))
 }
 
-fn ask_for_words(alloc: Global) -> Result<Vec<String>, AllocError> {
+fn try_words(alloc: Global) -> Result<Vec<String>, AllocError> {
     let mut words = Vec::new(alloc);
     for word in ["bytes", "name=world"] {
         words.push(String::from_str(alloc, word)?)?;
@@ -60,29 +62,29 @@ fn ask_for_words(alloc: Global) -> Result<Vec<String>, AllocError> {
     Ok(words)
 }
 
-/// The words, asked for again where they are refused.
+/// The words. If an allocation fails, they are made again.
 fn words(alloc: Global) -> Result<Vec<String>, AllocError> {
-    ask_for_words(alloc).or_else(|_| ask_for_words(alloc))
+    try_words(alloc).or_else(|_| try_words(alloc))
 }
 
-/// A writer with room for all that it takes, asked for again where that is refused.
+/// A writer that allocates no more when it is written to. If its own allocation fails, it is made again.
 fn drip(alloc: Global) -> Result<Drip, AllocError> {
     let room = Vec::with_capacity(alloc, ROOM).or_else(|_| Vec::with_capacity(alloc, ROOM))?;
     Ok(Drip::new(room, NEVER))
 }
 
-/// Whether the variables are those that were asked for.
-fn are_as_before(variables: &BTreeMap<String, Vec<u8>>) -> bool {
+/// Whether the variables are still those of `try_variables`.
+fn are_unchanged(variables: &BTreeMap<String, Vec<u8>>) -> bool {
     let value = variables.get("name");
     variables.len() == 1 && value.is_some_and(|value| value.as_slice() == VALUE)
 }
 
-/// What a test says of want of memory.
-fn say_want(rt: &impl Print) {
-    let _ = rt.println("want of memory");
+/// Prints the line that `tools/refuse-memory.sh` looks for.
+fn print_out_of_memory(rt: &impl Print) {
+    let _ = rt.println("out of memory");
 }
 
-/// A run over a source that is read a byte a call.
+/// A run over a source that is read one byte per call.
 fn run(
     alloc: Global,
     source: &[u8],
@@ -94,7 +96,7 @@ fn run(
     run_bytes(alloc, &mut input, &mut output, variables)
 }
 
-/// Such a run, asked for again where memory is wanting.
+/// Such a run, and another one if memory runs out in it.
 fn run_again(
     alloc: Global,
     rt: &(impl Print + Abort),
@@ -104,55 +106,55 @@ fn run_again(
 ) -> Result<(), RunError> {
     match run(alloc, source, drip, variables) {
         Err(RunError::OutOfMemory) => {
-            say_want(rt);
+            print_out_of_memory(rt);
             assert!(rt; drip.taken.is_empty());
-            assert!(rt; are_as_before(variables));
+            assert!(rt; are_unchanged(variables));
             run(alloc, source, drip, variables)
         }
-        answer => answer,
+        result => result,
     }
 }
 
 #[test]
-fn run_bytes_of_a_sentence(rt: HostRuntime) -> Result<(), Fail> {
+fn run_bytes_over_a_sentence(rt: HostRuntime) -> Result<(), Fail> {
     let variables = variables(rt.alloc())?;
     let mut drip = drip(rt.alloc())?;
     let result = run_again(rt.alloc(), &rt, SENTENCE, &mut drip, &variables);
     assert!(rt; result.is_ok());
     assert_eq!(rt; drip.taken.as_slice(), GIVEN);
     assert_eq!(rt; drip.passed_on, GIVEN.len());
-    assert!(rt; are_as_before(&variables));
+    assert!(rt; are_unchanged(&variables));
     Ok(())
 }
 
 #[test]
-fn run_bytes_of_a_lack(rt: HostRuntime) -> Result<(), Fail> {
+fn run_bytes_over_a_missing_variable(rt: HostRuntime) -> Result<(), Fail> {
     let variables = variables(rt.alloc())?;
     let mut drip = drip(rt.alloc())?;
-    let result = run_again(rt.alloc(), &rt, LACKING, &mut drip, &variables);
-    let Err(RunError::Subst(Error::NoSuchVariable(lack), _)) = &result else {
-        return Err("another answer".into());
+    let result = run_again(rt.alloc(), &rt, MISSING, &mut drip, &variables);
+    let Err(RunError::Subst(Error::NoSuchVariable(missing), _)) = &result else {
+        return Err("another result".into());
     };
-    assert_eq!(rt; lack.position, LACK);
-    assert_eq!(rt; lack.name.as_str(), "absent");
+    assert_eq!(rt; missing.position, MISSING_POSITION);
+    assert_eq!(rt; missing.name.as_str(), "absent");
     assert!(rt; drip.taken.is_empty());
     Ok(())
 }
 
 #[test]
-fn run_bytes_of_a_refused_source(rt: HostRuntime) -> Result<(), Fail> {
+fn run_bytes_over_a_bad_escape(rt: HostRuntime) -> Result<(), Fail> {
     let variables = variables(rt.alloc())?;
     let mut drip = drip(rt.alloc())?;
-    let result = run_again(rt.alloc(), &rt, REFUSED, &mut drip, &variables);
+    let result = run_again(rt.alloc(), &rt, BAD_ESCAPE, &mut drip, &variables);
     let Err(RunError::Subst(Error::InvalidEscapeSequence(fault), _)) = &result else {
-        return Err("another answer".into());
+        return Err("another result".into());
     };
-    assert_eq!(rt; fault.position, BAD_ESCAPE);
+    assert_eq!(rt; fault.position, BAD_ESCAPE_POSITION);
     assert!(rt; drip.taken.is_empty());
     Ok(())
 }
 
-/// The program over these words and `Hello $name!`, which is read a byte a call.
+/// The program with these words over `Hello $name!`, which is read one byte per call.
 fn greet(alloc: Global, words: &[String], output: &mut Drip, errors: &mut Drip) -> u8 {
     run_program(
         alloc,
@@ -165,20 +167,20 @@ fn greet(alloc: Global, words: &[String], output: &mut Drip, errors: &mut Drip) 
 }
 
 #[test]
-fn run_program_on_a_sentence(rt: HostRuntime) -> Result<(), Fail> {
+fn run_program_over_a_sentence(rt: HostRuntime) -> Result<(), Fail> {
     let words = words(rt.alloc())?;
     let mut output = drip(rt.alloc())?;
     let mut errors = drip(rt.alloc())?;
     let mut status = greet(rt.alloc(), &words, &mut output, &mut errors);
-    if status == 4 {
-        say_want(&rt);
-        let said = errors.taken.as_slice();
+    if status == OUT_OF_MEMORY {
+        print_out_of_memory(&rt);
+        let printed = errors.taken.as_slice();
         assert!(rt; output.taken.is_empty());
-        assert_eq!(rt; said, b"subst: out of memory\n".as_slice());
+        assert_eq!(rt; printed, b"subst: out of memory\n".as_slice());
         errors = drip(rt.alloc())?;
         status = greet(rt.alloc(), &words, &mut output, &mut errors);
     }
-    assert_eq!(rt; status, 0);
+    assert_eq!(rt; status, DONE);
     assert_eq!(rt; output.taken.as_slice(), b"Hello world!".as_slice());
     assert!(rt; errors.taken.is_empty());
     Ok(())

@@ -1,4 +1,4 @@
-//! The words of a command line, and the variables that they give.
+//! The words of the command line, and the variables that they give.
 
 ghost use Rattle.std.specs.Prelude.{◌≡◌, ℕ, List, drop, IfSome, IsTrue, is_some, string_bytes};
 ghost use Rattle.std.specs.List.{list_all};
@@ -9,9 +9,10 @@ use subst::VariableMap;
 #[cfg(test)]
 mod tests;
 
-/// Words of the form NAME=VALUE as variables. Of the words of one name the last counts.
+/// Words of the form NAME=VALUE as a map of variables. Where words have the same name, the last one gives its
+/// value.
 ///
-/// A word whose name is no name of a variable is kept, and never asked for.
+/// A NAME may be any text, also one that no placeholder can have.
 #[derive(Clone, Copy)]
 pub struct Words<'a> {
     words: &'a [String],
@@ -38,10 +39,12 @@ impl<'a> VariableMap<'a> for Words<'a> {
     }
 }
 
-/// The words as variables, where they are `bytes` and then words of the form NAME=VALUE.
+/// The variables that the words after the program's name give, or `None` unless the first word is `bytes` and
+/// each other has the form NAME=VALUE.
 pub fn variables(words: &[String]) -> Option<Words<'_>>
     ensures form { is_some result ≡ are_right words.now }
-    ensures pairs { IfSome result (λ it. ⟦<Words<'static> as VariableMap<'static>>⟧.look_up it ≡ look_up_in (drop 1 words.now)) }
+    ensures pairs { IfSome result (λ it.
+        ⟦<Words<'static> as VariableMap<'static>>⟧.look_up it ≡ look_up_in (drop 1 words.now)) }
 {
     match words {
         [first, pairs @ ..] if first.as_str() == "bytes" && are_pairs(pairs) => {
@@ -58,7 +61,7 @@ fn are_pairs(words: &[String]) -> bool
     words.iter().all(|word| pair(word.as_str()).is_some())
 }
 
-/// Whether the word gives a value to this name.
+/// Whether the word has the form NAME=VALUE with this name.
 fn gives_value_to(name: &str, word: &str) -> bool
     ensures { result ≡ gives_value_to name.now word.now }
 {
@@ -68,7 +71,7 @@ fn gives_value_to(name: &str, word: &str) -> bool
     }
 }
 
-/// The value that the word gives.
+/// The value of a word of the form NAME=VALUE.
 fn value(word: &str) -> &[u8]
     requires { IsTrue (is_pair word.now) }
     ensures { result.now ≡ value_in word.now }
@@ -79,10 +82,12 @@ fn value(word: &str) -> &[u8]
     }
 }
 
-/// The name and the value of a word of the form NAME=VALUE, which is cut at its first `=`.
+/// The name and the value of a word of the form NAME=VALUE, which is split at its first `=`, or `None` if it
+/// has none.
 fn pair(word: &str) -> Option<(&str, &str)>
     ensures form { is_some result ≡ is_pair word.now }
-    ensures parts { IfSome result (λ p. (p.0.now ≡ name_in word.now) × (p.1.now ≡ value_in word.now)) }
+    ensures parts { IfSome result (λ p. (p.0.now ≡ name_in word.now)
+        × (p.1.now ≡ value_in word.now)) }
 {
     word.split_once('=')
 }

@@ -1,7 +1,7 @@
-//! Defaults in one another, and braces in one another, a hundred thousand deep.
+//! Nested defaults and nested braces, a hundred thousand deep.
 
-use crate::rows::Told::{self, BadEscape, Gives, Unclosed};
-use crate::rows::{Map, by_template, tell};
+use crate::rows::Answer::{self, BadEscape, Gives, Unclosed};
+use crate::rows::{Map, answer_of, by_template};
 use std::alloc::Global;
 use std::collections::BTreeMap;
 use std::process::Abort;
@@ -9,10 +9,10 @@ use std::test::Fail;
 use subst::error::CharOrByte::Char;
 use subst::substitute_bytes;
 
-/// A text, so many times.
+/// A text, repeated so many times.
 type Part<'a> = (usize, &'a [u8]);
 
-/// The parts in a row.
+/// The parts, concatenated.
 fn repeated(alloc: Global, parts: &[Part<'_>]) -> Result<Vec<u8>, Fail> {
     let mut all = Vec::new(alloc);
     for (count, text) in parts {
@@ -23,24 +23,24 @@ fn repeated(alloc: Global, parts: &[Part<'_>]) -> Result<Vec<u8>, Fail> {
     Ok(all)
 }
 
-/// Both ways answer `want`, with no variables.
+/// Both ways return `want`, with no variables.
 fn expect_repeated(
     rt: &impl Abort,
     alloc: Global,
     parts: &[Part<'_>],
-    want: &Told<'_>,
+    want: &Answer<'_>,
 ) -> Result<(), Fail> {
     let source = repeated(alloc, parts)?;
     let map: Map = BTreeMap::new(alloc);
     let whole = substitute_bytes(alloc, source.as_slice(), &map);
-    assert!(rt; tell(&whole) == *want, "{parts:?} at once");
+    assert!(rt; answer_of(&whole) == *want, "{parts:?} at once");
     let parsed = by_template(alloc, source.as_slice(), &map);
-    assert!(rt; tell(&parsed) == *want, "{parts:?} by a template");
+    assert!(rt; answer_of(&parsed) == *want, "{parts:?} by a template");
     Ok(())
 }
 
 #[test]
-fn defaults(rt: HostRuntime) -> Result<(), Fail> {
+fn deep_defaults_are_filled_in(rt: HostRuntime) -> Result<(), Fail> {
     let opened: Part<'_> = (100_000, b"${a:");
     let closed: Part<'_> = (100_000, b"}");
     let one_fewer: Part<'_> = (99_999, b"}");
@@ -49,7 +49,7 @@ fn defaults(rt: HostRuntime) -> Result<(), Fail> {
 }
 
 #[test]
-fn a_fault_in_defaults(rt: HostRuntime) -> Result<(), Fail> {
+fn fault_in_deep_defaults_is_found(rt: HostRuntime) -> Result<(), Fail> {
     let opened: Part<'_> = (100_000, b"${a:");
     let escape: Part<'_> = (1, b"\\x");
     let closed: Part<'_> = (100_000, b"}");
@@ -60,12 +60,12 @@ fn a_fault_in_defaults(rt: HostRuntime) -> Result<(), Fail> {
 }
 
 #[test]
-fn many_unclosed_defaults(rt: HostRuntime) -> Result<(), Fail> {
+fn outermost_of_many_unclosed_defaults_is_the_fault(rt: HostRuntime) -> Result<(), Fail> {
     expect_repeated(&rt, rt.alloc(), &[(100_000, b"${a:\\x")], &Unclosed(1))
 }
 
 #[test]
-fn braces(rt: HostRuntime) -> Result<(), Fail> {
+fn deep_braces_are_literal_in_a_default(rt: HostRuntime) -> Result<(), Fail> {
     let opened: Part<'_> = (100_000, b"{");
     let closed: Part<'_> = (100_000, b"}");
     let braces = repeated(rt.alloc(), &[opened, closed])?;

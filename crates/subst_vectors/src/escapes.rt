@@ -1,17 +1,17 @@
-//! Backslashes.
+//! Escapes.
 
-use crate::rows::Told::{BadEscape, Gives};
+use crate::rows::Answer::{BadEscape, Gives};
 use crate::rows::{expect, expect_fault, fault_text};
 use std::test::Fail;
 use subst::error::CharOrByte::Char;
 
 #[test]
-fn special_bytes(rt: HostRuntime) -> Result<(), Fail> {
-    let rows: [(&[u8], &[u8]); 2] = [
+fn escaped_special_bytes_are_literal(rt: HostRuntime) -> Result<(), Fail> {
+    let rows: &[(&[u8], &[u8])] = &[
         (b"\\\\\\$\\{\\}\\:", b"\\${}:"),
         (b"a\\$b\\{c\\}\\:\\\\", b"a$b{c}:\\"),
     ];
-    for (source, want) in rows {
+    for &(source, want) in rows {
         for pairs in ["", "a=1", "b=x,c=y"] {
             expect(&rt, rt.alloc(), source, pairs, &Gives(want))?;
         }
@@ -20,23 +20,23 @@ fn special_bytes(rt: HostRuntime) -> Result<(), Fail> {
 }
 
 #[test]
-fn in_a_default(rt: HostRuntime) -> Result<(), Fail> {
-    let rows: [(&[u8], &[u8]); 5] = [
+fn escaped_bytes_in_a_default_are_literal(rt: HostRuntime) -> Result<(), Fail> {
+    let rows: &[(&[u8], &[u8])] = &[
         (b"${a:\\}}", b"}"),
         (b"${a:\\{}foo", b"{foo"),
         (b"foo${a:\\}}bar", b"foo}bar"),
         (b"${a:\\\\}", b"\\"),
         (b"${z:a\\$b\\{c\\}\\:\\\\}", b"a$b{c}:\\"),
     ];
-    for (source, want) in rows {
+    for &(source, want) in rows {
         expect(&rt, rt.alloc(), source, "", &Gives(want))?;
     }
     Ok(())
 }
 
 #[test]
-fn of_others(rt: HostRuntime) -> Result<(), Fail> {
-    let rows: [(&[u8], usize, char); 5] = [
+fn escape_of_another_byte_is_refused(rt: HostRuntime) -> Result<(), Fail> {
+    let rows: &[(&[u8], usize, char)] = &[
         (b"\\y", 0, 'y'),
         (b"\\hello", 0, 'h'),
         (b"x\\\ny", 1, '\n'),
@@ -47,7 +47,7 @@ fn of_others(rt: HostRuntime) -> Result<(), Fail> {
             '\u{FF08}',
         ),
     ];
-    for (source, position, character) in rows {
+    for &(source, position, character) in rows {
         let want = BadEscape(position, Some(Char(character)));
         expect_fault(&rt, rt.alloc(), source, &want)?;
     }
@@ -55,17 +55,17 @@ fn of_others(rt: HostRuntime) -> Result<(), Fail> {
 }
 
 #[test]
-fn at_the_end(rt: HostRuntime) -> Result<(), Fail> {
-    let rows: [(&[u8], usize); 2] = [(b"\\", 0), (b"Hello world!\\", 12)];
-    for (source, position) in rows {
+fn backslash_at_the_end_is_refused(rt: HostRuntime) -> Result<(), Fail> {
+    let rows: &[(&[u8], usize)] = &[(b"\\", 0), (b"Hello world!\\", 12)];
+    for &(source, position) in rows {
         expect_fault(&rt, rt.alloc(), source, &BadEscape(position, None))?;
     }
     Ok(())
 }
 
 #[test]
-fn texts(rt: HostRuntime) -> Result<(), Fail> {
-    let rows: [(&[u8], &str); 4] = [
+fn bad_escapes_are_described(rt: HostRuntime) -> Result<(), Fail> {
+    let rows: &[(&[u8], &str)] = &[
         (b"Hello \\world!", "Invalid escape sequence: \\w"),
         (b"${a:\\x}", "Invalid escape sequence: \\x"),
         (b"\\\n", "Invalid escape sequence: \\\n"),
@@ -74,7 +74,7 @@ fn texts(rt: HostRuntime) -> Result<(), Fail> {
             "Invalid escape sequence: missing escape character",
         ),
     ];
-    for (source, want) in rows {
+    for &(source, want) in rows {
         let text = fault_text(rt.alloc(), source)?;
         assert_eq!(rt; text.as_str(), want, "{source:?}");
     }

@@ -1,13 +1,13 @@
-//! Bytes that stand for themselves.
+//! Literal bytes.
 
-use crate::rows::Told::{Gives, NoName};
+use crate::rows::Answer::{Gives, NoName};
 use crate::rows::{expect, expect_fault};
 use std::test::Fail;
 
 #[test]
-fn stay(rt: HostRuntime) -> Result<(), Fail> {
-    let rows: [&[u8]; 2] = [b"", b"}{:"];
-    for source in rows {
+fn bytes_without_dollar_or_backslash_stay(rt: HostRuntime) -> Result<(), Fail> {
+    let rows: &[&[u8]] = &[b"", b"}{:"];
+    for &source in rows {
         for pairs in ["", "a=1", "c=}"] {
             expect(&rt, rt.alloc(), source, pairs, &Gives(source))?;
         }
@@ -16,7 +16,7 @@ fn stay(rt: HostRuntime) -> Result<(), Fail> {
 }
 
 #[test]
-fn every_byte_but_two(rt: HostRuntime) -> Result<(), Fail> {
+fn every_byte_but_dollar_and_backslash_stays(rt: HostRuntime) -> Result<(), Fail> {
     let mut plain = Vec::new(rt.alloc());
     for byte in 0..=u8::MAX {
         if byte != b'$' && byte != b'\\' {
@@ -29,7 +29,7 @@ fn every_byte_but_two(rt: HostRuntime) -> Result<(), Fail> {
 }
 
 #[test]
-fn every_byte_in_order(rt: HostRuntime) -> Result<(), Fail> {
+fn first_dollar_among_all_bytes_is_refused(rt: HostRuntime) -> Result<(), Fail> {
     let mut all = Vec::new(rt.alloc());
     for byte in 0..=u8::MAX {
         all.push(byte)?;

@@ -1,34 +1,36 @@
-//! Rows: what is answered for a source and its variables, both ways.
+//! Rows: the answer of a source and its variables, by each way to it.
 
-use Told::{Absent, BadEscape, Gives, NoMemory, NoName, Unclosed, Unexpected};
+use Answer::{Absent, BadEscape, Gives, NoName, OutOfMemory, Unclosed, Unexpected};
 use std::alloc::Global;
 use std::collections::BTreeMap;
 use std::process::Abort;
 use std::test::Fail;
 use subst::error::CharOrByte;
+use subst::steps::{Reads, Turns};
 use subst::{ByteTemplate, Error, substitute_bytes};
 
-/// What was answered: bytes, or a fault with its fields but the words for what was expected.
+/// An answer: bytes, or a fault with its fields except the words for what was expected.
 #[derive(Clone, Copy, Debug, PartialEq)]
-pub enum Told<'a> {
+pub enum Answer<'a> {
     Gives(&'a [u8]),
     BadEscape(usize, Option<CharOrByte>),
     NoName(usize, usize),
     Unexpected(usize, CharOrByte),
     Unclosed(usize),
     Absent(usize, &'a str),
-    NoMemory,
+    OutOfMemory,
 }
 
-pub fn tell(answer: &Result<Vec<u8>, Error>) -> Told<'_> {
-    match answer {
+/// The answer that a result states.
+pub fn answer_of(filled: &Result<Vec<u8>, Error>) -> Answer<'_> {
+    match filled {
         Ok(bytes) => Gives(bytes.as_slice()),
         Err(Error::InvalidEscapeSequence(e)) => BadEscape(e.position, e.character),
         Err(Error::MissingVariableName(e)) => NoName(e.position, e.len),
         Err(Error::UnexpectedCharacter(e)) => Unexpected(e.position, e.character),
         Err(Error::MissingClosingBrace(e)) => Unclosed(e.position),
         Err(Error::NoSuchVariable(e)) => Absent(e.position, e.name.as_str()),
-        Err(Error::OutOfMemory(_)) => NoMemory,
+        Err(Error::OutOfMemory(_)) => OutOfMemory,
     }
 }
 
@@ -46,34 +48,42 @@ pub fn map_of(alloc: Global, pairs: &str) -> Result<Map, Fail> {
     Ok(map)
 }
 
-/// The answer of a template, which is parsed first and expanded then.
+/// The result of parsing a template and then expanding it.
 pub fn by_template(alloc: Global, source: &[u8], map: &Map) -> Result<Vec<u8>, Error> {
     let template = ByteTemplate::from_slice(alloc, source)?;
     Ok(template.expand(alloc, map)?)
 }
 
-/// Both ways answer `want`.
+/// The same by the calls that count.
+fn by_counted_calls(alloc: Global, source: &[u8], map: &Map) -> Result<Vec<u8>, Error> {
+    let template = ByteTemplate::from_slice_counted(alloc, source, &mut Reads::new())?;
+    Ok(template.expand_counted(alloc, map, &mut Turns::new())?)
+}
+
+/// Each way returns `want`.
 pub fn expect(
     rt: &impl Abort,
     alloc: Global,
     source: &[u8],
     pairs: &str,
-    want: &Told<'_>,
+    want: &Answer<'_>,
 ) -> Result<(), Fail> {
     let map = map_of(alloc, pairs)?;
     let whole = substitute_bytes(alloc, source, &map);
-    assert_eq!(rt; &tell(&whole), want, "{source:?} at once");
+    assert_eq!(rt; &answer_of(&whole), want, "{source:?} at once");
     let parsed = by_template(alloc, source, &map);
-    assert_eq!(rt; &tell(&parsed), want, "{source:?} by a template");
+    assert_eq!(rt; &answer_of(&parsed), want, "{source:?} by a template");
+    let counted = by_counted_calls(alloc, source, &map);
+    assert_eq!(rt; &answer_of(&counted), want, "{source:?} by counted calls");
     Ok(())
 }
 
-/// Both ways answer `want`, with some variables and with none.
+/// Each way returns `want`, with some variables and with none.
 pub fn expect_fault(
     rt: &impl Abort,
     alloc: Global,
     source: &[u8],
-    want: &Told<'_>,
+    want: &Answer<'_>,
 ) -> Result<(), Fail> {
     expect(rt, alloc, source, "", want)?;
     expect(rt, alloc, source, "a=1,x=}", want)

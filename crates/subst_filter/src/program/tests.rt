@@ -1,14 +1,14 @@
 use super::*;
-use crate::devices::{FromReader, ToWriter};
+use crate::device::standard::{FromReader, ToWriter};
 use crate::fakes::{Drip, NEVER, Trickle};
 use std::alloc::AllocError;
 use std::test::Fail;
 use subst::error::{Error, MissingVariableName};
 
-/// What wrong words are answered with.
+/// What is printed for wrong words.
 const USAGE_LINE: &[u8] = b"usage: subst_filter bytes|text|env [NAME=VALUE]...\n";
 
-/// How a run ended, and what it wrote.
+/// How the program ended, and what it wrote.
 #[derive(Drop)]
 struct End {
     status: u8,
@@ -16,7 +16,7 @@ struct End {
     errors: Vec<u8>,
 }
 
-/// Runs the program with these words over `source`. The input fails at call `fault`.
+/// Runs the program with the words of `line` over `source`. The read number `fault` fails.
 fn run(alloc: Global, line: &str, source: &[u8], fault: usize) -> Result<End, AllocError> {
     let mut words = Vec::new(alloc);
     for word in line.split_whitespace() {
@@ -40,8 +40,9 @@ fn run(alloc: Global, line: &str, source: &[u8], fault: usize) -> Result<End, Al
 }
 
 #[test]
-fn wrong_words(rt: HostRuntime) -> Result<(), Fail> {
-    for line in ["", "text", "env", "text a=1", "bytes name"] {
+fn wrong_words_print_the_usage_line(rt: HostRuntime) -> Result<(), Fail> {
+    let lines: &[&str] = &["", "text", "env", "text a=1", "bytes name"];
+    for &line in lines {
         let end = run(rt.alloc(), line, b"a", NEVER)?;
         assert_eq!(rt; end.status, 2, "at {line}");
         assert!(rt; end.output.is_empty(), "at {line}");
@@ -51,7 +52,7 @@ fn wrong_words(rt: HostRuntime) -> Result<(), Fail> {
 }
 
 #[test]
-fn a_failing_reader(rt: HostRuntime) -> Result<(), Fail> {
+fn failed_read_is_printed(rt: HostRuntime) -> Result<(), Fail> {
     let end = run(rt.alloc(), "bytes", b"a", 1)?;
     assert_eq!(rt; end.status, 3);
     assert!(rt; end.output.is_empty());
@@ -60,14 +61,14 @@ fn a_failing_reader(rt: HostRuntime) -> Result<(), Fail> {
 }
 
 #[test]
-fn filled_in(rt: HostRuntime) -> Result<(), Fail> {
-    let rows = [
+fn variables_of_the_words_are_filled_in(rt: HostRuntime) -> Result<(), Fail> {
+    let rows: &[(&str, &str, &str)] = &[
         ("bytes name=world", "Hello $name!", "Hello world!"),
         ("bytes A=1 A=2", "$A", "2"),
         ("bytes =x a=b=c", "$a", "b=c"),
         ("bytes", "", ""),
     ];
-    for (line, source, output) in rows {
+    for &(line, source, output) in rows {
         let end = run(rt.alloc(), line, source.as_bytes(), NEVER)?;
         assert_eq!(rt; end.status, 0, "at {line}");
         assert_eq!(rt; end.output.as_slice(), output.as_bytes(), "at {line}");
@@ -77,7 +78,7 @@ fn filled_in(rt: HostRuntime) -> Result<(), Fail> {
 }
 
 #[test]
-fn a_refused_source(rt: HostRuntime) -> Result<(), Fail> {
+fn refusal_of_a_source_is_printed(rt: HostRuntime) -> Result<(), Fail> {
     let end = run(rt.alloc(), "bytes", b"$", NEVER)?;
     assert_eq!(rt; end.status, 1);
     assert!(rt; end.output.is_empty());
@@ -89,7 +90,7 @@ fn a_refused_source(rt: HostRuntime) -> Result<(), Fail> {
 }
 
 #[test]
-fn each_fault_is_told(rt: HostRuntime) -> Result<(), Fail> {
+fn each_error_has_its_text_and_status(rt: HostRuntime) -> Result<(), Fail> {
     let alloc = rt.alloc();
     let missing = Error::MissingVariableName(MissingVariableName {
         position: 0,
@@ -97,14 +98,14 @@ fn each_fault_is_told(rt: HostRuntime) -> Result<(), Fail> {
     });
     let shown = String::from_str(alloc, "  $\n  ^\n")?;
     let refused = RunError::Subst(missing, shown);
-    let rows = [
+    let rows: &[(RunError, u8, &str)] = &[
         (RunError::Read, 3, "subst: read failed\n"),
         (RunError::Write, 3, "subst: write failed\n"),
         (RunError::NotUtf8, 1, "subst: input is not UTF-8\n"),
         (refused, 1, "subst: Missing variable name\n  $\n  ^\n"),
         (RunError::OutOfMemory, 4, "subst: out of memory\n"),
     ];
-    for (error, status, text) in &rows {
+    for (error, status, text) in rows {
         let mut errors = Vec::new(alloc);
         let ended = end_with(error, &mut ToWriter::new(&mut errors));
         assert_eq!(rt; ended, *status, "at {text}");
@@ -114,7 +115,7 @@ fn each_fault_is_told(rt: HostRuntime) -> Result<(), Fail> {
 }
 
 #[test]
-fn a_fault_of_errors_changes_nothing(rt: HostRuntime) {
+fn status_stays_the_same_if_printing_the_error_fails(rt: HostRuntime) {
     let mut drip = Drip::new(Vec::new(rt.alloc()), 3);
     let status = end_with(&RunError::OutOfMemory, &mut ToWriter::new(&mut drip));
     assert_eq!(rt; status, 4);

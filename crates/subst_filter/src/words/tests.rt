@@ -11,10 +11,11 @@ fn words(alloc: Global, line: &[&str]) -> Result<Vec<String>, AllocError> {
 }
 
 #[test]
-fn the_last_word_of_a_name_counts(rt: HostRuntime) -> Result<(), Fail> {
+fn last_word_of_a_name_gives_its_value(rt: HostRuntime) -> Result<(), Fail> {
     let line = words(rt.alloc(), &["bytes", "a=1", "=x", "b=c=d", "a=2", "e="])?;
     let variables = variables(&line).ok_or("wrong words")?;
-    for (name, value) in [("a", "2"), ("", "x"), ("b", "c=d"), ("e", "")] {
+    let rows: &[(&str, &str)] = &[("a", "2"), ("", "x"), ("b", "c=d"), ("e", "")];
+    for &(name, value) in rows {
         assert_eq!(rt;
             variables.get(name).ok_or("no value")?,
             value.as_bytes(),
@@ -26,13 +27,19 @@ fn the_last_word_of_a_name_counts(rt: HostRuntime) -> Result<(), Fail> {
 }
 
 #[test]
-fn wrong_words(rt: HostRuntime) -> Result<(), Fail> {
-    for first in ["text", "env", "Bytes", "a=1", ""] {
-        let line = words(rt.alloc(), &[first])?;
-        assert!(rt; variables(&line).is_none(), "at {first}");
+fn wrong_words_give_no_variables(rt: HostRuntime) -> Result<(), Fail> {
+    let rows: &[&[&str]] = &[
+        &[],
+        &["text"],
+        &["env"],
+        &["Bytes"],
+        &["a=1"],
+        &[""],
+        &["bytes", "a=1", "name"],
+    ];
+    for (row, line) in rows.iter().enumerate() {
+        let line = words(rt.alloc(), line)?;
+        assert!(rt; variables(&line).is_none(), "at row {row}");
     }
-    let line = words(rt.alloc(), &["bytes", "a=1", "name"])?;
-    assert!(rt; variables(&line).is_none());
-    assert!(rt; variables(&[]).is_none());
     Ok(())
 }

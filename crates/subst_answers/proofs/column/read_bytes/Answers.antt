@@ -15,7 +15,8 @@ returns-then-is_empty c bytes are is =
           let empty : (length c.args.column.now == 0) ≡ true = sym c.is_empty.ensures ∙ w.if-is_empty.true in
           column_not_empty bytes (sym (ap length is) ∙ eqb-true _ _ empty)
       | then-is_empty-via-else-is_empty+then-has_capital w ↦
-          let capital : list_any is_ascii_uppercase c.args.column.now ≡ true = sym w.has_capital.ensures ∙ w.if-has_capital.true in
+          let capital : list_any is_ascii_uppercase c.args.column.now ≡ true =
+          sym w.has_capital.ensures ∙ w.if-has_capital.true in
           cc (column_none_upper bytes are)
     ]
 

@@ -1,10 +1,14 @@
--- What was read so far is what the input has lost.
-use Rattle.std.proofs.Common.{◌^◌, ◌-◌, vec_len}
+-- The bytes that were read so far are what the input no longer has, and no read has failed.
+use Rattle.std.proofs.Common.{◌≡◌, ◌^◌, ◌-◌, vec_len}
 use Rattle.std.specs.Io.KnownBytes.{Consumes}
 use Rattle.subst_filter.proofs.engine.read_all.Given as goal
 
 abbrev pub invariant-loop-count : goal.invariant-loop-count
-invariant-loop-count g l = Consumes (g.I.ByteInput.left l.initial.input) (g.I.ByteInput.left l.input) l.all.items
+invariant-loop-count g l =
+    let left = g.I.ByteInput.left in
+    let has_failed = g.I.ByteInput.has_failed in
+    Consumes (left l.initial.input) (left l.input) l.all.items
+    × (has_failed l.input ≡ has_failed l.initial.input)
 
 abbrev pub decreases-loop-count : goal.decreases-loop-count
 decreases-loop-count g l = 2 ^ 64 - vec_len l.all

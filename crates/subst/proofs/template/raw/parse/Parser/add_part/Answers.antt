@@ -1,8 +1,0 @@
-use Rattle.subst.proofs.ParserLemmas.{reading_added}
-use Rattle.subst.proofs.template.raw.parse.Parser.add_part.Goals as goal
-
-pub returns-clause-answer : goal.returns-clause-answer
-returns-clause-answer c =
-    let given = c.in_ok-push_literal.ensures in
-    reading_added c.args.self.now c.push_literal.new.self c.push.new.self c.args.part c.args.end c.requires.reading (given.kept, given.nested)
-    c.in_ok-push.ensures.items c.requires.part c.requires.within c.requires.forward

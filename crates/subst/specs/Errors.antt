@@ -1,0 +1,9 @@
+-- The types of errors, as specs and proofs of callers name them. The cases of an error are under its name.
+pub use Rattle.subst_error.specs.declared.CharOrByte.{CharOrByte}
+pub use Rattle.subst_error.specs.declared.Error.{Error}
+pub use Rattle.subst_error.specs.declared.ExpandError.{ExpandError}
+pub use Rattle.subst_error.specs.declared.ParseError.{ParseError}
+pub use Rattle.subst_error.specs.declared.CharOrByte.TheVariants as character
+pub use Rattle.subst_error.specs.declared.Error.TheVariants as error
+pub use Rattle.subst_error.specs.declared.ExpandError.TheVariants as expanding
+pub use Rattle.subst_error.specs.declared.ParseError.TheVariants as parsing

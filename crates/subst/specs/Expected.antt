@@ -1,8 +1,0 @@
--- The text of what was expected.
-use Rattle.std.specs.Prelude.{ℕ, List}
-use Rattle.std.specs.Fmt.InlineText.{inline_text}
-use Rattle.subst.specs.declared.error.ExpectedCharacter.{ExpectedCharacter}
-
--- the bytes of the message
-abbrev pub expected_text : ExpectedCharacter → List ℕ
-expected_text e = inline_text e.message

@@ -1,0 +1,25 @@
+-- What answers state, and whether they agree with the definition.
+use Rattle.std.specs.Prelude.{ℕ, List, Option, Some, None, IsSomeAnd, String}
+use Rattle.std.specs.BTreeMap.{BTreeMap, get_by_text}
+use Rattle.std.specs.Global.{Global, Vec}
+use Rattle.std.specs.Option.{option_map}
+use Rattle.subst.specs.Language.Answer as spec
+use Rattle.subst.specs.ErrorFault.{error_fault}
+use Rattle.subst.specs.Calls.VariableMap.{look_up_of}
+use Rattle.subst.specs.Language.LookUp.{LookUp}
+use Rattle.subst_answers.specs.declared.answer.Answer.{Answer}
+use Rattle.subst_answers.specs.declared.answer.Answer.TheVariants.{Gives, Refuses, Differs}
+
+-- the values of variables, as a look-up of bytes
+abbrev pub values_of : BTreeMap (String Global) (Vec ℕ) → LookUp
+values_of pairs = look_up_of (λ v. v.items) (get_by_text pairs)
+
+-- the bytes or the fault that an answer states; a difference and out of memory state neither
+abbrev pub stated_by : Answer → Option spec.Answer
+stated_by (Gives bytes) = Some (spec.Gives bytes.items)
+stated_by (Refuses e) = option_map spec.Refuses (error_fault e)
+stated_by Differs = None
+
+-- the answer states the answer of the source under the look-up, so the ways to it don't differ
+abbrev pub IsTrueAnswer : List ℕ → LookUp → Answer → Type 0
+IsTrueAnswer source look answer = IsSomeAnd (stated_by answer) (spec.Answers source look)

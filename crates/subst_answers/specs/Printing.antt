@@ -1,0 +1,82 @@
+-- What is printed for a text of records.
+use Rattle.std.specs.Prelude.{◌≡◌, ℕ, suc, ◌<◌, ◌==◌, Bool, true, false, List, [], ◌∷◌, ◌++◌, length, Option, Some, None, IfSome, ⊤}
+use Rattle.std.specs.Io.BufRead.{drop_through, first_piece}
+use Rattle.std.specs.Io.KnownBytes.{Appends}
+use Rattle.subst_answers.specs.AnswerLine.{IsLineOf}
+use Rattle.subst_answers.specs.Record.{IsMalformed, IsRecord}
+use Rattle.subst_answers.specs.Agreement.{IsTrueAnswer, values_of}
+use Rattle.subst_answers.specs.declared.answer.Answer.{Answer}
+use Rattle.subst_answers.specs.declared.failure.Failure.{Failure}
+use Rattle.subst_answers.specs.declared.failure.Failure.TheVariants.{Malformed, Io, OutOfMemory}
+use Rattle.subst_answers.specs.declared.record.Column.{Column}
+use Rattle.subst_answers.specs.declared.record.Kind.TheVariants as kinds
+use Rattle.subst_answers.specs.declared.record.Kind.{Kind}
+use Rattle.subst_answers.specs.declared.record.Record.{Record}
+
+-- a newline ends a line
+abbrev pub newline : ℕ
+newline = 10
+
+-- the line begins with `#`
+abbrev pub is_comment : List ℕ → Bool
+is_comment [] = false
+is_comment (b ∷ line) = b == 35
+
+-- the answer to a record, by its kind
+abbrev pub IsAnswerBy : Kind → List ℕ → Record → Answer → Type 0
+IsAnswerBy kinds.Bytes source asked answer = IsTrueAnswer source (values_of asked.pairs) answer
+
+-- the printed line is that of the answer to the line's record
+pub record IsAnswered (line printed : List ℕ) : Type 0 where
+  pub asked : Record
+  pub is : IsRecord line asked
+  pub answer : Answer
+  pub answers : IsAnswerBy asked.kind asked.source.items asked answer
+  pub shown : IsLineOf answer printed
+
+-- What is printed for the lines of a text before those that are left: nothing for a comment, and for each
+-- other line its answer. These other lines are counted: they are the records.
+pub data ArePrinted : (text left printed : List ℕ) → (count : ℕ) → Type 0 where
+  nothing : {text : List ℕ} → ArePrinted text text [] 0
+  comment : {text left printed : List ℕ} {count : ℕ} → 0 < length text
+      → is_comment (first_piece newline text) ≡ true
+      → ArePrinted (drop_through newline text) left printed count → ArePrinted text left printed count
+  answer : {text left first printed : List ℕ} {count : ℕ} → 0 < length text
+      → is_comment (first_piece newline text) ≡ false → IsAnswered (first_piece newline text) first
+      → ArePrinted (drop_through newline text) left printed count
+      → ArePrinted text left (first ++ printed) (suc count)
+
+-- the answers to all lines of the text have been written after what was written before
+abbrev pub AreAllWritten : List ℕ → Option (List ℕ) → Option (List ℕ) → Type 0
+AreAllWritten text old new =
+    (printed : List ℕ) × (count : ℕ) × ArePrinted text [] printed count × Appends old new printed
+
+-- if the text was known, its answers have been written after what was written before
+abbrev pub Prints : Option (List ℕ) → Option (List ℕ) → Option (List ℕ) → Type 0
+Prints text old new = IfSome text (λ known. AreAllWritten known old new)
+
+-- the record of this number is malformed in this column, and the answers to those before it have been written
+pub record IsMalformedAt (text : List ℕ) (old new : Option (List ℕ)) (number : ℕ) (c : Column) : Type 0 where
+  pub left : List ℕ
+  pub printed : List ℕ
+  pub count : ℕ
+  pub answered : ArePrinted text left printed count
+  pub written : Appends old new printed
+  pub next : number ≡ suc count
+  pub begins : 0 < length left
+  pub is_record : is_comment (first_piece newline left) ≡ false
+  pub malformed : IsMalformed (first_piece newline left) c
+
+-- why a run over a text failed: if the text was known, a malformed record is as the failure says
+abbrev pub FailsBy : Option (List ℕ) → Option (List ℕ) → Option (List ℕ) → Failure → Type 0
+FailsBy text old new (Malformed number column) =
+    IfSome text (λ known. IsMalformedAt known old new number column)
+FailsBy text old new (Io e) = ⊤
+FailsBy text old new OutOfMemory = ⊤
+
+-- a line was read, without the newline that ends it, or nothing was left
+abbrev pub ReadsLine : Bool → Option (List ℕ) → Option (List ℕ) → List ℕ → Type 0
+ReadsLine read None new line = ⊤
+ReadsLine true (Some text) new line =
+    (0 < length text) × (line ≡ first_piece newline text) × (new ≡ Some (drop_through newline text))
+ReadsLine false (Some text) new line = text ≡ []

@@ -1,0 +1,4 @@
+pub mod CallingLemmas
+pub mod Language
+pub mod Raw
+pub mod WorkedExamples

@@ -1,0 +1,16 @@
+-- Lemmas on the code's own words.
+pub mod ByteRunLemmas
+pub mod CutLemmas
+pub mod DepthLemmas
+pub mod ExpandLemmas
+pub mod FilledLemmas
+pub mod LiftLemmas
+pub mod ParsedLemmas
+pub mod ParserLemmas
+pub mod PartOfLemmas
+pub mod PartsLemmas
+pub mod PlaceholderLemmas
+pub mod ScanLemmas
+pub mod StackHoldsLemmas
+pub mod TemplateOfLemmas
+pub mod TreeAtLemmas

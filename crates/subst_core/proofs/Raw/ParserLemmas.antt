@@ -1,0 +1,325 @@
+-- The parser's states, from one to the next.
+use Rattle.std.proofs.Common.{◌≡◌, ◌≢◌, ℕ, suc, ◌+◌, ◌-◌, ◌<◌, ◌≤◌, true, List, [], ◌∷◌, ◌++◌, length, drop, reverse, set, Option, Some, None, Result, Ok, Err, Vec, Global, refl, sym, ap, ◌∙◌, subst, length-append, length-drop, arith}
+use Rattle.std.proofs.Math.Decide.{ℕ_discrete}
+use Rattle.std.proofs.lemmas.List.{reverse-append, drop_all}
+use Rattle.std.specs.List.{slice_get}
+use Rattle.subst_core.specs.Language.Bytes.{colon, closing_brace, backslash, dollar, opening_brace}
+use Rattle.subst_core.specs.Raw.ByteRun.{IsRun}
+use Rattle.subst_core.specs.Language.Bytes.{IsPlain}
+use Rattle.subst_core.specs.Language.Balanced.IsBalanced.{empty}
+use Rattle.subst_core.specs.Raw.Closing.{ClosesAll}
+use Rattle.subst_error.specs.Fault.{Fault, MissingClosingBrace}
+use Rattle.subst_core.specs.Language.BadItem.{HasFault}
+use Rattle.subst_core.specs.Raw.Parts.{IsTemplateOf}
+use Rattle.subst_error.specs.ErrorFault.{parse_fault}
+use Rattle.subst_error.specs.declared.ParseError.{ParseError}
+use Rattle.std.specs.Option.{IfSome, IsSomeAnd}
+use Rattle.subst_core.specs.Raw.Placeholder.{IsInBraces, IsBadWhenCut}
+use Rattle.subst_core.specs.Raw.Parsing.{StackHolds, StackHoldsFlushed, IsReading, IsPart, StepsOrFails}
+use Rattle.subst_core.specs.declared.template.raw.Span.{Span}
+use Rattle.subst_core.specs.declared.template.raw.Part.{Part}
+use Rattle.subst_core.specs.declared.template.raw.Part.TheVariants.{Default}
+use Rattle.subst_core.specs.declared.template.raw.parse.OpenDefault.{OpenDefault}
+use Rattle.subst_core.specs.declared.template.raw.parse.Parser.{Parser}
+use Rattle.subst_core.specs.declared.template.raw.tape.Tape.{Tape}
+use Rattle.subst_core.proofs.Language.ListLemmas.{split_last, split_first, reverse_last}
+use Rattle.subst_core.proofs.Raw.StackHoldsLemmas.{holds_tree, holds_byte, holds_opening, holds_closing, holds_default, holds_closed, holds_run, holds_any, holds_some, holds_open, holds_top}
+use Rattle.subst_core.proofs.Raw.LiftLemmas.{lift, unclosed_outermost, find_outermost, template_at_end}
+use Rattle.subst_core.proofs.Language.ClosingLemmas.{closes_nothing}
+
+-- a byte that isn't plain and no backslash is a dollar
+pub dollar_if_not_plain : (b : ℕ) → ¬ (IsPlain b) → b ≢ backslash → b ≡ dollar
+dollar_if_not_plain b special other = of (ℕ_discrete b dollar)
+  where
+    of : Dec (b ≡ dollar) → b ≡ dollar
+    of (yes e) = e
+    of (no n) = absurd (special (n, other))
+
+-- reads leave what has been read as it is
+pub reading_with : (p : Parser) (tape : Tape) → tape.source ≡ p.tape.source → IsReading p
+    → IsReading (record p { tape = tape })
+reading_with p tape same reading = record {
+  small = rw same reading.small;
+  within = rw same reading.within;
+  shallow = reading.shallow;
+  nested = rw same reading.nested;
+}
+
+-- a step after reads is a step
+pub steps_with : (p new : Parser) (tape : Tape) (r : Result (Unit {0}) ParseError) → tape.source ≡ p.tape.source
+    → StepsOrFails (record p { tape = tape }) r new → StepsOrFails p r new
+steps_with p new tape (Ok done) same steps = (steps.0, steps.1 ∙ same, steps.2)
+steps_with p new tape (Err e) same steps = subst (λ (s : List ℕ). IfSome (parse_fault e) (HasFault 0 s)) (ap (λ x. x.now) same) steps
+
+-- the state when the plain bytes have got their part
+abbrev pub IsFlushed : Parser → Parser → Type 0
+IsFlushed old mid = (mid ≡ record old { parts = mid.parts; literal_start = old.at })
+    × StackHoldsFlushed old.tape.source.now (reverse old.defaults.items) old.depth mid.parts.items old.at old.at
+
+-- a part is added
+pub reading_added : (old mid : Parser) (parts : Vec Part Global) (part : Part) (end : ℕ) → IsReading old
+    → IsFlushed old mid
+    → parts.items ≡ mid.parts.items ++ part ∷ [] → IsPart old.tape.source.now old.at end part
+    → end ≤ length old.tape.source.now → old.at < end
+    → IsReading (record mid { parts = parts; literal_start = end; at = end }) × (mid.tape.source ≡ old.tape.source)
+    × (old.at < end)
+reading_added old mid parts part end reading given pushed is within forward =
+    let tape = ap (λ (p : Parser). p.tape) given.0 in
+    let defaults = ap (λ (p : Parser). p.defaults) given.0 in
+    let depth = ap (λ (p : Parser). p.depth) given.0 in
+    let added =
+    holds_tree old.tape.source.now (reverse old.defaults.items) old.depth mid.parts.items
+    (part ∷ []) old.at end
+    is.tree is.at is.balanced is.ends (is.mean (length mid.parts.items)) given.1 in (
+      record {
+        small = rw tape reading.small;
+        within = rw tape within;
+        shallow = omega (arith, depth, reading.shallow);
+        nested = rw (tape, defaults, depth, pushed) added;
+      },
+      ap (λ (t : Tape). t.source) tape,
+      forward,
+    )
+
+-- the front of a placeholder with a default lies in the source
+pub head_inside : (s : List ℕ) (at : ℕ) (name : Span) (b : ℕ) → IsInBraces s at name b → at ≤ length s
+    → name.end + 1 ≤ length s
+head_inside s at name b front inside =
+    omega (
+      arith,
+      front.starts,
+      front.named.ends,
+      front.named.inside.within,
+      simp (length-drop, length-append) at (ap length front.spelled),
+    )
+
+-- a default opens
+pub reading_opened : (old mid : Parser) (parts : Vec Part Global) (defaults : Vec OpenDefault Global)
+    (name : Span)
+    → IsReading old → IsFlushed old mid → IsInBraces old.tape.source.now old.at name colon
+    → defaults.items
+    ≡ mid.defaults.items ++ record { part = mid.parts.len; name = name; depth = mid.depth } ∷ []
+    → parts.items ≡ mid.parts.items ++ Default name 0 ∷ []
+    → IsReading (record mid { parts = parts; defaults = defaults; depth = mid.depth + 1; literal_start = name.end + 1; at = name.end + 1 })
+    × (mid.tape.source ≡ old.tape.source) × (old.at < name.end + 1)
+reading_opened old mid parts defaults name reading given front pushed_default pushed =
+    let s = old.tape.source.now in
+    let tape = ap (λ (p : Parser). p.tape) given.0 in
+    let same = ap (λ (p : Parser). p.defaults) given.0 in
+    let depth = ap (λ (p : Parser). p.depth) given.0 in
+    let opened =
+    holds_default s (reverse old.defaults.items) old.depth mid.parts.items old.at name front given.1 in
+    let stack : reverse defaults.items ≡ record { part = length mid.parts.items; name = name; depth = old.depth } ∷ reverse old.defaults.items =
+    ap reverse pushed_default ∙ reverse_last mid.defaults.items _ ∙ rw (same, depth, mid.parts.ok.0) refl in (
+      record {
+        small = rw tape reading.small;
+        within = rw tape (head_inside s old.at name colon front reading.within);
+        shallow = omega (arith, depth, reading.shallow, front.starts, front.named.ends);
+        nested = rw (tape, depth, stack, pushed) opened;
+      },
+      ap (λ (t : Tape). t.source) tape,
+      omega (arith, front.starts, front.named.ends),
+    )
+
+-- the same, where the innermost default is known
+given_innermost : (old mid : Parser) (front : List OpenDefault) (innermost : OpenDefault) → IsFlushed old mid
+    → old.defaults.items ≡ front ++ innermost ∷ []
+    → StackHoldsFlushed old.tape.source.now (innermost ∷ reverse front) old.depth mid.parts.items old.at old.at
+given_innermost old mid front innermost given split =
+    subst (λ ds. StackHoldsFlushed old.tape.source.now ds old.depth mid.parts.items old.at old.at)
+    (ap reverse split ∙ reverse_last front innermost) given.1
+
+-- a default closes
+pub reading_closed : (old mid : Parser) (front : List OpenDefault) (parts : Vec Part Global)
+    (defaults : Vec OpenDefault Global) (innermost : OpenDefault)
+    → IsReading old → IsFlushed old mid → old.at < length old.tape.source.now
+    → drop old.at old.tape.source.now ≡ closing_brace ∷ drop (old.at + 1) old.tape.source.now
+    → innermost.depth + 1 ≡ old.depth → old.defaults.items ≡ front ++ innermost ∷ [] → defaults.items ≡ front
+    → parts.items ≡ set mid.parts.items innermost.part (Default innermost.name mid.parts.len)
+    → IsReading (record mid { parts = parts; defaults = defaults; depth = innermost.depth; literal_start = mid.at + 1; at = mid.at + 1 })
+    × (mid.tape.source ≡ old.tape.source) × (old.at < mid.at + 1)
+reading_closed old mid front parts defaults innermost reading given inside reads closes split popped jumped =
+    let s = old.tape.source.now in
+    let tape = ap (λ (p : Parser). p.tape) given.0 in
+    let at = ap (λ (p : Parser). p.at) given.0 in
+    let nested = given_innermost old mid front innermost given split in
+    let closed =
+    holds_closed s innermost (reverse front) old.depth mid.parts.items old.at closes reads nested in (
+      record {
+        small = rw tape reading.small;
+        within = rw (tape, at) (omega arith);
+        shallow = omega (arith, at, reading.shallow);
+        nested = rw (tape, at, popped, jumped, mid.parts.ok.0) closed;
+      },
+      ap (λ (t : Tape). t.source) tape,
+      omega (arith, at),
+    )
+
+-- a bare brace closes: the last default is not the one whose brace this is
+pub reading_bare : (p : Parser) (innermost : OpenDefault) → IsReading p → p.at < length p.tape.source.now
+    → 0 < p.depth
+    → drop p.at p.tape.source.now ≡ closing_brace ∷ drop (p.at + 1) p.tape.source.now
+    → slice_get p.defaults.items (length p.defaults.items - 1) ≡ Some innermost
+    → ¬ (innermost.depth + 1 ≡ p.depth)
+    → IsReading (record p { depth = p.depth - 1; at = p.at + 1 })
+reading_bare p innermost reading inside some reads last other =
+    let s = p.tape.source.now in
+    let split = split_last p.defaults.items innermost last in
+    let stack : reverse p.defaults.items ≡ innermost ∷ reverse split.0 =
+    ap reverse split.1 ∙ reverse_last split.0 innermost in
+    record {
+      small = reading.small;
+      within = omega arith;
+      shallow = omega (arith, reading.shallow);
+      nested =
+          rw stack
+          (holds_closing s innermost (reverse split.0) p.depth p.parts.items p.literal_start p.at other reads
+          (subst (λ ds. StackHolds true s ds p.depth p.parts.items p.literal_start p.at) stack reading.nested));
+    }
+
+-- inside a default, a byte that has no meaning
+pub reading_byte : (p : Parser) (b : ℕ) → IsReading p → p.at < length p.tape.source.now → 0 < p.depth
+    → b ≢ dollar → b ≢ backslash → b ≢ opening_brace → b ≢ closing_brace
+    → drop p.at p.tape.source.now ≡ b ∷ drop (p.at + 1) p.tape.source.now
+    → IsReading (record p { at = p.at + 1 })
+reading_byte p b reading inside some no_dollar no_backslash no_opening no_closing reads =
+    let s = p.tape.source.now in
+    let (default, rest, stack) =
+    holds_open s (reverse p.defaults.items) p.depth p.parts.items p.literal_start p.at some reading.nested in
+    record {
+      small = reading.small;
+      within = omega arith;
+      shallow = omega (arith, reading.shallow);
+      nested =
+          rw stack
+          (holds_byte s default rest p.depth p.parts.items p.literal_start p.at b (no_dollar, no_backslash) no_opening no_closing reads
+          (subst (λ ds. StackHolds true s ds p.depth p.parts.items p.literal_start p.at) stack reading.nested));
+    }
+
+-- inside a default, a bare opening brace
+pub reading_opening : (p : Parser) → IsReading p → p.at < length p.tape.source.now → 0 < p.depth
+    → drop p.at p.tape.source.now ≡ opening_brace ∷ drop (p.at + 1) p.tape.source.now
+    → IsReading (record p { depth = p.depth + 1; at = p.at + 1 })
+reading_opening p reading inside some reads =
+    let s = p.tape.source.now in
+    let (default, rest, stack) =
+    holds_open s (reverse p.defaults.items) p.depth p.parts.items p.literal_start p.at some reading.nested in
+    record {
+      small = reading.small;
+      within = omega arith;
+      shallow = omega (arith, reading.shallow);
+      nested = rw stack (holds_opening s default rest p.depth p.parts.items p.literal_start p.at reads
+          (subst (λ ds. StackHolds true s ds p.depth p.parts.items p.literal_start p.at) stack reading.nested));
+    }
+
+-- where no brace is open, a run of plain bytes
+pub reading_run : (p : Parser) (to : ℕ) → IsReading p → p.depth ≡ 0 → p.at ≤ to
+    → to ≤ length p.tape.source.now
+    → IsRun IsPlain p.tape.source.now p.at to → IsReading (record p { at = to })
+reading_run p to reading top forward within run =
+    let s = p.tape.source.now in
+    let stack =
+    holds_top s (reverse p.defaults.items) p.depth p.parts.items p.literal_start p.at top reading.nested in
+    let nested : StackHolds true s [] 0 p.parts.items p.literal_start p.at =
+    subst (λ d. StackHolds true s [] d p.parts.items p.literal_start p.at) top
+    (subst (λ ds. StackHolds true s ds p.depth p.parts.items p.literal_start p.at) stack reading.nested) in
+    record {
+      small = reading.small;
+      within = within;
+      shallow = omega arith;
+      nested = rw (stack, top) (holds_run s p.parts.items p.literal_start p.at to run nested);
+    }
+
+-- how far the parser has read, whether the innermost text is fresh or not
+reading_within : (p : Parser) → IsReading p
+    → StackHoldsFlushed p.tape.source.now (reverse p.defaults.items) p.depth p.parts.items p.literal_start p.at
+reading_within p reading =
+    holds_any p.tape.source.now
+    (reverse p.defaults.items) p.depth p.parts.items p.literal_start p.at reading.nested
+
+-- how far the parser has read, where the outermost default is known
+reading_outermost : (p : Parser) (outermost : OpenDefault) → IsReading p
+    → slice_get p.defaults.items 0 ≡ Some outermost
+    → (inner : List OpenDefault)
+    × StackHoldsFlushed p.tape.source.now (inner ++ outermost ∷ []) p.depth p.parts.items p.literal_start p.at
+reading_outermost p outermost reading first =
+    let split = split_first p.defaults.items outermost first in
+    let stack : reverse p.defaults.items ≡ reverse split.0 ++ outermost ∷ [] =
+    ap reverse split.1 ∙ reverse-append (outermost ∷ []) split.0 in
+    (reverse split.0, subst (λ ds. StackHoldsFlushed p.tape.source.now ds p.depth p.parts.items p.literal_start p.at) stack (reading_within p reading))
+
+-- the fault of a default that is never closed
+pub fault_unclosed : (p : Parser) (outermost : OpenDefault) → IsReading p
+    → slice_get p.defaults.items 0 ≡ Some outermost
+    → ¬ (ClosesAll p.depth (drop p.at p.tape.source.now))
+    → HasFault 0 p.tape.source.now (MissingClosingBrace (outermost.name.start - 1))
+fault_unclosed p outermost reading first unclosed =
+    let (inner, within) = reading_outermost p outermost reading first in
+    unclosed_outermost p.tape.source.now inner outermost p.depth p.parts.items p.literal_start p.at within unclosed
+
+-- the name of an open default is after a dollar and a brace
+pub outermost_starts : (p : Parser) (outermost : OpenDefault) → IsReading p
+    → slice_get p.defaults.items 0 ≡ Some outermost → 0 < outermost.name.start
+outermost_starts p outermost reading first =
+    let (inner, within) = reading_outermost p outermost reading first in
+    let found =
+    find_outermost p.tape.source.now inner outermost p.depth p.parts.items p.literal_start p.at within in
+    omega (arith, found.2.starts)
+
+-- what is bad at the byte offset that was reached is the fault of the source, where all open braces close
+pub fault_closed : (p : Parser) (f : Fault) → IsReading p → IsBadWhenCut p.at (drop p.at p.tape.source.now) f
+    → ClosesAll p.depth (drop p.at p.tape.source.now) → HasFault 0 p.tape.source.now f
+fault_closed p f reading bad closes =
+    let s = p.tape.source.now in
+    lift s (reverse p.defaults.items) p.depth p.parts.items p.literal_start p.at [] (drop p.at s) f
+    (reading_within p reading) refl empty bad.bad bad.cut closes
+
+-- where no default is open, no brace is
+pub closes_top : (p : Parser) → IsReading p → p.defaults.items ≡ []
+    → ClosesAll p.depth (drop p.at p.tape.source.now)
+closes_top p reading none =
+    let s = p.tape.source.now in
+    let nested : StackHolds true s [] p.depth p.parts.items p.literal_start p.at =
+    subst (λ ds. StackHolds true s ds p.depth p.parts.items p.literal_start p.at) (ap reverse none) reading.nested in
+    subst (λ d. ClosesAll d (drop p.at s)) (sym nested.0) tt
+
+-- the parts at the end of the source
+pub reading_end : (p mid : Parser) → IsReading p → IsFlushed p mid → length p.tape.source.now ≤ p.at
+    → p.defaults.items ≡ []
+    → IsTemplateOf p.tape.source.now mid.parts.items
+reading_end p mid reading given end none =
+    let s = p.tape.source.now in
+    let nested : StackHoldsFlushed s [] p.depth mid.parts.items p.at p.at =
+    subst (λ ds. StackHoldsFlushed s ds p.depth mid.parts.items p.at p.at) (ap reverse none) given.1 in
+    template_at_end s mid.parts.items p.at (drop_all p.at s end)
+    (subst (λ d. StackHoldsFlushed s [] d mid.parts.items p.at p.at) nested.0 nested)
+
+-- the variable of the innermost default is one of the parts
+pub variable_inside : (old mid : Parser) (front : List OpenDefault) (innermost : OpenDefault) → IsFlushed old mid
+    → old.defaults.items ≡ front ++ innermost ∷ [] → innermost.part < mid.parts.len
+variable_inside old mid front innermost given split =
+    let nested = given_innermost old mid front innermost given split in
+    omega (arith, nested.part, mid.parts.ok.0, simp length-append at (ap length nested.splits))
+
+-- at the end of the source, a default that is open is never closed
+pub fault_at_end : (p : Parser) (outermost : OpenDefault) → IsReading p → length p.tape.source.now ≤ p.at
+    → slice_get p.defaults.items 0 ≡ Some outermost
+    → HasFault 0 p.tape.source.now (MissingClosingBrace (outermost.name.start - 1))
+fault_at_end p outermost reading end first =
+    let (inner, within) = reading_outermost p outermost reading first in
+    let some = holds_some p.tape.source.now inner outermost p.depth p.parts.items p.literal_start p.at within in
+    let depth : p.depth ≡ suc (p.depth - 1) = omega arith in
+    fault_unclosed p outermost reading first
+    (λ closes. closes_nothing (p.depth - 1)
+    (subst (λ d. ClosesAll d []) depth (subst (ClosesAll p.depth) (drop_all p.at p.tape.source.now end) closes)))
+
+-- the fault that was found, where all open braces close
+pub fault_known : (p : Parser) (e : ParseError) → IsReading p
+    → IsSomeAnd (parse_fault e) (IsBadWhenCut p.at (drop p.at p.tape.source.now))
+    → ClosesAll p.depth (drop p.at p.tape.source.now) → IfSome (parse_fault e) (HasFault 0 p.tape.source.now)
+fault_known p e reading bad closes = of (parse_fault e) bad
+  where
+    of : (o : Option Fault) → IsSomeAnd o (IsBadWhenCut p.at (drop p.at p.tape.source.now))
+        → IfSome o (HasFault 0 p.tape.source.now)
+    of (Some f) known = fault_closed p f reading known closes
+    of None known = tt

@@ -1,0 +1,16 @@
+-- The template language: what is right, without the code. No definition here has a cursor, a counter, a
+-- stack or a jump.
+pub mod Answer
+pub mod BadItem
+pub mod Balanced
+pub mod Bytes
+pub mod Character
+pub mod Counts
+pub mod Followed
+pub mod Laws
+pub mod LookUp
+pub mod Name
+pub mod Sentence
+pub mod Tree
+pub mod Value
+pub mod WellFormed

@@ -1,0 +1,33 @@
+//! Laws of the definitions that the contracts cite. Each is the contract of a function that does nothing.
+
+ghost use Rattle.std.specs.Prelude.{◌≤◌, ℕ, List, length};
+ghost use Rattle.subst_core.specs.Language.Laws.{OneTreeOrOneFault};
+ghost use Rattle.subst_core.specs.Calls.VariableMap.{ReadsAs};
+ghost use Rattle.subst_core.specs.Language.Tree.{Tree, text};
+ghost use Rattle.subst_core.specs.Language.LookUp.{LookUp};
+ghost use Rattle.subst_core.specs.Language.Counts.{part_count, visited_count};
+
+use crate::map::VariableMap;
+use std::collections::BTreeMap;
+use std::convert::AsSlice;
+
+/// The law of one reading. Each byte string is a sentence of the template language or has a fault, never
+/// both: a sentence is the text of exactly one well-formed tree, and any other byte string has exactly one
+/// fault at each position that it may be at.
+pub fn law_1()
+    ensures { (s : List ℕ) → OneTreeOrOneFault s }
+{}
+
+/// The law of turns. An expansion visits at most as many parts as the source has, and a source has at most
+/// as many parts as bytes.
+pub fn turns_are_bounded()
+    ensures visited { (t : Tree) (look : LookUp) → visited_count t look ≤ part_count t }
+    ensures parts { (t : Tree) → part_count t ≤ length (text t) }
+{}
+
+/// A `BTreeMap` with text keys whose values are bytes is a look-up of bytes: for each name it has the bytes
+/// of the value under that key.
+pub fn btree_map_is_look_up<'a, V: AsSlice<u8> + 'a>()
+    ensures { ReadsAs ⟦<&'a V as AsSlice<u8>>⟧.items
+        ⟦<BTreeMap<String, V> as VariableMap<'a>>⟧.see V.items }
+{}

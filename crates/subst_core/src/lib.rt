@@ -1,0 +1,56 @@
+//! The template language over byte strings: templates, maps of variables, substitution, and the laws of the
+//! language.
+//!
+//! `subst` hands on all public items of this crate, and describes the language.
+#![tactic(auto)]
+
+ghost use Rattle.std.specs.Prelude.{IfSome};
+ghost use Rattle.subst_core.specs.Language.Answer.{Answers};
+ghost use Rattle.subst_core.specs.Calls.VariableMap.{ByLookUp};
+ghost use Rattle.subst_core.specs.Calls.Outcome.{answer_of};
+
+pub use map::VariableMap;
+use std::alloc::Global;
+use std::convert::AsSlice;
+use subst_error::Error;
+pub use template::ByteTemplate;
+
+pub mod laws;
+mod map;
+pub mod steps;
+mod template;
+
+/// Returns the bytes of `source` with its variables filled in from `variables`.
+///
+/// For every byte source and variable map, want of memory aside, `substitute_bytes` answers bytes exactly
+/// where the source is the text of a well-formed written tree whose value under the map is these bytes;
+/// otherwise it answers the source's one fault, or for a sentence the first name that its evaluation needs
+/// and the map lacks, each at its place.
+///
+/// ```text
+/// let mut variables = BTreeMap::new(alloc);
+/// variables.insert(String::from_str(alloc, "name")?, "world")?;
+/// let output = substitute_bytes(alloc, b"Hello ${name:nobody}!", &variables)?;
+/// // Hello world!
+/// ```
+///
+/// # Errors
+///
+/// `InvalidEscapeSequence`, `MissingVariableName`, `UnexpectedCharacter` or `MissingClosingBrace` where the
+/// source isn't a sentence of the template language: its first fault from the left. Otherwise
+/// `NoSuchVariable` for the first needed name that `variables` has no value for. `OutOfMemory` when
+/// allocation fails. Positions are byte offsets in the whole source, from 0.
+pub fn substitute_bytes<'a, M: VariableMap<'a>>(
+    alloc: Global,
+    source: &[u8],
+    variables: &'a M,
+) -> Result<Vec<u8>, Error>
+where
+    M::Value: AsSlice<u8> + Drop,
+
+    // The answer of the source under the map's look-up: there is one, and it is this.
+    ensures { ByLookUp M.Value.items M.see (M.look_up variables.now)
+        (λ look. IfSome (answer_of (λ output. output.items) result) (Answers source.now look)) }
+{
+    Ok(ByteTemplate::from_slice(alloc, source)?.expand(alloc, variables)?)
+}

@@ -1,0 +1,137 @@
+//! Templates over byte sources that they borrow.
+
+ghost use Rattle.std.specs.Prelude.{◌≡◌, ◌+◌, ◌*◌, ◌≤◌, length, IfOk, OnOk};
+ghost use Rattle.subst_error.specs.ErrorFault.{parse_fault};
+ghost use Rattle.subst_core.specs.Language.Sentence.{IsSentence, ByTree};
+ghost use Rattle.subst_core.specs.Language.BadItem.{HasFault};
+ghost use Rattle.subst_core.specs.Language.Value.{value};
+ghost use Rattle.subst_core.specs.Language.Counts.{visited_count};
+ghost use Rattle.subst_core.specs.Calls.VariableMap.{ByLookUp};
+ghost use Rattle.subst_core.specs.Calls.Outcome.{OnFault, Expands};
+
+use crate::map::VariableMap;
+use crate::steps::{Reads, Turns};
+use crate::template::raw;
+use crate::template::raw::{Part, SliceBytes};
+use std::alloc::Global;
+use std::borrow::CowSlice;
+use std::convert::AsSlice;
+use std::marker::Model;
+use subst_error::{ExpandError, ParseError};
+
+/// A template over a byte source that it borrows. Contracts see it as its source.
+#[derive(Drop)]
+pub struct ByteTemplate<'a> {
+    source: &'a [u8],
+    parts: CowSlice<'a, Part>,
+}
+
+impl<'a> Model for ByteTemplate<'a> {
+    ghost use Rattle.std.specs.Prelude.{ℕ, List};
+    ghost use Rattle.std.specs.Cow.{cow_slice_items};
+    ghost use Rattle.subst_core.specs.Raw.Parts.{IsTemplateOf};
+
+    ghost Value = { List ℕ };
+
+    ghost view = { λ t. t.source.now };
+
+    ghost invariant = { λ t. IsTemplateOf t.source.now (cow_slice_items t.parts) };
+}
+
+impl<'a> ByteTemplate<'a> {
+    /// Returns the template of a source.
+    ///
+    /// # Errors
+    ///
+    /// The fault of the source where it isn't a sentence of the template language: `InvalidEscapeSequence`,
+    /// `MissingVariableName`, `UnexpectedCharacter` or `MissingClosingBrace`, the first from the left.
+    /// `OutOfMemory` when allocation fails.
+    pub fn from_slice(alloc: Global, source: &'a [u8]) -> Result<Self, ParseError>
+        // Only a sentence has a template, which is that of the source.
+        ensures ok { IfOk result (λ template. IsSentence source.now × (template ≡ source.now)) }
+        ensures err { OnFault parse_fault result (HasFault 0 source.now) }
+    {
+        ByteTemplate::from_slice_counted(alloc, source, &mut Reads::new())
+    }
+
+    /// Returns the template of a source, as `from_slice`, and counts the reads: at least one for each byte
+    /// of a template, and for each source, refused or not, at most eight for each of its bytes and eight
+    /// more.
+    ///
+    /// # Errors
+    ///
+    /// As `from_slice`.
+    pub fn from_slice_counted(
+        alloc: Global,
+        source: &'a [u8],
+        reads: &mut Reads,
+    ) -> Result<Self, ParseError>
+        ensures ok { IfOk result (λ template. IsSentence source.now × (template ≡ source.now)) }
+        ensures err { OnFault parse_fault result (HasFault 0 source.now) }
+        ensures bound { reads.new ≤ reads.old + 8 * length source.now + 8 }
+        ensures sharp { reads.new ≤ reads.old + 3 * length source.now + 8 }
+        ensures grows { reads.old ≤ reads.new }
+        ensures whole { OnOk result (reads.old + length source.now ≤ reads.new) }
+    {
+        let parts = raw::parse(alloc, source, reads)?;
+        let parts = CowSlice::Owned(parts);
+        Ok(ByteTemplate { source, parts })
+    }
+
+    /// Returns the source, which is a sentence of the template language.
+    pub fn source(&self) -> &[u8]
+        ensures source { result.now ≡ self.now }
+        ensures sentence { IsSentence self.now }
+    {
+        self.source
+    }
+
+    /// Returns the bytes of the source with its variables filled in from `variables`.
+    ///
+    /// # Errors
+    ///
+    /// `NoSuchVariable` for the first needed name that `variables` has no value for; the names in a default
+    /// that isn't used aren't needed. `OutOfMemory` when allocation fails.
+    pub fn expand<'b, M: VariableMap<'b>>(
+        &self,
+        alloc: Global,
+        variables: &'b M,
+    ) -> Result<Vec<u8>, ExpandError>
+    where
+        M::Value: AsSlice<u8> + Drop,
+        ensures { ByLookUp M.Value.items M.see (M.look_up variables.now)
+            (λ look. ByTree self.now
+            (λ t. Expands (λ output. output.items) result (value 0 t look))) }
+    {
+        let mut turns = Turns::new();
+        self.expand_counted(alloc, variables, &mut turns)
+    }
+
+    /// Returns the bytes of the source with its variables filled in, as `expand`, and counts the turns: one
+    /// for each part of the source that is visited. Where a name has a value, no part of its default is
+    /// visited.
+    ///
+    /// # Errors
+    ///
+    /// As `expand`. Some parts may then not be visited.
+    pub fn expand_counted<'b, M: VariableMap<'b>>(
+        &self,
+        alloc: Global,
+        variables: &'b M,
+        turns: &mut Turns,
+    ) -> Result<Vec<u8>, ExpandError>
+    where
+        M::Value: AsSlice<u8> + Drop,
+        ensures value { ByLookUp M.Value.items M.see (M.look_up variables.now)
+            (λ look. ByTree self.now
+            (λ t. Expands (λ output. output.items) result (value 0 t look))) }
+        ensures counted { ByLookUp M.Value.items M.see (M.look_up variables.now)
+            (λ look. ByTree self.now
+            (λ t. OnOk result (turns.new ≡ turns.old + visited_count t look))) }
+        ensures at_most { ByLookUp M.Value.items M.see (M.look_up variables.now)
+            (λ look. ByTree self.now (λ t. turns.new ≤ turns.old + visited_count t look)) }
+        ensures grown { turns.old ≤ turns.new }
+    {
+        raw::expand::<M, SliceBytes>(alloc, self.source, &self.parts, variables, turns)
+    }
+}

@@ -1,0 +1,36 @@
+//! Parsing and expanding over bytes.
+
+mod byte_class;
+mod character;
+mod expand;
+mod item;
+mod parse;
+mod part_list;
+mod read_value;
+mod scan;
+mod tape;
+
+pub(super) use expand::expand;
+pub(super) use parse::parse;
+pub(super) use read_value::SliceBytes;
+
+/// A range of bytes of the source.
+#[derive(Clone, Copy)]
+pub(crate) struct Span {
+    pub start: usize,
+    pub end: usize,
+}
+
+/// One step of an expansion.
+#[derive(Clone, Copy)]
+pub(crate) enum Part {
+    /// Bytes of the source, as they are.
+    Literal(Span),
+    /// A byte that came after a backslash.
+    Escaped(u8),
+    /// A variable that has to have a value.
+    Variable(Span),
+    /// A variable with a default, whose parts come right after this one, up to the index `next` of the
+    /// list. Where the map has a value for the name, they are jumped over.
+    Default { name: Span, next: usize },
+}

@@ -1,0 +1,350 @@
+//! Reading a source once, from the left, into a list of parts.
+
+ghost use Rattle.std.specs.Prelude.{◌≡◌, ◌+◌, ◌-◌, ◌*◌, ◌<◌, ◌≤◌, ℕ, List, ◌∷◌, length, drop, reverse, slice_get, vec_len, IfOk, OnOk, IfSome, IsTrue, ◌↔◌};
+ghost use Rattle.subst_error.specs.ErrorFault.{parse_fault};
+ghost use Rattle.subst_error.specs.Fault.{MissingClosingBrace};
+ghost use Rattle.subst_core.specs.Language.Bytes.{dollar, colon, backslash, closing_brace};
+ghost use Rattle.subst_core.specs.Language.BadItem.{HasFault};
+ghost use Rattle.subst_core.specs.Calls.Outcome.{OnFault};
+ghost use Rattle.subst_core.specs.Raw.Cost.{GrowsBetween, StepReads, StepReadsAfterFirst};
+ghost use Rattle.subst_core.specs.Raw.Parts.{IsTemplateOf};
+ghost use Rattle.subst_core.specs.Raw.Placeholder.{IsInBraces, StatesBadItem};
+
+use super::item::{Placeholder, escape_at, placeholder_at};
+use super::scan::closes_all;
+use super::tape::Tape;
+use super::{Part, Span};
+use crate::steps::Reads;
+use std::alloc::{AllocError, Global};
+use std::mem;
+use subst_error::ParseError;
+
+/// A default whose closing brace hasn't been read yet.
+#[derive(Clone, Copy)]
+pub(super) struct OpenDefault {
+    /// The index of its part.
+    pub part: usize,
+    /// Its name, right after its opening brace.
+    pub name: Span,
+    /// How many braces are open around it.
+    pub depth: usize,
+}
+
+/// How far a source has been read.
+#[derive(Drop)]
+pub(super) struct Parser<'s> {
+    tape: Tape<'s>,
+    parts: Vec<Part>,
+    /// The defaults that are open, the outermost first.
+    defaults: Vec<OpenDefault>,
+    /// How many braces are open: those of the defaults, and bare ones inside defaults.
+    depth: usize,
+    /// From here to `at` come literal bytes that have no part yet.
+    literal_start: usize,
+    /// The offset up to which the source has been read.
+    at: usize,
+}
+
+/// Returns the parts of a source, and counts the reads.
+///
+/// # Errors
+///
+/// The fault of the source where it is no sentence, or out of memory.
+pub(in crate::template) fn parse(
+    alloc: Global,
+    source: &[u8],
+    reads: &mut Reads,
+) -> Result<Vec<Part>, ParseError>
+    ensures ok { IfOk result (λ parts. IsTemplateOf source.now parts.items) }
+    ensures err { OnFault parse_fault result (HasFault 0 source.now) }
+    ensures bound { reads.new ≤ reads.old + 3 * length source.now + 8 }
+    ensures grows { reads.old ≤ reads.new }
+    ensures whole { OnOk result (reads.old + length source.now ≤ reads.new) }
+{
+    let counter = mem::replace(reads, Reads::new());
+    let mut parser = Parser::new(alloc, Tape::new(source, counter));
+    let outcome = parser.read_to_end();
+    let Parser { tape, parts, .. } = parser;
+    *reads = tape.into_reads();
+    match outcome {
+        Ok(()) => Ok(parts),
+        Err(e) => Err(e),
+    }
+}
+
+impl<'s> Parser<'s> {
+    ghost use Rattle.subst_core.specs.Raw.Parsing.{IsReading, IsPart, StepsOrFails, StackHoldsFlushed};
+
+    fn new(alloc: Global, tape: Tape<'s>) -> Self
+        ensures reading { IsReading result }
+        ensures source { result.tape ≡ tape.entry }
+        ensures start { result.at ≡ 0 }
+    {
+        Parser {
+            tape,
+            parts: Vec::new(alloc),
+            defaults: Vec::new(alloc),
+            depth: 0,
+            literal_start: 0,
+            at: 0,
+        }
+    }
+
+    /// Reads the source to its end, or to its first bad item.
+    fn read_to_end(&mut self) -> Result<(), ParseError>
+        requires reading { IsReading self.old }
+        requires start { self.old.at ≡ 0 }
+        ensures ok { OnOk result (IsTemplateOf self.old.tape.source.now self.new.parts.items) }
+        ensures err { OnFault parse_fault result (HasFault 0 self.old.tape.source.now) }
+        ensures bound { self.new.tape.reads
+            ≤ self.old.tape.reads + 3 * length self.old.tape.source.now + 8 }
+        ensures grows { self.old.tape.reads ≤ self.new.tape.reads }
+        ensures whole { OnOk result
+            (self.old.tape.reads + length self.old.tape.source.now ≤ self.new.tape.reads) }
+    {
+        while self.tape.has(self.at) {
+            self.read_item()?;
+        }
+        self.finish()
+    }
+
+    /// Reads up to and including the next special byte or item.
+    fn read_item(&mut self) -> Result<(), ParseError>
+        requires reading { IsReading self.old }
+        requires more { self.old.at < length self.old.tape.source.now }
+        ensures answer { StepsOrFails self.old result self.new }
+        ensures cost { StepReads self.old result self.new }
+    {
+        if self.is_at_top() {
+            self.read_at_top()
+        } else {
+            self.read_in_default()
+        }
+    }
+
+    /// Returns whether no brace is open.
+    fn is_at_top(&self) -> bool
+        ensures { IsTrue result ↔ (self.now.depth ≡ 0) }
+    {
+        self.depth == 0
+    }
+
+    /// Reads, where no brace is open, plain bytes and the escape or placeholder after them.
+    fn read_at_top(&mut self) -> Result<(), ParseError>
+        requires reading { IsReading self.old }
+        requires more { self.old.at < length self.old.tape.source.now }
+        requires top { self.old.depth ≡ 0 }
+        ensures answer { StepsOrFails self.old result self.new }
+        ensures cost { StepReads self.old result self.new }
+    {
+        self.at = self.tape.plain_end(self.at);
+        match self.tape.byte_at(self.at) {
+            None => Ok(()),
+            Some(b'\\') => self.read_escape(),
+            Some(_) => self.read_placeholder(),
+        }
+    }
+
+    /// Reads, inside a default, one byte, or an escape or a placeholder.
+    fn read_in_default(&mut self) -> Result<(), ParseError>
+        requires reading { IsReading self.old }
+        requires more { self.old.at < length self.old.tape.source.now }
+        requires inside { 0 < self.old.depth }
+        ensures answer { StepsOrFails self.old result self.new }
+        ensures cost { StepReads self.old result self.new }
+    {
+        match self.tape.byte_at(self.at) {
+            None => unreachable!(),
+            Some(b'\\') => self.read_escape(),
+            Some(b'$') => self.read_placeholder(),
+            Some(b'{') => {
+                self.depth += 1;
+                self.at += 1;
+                Ok(())
+            }
+            Some(b'}') => self.close_brace(),
+            Some(_) => {
+                self.at += 1;
+                Ok(())
+            }
+        }
+    }
+
+    /// Reads the escape at `at`.
+    fn read_escape(&mut self) -> Result<(), ParseError>
+        requires reading { IsReading self.old }
+        requires spelled { (rest : List ℕ)
+            × (drop self.old.at self.old.tape.source.now ≡ backslash ∷ rest) }
+        ensures answer { StepsOrFails self.old result self.new }
+        ensures cost { StepReadsAfterFirst self.old result self.new }
+    {
+        match escape_at(&mut self.tape, self.at) {
+            Ok(byte) => self.add_part(Part::Escaped(byte), self.at + 2),
+            Err(fault) => Err(self.fault_of_source(fault)),
+        }
+    }
+
+    /// Reads the placeholder at `at`, of one with a default the part up to the colon.
+    fn read_placeholder(&mut self) -> Result<(), ParseError>
+        requires reading { IsReading self.old }
+        requires spelled { (rest : List ℕ)
+            × (drop self.old.at self.old.tape.source.now ≡ dollar ∷ rest) }
+        ensures answer { StepsOrFails self.old result self.new }
+        ensures cost { StepReadsAfterFirst self.old result self.new }
+    {
+        match placeholder_at(&mut self.tape, self.at) {
+            Ok(Placeholder::Short(name)) => self.add_part(Part::Variable(name), name.end),
+            Ok(Placeholder::Braced(name)) => self.add_part(Part::Variable(name), name.end + 1),
+            Ok(Placeholder::Default(name)) => self.open_default(name),
+            Err(fault) => Err(self.fault_of_source(fault)),
+        }
+    }
+
+    /// Flushes the pending literal bytes into a `Literal` part.
+    fn flush_literal(&mut self) -> Result<(), AllocError>
+        requires { IsReading self.old }
+        ensures kept { OnOk result
+            (self.new ≡ record self.old { parts = self.new.parts; literal_start = self.old.at }) }
+        ensures nested { OnOk result (StackHoldsFlushed self.old.tape.source.now
+            (reverse self.old.defaults.items) self.old.depth self.new.parts.items
+            self.old.at self.old.at) }
+        ensures same { self.new.tape ≡ self.old.tape }
+    {
+        if self.literal_start < self.at {
+            self.parts.push(Part::Literal(Span {
+                start: self.literal_start,
+                end: self.at,
+            }))?;
+        }
+        self.literal_start = self.at;
+        Ok(())
+    }
+
+    /// Adds the part of the bytes from `at` up to `end`.
+    fn add_part(&mut self, part: Part, end: usize) -> Result<(), ParseError>
+        requires reading { IsReading self.old }
+        requires part { IsPart self.old.tape.source.now self.old.at end part }
+        requires within { end ≤ length self.old.tape.source.now }
+        requires forward { self.old.at < end }
+        ensures answer { StepsOrFails self.old result self.new }
+        ensures position { OnOk result (self.new.at ≡ end) }
+        ensures same { self.new.tape ≡ self.old.tape }
+    {
+        self.flush_literal()?;
+        self.parts.push(part)?;
+        self.at = end;
+        self.literal_start = end;
+        Ok(())
+    }
+
+    /// Opens the default of the placeholder at `at`. Its part gets its jump when the default closes.
+    fn open_default(&mut self, name: Span) -> Result<(), ParseError>
+        requires reading { IsReading self.old }
+        requires head { IsInBraces self.old.tape.source.now self.old.at name colon }
+        ensures answer { StepsOrFails self.old result self.new }
+        ensures position { OnOk result (self.new.at ≡ name.end + 1) }
+        ensures same { self.new.tape ≡ self.old.tape }
+    {
+        self.flush_literal()?;
+        self.defaults.push(OpenDefault {
+            part: self.parts.len(),
+            name,
+            depth: self.depth,
+        })?;
+        self.parts.push(Part::Default { name, next: 0 })?;
+        self.depth += 1;
+        self.at = name.end + 1;
+        self.literal_start = self.at;
+        Ok(())
+    }
+
+    /// Reads a closing brace inside a default: that of the default, or of a bare brace in it.
+    fn close_brace(&mut self) -> Result<(), ParseError>
+        requires reading { IsReading self.old }
+        requires inside { 0 < self.old.depth }
+        requires spelled { drop self.old.at self.old.tape.source.now
+            ≡ closing_brace ∷ drop (self.old.at + 1) self.old.tape.source.now }
+        ensures answer { StepsOrFails self.old result self.new }
+        ensures position { OnOk result (self.new.at ≡ self.old.at + 1) }
+        ensures same { self.new.tape ≡ self.old.tape }
+    {
+        match self.defaults.last().copied() {
+            Some(innermost) if innermost.depth + 1 == self.depth => self.close_default(innermost),
+            _ => {
+                self.depth -= 1;
+                self.at += 1;
+                Ok(())
+            }
+        }
+    }
+
+    /// Closes the innermost default.
+    fn close_default(&mut self, innermost: OpenDefault) -> Result<(), ParseError>
+        requires reading { IsReading self.old }
+        requires innermost { slice_get self.old.defaults.items
+            (length self.old.defaults.items - 1) ≡ Some innermost }
+        requires closes { innermost.depth + 1 ≡ self.old.depth }
+        requires spelled { drop self.old.at self.old.tape.source.now
+            ≡ closing_brace ∷ drop (self.old.at + 1) self.old.tape.source.now }
+        ensures answer { StepsOrFails self.old result self.new }
+        ensures position { OnOk result (self.new.at ≡ self.old.at + 1) }
+        ensures same { self.new.tape ≡ self.old.tape }
+    {
+        self.flush_literal()?;
+        let _ = self.defaults.pop();
+        let next = self.parts.len();
+        self.parts[innermost.part] = Part::Default {
+            name: innermost.name,
+            next,
+        };
+        self.depth = innermost.depth;
+        self.at += 1;
+        self.literal_start = self.at;
+        Ok(())
+    }
+
+    /// Returns the fault of the source, where a bad item is at `at`: a default that is never closed comes
+    /// before what is wrong inside it.
+    fn fault_of_source(&mut self, fault: ParseError) -> ParseError
+        requires reading { IsReading self.old }
+        requires bad { StatesBadItem fault self.old.tape.source.now self.old.at }
+        ensures answer { IfSome (parse_fault result) (HasFault 0 self.old.tape.source.now) }
+        ensures cost { GrowsBetween 0 (length self.old.tape.source.now - self.old.at + 1)
+            self.old.tape.reads self.new.tape.reads }
+    {
+        let Some(outermost) = self.defaults.first().copied() else {
+            return fault;
+        };
+        if closes_all(&mut self.tape, self.at, self.depth) {
+            fault
+        } else {
+            unclosed(outermost)
+        }
+    }
+
+    /// Flushes the last literal bytes, at the end of the source.
+    fn finish(&mut self) -> Result<(), ParseError>
+        requires reading { IsReading self.old }
+        requires end { length self.old.tape.source.now ≤ self.old.at }
+        ensures ok { OnOk result (IsTemplateOf self.old.tape.source.now self.new.parts.items) }
+        ensures err { OnFault parse_fault result (HasFault 0 self.old.tape.source.now) }
+        ensures same { self.new.tape ≡ self.old.tape }
+    {
+        if let Some(outermost) = self.defaults.first() {
+            return Err(unclosed(*outermost));
+        }
+        self.flush_literal()?;
+        Ok(())
+    }
+}
+
+/// Returns the fault of a default that is never closed.
+fn unclosed(default: OpenDefault) -> ParseError
+    requires { 0 < default.name.start }
+    ensures { parse_fault result ≡ Some (MissingClosingBrace (default.name.start - 1)) }
+{
+    subst_error::MissingClosingBrace {
+        position: default.name.start - 1,
+    }
+    .into()
+}

@@ -1,0 +1,120 @@
+//! The source as the parser reads it.
+
+ghost use Rattle.std.specs.Prelude.{◌≡◌, ◌+◌, ◌-◌, ◌<◌, ◌≤◌, [], ◌∷◌, length, drop, IsSome, IsTrue, ◌↔◌, MatchOption};
+ghost use Rattle.subst_core.specs.Language.Bytes.{IsPlain};
+ghost use Rattle.subst_core.specs.Language.Name.{IsNameByte, BeginsWithNo};
+ghost use Rattle.subst_core.specs.Language.Character.{IsFrontCharacter};
+ghost use Rattle.subst_core.specs.Raw.Cost.{GrowsBetween};
+ghost use Rattle.subst_core.specs.Raw.ByteRun.{IsRun};
+
+use super::byte_class::is_name_byte;
+use super::character::front_character;
+use crate::steps::Reads;
+use memchr::memchr2;
+use subst_error::CharOrByte;
+
+/// A source that is read one byte at a time, or searched, with the counter of its reads. The parser has no
+/// other way to the source and no other counter, so each byte that it looks at is counted.
+#[derive(Drop)]
+pub(super) struct Tape<'s> {
+    source: &'s [u8],
+    reads: Reads,
+}
+
+impl<'s> Tape<'s> {
+    pub fn new(source: &'s [u8], reads: Reads) -> Self
+        ensures source { result.source.now ≡ source.now }
+        ensures reads { result.reads ≡ reads }
+    {
+        Tape { source, reads }
+    }
+
+    /// Returns the counter.
+    pub fn into_reads(self) -> Reads
+        ensures { result ≡ self.entry.reads }
+    {
+        let Tape { reads, .. } = self;
+        reads
+    }
+
+    /// Returns whether there is a byte at an offset. Reads nothing.
+    pub fn has(&self, at: usize) -> bool
+        ensures { IsTrue result ↔ (at < length self.now.source.now) }
+    {
+        at < self.source.len()
+    }
+
+    /// Returns the byte at an offset, or nothing after the last byte.
+    pub fn byte_at(&mut self, at: usize) -> Option<u8>
+        ensures byte { MatchOption result (drop at self.old.source.now ≡ [])
+            (λ b. drop at self.old.source.now ≡ b ∷ drop (at + 1) self.old.source.now) }
+        ensures within { IsSome result → at < length self.old.source.now }
+        ensures same { self.new.source ≡ self.old.source }
+        ensures cost { GrowsBetween 1 1 self.old.reads self.new.reads }
+    {
+        self.reads.add(1);
+        self.source.get(at).copied()
+    }
+
+    /// Returns the first offset from `from` on of a dollar or a backslash, or the end of the source.
+    pub fn plain_end(&mut self, from: usize) -> usize
+        requires { from ≤ length self.old.source.now }
+        ensures run { IsRun IsPlain self.old.source.now from result }
+        ensures end { BeginsWithNo IsPlain (drop result self.old.source.now) }
+        ensures within { result ≤ length self.old.source.now }
+        ensures same { self.new.source ≡ self.old.source }
+        ensures cost { GrowsBetween (result - from) (result - from + 1)
+            self.old.reads self.new.reads }
+    {
+        match memchr2(b'$', b'\\', self.rest(from)) {
+            Some(found) => {
+                self.reads.add(found + 1);
+                from + found
+            }
+            None => {
+                self.reads.add(self.source.len() - from);
+                self.source.len()
+            }
+        }
+    }
+
+    /// Returns the first offset from `from` on of a byte that is no name byte, or the end of the source.
+    pub fn name_end(&mut self, from: usize) -> usize
+        requires { from ≤ length self.old.source.now }
+        ensures run { IsRun IsNameByte self.old.source.now from result }
+        ensures end { BeginsWithNo IsNameByte (drop result self.old.source.now) }
+        ensures within { result ≤ length self.old.source.now }
+        ensures same { self.new.source ≡ self.old.source }
+        ensures cost { GrowsBetween (result - from) (result - from + 1)
+            self.old.reads self.new.reads }
+    {
+        for (i, b) in self.rest(from).iter().enumerate() {
+            self.reads.add(1);
+            if !is_name_byte(*b) {
+                return from + i;
+            }
+        }
+        self.source.len()
+    }
+
+    /// Returns the character at an offset, or the byte there where no character begins. Looks at up to four
+    /// bytes.
+    pub fn character_at(&mut self, at: usize) -> CharOrByte
+        requires { at < length self.old.source.now }
+        ensures answer { IsFrontCharacter (drop at self.old.source.now) result }
+        ensures same { self.new.source ≡ self.old.source }
+        ensures cost { GrowsBetween 1 4 self.old.reads self.new.reads }
+    {
+        let rest = self.rest(at);
+        self.reads.add(rest.len().min(4));
+        front_character(rest)
+    }
+
+    /// Returns the bytes from an offset on.
+    fn rest(&self, at: usize) -> &'s [u8]
+        requires { at ≤ length self.now.source.now }
+        ensures { result.now ≡ drop at self.now.source.now }
+    {
+        &self.source[at..]
+    }
+}

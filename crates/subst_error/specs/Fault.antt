@@ -1,0 +1,12 @@
+-- What is wrong with a source, or with its expansion. The cases are those of the errors; texts are their
+-- bytes.
+use Rattle.std.specs.Prelude.{ℕ, List, Option}
+use Rattle.subst_error.specs.declared.CharOrByte.{CharOrByte}
+
+-- Positions are byte offsets in the whole source, from 0.
+pub data Fault : Type 0 where
+  InvalidEscapeSequence : (position : ℕ) → (character : Option CharOrByte) → Fault
+  MissingVariableName : (position len : ℕ) → Fault
+  UnexpectedCharacter : (position : ℕ) → (character : CharOrByte) → (expected : List ℕ) → Fault
+  MissingClosingBrace : (position : ℕ) → Fault
+  NoSuchVariable : (position : ℕ) → (name : List ℕ) → Fault

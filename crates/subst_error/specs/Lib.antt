@@ -1,0 +1,4 @@
+pub mod Display
+pub mod ErrorFault
+pub mod Expected
+pub mod Fault

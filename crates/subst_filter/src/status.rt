@@ -1,0 +1,16 @@
+//! The statuses that the program ends with.
+
+/// The source was read to its end, and its answer was written.
+pub const DONE: u8 = 0;
+
+/// The source is refused.
+pub const REFUSED: u8 = 1;
+
+/// The words of the command line don't say what to do.
+pub const WRONG_WORDS: u8 = 2;
+
+/// The input or the output failed.
+pub const DEVICE_FAILED: u8 = 3;
+
+/// Memory ran out.
+pub const OUT_OF_MEMORY: u8 = 4;

@@ -1,0 +1,229 @@
+//! Errors: their texts, equality, conversions and clones.
+
+ghost use Rattle.std.specs.Prelude.{◌≡◌, ◌↔◌, IsTrue, IfOk};
+ghost use Rattle.subst.specs.ErrorFault.{error_fault};
+
+use std::alloc::{AllocError, AllocFailed};
+use std::test::Fail;
+use subst::error::{
+    CharOrByte, Error, ExpandError, ExpectedCharacter, InvalidEscapeSequence, MissingClosingBrace,
+    MissingVariableName, NoSuchVariable, ParseError, UnexpectedCharacter,
+};
+
+const BRACE_OR_COLON: &str = "a closing brace ('}') or colon (':')";
+
+fn escape(position: usize, character: Option<CharOrByte>) -> ParseError {
+    ParseError::InvalidEscapeSequence(InvalidEscapeSequence {
+        position,
+        character,
+    })
+}
+
+fn missing_name(position: usize, len: usize) -> ParseError {
+    ParseError::MissingVariableName(MissingVariableName { position, len })
+}
+
+fn unexpected(position: usize, character: CharOrByte, expected: &'static str) -> ParseError {
+    ParseError::UnexpectedCharacter(UnexpectedCharacter {
+        position,
+        character,
+        expected: ExpectedCharacter::new(expected),
+    })
+}
+
+fn no_brace(position: usize) -> ParseError {
+    ParseError::MissingClosingBrace(MissingClosingBrace { position })
+}
+
+fn no_variable(rt: &HostRuntime, position: usize, name: &str) -> Result<ExpandError, AllocError> {
+    let name = String::from_str(rt.alloc(), name)?;
+    Ok(ExpandError::NoSuchVariable(NoSuchVariable { position, name }))
+}
+
+// Errors are equal where they state equal faults: the same case and fields, a text by its bytes.
+fn is_same(a: &Error, b: &Error) -> bool
+    ensures { IsTrue result ↔ (error_fault a.now ≡ error_fault b.now) }
+{
+    a == b
+}
+
+// A clone states the fault that the error states.
+fn copy_of(e: &Error) -> Result<Error, AllocError>
+    ensures { IfOk result (λ copy. error_fault copy ≡ error_fault e.now) }
+{
+    e.clone()
+}
+
+#[test]
+fn shows_characters(rt: HostRuntime) -> Result<(), Fail> {
+    let rows: &[(CharOrByte, &str)] = &[
+        (CharOrByte::Char('w'), "w"),
+        (CharOrByte::Char('\n'), "\n"),
+        (CharOrByte::Char('❤'), "❤"),
+        (CharOrByte::Byte(0x0A), "\n"),
+        (CharOrByte::Byte(0x79), "y"),
+        (CharOrByte::Byte(0x7F), "\x7F"),
+        (CharOrByte::Byte(0x80), "0x80"),
+        (CharOrByte::Byte(0xFF), "0xFF"),
+    ];
+    for &(character, text) in rows {
+        assert_eq!(rt; format!(in rt.alloc(); "{character}")?.as_str(), text);
+    }
+    Ok(())
+}
+
+#[test]
+fn quotes_characters(rt: HostRuntime) -> Result<(), Fail> {
+    let rows: &[(CharOrByte, &str)] = &[
+        (CharOrByte::Byte(0x00), "'\\0'"),
+        (CharOrByte::Char('\0'), "'\\0'"),
+        (CharOrByte::Byte(0x01), "'\\u{1}'"),
+        (CharOrByte::Byte(0x09), "'\\t'"),
+        (CharOrByte::Byte(0x0A), "'\\n'"),
+        (CharOrByte::Byte(0x0D), "'\\r'"),
+        (CharOrByte::Byte(0x1B), "'\\u{1b}'"),
+        (CharOrByte::Char('"'), "'\"'"),
+        (CharOrByte::Char('\''), "'\\''"),
+        (CharOrByte::Char('\\'), "'\\\\'"),
+        (CharOrByte::Byte(0x79), "'y'"),
+        (CharOrByte::Char('y'), "'y'"),
+        (CharOrByte::Byte(0x7F), "'\\u{7f}'"),
+        (CharOrByte::Byte(0x81), "'\\x81'"),
+        (CharOrByte::Byte(0xE2), "'\\xE2'"),
+        (CharOrByte::Char('❤'), "'❤'"),
+        (CharOrByte::Char('\u{200b}'), "'\\u{200b}'"),
+    ];
+    for &(character, text) in rows {
+        let quoted = character.quoted_printable();
+        assert_eq!(rt; format!(in rt.alloc(); "{quoted}")?.as_str(), text);
+    }
+    Ok(())
+}
+
+#[test]
+fn describes_each_fault(rt: HostRuntime) -> Result<(), Fail> {
+    let rows: &[(ParseError, &str)] = &[
+        (
+            escape(6, Some(CharOrByte::Char('w'))),
+            "Invalid escape sequence: \\w",
+        ),
+        (
+            escape(6, Some(CharOrByte::Char('❤'))),
+            "Invalid escape sequence: \\❤",
+        ),
+        (
+            escape(10, Some(CharOrByte::Char('（'))),
+            "Invalid escape sequence: \\（",
+        ),
+        (
+            escape(0, Some(CharOrByte::Byte(0x80))),
+            "Invalid escape sequence: \\0x80",
+        ),
+        (
+            escape(12, None),
+            "Invalid escape sequence: missing escape character",
+        ),
+        (missing_name(6, 1), "Missing variable name"),
+        (missing_name(6, 2), "Missing variable name"),
+        (
+            unexpected(12, CharOrByte::Char(')'), BRACE_OR_COLON),
+            "Unexpected character: ')', expected a closing brace ('}') or colon (':')",
+        ),
+        (
+            unexpected(14, CharOrByte::Byte(0xE2), BRACE_OR_COLON),
+            "Unexpected character: '\\xE2', expected a closing brace ('}') or colon (':')",
+        ),
+        (
+            unexpected(12, CharOrByte::Char('❤'), BRACE_OR_COLON),
+            "Unexpected character: '❤', expected a closing brace ('}') or colon (':')",
+        ),
+        (no_brace(7), "Missing closing brace"),
+        (ParseError::OutOfMemory(AllocError), "out of memory"),
+    ];
+    for &(fault, text) in rows {
+        assert_eq!(rt; format!(in rt.alloc(); "{fault}")?.as_str(), text);
+        let error = Error::from(fault);
+        assert_eq!(rt; format!(in rt.alloc(); "{error}")?.as_str(), text);
+    }
+    let missing = no_variable(&rt, 8, "name")?;
+    assert_eq!(rt;
+        format!(in rt.alloc(); "{missing}")?.as_str(),
+        "No such variable: $name"
+    );
+    let error = Error::from(missing);
+    assert_eq!(rt;
+        format!(in rt.alloc(); "{error}")?.as_str(),
+        "No such variable: $name"
+    );
+    assert!(rt; ParseError::from(AllocFailed { value: 7u8 }) == ParseError::from(AllocError));
+    assert!(rt; Error::from(AllocFailed { value: 7u8 }) == Error::from(AllocError));
+    let full = ExpandError::from(AllocFailed { value: 7u8 });
+    assert_eq!(rt; format!(in rt.alloc(); "{full}")?.as_str(), "out of memory");
+    Ok(())
+}
+
+#[test]
+fn tells_faults_apart(rt: HostRuntime) -> Result<(), Fail> {
+    let faults: &[ParseError] = &[
+        escape(6, None),
+        escape(7, None),
+        escape(6, Some(CharOrByte::Char('y'))),
+        escape(6, Some(CharOrByte::Byte(0x79))),
+        missing_name(6, 1),
+        missing_name(6, 2),
+        missing_name(7, 1),
+        unexpected(6, CharOrByte::Char('y'), "a brace"),
+        unexpected(6, CharOrByte::Char('y'), "a colon"),
+        unexpected(6, CharOrByte::Char('z'), "a brace"),
+        no_brace(6),
+        no_brace(7),
+        ParseError::OutOfMemory(AllocError),
+    ];
+    for (i, a) in faults.iter().enumerate() {
+        for (j, b) in faults.iter().enumerate() {
+            assert_eq!(rt; *a == *b, i == j, "{a:?} and {b:?}");
+            assert_eq!(rt; is_same(&Error::from(*a), &Error::from(*b)), i == j);
+        }
+    }
+    Ok(())
+}
+
+#[test]
+fn tells_names_apart(rt: HostRuntime) -> Result<(), Fail> {
+    let rows: &[(usize, &str, bool)] = &[
+        (8, "name", true),
+        (7, "name", false),
+        (8, "game", false),
+        (8, "", false),
+    ];
+    for &(position, name, equal) in rows {
+        let missing = no_variable(&rt, 8, "name")?;
+        let other = no_variable(&rt, position, name)?;
+        assert_eq!(rt; missing == other, equal, "{missing:?} and {other:?}");
+        assert!(rt; missing != ExpandError::from(AllocError));
+        let error = Error::from(missing.clone()?);
+        assert_eq!(rt; is_same(&copy_of(&error)?, &Error::from(other)), equal);
+        assert!(rt; error != Error::from(missing_name(8, 4)));
+    }
+    Ok(())
+}
+
+#[test]
+fn keeps_the_message(rt: HostRuntime) -> Result<(), Fail> {
+    let expected = ExpectedCharacter::new(BRACE_OR_COLON);
+    assert_eq!(rt; expected.message(), BRACE_OR_COLON);
+    assert_eq!(rt; expected, ExpectedCharacter::new(BRACE_OR_COLON));
+    let long = ExpectedCharacter::new(
+        "a letter, a digit, an underscore, a brace, a colon, a dollar or a backslash",
+    );
+    assert_eq!(rt;
+        long.message(),
+        "a letter, a digit, an underscore, a brace, a colon, a dollar ..."
+    );
+    let short = ExpectedCharacter::new("a brace");
+    assert_eq!(rt;
+        format!(in rt.alloc(); "{short:?}")?.as_str(),
+        "ExpectedCharacter { message: \"a brace\" }"
+    );
+    Ok(())
+}
