@@ -1,0 +1,6 @@
+-- How the bytes of a value are read.
+use Rattle.std.proofs.Common.{refl}
+use Rattle.subst_uses.proofs.filled.by_slices.Goals as goal
+
+pub returns : goal.returns
+returns c = c.substitute_bytes.ensures (λ v. v.now) (λ v. refl)

@@ -1,0 +1,36 @@
+//! A launcher: the command line of a program, whose words are templates.
+
+ghost use Rattle.std.specs.Prelude.{map, IfOk, IfErr, IfSome};
+ghost use Rattle.subst.specs.ErrorFault.{error_fault};
+ghost use Rattle.subst_uses.specs.CommandLine.{EachGives, FirstRefused, texts_of};
+
+use crate::filled;
+use std::alloc::Global;
+use std::collections::BTreeMap;
+use subst::Error;
+
+#[cfg(test)]
+mod tests;
+
+/// Returns the words of a command line, each filled in from the variables. A value is never split into words.
+///
+/// # Errors
+///
+/// The fault of the first word that is refused. `OutOfMemory` when allocation fails.
+pub fn command_line(
+    alloc: Global,
+    words: &[&str],
+    variables: &BTreeMap<String, String>,
+) -> Result<Vec<Vec<u8>>, Error>
+    ensures ok { IfOk result (λ line.
+        EachGives (texts_of variables.now) (map (λ w. w.now) words.now)
+        (map (λ x. x.items) line.items)) }
+    ensures err { IfErr result (λ e. IfSome (error_fault e)
+        (FirstRefused (texts_of variables.now) (map (λ w. w.now) words.now))) }
+{
+    let mut line = Vec::new(alloc);
+    for word in words {
+        line.push(filled::by_strings(alloc, word.as_bytes(), variables)?)?;
+    }
+    Ok(line)
+}

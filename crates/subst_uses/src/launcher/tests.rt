@@ -1,0 +1,39 @@
+use super::*;
+use std::test::Fail;
+
+fn one_variable(alloc: Global) -> Result<BTreeMap<String, String>, Fail> {
+    let mut variables = BTreeMap::new(alloc);
+    variables.insert(
+        String::from_str(alloc, "file")?,
+        String::from_str(alloc, "a b.txt")?,
+    )?;
+    Ok(variables)
+}
+
+#[test]
+fn fills_in_each_word(rt: HostRuntime) -> Result<(), Fail> {
+    let alloc = rt.alloc();
+    let words = ["${editor:vi}", "+${line:1}", "$file"];
+    let variables = one_variable(alloc)?;
+    let line = command_line(alloc, &words, &variables)?;
+    assert_eq!(rt; line.len(), 3);
+    assert_eq!(rt; line[0].as_slice(), b"vi".as_slice());
+    assert_eq!(rt; line[1].as_slice(), b"+1".as_slice());
+    assert_eq!(rt; line[2].as_slice(), b"a b.txt".as_slice());
+    Ok(())
+}
+
+#[test]
+fn returns_the_first_fault(rt: HostRuntime) -> Result<(), Fail> {
+    let alloc = rt.alloc();
+    let words = ["vi", "$line", "$"];
+    let variables = one_variable(alloc)?;
+    match command_line(alloc, &words, &variables) {
+        Ok(_line) => assert!(rt; false),
+        Err(e) => assert_eq!(rt;
+            format!(in alloc; "{e}")?.as_str(),
+            "No such variable: $line"
+        ),
+    }
+    Ok(())
+}

@@ -1,0 +1,12 @@
+//! Callers of `subst`, as users write them.
+//!
+//! Each has a contract of its own, proved from the contracts of `subst` and its lemmas for callers.
+#![tactic(auto)]
+
+pub mod any_template;
+pub mod filled;
+pub mod launcher;
+pub mod letter;
+mod memory;
+pub mod own_map;
+pub mod plain;

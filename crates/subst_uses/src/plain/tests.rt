@@ -1,0 +1,12 @@
+use super::*;
+use std::collections::BTreeMap;
+use std::test::Fail;
+
+#[test]
+fn leaves_a_source_without_variables(rt: HostRuntime) -> Result<(), Fail> {
+    let alloc = rt.alloc();
+    let variables = BTreeMap::<String, Vec<u8>>::new(alloc);
+    let output = unchanged(alloc, b"{a: b}", &variables)?;
+    assert_eq!(rt; output.as_slice(), b"{a: b}".as_slice());
+    Ok(())
+}
