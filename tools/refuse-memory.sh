@@ -1,12 +1,12 @@
 #!/usr/bin/env bash
-# Runs each test of want of memory, those of the modules `refused_memory`, again and again. In each run one request for
-# memory is refused: the first, then the second, and so on until a run meets no refusal. The test has to pass in every
-# run, to meet want of memory in some, and in the last to say nothing of it. The last line is a summary.
+# Runs each test of running out of memory, those of the modules `refused_memory`, again and again. In each run one
+# request for memory is refused: the first, then the second, and so on until no request is refused in a run. The test has
+# to pass in every run, to be out of memory in at least one, and never in the last. The last line is a summary.
 set -euo pipefail
 cd "$(dirname "$0")/.."
 ulimit -c 0
 
-crates='subst subst_filter'
+crates='subst_vectors subst_filter'
 seconds_a_run=20
 most_requests=2000
 
@@ -17,7 +17,7 @@ report=$folder/refused
 output=$folder/output
 "${CC:-cc}" -O2 -Wall -Wextra -Werror -shared -fPIC -o "$library" tools/refuse_memory.c
 
-# Builds the tests of a crate, unless they are newer than all that they are built from.
+# Builds the tests of a crate, unless they are newer than everything they are built from.
 build() {
   local tests=crates/$1/out/$1_tests
   if [ -x "$tests" ] && [ -z "$(find crates.txt crates/*/{src,specs,proofs} -newer "$tests" -print -quit)" ]; then
@@ -33,12 +33,13 @@ build() {
 # Runs a test with the request of this number refused.
 run_refusing() {
   rm -f "$report"
-  timeout "$seconds_a_run" env LD_PRELOAD="$library" REFUSE_REQUEST="$3" REFUSE_REPORT="$report" \
+  timeout --foreground "$seconds_a_run" env LD_PRELOAD="$library" REFUSE_REQUEST="$3" REFUSE_REPORT="$report" \
     "crates/$1/out/$1_tests" "$2" >"$output" 2>&1
 }
 
-says_want() {
-  grep -q '^want of memory$' "$output"
+# Whether the test said that its call was out of memory.
+says_out_of_memory() {
+  grep -qx 'out of memory' "$output"
 }
 
 fail() {
@@ -49,7 +50,7 @@ fail() {
 
 # Refuses each request of a test in turn.
 refuse_in_turn() {
-  local name="$1 $2" request wants=0 status
+  local name="$1 $2" request times=0 status
   for ((request = 1; request <= most_requests; request++)); do
     status=0
     run_refusing "$1" "$2" "$request" 2>/dev/null || status=$?
@@ -63,19 +64,19 @@ refuse_in_turn() {
     if [ ! -e "$report" ]; then
       break
     fi
-    if says_want; then
-      wants=$((wants + 1))
+    if says_out_of_memory; then
+      times=$((times + 1))
     fi
   done
   refused=$((request - 1))
   if [ -e "$report" ]; then
     fail "$name" "no end of requests after $refused"
-  elif says_want; then
-    fail "$name" "want of memory with no request refused"
-  elif [ "$wants" -eq 0 ]; then
-    fail "$name" "no want of memory with $refused requests refused in turn"
+  elif says_out_of_memory; then
+    fail "$name" "out of memory with no request refused"
+  elif [ "$times" -eq 0 ]; then
+    fail "$name" "never out of memory with $refused requests refused in turn"
   else
-    printf '%s: %d requests refused in turn, %d times want of memory\n' "$name" "$refused" "$wants"
+    printf '%s: %d requests refused in turn, %d times out of memory\n' "$name" "$refused" "$times"
   fi
 }
 
@@ -86,7 +87,7 @@ for crate in $crates; do
   build "$crate"
   names=$("crates/$crate/out/${crate}_tests" --list | sed -n 's/^\(refused_memory::.*\): test$/\1/p')
   if [ -z "$names" ]; then
-    printf '%s: FAILED: no test of refused memory\n' "$crate"
+    printf '%s: FAILED: it has no test in a module refused_memory\n' "$crate"
     failed=$((failed + 1))
   fi
   for name in $names; do

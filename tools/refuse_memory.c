@@ -1,8 +1,7 @@
 /* A library to preload that refuses one request for memory.
  *
- * REFUSE_REQUEST says which of the program's requests is answered with NULL, counted from 1. Where that request comes,
- * the file that REFUSE_REPORT names is made, so that its absence tells that no request was refused. With GNU's C
- * library alone.
+ * REFUSE_REQUEST says which of the program's requests gets NULL, counted from 1. When that request comes, the file that
+ * REFUSE_REPORT names is made, so that without it no request was refused. It needs GNU's C library.
  */
 #include <errno.h>
 #include <fcntl.h>
@@ -15,7 +14,7 @@ void *__libc_calloc(size_t count, size_t size);
 void *__libc_realloc(void *block, size_t size);
 void *__libc_memalign(size_t alignment, size_t size);
 
-/* How many requests there are until the refused one, that one too; 0 where none is to be refused any more. */
+/* How many requests there are up to the refused one, that one included; 0 if no request is refused any more. */
 static unsigned long requests_left;
 
 __attribute__((constructor)) static void begin(void)
@@ -24,7 +23,7 @@ __attribute__((constructor)) static void begin(void)
     requests_left = request ? strtoul(request, NULL, 10) : 0;
 }
 
-/* Tells that a request is refused. A report that can't be made ends the program, with a status of its own. */
+/* Reports that a request is refused. If that fails, the program ends with a status of its own. */
 static void report(void)
 {
     const char *path = getenv("REFUSE_REPORT");

@@ -1,0 +1,574 @@
+#!/usr/bin/env python3
+"""programs.py   Tests the built programs subst_filter and subst_answers.
+
+Contracts say nothing of `main`, of standard error and of how much memory is enough, so these tests run the programs as
+a shell would: each status with its message, streams that fail, limits of memory, and large inputs. What is expected is
+worked out here, from the rules of the language and not from a run. A program that is older than its sources is proved
+and built first. Each test prints a line, and the last line is 'N passed, M failed'.
+"""
+import contextlib
+import os
+import pathlib
+import random
+import resource
+import signal
+import subprocess
+import sys
+import tempfile
+import time
+from typing import NamedTuple
+
+TOP = pathlib.Path(__file__).resolve().parent.parent
+CRATES = TOP / 'crates'
+# The programs, each with words for which it does its work.
+PROGRAMS = {'subst_filter': ['bytes'], 'subst_answers': []}
+# How long a program may run. Each run takes less than a second on a machine that does nothing else.
+SECONDS = 30
+MIB = 1 << 20
+
+USAGE = b'usage: subst_filter bytes|text|env [NAME=VALUE]...\n'
+READ_FAILED = b'subst: read failed\n'
+WRITE_FAILED = b'subst: write failed\n'
+OUT_OF_MEMORY = b'subst: out of memory\n'
+ANSWERS_OUT_OF_MEMORY = b'subst_answers: out of memory\n'
+
+SPECIAL = b'\\${}:'
+# Every byte that stands for itself, also outside UTF-8.
+PLAIN = bytes(byte for byte in range(256) if byte not in b'\\$')
+
+
+class End(NamedTuple):
+    """How a program ended, and what it wrote."""
+    status: int
+    output: bytes
+    errors: bytes
+
+
+class Wrong(Exception):
+    """A program didn't do what was expected."""
+
+
+# Running programs
+
+
+def newest_source():
+    """The time of the last change of what the programs are built from."""
+    files = [TOP / 'crates.txt']
+    for part in ('src', 'specs', 'proofs'):
+        files += CRATES.glob(f'*/{part}/**/*')
+    return max(file.stat().st_mtime for file in files)
+
+
+def path_of(program):
+    return CRATES / program / 'out' / program
+
+
+def build(program):
+    """Proves and builds a program, unless it is newer than the sources. Returns whether it is there."""
+    path = path_of(program)
+    if path.exists() and path.stat().st_mtime >= newest_source():
+        return True
+    print(f'{program}: proving and building the program', flush=True)
+    ran = subprocess.run(['rt', 'run', '--', *PROGRAMS[program]], cwd=CRATES / program, stdin=subprocess.DEVNULL,
+                         stdout=subprocess.PIPE, stderr=subprocess.STDOUT)
+    if ran.returncode != 0:
+        sys.stdout.write(ran.stdout.decode(errors='replace'))
+    return ran.returncode == 0
+
+
+def run(program, words=(), source=b'', **options):
+    """Runs a program. The source is its input, through a pipe, unless the options, those of subprocess.run, name an
+    input; an output that they don't name is kept."""
+    if 'stdin' not in options:
+        options['input'] = source
+    for stream in ('stdout', 'stderr'):
+        options.setdefault(stream, subprocess.PIPE)
+    ran = subprocess.run([path_of(program), *words], timeout=SECONDS, **options)
+    return End(ran.returncode, ran.stdout or b'', ran.stderr or b'')
+
+
+def fill_in(words, source=b'', **options):
+    """Runs the filter over bytes, with these words of the form NAME=VALUE."""
+    return run('subst_filter', ['bytes', *words], source, **options)
+
+
+def answer(source, **options):
+    """Runs the program that answers records."""
+    return run('subst_answers', [], source, **options)
+
+
+def limited(kind, amount):
+    """The option that runs a program under a limit."""
+    return {'preexec_fn': lambda: resource.setrlimit(kind, (amount, amount))}
+
+
+def in_memory(amount):
+    return limited(resource.RLIMIT_AS, amount)
+
+
+def without(stream):
+    """The option that runs a program with a standard stream closed."""
+    name = ('stdin', 'stdout', 'stderr')[stream]
+    return {name: None, 'preexec_fn': lambda: os.close(stream)}
+
+
+def shown(value):
+    """A status, or the start of some bytes and how many there are."""
+    if isinstance(value, int):
+        return str(value)
+    return f'{value!r}' if len(value) <= 80 else f'{value[:80]!r}.. ({len(value)} bytes)'
+
+
+def expect(end, status, output=b'', errors=b''):
+    """Fails the test unless the program ended so."""
+    for what, is_, wanted in zip(End._fields, end, End(status, output, errors)):
+        if is_ != wanted:
+            raise Wrong(f'{what} is {shown(is_)} and not {shown(wanted)}')
+
+
+def expect_that(fact, text):
+    """Fails the test unless the fact holds."""
+    if not fact:
+        raise Wrong(text)
+
+
+@contextlib.contextmanager
+def pipe():
+    """A pipe: its end to read from, and its end to write to."""
+    reader, writer = os.pipe()
+    try:
+        yield reader, writer
+    finally:
+        os.close(reader)
+        os.close(writer)
+
+
+@contextlib.contextmanager
+def unread_pipe():
+    """An end to write to of a pipe that nobody can read."""
+    reader, writer = os.pipe()
+    os.close(reader)
+    try:
+        yield writer
+    finally:
+        os.close(writer)
+
+
+def fill(writer):
+    """Writes to a pipe all that it can hold, and returns how many bytes these are."""
+    os.set_blocking(writer, False)
+    count = 0
+    with contextlib.suppress(BlockingIOError):
+        while True:
+            count += os.write(writer, b'a' * 4096)
+    return count
+
+
+def left_in(reader):
+    """The bytes that are in a pipe, of which it holds less than a MiB."""
+    os.set_blocking(reader, False)
+    return os.read(reader, MIB)
+
+
+# Sources with what they give, by the rules of the language
+
+
+def piece(rng, variables, depth):
+    """The text of one random part of a template, and what it gives. Its braces are balanced."""
+    kind = rng.randrange(7 if depth > 0 else 4)
+    name, value = rng.choice(variables)
+    if kind == 0:
+        plain = bytes(rng.choices(b' %:-~\x00\xffabcXYZ0123456789_', k=rng.randrange(40)))
+        return plain + b'.', plain + b'.'
+    if kind == 1:
+        byte = bytes([rng.choice(SPECIAL)])
+        return b'\\' + byte, byte
+    if kind == 2:
+        # The byte after it isn't of a name.
+        return b'$%b-' % name, value + b'-'
+    if kind == 3:
+        return b'${%b}' % name, value
+    text, inner = pieces(rng, variables, depth - 1, rng.randrange(4))
+    if kind == 4:
+        return b'${none:%b}' % text, inner
+    if kind == 5:
+        # The default isn't used, so it may need a variable that is missing.
+        return b'${%b:$none %b}' % (name, text), value
+    return b'{%b}' % text, b'{%b}' % inner
+
+
+def pieces(rng, variables, depth, count):
+    """As many random parts, one after the other, and what they give."""
+    made = [piece(rng, variables, depth) for _ in range(count)]
+    return b''.join(text for text, _ in made), b''.join(value for _, value in made)
+
+
+def some_variables(count):
+    """Names, none of which is `none`, and values, which hold special bytes and are inserted as they are."""
+    values = (b'', b'v', b'$none', b'\\}', b'${', b'a=b', b'line\nline', '\u00e4\u20ac'.encode(), b'long ' * 20)
+    return [(b'name_%d' % number, values[number % len(values)]) for number in range(count)]
+
+
+def words_of(variables):
+    return [name + b'=' + value for name, value in variables]
+
+
+def column(data):
+    """Bytes as they are written in a record and in an answer."""
+    return data.hex().encode() or b'-'
+
+
+def record(source, variables=()):
+    """The line of a record of the kind `bytes`."""
+    pairs = b','.join(column(name) + b'=' + column(value) for name, value in variables)
+    return b'bytes\t%b\t%b\n' % (column(source), pairs or b'-')
+
+
+def given(output):
+    """The line of an answer that is bytes."""
+    return b'ok\t%b\n' % column(output)
+
+
+# Tests of subst_filter: statuses and messages
+
+
+def test_filter_fills_variables_in():
+    expect(fill_in(['name=world'], b'Hello $name!'), 0, b'Hello world!')
+    expect(fill_in(['a=1', 'b=x=y', 'a=2', '=z'], b'$a ${b} ${c:$a}'), 0, b'2 x=y 2')
+    expect(fill_in([], b'\x00\xff {}:\n'), 0, b'\x00\xff {}:\n')
+    expect(fill_in([]), 0)
+
+
+def test_filter_takes_no_variables_from_the_environment():
+    expect(fill_in([], b'$name', env={'name': 'world'}), 1, errors=b'subst: No such variable: $name\n')
+
+
+def test_filter_prints_faults():
+    rows = [
+        (b'$', b'Missing variable name'),
+        (b'a $name', b'No such variable: $name'),
+        (b'${a:\\x}', b'Invalid escape sequence: \\x'),
+        (b'${a:\\x', b'Missing closing brace'),
+        (b'${a)', b"Unexpected character: ')', expected a closing brace ('}') or colon (':')"),
+    ]
+    for source, fault in rows:
+        expect(fill_in(['b=1'], b'text $b ' + source), 1, errors=b'subst: ' + fault + b'\n')
+
+
+WRONG_WORDS = ([], [''], ['text'], ['env'], ['text', 'a=1'], ['bytes', 'name'], ['bytes', 'a=1', 'b'], ['bytes', ''],
+               ['Bytes'], ['a=1'], ['--help'])
+
+
+def test_filter_prints_usage_at_wrong_words():
+    for words in WRONG_WORDS:
+        expect(run('subst_filter', words, b'a'), 2, errors=USAGE)
+
+
+def test_filter_leaves_the_input_unread_at_wrong_words():
+    for words in WRONG_WORDS:
+        with pipe() as (reader, writer):
+            count = fill(writer)
+            expect(run('subst_filter', words, stdin=reader), 2, errors=USAGE)
+            expect_that(len(left_in(reader)) == count, f'input was read with the words {words}')
+
+
+def test_filter_fails_at_words_outside_utf8():
+    for words in ([b'\xff'], [b'bytes', b'\xff=1'], [b'bytes', b'a=\xe4'], [b'bytes', b'a=1', b'b=\xed\xa0\x80']):
+        with pipe() as (reader, writer):
+            count = fill(writer)
+            expect(run('subst_filter', words, stdin=reader), 3, errors=READ_FAILED)
+            expect_that(len(left_in(reader)) == count, f'input was read with the words {words}')
+
+
+# Tests of subst_filter: streams
+
+
+def test_filter_reads_input_that_comes_in_pieces():
+    command = [path_of('subst_filter'), 'bytes', 'name=world']
+    with subprocess.Popen(command, stdin=subprocess.PIPE, stdout=subprocess.PIPE, stderr=subprocess.PIPE) as ran:
+        try:
+            for part in (b'Hello ${', b'na', b'me'):
+                ran.stdin.write(part)
+                ran.stdin.flush()
+                time.sleep(0.05)
+            output, errors = ran.communicate(b'}!', timeout=SECONDS)
+        except BaseException:
+            ran.kill()
+            raise
+    expect(End(ran.returncode, output, errors), 0, b'Hello world!')
+
+
+def test_filter_fails_where_a_read_fails():
+    folder = os.open('.', os.O_RDONLY)
+    expect(fill_in([], stdin=folder), 3, errors=READ_FAILED)
+    os.close(folder)
+    expect(fill_in([], **without(0)), 3, errors=READ_FAILED)
+    with pipe() as (reader, _):
+        os.set_blocking(reader, False)
+        expect(fill_in([], stdin=reader), 3, errors=READ_FAILED)
+
+
+def test_filter_fails_where_a_write_fails():
+    with open('/dev/full', 'wb') as full:
+        for source in (b'a', b'a' * MIB):
+            expect(fill_in([], source, stdout=full), 3, errors=WRITE_FAILED)
+    expect(fill_in([], b'a', **without(1)), 3, errors=WRITE_FAILED)
+
+
+def test_filter_fails_where_a_pipe_is_closed():
+    # Python ignores SIGPIPE and SIGXFSZ; `restore_signals` says whether the program begins with them not ignored.
+    for restored in (True, False):
+        with unread_pipe() as writer:
+            expect(fill_in([], b'a', stdout=writer, restore_signals=restored), 3, errors=WRITE_FAILED)
+
+
+def test_filter_writes_a_prefix_where_a_later_write_fails():
+    result = PLAIN * 1000
+    with pipe() as (reader, writer):
+        os.set_blocking(writer, False)
+        expect(fill_in([], result, stdout=writer), 3, errors=WRITE_FAILED)
+        written = left_in(reader)
+    expect_that(written and result.startswith(written), f'a pipe was written {shown(written)}')
+    with open('output', 'w+b') as file:
+        options = limited(resource.RLIMIT_FSIZE, 1000)
+        expect(fill_in([], result, stdout=file, restore_signals=False, **options), 3, errors=WRITE_FAILED)
+        file.seek(0)
+        written = file.read()
+    expect_that(written == result[:1000], f'a file was written {shown(written)}')
+
+
+def test_filter_keeps_its_status_where_standard_error_fails():
+    expect(fill_in(['name=world'], b'$name', **without(2)), 0, b'world')
+    with open('/dev/full', 'wb') as full:
+        for options in (without(2), {'stderr': full}):
+            expect(fill_in([], b'$', **options), 1)
+            expect(run('subst_filter', [], **options), 2)
+            expect(fill_in([b'\xff=1'], **options), 3)
+
+
+# Tests of subst_filter: memory
+
+
+def test_filter_says_out_of_memory():
+    limit = in_memory(64 * MIB)
+    # Memory isn't enough for the input; for what is kept of open braces; for the output.
+    rows = [
+        ([], b'a' * (80 * MIB)),
+        ([], 2000000 * b'${a:' + 2000000 * b'}'),
+        (['a=' + 100000 * 'v'], 1000000 * b'$a '),
+    ]
+    for words, source in rows:
+        expect(fill_in(words, source, **limit), 4, errors=OUT_OF_MEMORY)
+
+
+def refusing(folder):
+    """Builds the library that refuses one request for memory, and returns its path."""
+    library = os.path.join(folder, 'refuse_memory.so')
+    command = [os.environ.get('CC') or 'cc', '-O2', '-shared', '-fPIC', '-o', library, TOP / 'tools/refuse_memory.c']
+    subprocess.run(command, check=True)
+    return library
+
+
+def refuse_in_turn(program, words, source, output, errors, prefixes=(b'',)):
+    """Runs a program again and again, each time with another of its requests for memory refused, until in a run none
+    is. It has to end as if none were, or to be out of memory, with one of these prefixes of its output."""
+    times = 0
+    with tempfile.TemporaryDirectory() as folder:
+        library = refusing(folder)
+        for request in range(1, 1000):
+            report = os.path.join(folder, str(request))
+            env = {'LD_PRELOAD': library, 'REFUSE_REQUEST': str(request), 'REFUSE_REPORT': report}
+            end = run(program, words, source, env=env)
+            if not os.path.exists(report):
+                expect(end, 0, output)
+                expect_that(times >= 4, f'out of memory at {times} requests alone')
+                return
+            if end.status != 0:
+                expect(end, 4, end.output if end.output in prefixes else prefixes[0], errors)
+                times += 1
+            else:
+                expect(end, 0, output)
+    raise Wrong('no end of requests for memory')
+
+
+def test_filter_says_out_of_memory_at_each_request():
+    refuse_in_turn('subst_filter', ['bytes', 'name=world'], b'Hello ${who:$name}!', b'Hello world!', OUT_OF_MEMORY)
+
+
+# Tests of subst_filter: large runs, which memory is enough for
+
+
+def test_filter_copies_80_mib():
+    source = (PLAIN * (80 * MIB // len(PLAIN) + 1))[:80 * MIB]
+    expect(fill_in([], source), 0, source)
+
+
+def test_filter_reads_1_mib_of_escapes():
+    output = bytes(random.Random(1).choices(SPECIAL, k=MIB // 2))
+    expect(fill_in([], b''.join(b'\\%c' % byte for byte in output)), 0, output)
+
+
+def test_filter_takes_4000_words():
+    words = [f'name{number % 2000}=value{number}' for number in range(4000)]
+    source = ''.join(f'${{name{number}}} $name{number}\n' for number in range(2000))
+    # The last word of a name counts.
+    output = ''.join(f'value{number} value{number}\n' for number in range(2000, 4000))
+    expect(fill_in(words, source.encode()), 0, output.encode())
+
+
+def test_filter_reads_200000_braces_in_a_default():
+    for braces in (b'{' * 100000 + b'}' * 100000, b'{}' * 100000):
+        expect(fill_in([], b'${a:' + braces + b'}'), 0, braces)
+        expect(fill_in(['a=1'], b'${a:' + braces + b'}'), 0, b'1')
+        expect(fill_in([], b'${a:' + braces), 1, errors=b'subst: Missing closing brace\n')
+
+
+def test_filter_reads_200000_nested_defaults():
+    opened, closed = 200000 * b'${a:', 200000 * b'}'
+    expect(fill_in([], opened + b'x' + closed), 0, b'x')
+    expect(fill_in([], opened + b'\\x' + closed), 1, errors=b'subst: Invalid escape sequence: \\x\n')
+    expect(fill_in([], opened + b'$b' + closed), 1, errors=b'subst: No such variable: $b\n')
+    expect(fill_in([], opened + closed[1:]), 1, errors=b'subst: Missing closing brace\n')
+
+
+def test_filter_writes_100_mib():
+    value = 2048 * ('0123456789abcdef\u00e4\u20ac' + 29 * '.')
+    words, output = ['a=' + value], 1024 * value.encode()
+    expect_that(len(output) >= 100 * MIB, 'the output is too short for this test')
+    expect(fill_in(words, 1024 * b'${a}'), 0, output)
+
+
+def test_filter_reads_4_mib_with_many_variables():
+    variables = some_variables(30)
+    source, output = (20 * made for made in pieces(random.Random(2), variables, 5, 10000))
+    expect_that(len(source) > 4 * MIB, 'the source is too short for this test')
+    with open('source', 'w+b') as file:
+        file.write(source)
+        file.seek(0)
+        expect(fill_in(words_of(variables), stdin=file), 0, output)
+    fault = b'subst: Missing variable name\n'
+    expect(fill_in(words_of(variables), source + b'$'), 1, errors=fault)
+
+
+# Tests of subst_answers
+
+
+def test_answers_prints_an_answer_for_each_record():
+    fault = b'fault\tMissingVariableName\t1\t1\t-\t%b\n' % column(b'Missing variable name')
+    source = record(b'') + b'# $\n' + record(b'a$') + record(b'$a', [(b'a', b'\x00')])
+    expect(answer(source), 0, given(b'') + fault + given(b'\x00'))
+    expect(answer(source[:-1]), 0, given(b'') + fault + given(b'\x00'))
+    expect(answer(b''), 0)
+
+
+def test_answers_ignores_its_words():
+    for words in (['--help'], ['a', 'b'], [b'\xff']):
+        expect(run('subst_answers', words, record(b'a')), 0, given(b'a'))
+
+
+def test_answers_ends_at_a_malformed_record():
+    rows = [(b'byte\t-\t-\n', b'kind'), (b'\n', b'kind'), (b'bytes\t2g\t-\n', b'source'), (b'bytes\t-\n', b'pairs')]
+    before, printed = b'# comment\n' + 1000 * record(b'\\$'), 1000 * given(b'$')
+    for line, name in rows:
+        errors = b'subst_answers: record 1001: malformed column %b\n' % name
+        expect(answer(before + line + before), 1, printed, errors)
+
+
+def test_answers_reads_long_lines():
+    rng, variables = random.Random(3), some_variables(5)
+    rows = [pieces(rng, variables, 3, count) for count in range(200)]
+    # Lines of each length about those at which a buffer may end.
+    rows += [(b'a' * length,) * 2 for end in (500, 1000, 2048, 4096, 32768) for length in range(end - 9, end + 3)]
+    rng.shuffle(rows)
+    source = b''.join(record(text, variables) for text, _ in rows)
+    expect(answer(source), 0, b''.join(given(output) for _, output in rows))
+
+
+def test_answers_reads_a_record_of_2_mib():
+    variables = some_variables(30)
+    text, output = (10 * made for made in pieces(random.Random(4), variables, 5, 6000))
+    line = record(text, variables)
+    expect_that(len(line) > 2 * MIB, 'the record is too short for this test')
+    expect(answer(record(b'a') + line + record(b'b')), 0, given(b'a') + given(output) + given(b'b'))
+
+
+def expect_failed(end, output=b''):
+    """Fails the test unless the program ended where a stream failed. Its line has the words of the system."""
+    expect(end._replace(errors=b''), 3, output)
+    lines = end.errors.split(b'\n')
+    is_line = len(lines) == 2 and lines[0].startswith(b'subst_answers: ') and lines[1] == b''
+    expect_that(is_line, f'errors are {shown(end.errors)} and not one line')
+
+
+def test_answers_fails_where_a_stream_fails():
+    folder = os.open('.', os.O_RDONLY)
+    expect_failed(answer(b'', stdin=folder))
+    os.close(folder)
+    expect_failed(answer(b'', **without(0)))
+    expect_failed(answer(record(b'a'), **without(1)))
+    with open('/dev/full', 'wb') as full:
+        # One that is kept until the end, and one that isn't.
+        for count in (1, 100000):
+            expect_failed(answer(count * record(b'a'), stdout=full))
+        expect(answer(b'\n', stderr=full), 1)
+    for restored in (True, False):
+        with unread_pipe() as writer:
+            expect_failed(answer(record(b'a'), stdout=writer, restore_signals=restored))
+
+
+def test_answers_says_out_of_memory():
+    source = record(b'a') + record(b'a' * (40 * MIB)) + record(b'b')
+    expect(answer(source, **in_memory(64 * MIB)), 4, given(b'a'), ANSWERS_OUT_OF_MEMORY)
+
+
+def test_answers_says_out_of_memory_at_each_request():
+    source, prefixes = record(b'a$c', [(b'c', b'1')]) + record(b'b'), (b'', given(b'a1'))
+    refuse_in_turn('subst_answers', [], source, given(b'a1') + given(b'b'), ANSWERS_OUT_OF_MEMORY, prefixes)
+
+
+# All tests
+
+
+def tests():
+    """The functions `test_..` of this file, in their order, by the rest of their names."""
+    found = list(globals().items())
+    return [(name[len('test_'):], it) for name, it in found if name.startswith('test_')]
+
+
+def passes(name, test):
+    """Runs a test, and prints its line."""
+    begin, why = time.monotonic(), None
+    try:
+        test()
+    except (Wrong, OSError, subprocess.CalledProcessError) as failure:
+        why = str(failure)
+    except subprocess.TimeoutExpired:
+        why = f'no end in {SECONDS} s'
+    took = time.monotonic() - begin
+    print(f'{name}: FAILED: {why}' if why else f'{name}: {took:.1f} s', flush=True)
+    return why is None
+
+
+def stop(number, _frame):
+    """Ends the tests at a signal, so that files and programs that were started go with them."""
+    sys.exit(128 + number)
+
+
+def main():
+    for number in (signal.SIGHUP, signal.SIGTERM):
+        signal.signal(number, stop)
+    resource.setrlimit(resource.RLIMIT_CORE, (0, 0))
+    if not all([build(program) for program in PROGRAMS]):
+        print('0 passed, 1 failed')
+        sys.exit(1)
+    with tempfile.TemporaryDirectory() as folder:
+        os.chdir(folder)
+        results = [passes(name, test) for name, test in tests()]
+        os.chdir(TOP)
+    failed = results.count(False)
+    print(f'{len(results) - failed} passed, {failed} failed')
+    sys.exit(1 if failed else 0)
+
+
+if __name__ == '__main__':
+    main()
