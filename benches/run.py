@@ -31,12 +31,12 @@ PYTHON = (
 
 @dataclass
 class Workload:
-    """An input, the variables that fill it in, and the programs that have a form of what it asks for."""
+    """An input, the variables that fill it in, and the programs that can do the same."""
 
     name: str
     source: bytes
     variables: dict = field(default_factory=dict)
-    # Those that mean the same as ours by it: their outputs have to be equal.
+    # The programs to which the input means the same as to ours: their outputs have to be equal.
     same: tuple = ()
     perl: str = PERL
 
@@ -64,7 +64,7 @@ def placeholder(rng, name):
 
 
 def configuration():
-    """2 KB of settings behind a comment, and 30 variables, of which each is used twice."""
+    """2 KB of settings after a comment, and 30 variables, each used twice."""
     rng = random.Random(1)
     variables = some_variables(rng, 30)
     names = 2 * list(variables)
@@ -75,45 +75,45 @@ def configuration():
 
 
 def many_variables():
-    """1 MiB in pieces of 50 bytes, of which each begins with one of 30 variables."""
+    """1 MiB in pieces of 50 bytes, each beginning with one of 30 variables."""
     rng = random.Random(2)
     variables = some_variables(rng, 30)
     names = list(variables)
     pieces = []
     for _ in range(MIB // 50):
-        front = (placeholder(rng, rng.choice(names)) + " ").encode()
-        pieces.append(front + filler(rng, 50 - len(front)))
+        prefix = (placeholder(rng, rng.choice(names)) + " ").encode()
+        pieces.append(prefix + filler(rng, 50 - len(prefix)))
     return Workload(
         "variables, 1 MiB", b"".join(pieces), variables, ("envsubst", "perl", "string.Template")
     )
 
 
 def plain():
-    """16 MiB without a byte that means anything."""
+    """16 MiB without a special byte."""
     rng = random.Random(3)
     block = b"".join(filler(rng, 64) for _ in range(MIB // 64))
     return Workload("plain, 16 MiB", 16 * block, same=("cat", "envsubst", "perl", "string.Template"))
 
 
 def escapes():
-    """1 MiB of escapes, one behind the other."""
+    """1 MiB of escapes, one after the other."""
     rng = random.Random(4)
     source = b"".join(b"\\%c" % c for c in rng.choices(b"\\${}:", k=MIB // 2))
     return Workload("escapes, 1 MiB", source, same=("perl",), perl=PERL_WITH_ESCAPES)
 
 
 def nested():
-    """100,000 defaults, each but the last in the one before it."""
+    """100,000 nested defaults."""
     return Workload("nested defaults, 100,000", 100_000 * b"${a:" + b"x" + 100_000 * b"}")
 
 
 def empty():
-    """Nothing: what starting costs."""
+    """No input: what starting costs."""
     return Workload("empty", b"", same=("cat", "envsubst", "perl", "string.Template"))
 
 
 def commands(workload):
-    """Each program that is installed and has a form of the workload, and its words."""
+    """Each installed program that can do the workload, and its command line."""
     words = [f"{name}={value}" for name, value in workload.variables.items()]
     found = {OURS: [str(CRATE / "out" / OURS), "bytes", *words]}
     others = {
@@ -130,13 +130,13 @@ def commands(workload):
 
 
 def environment(name, workload):
-    """What a program finds in its environment: the variables, unless it is ours, which has them as words."""
+    """The environment of a program: the variables, except for ours, which gets them as arguments."""
     given = {} if name == OURS else workload.variables
     return {"PATH": os.environ["PATH"], "LC_ALL": "C", **given}
 
 
 def run_once(command, env, source):
-    """Milliseconds of one run, from a file to /dev/null, with its start."""
+    """Milliseconds of one run, from a file to /dev/null, start-up included."""
     actions = [
         (os.POSIX_SPAWN_OPEN, 0, source, os.O_RDONLY, 0),
         (os.POSIX_SPAWN_OPEN, 1, os.devnull, os.O_WRONLY, 0),
@@ -156,7 +156,7 @@ def output_of(command, env, source):
 
 
 def compare(workload, programs, source):
-    """Sees that programs that mean the same by a workload write the same."""
+    """Checks that the programs to which a workload means the same write the same."""
     ours = output_of(programs[OURS], environment(OURS, workload), source)
     for name in workload.same:
         if name in programs and output_of(programs[name], environment(name, workload), source) != ours:
@@ -164,7 +164,7 @@ def compare(workload, programs, source):
 
 
 def measure(workload, programs, source, runs):
-    """The median of each program, which run in turns."""
+    """The median time of each program; the programs take turns."""
     times = {name: [] for name in programs}
     for _ in range(runs):
         for name, command in programs.items():
@@ -173,7 +173,7 @@ def measure(workload, programs, source, runs):
 
 
 def instructions(workload, programs, source, folder):
-    """How many instructions ours, cat and envsubst run, by callgrind, with their start."""
+    """How many instructions ours, cat and envsubst run, by callgrind, start-up included."""
     counts = {}
     for name in COUNTED:
         if name not in programs:
@@ -221,7 +221,7 @@ def print_instructions(results):
 
 
 def build():
-    """Proves and builds the filter, where it isn't there."""
+    """Proves and builds the filter, unless it is built."""
     if not (CRATE / "out" / OURS).exists():
         command = ["rt", "run", "--", "bytes"]
         subprocess.run(command, cwd=CRATE, stdin=subprocess.DEVNULL, stdout=sys.stderr, check=True)
