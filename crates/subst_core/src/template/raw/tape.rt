@@ -1,10 +1,9 @@
 //! The source as the parser reads it.
 
-ghost use Rattle.std.specs.Prelude.{◌≡◌, ◌+◌, ◌-◌, ◌<◌, ◌≤◌, [], ◌∷◌, length, drop, IsSome, IsTrue, ◌↔◌, MatchOption};
+ghost use Rattle.std.specs.Prelude.{◌≡◌, ◌+◌, ◌-◌, ◌<◌, ◌≤◌, [], ◌∷◌, length, drop, min, IsSome, IsTrue, ◌↔◌, MatchOption};
 ghost use Rattle.subst_core.specs.Language.Bytes.{IsPlain};
 ghost use Rattle.subst_core.specs.Language.Name.{IsNameByte, BeginsWithNo};
 ghost use Rattle.subst_core.specs.Language.Character.{IsFrontCharacter};
-ghost use Rattle.subst_core.specs.Raw.Cost.{GrowsBetween};
 ghost use Rattle.subst_core.specs.Raw.ByteRun.{IsRun};
 
 use super::byte_class::is_name_byte;
@@ -50,7 +49,7 @@ impl<'s> Tape<'s> {
             (λ b. drop at self.old.source.now ≡ b ∷ drop (at + 1) self.old.source.now) }
         ensures within { IsSome result → at < length self.old.source.now }
         ensures same { self.new.source ≡ self.old.source }
-        ensures cost { GrowsBetween 1 1 self.old.reads self.new.reads }
+        ensures cost { self.new.reads ≡ self.old.reads + 1 }
     {
         self.reads.add(1);
         self.source.get(at).copied()
@@ -63,8 +62,8 @@ impl<'s> Tape<'s> {
         ensures end { BeginsWithNo IsPlain (drop result self.old.source.now) }
         ensures within { result ≤ length self.old.source.now }
         ensures same { self.new.source ≡ self.old.source }
-        ensures cost { GrowsBetween (result - from) (result - from + 1)
-            self.old.reads self.new.reads }
+        ensures cost { self.new.reads + from
+            ≡ self.old.reads + min (result + 1) (length self.old.source.now) }
     {
         match memchr2(b'$', b'\\', self.rest(from)) {
             Some(found) => {
@@ -85,8 +84,8 @@ impl<'s> Tape<'s> {
         ensures end { BeginsWithNo IsNameByte (drop result self.old.source.now) }
         ensures within { result ≤ length self.old.source.now }
         ensures same { self.new.source ≡ self.old.source }
-        ensures cost { GrowsBetween (result - from) (result - from + 1)
-            self.old.reads self.new.reads }
+        ensures cost { self.new.reads + from
+            ≡ self.old.reads + min (result + 1) (length self.old.source.now) }
     {
         for (i, b) in self.rest(from).iter().enumerate() {
             self.reads.add(1);
@@ -103,7 +102,7 @@ impl<'s> Tape<'s> {
         requires { at < length self.old.source.now }
         ensures answer { IsFrontCharacter (drop at self.old.source.now) result }
         ensures same { self.new.source ≡ self.old.source }
-        ensures cost { GrowsBetween 1 4 self.old.reads self.new.reads }
+        ensures cost { self.new.reads ≡ self.old.reads + min 4 (length self.old.source.now - at) }
     {
         let rest = self.rest(at);
         self.reads.add(rest.len().min(4));
