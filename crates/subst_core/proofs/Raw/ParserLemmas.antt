@@ -301,13 +301,25 @@ variable_inside old mid front innermost given split =
     let nested = given_innermost old mid front innermost given split in
     omega (arith, nested.part, mid.parts.ok.0, simp length-append at (ap length nested.splits))
 
+-- where a default is open, some brace is
+depth_open : (p : Parser) (outermost : OpenDefault) → IsReading p
+    → slice_get p.defaults.items 0 ≡ Some outermost → 0 < p.depth
+depth_open p outermost reading first =
+    let (inner, within) = reading_outermost p outermost reading first in
+    holds_some p.tape.source.now inner outermost p.depth p.parts.items p.literal_start p.at within
+
+-- so some byte has been read
+pub read_before_open : (p : Parser) (outermost : OpenDefault) → IsReading p
+    → slice_get p.defaults.items 0 ≡ Some outermost → 0 < p.at
+read_before_open p outermost reading first =
+    omega (arith, reading.shallow, depth_open p outermost reading first)
+
 -- at the end of the source, a default that is open is never closed
 pub fault_at_end : (p : Parser) (outermost : OpenDefault) → IsReading p → length p.tape.source.now ≤ p.at
     → slice_get p.defaults.items 0 ≡ Some outermost
     → HasFault 0 p.tape.source.now (MissingClosingBrace (outermost.name.start - 1))
 fault_at_end p outermost reading end first =
-    let (inner, within) = reading_outermost p outermost reading first in
-    let some = holds_some p.tape.source.now inner outermost p.depth p.parts.items p.literal_start p.at within in
+    let some = depth_open p outermost reading first in
     let depth : p.depth ≡ suc (p.depth - 1) = omega arith in
     fault_unclosed p outermost reading first
     (λ closes. closes_nothing (p.depth - 1)

@@ -16,12 +16,12 @@ end_of_name (Braced name) = name.end
 end_of_name (Default name) = name.end
 
 -- A step of the parser adds at least one read and at most three for each byte that it goes on; where it ends
--- in an error, at most two for each byte that is left, and eight more.
+-- in an error, at least one, and at most two for each byte that is left and eight more.
 abbrev pub StepReads : Parser → Result (Unit {0}) ParseError → Parser → Type 0
 StepReads before (Ok _) after =
     GrowsBetween (after.at - before.at) (3 * (after.at - before.at)) before.tape.reads after.tape.reads
 StepReads before (Err e) after =
-    GrowsBetween 0 (2 * (length before.tape.source.now - before.at) + 8) before.tape.reads after.tape.reads
+    GrowsBetween 1 (2 * (length before.tape.source.now - before.at) + 8) before.tape.reads after.tape.reads
 
 -- The same of a step whose first byte has been read already: at least one read for each byte after it, and
 -- less than two for each byte.

@@ -1,6 +1,6 @@
 //! Templates over byte sources that they borrow.
 
-ghost use Rattle.std.specs.Prelude.{◌≡◌, ◌+◌, ◌*◌, ◌≤◌, length, IfOk, OnOk};
+ghost use Rattle.std.specs.Prelude.{◌≡◌, ◌+◌, ◌*◌, ◌≤◌, length, IfOk, IfErr, OnOk};
 ghost use Rattle.subst_error.specs.ErrorFault.{parse_fault};
 ghost use Rattle.subst_core.specs.Language.Sentence.{IsSentence, ByTree};
 ghost use Rattle.subst_core.specs.Language.BadItem.{HasFault};
@@ -55,8 +55,8 @@ impl<'a> ByteTemplate<'a> {
     }
 
     /// Returns the template of a source, as `from_slice`, and counts the reads: at least one for each byte
-    /// of a template, and for each source, refused or not, at most eight for each of its bytes and eight
-    /// more.
+    /// of a template, and at least one of a source that is refused; for each source, refused or not, at
+    /// most three for each of its bytes and eight more.
     ///
     /// # Errors
     ///
@@ -72,6 +72,7 @@ impl<'a> ByteTemplate<'a> {
         ensures sharp { reads.new ≤ reads.old + 3 * length source.now + 8 }
         ensures grows { reads.old ≤ reads.new }
         ensures whole { OnOk result (reads.old + length source.now ≤ reads.new) }
+        ensures refused { IfErr result (λ e. reads.old + 1 ≤ reads.new) }
     {
         let parts = raw::parse(alloc, source, reads)?;
         let parts = CowSlice::Owned(parts);

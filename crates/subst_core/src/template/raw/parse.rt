@@ -1,6 +1,6 @@
 //! Reading a source once, from the left, into a list of parts.
 
-ghost use Rattle.std.specs.Prelude.{◌≡◌, ◌+◌, ◌-◌, ◌*◌, ◌<◌, ◌≤◌, ℕ, List, ◌∷◌, length, drop, reverse, slice_get, vec_len, IfOk, OnOk, IfSome, IsTrue, ◌↔◌};
+ghost use Rattle.std.specs.Prelude.{◌≡◌, ◌+◌, ◌-◌, ◌*◌, ◌<◌, ◌≤◌, ℕ, List, ◌∷◌, length, drop, reverse, slice_get, vec_len, IfOk, IfErr, OnOk, IfSome, IsTrue, ◌↔◌};
 ghost use Rattle.subst_error.specs.ErrorFault.{parse_fault};
 ghost use Rattle.subst_error.specs.Fault.{MissingClosingBrace};
 ghost use Rattle.subst_core.specs.Language.Bytes.{dollar, colon, backslash, closing_brace};
@@ -60,6 +60,7 @@ pub(in crate::template) fn parse(
     ensures bound { reads.new ≤ reads.old + 3 * length source.now + 8 }
     ensures grows { reads.old ≤ reads.new }
     ensures whole { OnOk result (reads.old + length source.now ≤ reads.new) }
+    ensures refused { IfErr result (λ e. reads.old + 1 ≤ reads.new) }
 {
     let counter = mem::replace(reads, Reads::new());
     let mut parser = Parser::new(alloc, Tape::new(source, counter));
@@ -101,6 +102,7 @@ impl<'s> Parser<'s> {
         ensures grows { self.old.tape.reads ≤ self.new.tape.reads }
         ensures whole { OnOk result
             (self.old.tape.reads + length self.old.tape.source.now ≤ self.new.tape.reads) }
+        ensures refused { IfErr result (λ e. self.old.tape.reads + 1 ≤ self.new.tape.reads) }
     {
         while self.tape.has(self.at) {
             self.read_item()?;
@@ -209,6 +211,7 @@ impl<'s> Parser<'s> {
             (reverse self.old.defaults.items) self.old.depth self.new.parts.items
             self.old.at self.old.at) }
         ensures same { self.new.tape ≡ self.old.tape }
+        ensures some { IfErr result (λ e. 0 < self.old.at) }
     {
         if self.literal_start < self.at {
             self.parts.push(Part::Literal(Span {
@@ -329,6 +332,7 @@ impl<'s> Parser<'s> {
         ensures ok { OnOk result (IsTemplateOf self.old.tape.source.now self.new.parts.items) }
         ensures err { OnFault parse_fault result (HasFault 0 self.old.tape.source.now) }
         ensures same { self.new.tape ≡ self.old.tape }
+        ensures some { IfErr result (λ e. 0 < self.old.at) }
     {
         if let Some(outermost) = self.defaults.first() {
             return Err(unclosed(*outermost));
