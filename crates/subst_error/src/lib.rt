@@ -36,12 +36,16 @@ pub struct ExpectedCharacter {
 }
 
 impl ExpectedCharacter {
+    ghost use Rattle.std.specs.Fmt.Cut.{cut_to};
     ghost use Rattle.subst_error.specs.Expected.{expected_text};
 
     /// Returns the message, without allocating. A message of more than [`MESSAGE_CAPACITY`] bytes is cut at
     /// a character, and ends in dots.
+    #[tactic(auto, using(crate::proofs::CutLemmas::cut_to_fits))]
     pub fn new(message: &'static str) -> Self
-        ensures { length message.now ≤ MESSAGE_CAPACITY → expected_text result ≡ message.now }
+        ensures whole { length message.now ≤ MESSAGE_CAPACITY
+            → expected_text result ≡ message.now }
+        ensures cut { expected_text result ≡ cut_to MESSAGE_CAPACITY message.now }
     {
         ExpectedCharacter {
             message: InlineText::new().and_str(message, MESSAGE_CAPACITY),

@@ -33,4 +33,4 @@ returns-in-Some-clause-err c =
     let found = c.name_end-end.ensures in
     rw c.into-in-Some.ensures (unexpected_byte_at c.args.tape.now.source.now c.args.at c.name_end-end.result c.requires found.run c.in-Some.field-0 c.character_at.result _
     c.if-start-end.false found.end (rw found.same at c.in-Some.ensures.byte) c.in-Some.field-0-test.0.1 c.in-Some.field-0-test.1 (rw (c.in-Some.ensures.same, found.same) at c.character_at.ensures.answer)
-    (c.new.ensures (omega arith)))
+    (c.new.ensures.whole (omega arith)))
