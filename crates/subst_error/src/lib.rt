@@ -15,6 +15,7 @@ use std::fmt::InlineText;
 
 mod conversions;
 mod display;
+pub mod laws;
 mod quoted;
 
 /// The longest message, in bytes, that an [`ExpectedCharacter`] keeps whole.
