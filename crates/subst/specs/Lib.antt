@@ -5,3 +5,4 @@ pub use Rattle.subst_error.specs.Display
 pub use Rattle.subst_error.specs.ErrorFault
 pub use Rattle.subst_error.specs.Expected
 pub use Rattle.subst_error.specs.Fault
+pub use Rattle.subst_error.specs.Writing

@@ -1,5 +1,5 @@
 -- The texts that characters and errors are shown as.
-use Rattle.std.specs.Prelude.{ℕ, ◌/◌, ◌%◌, ◌==◌, ◌||◌, true, false, if◌then◌else◌, nat_lt, List, [], ◌∷◌, ◌++◌, Option, Some, None, codes, encode_utf8}
+use Rattle.std.specs.Prelude.{◌≡◌, ◌⊎◌, MatchBool, ℕ, ◌/◌, ◌%◌, ◌==◌, ◌||◌, true, false, if◌then◌else◌, nat_lt, List, [], ◌∷◌, ◌++◌, Option, Some, None, codes, encode_utf8}
 use Rattle.std.specs.Fmt.{digits, digit_glyph, ◌++?◌}
 use Rattle.subst_error.specs.Fault.{Fault, InvalidEscapeSequence, MissingVariableName, UnexpectedCharacter, MissingClosingBrace, NoSuchVariable}
 use Rattle.subst_error.specs.declared.CharOrByte.{CharOrByte}
@@ -14,6 +14,10 @@ abbrev pub display_of_character : CharOrByte → List ℕ
 display_of_character (Char c) = encode_utf8 c
 display_of_character (Byte b) = if nat_lt b 0x80 then b ∷ [] else codes "0x" ++ two_digits b
 
+-- a character by its number, as `\u{200b}`
+abbrev pub number_escape : ℕ → List ℕ
+number_escape c = codes "\\u{" ++ (digits 16 false c ++ codes "}")
+
 -- what is for an ASCII character in single quotes: itself, or an escape
 abbrev pub ascii_escape : ℕ → List ℕ
 ascii_escape c =
@@ -23,23 +27,36 @@ ascii_escape c =
     if c == 0x0D then codes "\\r" else
     if c == 0x27 then codes "\\'" else
     if c == 0x5C then codes "\\\\" else
-    if nat_lt c 0x20 || c == 0x7F then codes "\\u{" ++ (digits 16 false c ++ codes "}") else
+    if nat_lt c 0x20 || c == 0x7F then number_escape c else
     c ∷ []
 
 -- a text between single quotes
 abbrev pub in_quotes : List ℕ → List ℕ
 in_quotes shown = codes "'" ++ (shown ++ codes "'")
 
--- a character in single quotes. Of one past ASCII nothing is claimed: the library's `{:?}` shows it.
+-- a character in single quotes, where there is one form of it: one past ASCII has two
 abbrev pub quoted_char : ℕ → Option (List ℕ)
 quoted_char c = if nat_lt c 0x80 then Some (in_quotes (ascii_escape c)) else None
 
--- an ASCII byte counts as the character of its number; another byte is `'\x`, its two digits and a quote
+-- The text is a character in single quotes. One past ASCII is there as itself or by its number: the library's
+-- table of the characters that can be seen says which.
+abbrev pub IsQuotedChar : ℕ → List ℕ → Type 0
+IsQuotedChar c text = MatchBool (nat_lt c 0x80)
+    (text ≡ in_quotes (ascii_escape c))
+    ((text ≡ in_quotes (encode_utf8 c)) ⊎ (text ≡ in_quotes (number_escape c)))
+
+-- The quoted form, where there is one. An ASCII byte counts as the character of its number; another byte is
+-- `'\x`, its two digits and a quote.
 abbrev pub quoted_of : CharOrByte → Option (List ℕ)
 quoted_of (Char c) = quoted_char c
 quoted_of (Byte b) = if nat_lt b 0x80 then quoted_char b else Some (in_quotes (codes "\\x" ++ two_digits b))
 
--- what an error says of its fault
+-- the text is a quoted form
+abbrev pub IsQuoted : CharOrByte → List ℕ → Type 0
+IsQuoted (Char c) text = IsQuotedChar c text
+IsQuoted (Byte b) text = quoted_of (Byte b) ≡ Some text
+
+-- what an error says of its fault, where the character that it quotes has one form
 abbrev pub display_of_fault : Fault → Option (List ℕ)
 display_of_fault (InvalidEscapeSequence position (Some c)) =
     Some (codes "Invalid escape sequence: \\" ++ display_of_character c)
@@ -51,7 +68,19 @@ display_of_fault (UnexpectedCharacter position c expected) =
 display_of_fault (MissingClosingBrace position) = Some (codes "Missing closing brace")
 display_of_fault (NoSuchVariable position name) = Some (codes "No such variable: $" ++ name)
 
--- what an error says: of its fault, or of out of memory
+-- the text is what an error says of its fault, with a quoted form of the character
+abbrev pub IsDisplayOfFault : Fault → List ℕ → Type 0
+IsDisplayOfFault (UnexpectedCharacter position c expected) text =
+    (quoted : List ℕ) × IsQuoted c quoted
+    × (text ≡ codes "Unexpected character: " ++ (quoted ++ (codes ", expected " ++ expected)))
+IsDisplayOfFault fault text = display_of_fault fault ≡ Some text
+
+-- what an error says, of its fault or of out of memory, where that is one text
 abbrev pub display_of_error : Option Fault → Option (List ℕ)
 display_of_error (Some fault) = display_of_fault fault
 display_of_error None = Some (codes "out of memory")
+
+-- the text is what an error says
+abbrev pub IsDisplayOfError : Option Fault → List ℕ → Type 0
+IsDisplayOfError (Some fault) text = IsDisplayOfFault fault text
+IsDisplayOfError None text = text ≡ codes "out of memory"

@@ -1,10 +1,12 @@
 //! The texts of characters and errors.
 
 ghost use Rattle.std.specs.Prelude.{Some, string_bytes};
+ghost use Rattle.std.specs.Fmt.{DisplaysOnOk};
 ghost use Rattle.subst_error.specs.Display.{display_of_character, display_of_error, display_of_fault};
-ghost use Rattle.subst_error.specs.ErrorFault.{error_fault, expand_fault, parse_fault};
-ghost use Rattle.subst_error.specs.Expected.{expected_text};
+ghost use Rattle.subst_error.specs.Display.{IsDisplayOfError, IsDisplayOfFault};
+ghost use Rattle.subst_error.specs.ErrorFault.{error_fault, expand_fault, parse_fault, unexpected_fault};
 ghost use Rattle.subst_error.specs.Fault as fault;
+ghost use Rattle.subst_error.specs.Writing.{WritesSome};
 
 use crate::{
     CharOrByte, Error, ExpandError, InvalidEscapeSequence, MissingClosingBrace,
@@ -15,6 +17,7 @@ use std::fmt;
 impl fmt::Display for CharOrByte {
     ghost output = { λ character. Some (display_of_character character) };
 
+    #[tactic(auto, using(std::proofs::lemmas::Fmt::hex_byte))]
     fn fmt<W: fmt::Write>(&self, f: &mut fmt::Formatter<W>) -> fmt::Result {
         match *self {
             CharOrByte::Char(c) => write!(f, "{c}"),
@@ -49,13 +52,19 @@ impl fmt::Display for MissingVariableName {
 }
 
 impl fmt::Display for UnexpectedCharacter {
-    ghost output = { λ e. display_of_fault
-        (fault.UnexpectedCharacter e.position e.character (expected_text e.expected)) };
+    ghost output = { λ e. display_of_fault (unexpected_fault e) };
 
-    fn fmt<W: fmt::Write>(&self, f: &mut fmt::Formatter<W>) -> fmt::Result {
+    fn fmt<W: fmt::Write>(&self, f: &mut fmt::Formatter<W>) -> fmt::Result
+        ensures writes { DisplaysOnOk W.write_str_gives f.old result
+            (display_of_fault (unexpected_fault self.now)) f.new }
+        ensures text { WritesSome W.write_str_gives f.old result
+            (IsDisplayOfFault (unexpected_fault self.now)) f.new }
+    {
         let character = self.character.quoted_printable();
-        let expected = self.expected.message();
-        write!(f, "Unexpected character: {character}, expected {expected}")
+        f.write_str("Unexpected character: ")?;
+        fmt::Display::fmt(&character, f)?;
+        f.write_str(", expected ")?;
+        f.write_str(self.expected.message())
     }
 }
 
@@ -78,7 +87,12 @@ impl fmt::Display for NoSuchVariable {
 impl fmt::Display for Error {
     ghost output = { λ e. display_of_error (error_fault e) };
 
-    fn fmt<W: fmt::Write>(&self, f: &mut fmt::Formatter<W>) -> fmt::Result {
+    fn fmt<W: fmt::Write>(&self, f: &mut fmt::Formatter<W>) -> fmt::Result
+        ensures writes { DisplaysOnOk W.write_str_gives f.old result
+            (display_of_error (error_fault self.now)) f.new }
+        ensures text { WritesSome W.write_str_gives f.old result
+            (IsDisplayOfError (error_fault self.now)) f.new }
+    {
         match self {
             Error::InvalidEscapeSequence(e) => fmt::Display::fmt(e, f),
             Error::MissingVariableName(e) => fmt::Display::fmt(e, f),
@@ -93,7 +107,12 @@ impl fmt::Display for Error {
 impl fmt::Display for ParseError {
     ghost output = { λ e. display_of_error (parse_fault e) };
 
-    fn fmt<W: fmt::Write>(&self, f: &mut fmt::Formatter<W>) -> fmt::Result {
+    fn fmt<W: fmt::Write>(&self, f: &mut fmt::Formatter<W>) -> fmt::Result
+        ensures writes { DisplaysOnOk W.write_str_gives f.old result
+            (display_of_error (parse_fault self.now)) f.new }
+        ensures text { WritesSome W.write_str_gives f.old result
+            (IsDisplayOfError (parse_fault self.now)) f.new }
+    {
         match self {
             ParseError::InvalidEscapeSequence(e) => fmt::Display::fmt(e, f),
             ParseError::MissingVariableName(e) => fmt::Display::fmt(e, f),

@@ -1,5 +1,8 @@
 //! Characters in single quotes, as an error shows them.
 
+ghost use Rattle.subst_error.specs.Display.{IsQuotedChar};
+ghost use Rattle.subst_error.specs.Writing.{WritesSome};
+
 use crate::CharOrByte;
 use std::fmt;
 use std::marker::Model;
@@ -34,20 +37,41 @@ impl CharOrByte {
 }
 
 impl fmt::Display for QuotedPrintable {
-    ghost use Rattle.subst_error.specs.Display.{quoted_of};
+    ghost use Rattle.std.specs.Fmt.{DisplaysOnOk};
+    ghost use Rattle.subst_error.specs.Display.{quoted_of, IsQuoted};
 
     ghost output = { quoted_of };
 
-    fn fmt<W: fmt::Write>(&self, f: &mut fmt::Formatter<W>) -> fmt::Result {
+    #[tactic(auto, using(std::proofs::lemmas::Fmt::hex_byte))]
+    fn fmt<W: fmt::Write>(&self, f: &mut fmt::Formatter<W>) -> fmt::Result
+        ensures writes { DisplaysOnOk W.write_str_gives f.old result (quoted_of self.now) f.new }
+        ensures text { WritesSome W.write_str_gives f.old result (IsQuoted self.now) f.new }
+    {
         match self.character {
-            CharOrByte::Char(c) => write!(f, "{c:?}"),
+            CharOrByte::Char(c) => write_quoted(c, f),
             CharOrByte::Byte(b) => {
                 if b.is_ascii() {
-                    write!(f, "{:?}", char::from(b))
+                    write_quoted(char::from(b), f)
                 } else {
                     write!(f, "'\\x{b:02X}'")
                 }
             }
         }
+    }
+}
+
+/// Writes a character in single quotes, as `{:?}` does.
+///
+/// Of a character past ASCII `{:?}` states nothing, so its two forms are written here.
+#[tactic(auto, using(crate::proofs::QuotedLemmas::debug_is_quoted))]
+fn write_quoted<W: fmt::Write>(c: char, f: &mut fmt::Formatter<W>) -> fmt::Result
+    ensures { WritesSome W.write_str_gives f.old result (IsQuotedChar c) f.new }
+{
+    if c.is_ascii() {
+        write!(f, "{c:?}")
+    } else if c.escape_debug().count() == 1 {
+        write!(f, "'{c}'")
+    } else {
+        write!(f, "'\\u{{{:x}}}'", u32::from(c))
     }
 }
