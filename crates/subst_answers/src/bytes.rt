@@ -1,7 +1,6 @@
 //! Records of the kind `bytes`.
 
 ghost use Rattle.std.specs.Prelude.{IfOk};
-ghost use Rattle.subst.specs.Language.Sentence.{IsSentence};
 ghost use Rattle.subst_answers.specs.Agreement.{IsTrueAnswer, values_of};
 
 use crate::answer::Answer;
@@ -38,8 +37,9 @@ fn by_template(alloc: Global, source: &[u8], pairs: &Pairs) -> Result<Answer, Al
 }
 
 fn expanded(alloc: Global, template: &ByteTemplate<'_>, pairs: &Pairs) -> Result<Answer, AllocError>
-    requires { IsSentence template.now }
     ensures { IfOk result (IsTrueAnswer template.now (values_of pairs.now)) }
 {
+    // By the contract of `source` it is a sentence, so `expand` says what the template gives.
+    let _source = template.source();
     Answer::of(template.expand(alloc, pairs).map_err(Error::from))
 }
