@@ -6,3 +6,4 @@ pub mod PrintingLemmas
 pub mod ReadPairsLemmas
 pub mod RecordLemmas
 pub mod SeparatorLemmas
+pub mod WritingLemmas

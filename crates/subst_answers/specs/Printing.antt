@@ -1,13 +1,14 @@
 -- What is printed for a text of records.
-use Rattle.std.specs.Prelude.{◌≡◌, ℕ, suc, ◌<◌, ◌==◌, Bool, true, false, List, [], ◌∷◌, ◌++◌, length, Option, Some, None, IfSome, ⊤}
+use Rattle.std.specs.Prelude.{◌≡◌, ℕ, suc, ◌<◌, ◌==◌, Bool, true, false, List, [], ◌∷◌, ◌++◌, length, take, Option, Some, None, IfSome, ⊤}
+use Rattle.std.specs.Io.{StopsAt}
 use Rattle.std.specs.Io.BufRead.{drop_through, first_piece}
-use Rattle.std.specs.Io.KnownBytes.{Appends}
+use Rattle.std.specs.Io.KnownBytes.{Appends, Consumes}
 use Rattle.subst_answers.specs.AnswerLine.{IsLineOf}
 use Rattle.subst_answers.specs.Record.{IsMalformed, IsRecord}
 use Rattle.subst_answers.specs.Agreement.{IsTrueAnswer, values_of}
 use Rattle.subst_answers.specs.declared.answer.Answer.{Answer}
 use Rattle.subst_answers.specs.declared.failure.Failure.{Failure}
-use Rattle.subst_answers.specs.declared.failure.Failure.TheVariants.{Malformed, Io, OutOfMemory}
+use Rattle.subst_answers.specs.declared.failure.Failure.TheVariants.{Malformed, Read, Write, OutOfMemory}
 use Rattle.subst_answers.specs.declared.record.Column.{Column}
 use Rattle.subst_answers.specs.declared.record.Kind.TheVariants as kinds
 use Rattle.subst_answers.specs.declared.record.Kind.{Kind}
@@ -46,33 +47,62 @@ pub data ArePrinted : (text left printed : List ℕ) → (count : ℕ) → Type 
       → ArePrinted (drop_through newline text) left printed count
       → ArePrinted text left (first ++ printed) (suc count)
 
--- the answers to all lines of the text have been written after what was written before
-abbrev pub AreAllWritten : List ℕ → Option (List ℕ) → Option (List ℕ) → Type 0
-AreAllWritten text old new =
-    (printed : List ℕ) × (count : ℕ) × ArePrinted text [] printed count × Appends old new printed
+-- The answers to the lines of a text before those that are left have been written after what was written before,
+-- and nothing else. So many of these lines are records.
+pub record AreAnswered (text left : List ℕ) (old new : Option (List ℕ)) (count : ℕ) : Type 0 where
+  pub printed : List ℕ
+  pub answers : ArePrinted text left printed count
+  pub written : Appends old new printed
 
--- if the text was known, its answers have been written after what was written before
+-- if the text was known, the answers to all its lines have been written
 abbrev pub Prints : Option (List ℕ) → Option (List ℕ) → Option (List ℕ) → Type 0
-Prints text old new = IfSome text (λ known. AreAllWritten known old new)
+Prints text old new = IfSome text (λ known. (count : ℕ) × AreAnswered known [] old new count)
 
 -- the record of this number is malformed in this column, and the answers to those before it have been written
 pub record IsMalformedAt (text : List ℕ) (old new : Option (List ℕ)) (number : ℕ) (c : Column) : Type 0 where
   pub left : List ℕ
-  pub printed : List ℕ
   pub count : ℕ
-  pub answered : ArePrinted text left printed count
-  pub written : Appends old new printed
+  pub before : AreAnswered text left old new count
   pub next : number ≡ suc count
   pub begins : 0 < length left
   pub is_record : is_comment (first_piece newline left) ≡ false
   pub malformed : IsMalformed (first_piece newline left) c
 
--- why a run over a text failed: if the text was known, a malformed record is as the failure says
-abbrev pub FailsBy : Option (List ℕ) → Option (List ℕ) → Option (List ℕ) → Failure → Type 0
-FailsBy text old new (Malformed number column) =
+-- at most one line was read of what was left, with or without the newline that ends it
+abbrev pub ReadsAtMostALine : Option (List ℕ) → Option (List ℕ) → Type 0
+ReadsAtMostALine old new = (bytes : List ℕ) × Consumes old new bytes × StopsAt bytes newline
+
+-- some lines have been answered, and of those that are left at most one was read
+pub record EndsBetween (text : List ℕ) (rest old new : Option (List ℕ)) : Type 0 where
+  pub left : List ℕ
+  pub count : ℕ
+  pub before : AreAnswered text left old new count
+  pub read : ReadsAtMostALine (Some left) rest
+
+-- a part of a line was written after what was written before, and not all of it
+abbrev pub AppendsPart : Option (List ℕ) → Option (List ℕ) → List ℕ → Type 0
+AppendsPart old new line = (size : ℕ) × (size < length line) × Appends old new (take size line)
+
+-- some lines have been answered, and then the next line, which was the last to be read, in part
+pub record EndsWithin (text : List ℕ) (rest old new : Option (List ℕ)) : Type 0 where
+  pub left : List ℕ
+  pub count : ℕ
+  pub between : Option (List ℕ)
+  pub before : AreAnswered text left old between count
+  pub is_record : is_comment (first_piece newline left) ≡ false
+  pub answer : List ℕ
+  pub is_answer : IsAnswered (first_piece newline left) answer
+  pub begun : AppendsPart between new answer
+  pub read : rest ≡ Some (drop_through newline left)
+
+-- How a run over a text ended that failed, if the text was known. A malformed record is as the failure says, and only
+-- where a write failed, an answer was printed in part.
+abbrev pub FailsBy : (text rest old new : Option (List ℕ)) → Failure → Type 0
+FailsBy text rest old new (Malformed number column) =
     IfSome text (λ known. IsMalformedAt known old new number column)
-FailsBy text old new (Io e) = ⊤
-FailsBy text old new OutOfMemory = ⊤
+FailsBy text rest old new (Read e) = IfSome text (λ known. EndsBetween known rest old new)
+FailsBy text rest old new (Write e) = IfSome text (λ known. EndsWithin known rest old new)
+FailsBy text rest old new OutOfMemory = IfSome text (λ known. EndsBetween known rest old new)
 
 -- a line was read, without the newline that ends it, or nothing was left
 abbrev pub ReadsLine : Bool → Option (List ℕ) → Option (List ℕ) → List ℕ → Type 0

@@ -18,8 +18,10 @@ pub enum Failure {
         /// The first column that is malformed.
         column: Column,
     },
-    /// The input can't be read, or an answer can't be printed.
-    Io(io::Error),
+    /// The input can't be read.
+    Read(io::Error),
+    /// An answer can't be printed, whatever the cause.
+    Write(io::Error),
     /// Memory ran out.
     OutOfMemory,
 }
@@ -44,7 +46,7 @@ impl Failure {
     {
         match self {
             Failure::Malformed { .. } => 1,
-            Failure::Io(_) => 3,
+            Failure::Read(_) | Failure::Write(_) => 3,
             Failure::OutOfMemory => 4,
         }
     }
@@ -60,7 +62,7 @@ impl fmt::Display for Failure {
             Failure::Malformed { number, column } => {
                 write!(f, "record {number}: malformed column {column}")
             }
-            Failure::Io(e) => write!(f, "{e}"),
+            Failure::Read(e) | Failure::Write(e) => write!(f, "{e}"),
             Failure::OutOfMemory => write!(f, "out of memory"),
         }
     }
@@ -76,21 +78,22 @@ impl From<AllocError> for Failure {
     }
 }
 
+/// The failure of a read.
 impl From<io::Error> for Failure {
     ghost use Rattle.std.specs.Prelude.{◌≢◌, ◌⊎◌};
     ghost use Rattle.std.specs.IoError.{error_kind, os_error_kind};
     ghost use Rattle.subst_answers.specs.Failure.{ENOMEM};
-    ghost use Rattle.subst_answers.specs.declared.failure.Failure.TheVariants.{Io};
+    ghost use Rattle.subst_answers.specs.declared.failure.Failure.TheVariants.{Read};
 
     // The kind of the system's error `ENOMEM` is `ErrorKind::OutOfMemory`.
     ghost from_gives = { λ e failure.
         ((error_kind e ≡ os_error_kind ENOMEM) × (failure ≡ OutOfMemory))
-        ⊎ ((error_kind e ≢ os_error_kind ENOMEM) × (failure ≡ Io e)) };
+        ⊎ ((error_kind e ≢ os_error_kind ENOMEM) × (failure ≡ Read e)) };
 
     fn from(e: io::Error) -> Failure {
         match e.kind() {
             ErrorKind::OutOfMemory => Failure::OutOfMemory,
-            _ => Failure::Io(e),
+            _ => Failure::Read(e),
         }
     }
 }

@@ -20,7 +20,7 @@
 //!
 //! The status is 0 on success, 1 if a record is malformed, 3 if the input can't be read or an answer can't be
 //! printed, and 4 if memory runs out. Each of the last three prints one line on standard error; the answers
-//! of the records before it are printed.
+//! of the records before it are printed, or as much of them as can be.
 #![tactic(auto)]
 
 use failure::Failure;
@@ -45,7 +45,7 @@ fn answer_input<R: Input + Print + AllocGlobal>(rt: &R) -> Result<(), Failure> {
     // The answers before a failure are printed too.
     let flushed = output.flush();
     answered?;
-    flushed?;
+    flushed.map_err(Failure::Write)?;
     Ok(())
 }
 

@@ -1,8 +1,9 @@
 //! The run over all records.
 
-ghost use Rattle.std.specs.Prelude.{◌≡◌, IfErr, IfOk, OnOk, string_bytes};
+ghost use Rattle.std.specs.Prelude.{◌≡◌, IfErr, IfOk, OnErr, OnOk, string_bytes};
+ghost use Rattle.std.specs.Io.KnownBytes.{Appends};
 ghost use Rattle.subst_answers.specs.Failure.{IsFailureAt};
-ghost use Rattle.subst_answers.specs.Printing.{is_comment, FailsBy, IsAnswerBy, IsAnswered, Prints, ReadsLine};
+ghost use Rattle.subst_answers.specs.Printing.{is_comment, AppendsPart, FailsBy, IsAnswerBy, IsAnswered, Prints, ReadsAtMostALine, ReadsLine};
 
 use crate::answer::Answer;
 use crate::bytes;
@@ -10,14 +11,14 @@ use crate::failure::Failure;
 use crate::record::{Kind, Record};
 use std::alloc::{AllocError, Global};
 use std::io;
-use std::io::{BufRead, Write};
+use std::io::{BufRead, ErrorKind, Write};
 
 /// Writes the answers of the records of `input`, in their order.
 ///
 /// # Errors
 ///
 /// The first record that is malformed, the first read or write that fails, or out of memory. The answers of
-/// the records before it are written.
+/// the records before it are written, and of the next answer a part where a write fails.
 pub fn answer_records<R: BufRead, W: Write>(
     alloc: Global,
     input: &mut R,
@@ -25,8 +26,8 @@ pub fn answer_records<R: BufRead, W: Write>(
 ) -> Result<(), Failure>
     ensures ok { OnOk result
         (Prints (R.remaining input.old) (W.contents output.old) (W.contents output.new)) }
-    ensures err { IfErr result
-        (FailsBy (R.remaining input.old) (W.contents output.old) (W.contents output.new)) }
+    ensures err { IfErr result (FailsBy (R.remaining input.old) (R.remaining input.new)
+        (W.contents output.old) (W.contents output.new)) }
 {
     let mut line = Vec::new(alloc);
     let mut number = 0;
@@ -39,15 +40,16 @@ pub fn answer_records<R: BufRead, W: Write>(
         }
         number += 1;
         let printed = answer_line(alloc, number, line.as_slice())?;
-        output.write_all(printed.as_bytes())?;
+        write_line(output, printed.as_bytes()).map_err(Failure::Write)?;
     }
     Err(Failure::from(io::Error::other("too many lines")))
 }
 
 /// Reads a line, without the byte that ends it, and returns whether there was one.
 fn read_line<R: BufRead>(input: &mut R, line: &mut Vec<u8>) -> io::Result<bool>
-    ensures { IfOk result
+    ensures ok { IfOk result
         (λ read. ReadsLine read (R.remaining input.old) (R.remaining input.new) line.new.items) }
+    ensures at_most { ReadsAtMostALine (R.remaining input.old) (R.remaining input.new) }
 {
     line.clear();
     if input.read_until(b'\n', line)? == 0 {
@@ -81,4 +83,26 @@ fn answer(alloc: Global, asked: &Record) -> Result<Answer, AllocError>
     match asked.kind {
         Kind::Bytes => bytes::answer(alloc, asked.source.as_slice(), &asked.pairs),
     }
+}
+
+/// Writes a line. A write is tried once.
+///
+/// # Errors
+///
+/// The first write that fails, or that takes nothing. Then a part of the line was written, and not all of it.
+#[tactic(auto, using(crate::proofs::WritingLemmas::longer_prefix))]
+fn write_line<W: Write>(output: &mut W, line: &[u8]) -> io::Result<()>
+    ensures ok { OnOk result (Appends (W.contents output.old) (W.contents output.new) line.now) }
+    ensures err { OnErr result
+        (AppendsPart (W.contents output.old) (W.contents output.new) line.now) }
+{
+    let mut at = 0;
+    while at < line.len() {
+        let count = output.write(&line[at..])?;
+        if count == 0 {
+            return Err(io::Error::from(ErrorKind::WriteZero));
+        }
+        at += count;
+    }
+    Ok(())
 }
