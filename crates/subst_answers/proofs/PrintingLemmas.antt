@@ -1,5 +1,5 @@
 -- What is printed for a text of records, line by line.
-use Rattle.std.proofs.Common.{◌≡◌, ℕ, suc, ◌+◌, true, false, arith, List, [], ◌++◌, Option, Some, None, Result, Ok, Err, sym, ap, subst, append_assoc, append-nil, ◌⊎◌, inl, inr, take, ◌∙◌}
+use Rattle.std.proofs.Common.{◌≡◌, ℕ, suc, ◌+◌, true, false, arith, List, [], ◌++◌, Option, Some, None, Result, Ok, Err, sym, ap, subst, append_assoc, append-nil, ◌⊎◌, inl, inr, ◌∙◌}
 use Rattle.std.proofs.KnownBytes.{Appends-trans, Consumes-nil}
 use Rattle.std.specs.Io.BufRead.{first_piece}
 use Rattle.std.specs.Io.KnownBytes.{Appends}

@@ -1,11 +1,14 @@
 -- How a column of variables is read.
-use Rattle.std.proofs.Common.{◌≡◌, ◌≢◌, ◌<◌, ◌==◌, ℕ, suc, true, false, List, [], ◌∷◌, ◌++◌, length, take, drop, get_or, codes, Option, Some, None, if◌then◌else◌, inl, inr, refl, sym, ap, arith, ◌∙◌}
+use Rattle.std.proofs.Common.{◌≡◌, ◌≢◌, ◌==◌, ℕ, suc, true, false, List, [], ◌∷◌, ◌++◌, length, map, take, drop, codes, Option, Some, None, if◌then◌else◌, inl, inr, refl, sym, ap, arith, ◌∙◌}
 use Rattle.std.proofs.Math.Seq.{split_at}
 use Rattle.std.proofs.lemmas.Bool.{cases_Bool}
+use Rattle.std.proofs.lemmas.Iterator.{YieldsList}
+use Rattle.std.proofs.lemmas.Iterator.Consumers.{YieldsList-so_far, YieldsList-turn}
 use Rattle.std.proofs.lemmas.List.{map-append}
 use Rattle.std.proofs.lemmas.List.Splits.{join_with_byte-slice_split, length-slice_split}
 use Rattle.std.proofs.lemmas.Slice.Eq.{bytes_eq-Decides}
 use Rattle.std.specs.Global.{Vec}
+use Rattle.std.specs.Iterator.{Yields}
 use Rattle.std.specs.List.{join_with_byte, slice_split, AllByRecursion}
 use Rattle.std.specs.Option.{is_some, option_map}
 use Rattle.std.specs.Str.{bytes_eq}
@@ -86,13 +89,17 @@ all_read column values so =
       own_names = so.own_names;
     }
 
--- the parts of a column, around the next one that is read
-pub parts_around : (parts texts : List (List ℕ)) (text : List ℕ) (n : ℕ) → texts ≡ take n parts
-    → (n < length parts) × (text ≡ get_or parts n text)
-    → parts ≡ texts ++ (text ∷ drop (suc n) parts)
-parts_around parts texts text n so_far next =
-    let here = next.1 in
-    rw so_far (split_at parts n text next.0 ∙ ap (λ t. take n parts ++ (t ∷ drop (suc n) parts)) (sym here))
+-- the parts that an iterator gives, around the next one
+pub parts_around : {S A : Type 0} {steps : S → Option A → S → Type 0} {shown : A → List ℕ} {first : S}
+    {parts : List (List ℕ)} → YieldsList steps shown first parts → (yielded : List A) (now : S)
+    → Yields steps first yielded now → (next : Option A) (later : S) (item : A) → next ≡ Some item
+    → steps now next later
+    → parts ≡ map shown yielded ++ (shown item ∷ drop (suc (length yielded)) parts)
+parts_around {shown = shown} {parts = parts} gives yielded now so_far next later item is step =
+    let count = length yielded in
+    let here = YieldsList-turn gives yielded now so_far next later item is step in
+    rw (YieldsList-so_far gives yielded now so_far) (split_at parts count (shown item) here.0
+    ∙ ap (λ t. take count parts ++ (t ∷ drop (suc count) parts)) (sym here.1))
 
 -- the column is malformed if a name that has been read comes again
 pub malformed_if_read : (column n v w : List ℕ) (texts later : List (List ℕ)) (values : LookUp)

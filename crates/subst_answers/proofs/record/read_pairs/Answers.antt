@@ -1,11 +1,10 @@
-use Rattle.std.proofs.Common.{rules, ◌≡◌, ◌≢◌, ◌==◌, true, false, ◌∷◌, ◌++◌, map, length, drop, suc, List, ℕ, None, codes, string_bytes, subst, tests}
+use Rattle.std.proofs.Common.{rules, ◌≡◌, ◌≢◌, ◌==◌, true, false, map, List, ℕ, None, codes, string_bytes, subst, tests}
 use Rattle.std.proofs.lemmas.Bool.{false≢true}
-use Rattle.std.proofs.lemmas.Iterator.Consumers.{YieldsList-end, YieldsList-so_far, YieldsList-turn}
+use Rattle.std.proofs.lemmas.Iterator.Consumers.{YieldsList-end}
 use Rattle.std.proofs.lemmas.Iterator.Splits.{YieldsList-from_slice_split}
 use Rattle.std.proofs.lemmas.List.{map-append}
 use Rattle.std.proofs.lemmas.Map.Text.{btree_map_updates_text}
 use Rattle.std.specs.BTreeMap.{get_by_text}
-use Rattle.std.specs.List.{slice_split}
 use Rattle.std.specs.Str.{bytes_eq}
 use Rattle.subst_answers.specs.Record.{comma, pair_text, IsPairRead, IsVariable}
 use Rattle.subst_answers.specs.Agreement.{values_of}
@@ -39,30 +38,22 @@ loop-pair-preserved c =
 pub returns-in_default : goal.returns-in_default
 returns-in_default c =
     let column = c.args.column.now in
-    let parts = slice_split (λ b. b == comma) column in
     let pieces = YieldsList-from_slice_split _ (λ b. b == comma) column (cc) (cc) (cc)
     (λ x r q k. search (rules, tests)) in
-    let so_far = YieldsList-so_far pieces c.loop-pair.yielded _ c.loop-pair.yielded_by in
-    let next = YieldsList-turn pieces c.loop-pair.yielded _ c.loop-pair.yielded_by _ _ _ c.in-Some.is
+    let around = parts_around pieces c.loop-pair.yielded _ c.loop-pair.yielded_by _ _ _ c.in-Some.is
     c.next.ensures.steps in
     let texts = map (λ t. t.now) c.loop-pair.yielded in
-    let around : parts ≡ texts ++ (c.in-Some.pair.now ∷ drop (suc (length c.loop-pair.yielded)) parts) =
-    parts_around parts texts c.in-Some.pair.now (length c.loop-pair.yielded) so_far next in
     let none : IsPairRead c.in-Some.pair.now None = rw c.in_default.is at c.in_ok-name.ensures in
     malformed_part column c.in-Some.pair.now texts _ around (no_dash c.as_slice.ensures c.if-eq.ensures) none
 
 pub returns-then-is_some : goal.returns-then-is_some
 returns-then-is_some c =
     let column = c.args.column.now in
-    let parts = slice_split (λ b. b == comma) column in
     let pieces = YieldsList-from_slice_split _ (λ b. b == comma) column (cc) (cc) (cc)
     (λ x r q k. search (rules, tests)) in
-    let so_far = YieldsList-so_far pieces c.loop-pair.yielded _ c.loop-pair.yielded_by in
-    let next = YieldsList-turn pieces c.loop-pair.yielded _ c.loop-pair.yielded_by _ _ _ c.in-Some.is
+    let around = parts_around pieces c.loop-pair.yielded _ c.loop-pair.yielded_by _ _ _ c.in-Some.is
     c.next.ensures.steps in
     let texts = map (λ t. t.now) c.loop-pair.yielded in
-    let around : parts ≡ texts ++ (c.in-Some.pair.now ∷ drop (suc (length c.loop-pair.yielded)) parts) =
-    parts_around parts texts c.in-Some.pair.now (length c.loop-pair.yielded) so_far next in
     let name = string_bytes c.in-Some-2.name in
     let value = c.in-Some-2.value.items in
     let is : (c.in-Some.pair.now ≡ pair_text name value) × IsVariable (name, value) =
