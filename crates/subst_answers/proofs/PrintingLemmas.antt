@@ -123,6 +123,7 @@ fails_at (Some known) (Some text) next old new line count (Malformed number colu
       begins = reads.0;
       is_record = ap is_comment (sym reads.1) ∙ is;
       malformed = subst (λ (l : List ℕ). IsMalformed l column) reads.1 fails.1;
+      read = reads.2;
     }
 fails_at first now next old new line count (Read e) so reads most is fails = absurd fails
 fails_at first now next old new line count (Write e) so reads most is fails = absurd fails

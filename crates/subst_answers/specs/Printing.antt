@@ -58,8 +58,9 @@ pub record AreAnswered (text left : List ℕ) (old new : Option (List ℕ)) (cou
 abbrev pub Prints : Option (List ℕ) → Option (List ℕ) → Option (List ℕ) → Type 0
 Prints text old new = IfSome text (λ known. (count : ℕ) × AreAnswered known [] old new count)
 
--- the record of this number is malformed in this column, and the answers to those before it have been written
-pub record IsMalformedAt (text : List ℕ) (old new : Option (List ℕ)) (number : ℕ) (c : Column) : Type 0 where
+-- The lines before the record of this number have been answered. The record is malformed in this column, and was the
+-- last line to be read.
+pub record IsMalformedAt (text : List ℕ) (rest old new : Option (List ℕ)) (number : ℕ) (c : Column) : Type 0 where
   pub left : List ℕ
   pub count : ℕ
   pub before : AreAnswered text left old new count
@@ -67,6 +68,7 @@ pub record IsMalformedAt (text : List ℕ) (old new : Option (List ℕ)) (number
   pub begins : 0 < length left
   pub is_record : is_comment (first_piece newline left) ≡ false
   pub malformed : IsMalformed (first_piece newline left) c
+  pub read : rest ≡ Some (drop_through newline left)
 
 -- at most one line was read of what was left, with or without the newline that ends it
 abbrev pub ReadsAtMostALine : Option (List ℕ) → Option (List ℕ) → Type 0
@@ -99,7 +101,7 @@ pub record EndsWithin (text : List ℕ) (rest old new : Option (List ℕ)) : Typ
 -- where a write failed, an answer was printed in part.
 abbrev pub FailsBy : (text rest old new : Option (List ℕ)) → Failure → Type 0
 FailsBy text rest old new (Malformed number column) =
-    IfSome text (λ known. IsMalformedAt known old new number column)
+    IfSome text (λ known. IsMalformedAt known rest old new number column)
 FailsBy text rest old new (Read e) = IfSome text (λ known. EndsBetween known rest old new)
 FailsBy text rest old new (Write e) = IfSome text (λ known. EndsWithin known rest old new)
 FailsBy text rest old new OutOfMemory = IfSome text (λ known. EndsBetween known rest old new)
