@@ -2,7 +2,7 @@
 use Rattle.std.specs.Prelude.{◌≢◌, ℕ, ◌+◌, List, [], ◌∷◌, ◌++◌, length, Some, None, codes}
 use Rattle.subst_error.specs.Fault.{Fault, InvalidEscapeSequence, MissingVariableName, UnexpectedCharacter, MissingClosingBrace}
 use Rattle.subst_error.specs.declared.CharOrByte.{CharOrByte}
-use Rattle.subst_core.specs.Language.Bytes.{dollar, colon, backslash, opening_brace, closing_brace, IsSpecial}
+use Rattle.subst_core.specs.Language.Bytes.{dollar, colon, question_mark, backslash, opening_brace, closing_brace, IsSpecial}
 use Rattle.subst_core.specs.Language.Name.{IsName, IsNameByte}
 use Rattle.subst_core.specs.Language.Character.{IsFrontCharacter}
 use Rattle.subst_core.specs.Language.Tree.{Tree, text}
@@ -10,8 +10,12 @@ use Rattle.subst_core.specs.Language.Balanced.{IsBalanced, Closes}
 use Rattle.subst_core.specs.Language.WellFormed.{IsWellFormed}
 
 -- what may follow a name in braces
-abbrev pub brace_or_colon : List ℕ
-brace_or_colon = codes "a closing brace ('}') or colon (':')"
+abbrev pub after_name : List ℕ
+after_name = codes "a closing brace ('}'), colon (':') or question mark ('?')"
+
+-- what may follow a name and a question mark in braces
+abbrev pub after_question_mark : List ℕ
+after_question_mark = codes "a closing brace ('}')"
 
 mutual
   -- the text r, which is at position p, begins with a bad item, whose fault is f
@@ -34,11 +38,19 @@ mutual
     -- `${name` at the end
     name_at_end : {p : ℕ} (n : List ℕ) → IsName n
         → IsBad p (dollar ∷ opening_brace ∷ n) (MissingClosingBrace (p + 1))
-    -- `${name` before a byte that is no name byte, no closing brace and no colon
+    -- `${name` before a byte that is no name byte, no closing brace, no colon and no question mark
     name_alone : {p b : ℕ} {c : CharOrByte} (n x : List ℕ) → IsName n → ¬ (IsNameByte b)
-        → b ≢ closing_brace → b ≢ colon → IsFrontCharacter (b ∷ x) c
+        → b ≢ closing_brace → b ≢ colon → b ≢ question_mark → IsFrontCharacter (b ∷ x) c
         → IsBad p (dollar ∷ opening_brace ∷ n ++ b ∷ x)
-        (UnexpectedCharacter (p + 2 + length n) c brace_or_colon)
+        (UnexpectedCharacter (p + 2 + length n) c after_name)
+    -- `${name?` at the end
+    optional_at_end : {p : ℕ} (n : List ℕ) → IsName n
+        → IsBad p (dollar ∷ opening_brace ∷ n ++ question_mark ∷ []) (MissingClosingBrace (p + 1))
+    -- `${name?` before a byte that is no closing brace
+    optional_alone : {p b : ℕ} {c : CharOrByte} (n x : List ℕ) → IsName n
+        → b ≢ closing_brace → IsFrontCharacter (b ∷ x) c
+        → IsBad p (dollar ∷ opening_brace ∷ n ++ (question_mark ∷ b ∷ x))
+        (UnexpectedCharacter (p + 3 + length n) c after_question_mark)
     -- `${name:` whose default is never closed
     unclosed : {p : ℕ} (n w : List ℕ) → IsName n → ¬ (Closes w)
         → IsBad p (dollar ∷ opening_brace ∷ n ++ colon ∷ w) (MissingClosingBrace (p + 1))

@@ -9,6 +9,10 @@ dollar = 36
 abbrev pub colon : ℕ
 colon = 58
 
+-- `?` after a name in braces says that the variable may be missing
+abbrev pub question_mark : ℕ
+question_mark = 63
+
 -- `\` begins an escape
 abbrev pub backslash : ℕ
 backslash = 92

@@ -1,7 +1,7 @@
 -- How many parts a tree has, and how many of them an expansion visits.
 use Rattle.std.specs.Prelude.{ℕ, ◌+◌, List, Option, Some, None, Bool, true, false, if◌then◌else◌}
 use Rattle.subst_core.specs.Language.LookUp.{LookUp}
-use Rattle.subst_core.specs.Language.Tree.{Item, Plain, Escaped, Short, Braced, Default, Tree, Empty, Then}
+use Rattle.subst_core.specs.Language.Tree.{Item, Plain, Escaped, Short, Braced, Optional, Default, Tree, Empty, Then}
 
 -- the item is a byte that stands for itself
 abbrev pub is_plain : Item → Bool
@@ -16,6 +16,7 @@ abbrev mutual
   item_part_count after_plain (Escaped b) = 1
   item_part_count after_plain (Short n) = 1
   item_part_count after_plain (Braced n) = 1
+  item_part_count after_plain (Optional n) = 1
   item_part_count after_plain (Default n t) = 1 + part_count_after false t
 
   -- the parts of the items of a tree, after a plain item or not
@@ -41,6 +42,7 @@ abbrev mutual
   item_visited_count after_plain (Escaped b) look = 1
   item_visited_count after_plain (Short n) look = 1
   item_visited_count after_plain (Braced n) look = 1
+  item_visited_count after_plain (Optional n) look = 1
   item_visited_count after_plain (Default n t) look =
       1 + if_missing (look n) (visited_count_after false t look)
 

@@ -1,7 +1,7 @@
 -- What a tree stands for under a look-up.
 use Rattle.std.specs.Prelude.{ℕ, ◌+◌, List, [], ◌∷◌, ◌++◌, length, Option, Some, None}
 use Rattle.subst_core.specs.Language.LookUp.{LookUp}
-use Rattle.subst_core.specs.Language.Tree.{Item, Plain, Escaped, Short, Braced, Default, Tree, Empty, Then, item_text}
+use Rattle.subst_core.specs.Language.Tree.{Item, Plain, Escaped, Short, Braced, Optional, Default, Tree, Empty, Then, item_text}
 
 -- bytes, or the first name that is needed and has no value, with the position of its first byte in the
 -- whole source
@@ -27,6 +27,7 @@ abbrev mutual
   item_value p (Escaped b) look = Bytes (b ∷ [])
   item_value p (Short n) look = found_or (look n) (Missing (p + 1) n)
   item_value p (Braced n) look = found_or (look n) (Missing (p + 2) n)
+  item_value p (Optional n) look = found_or (look n) (Bytes [])
   item_value p (Default n t) look = found_or (look n) (value (p + 3 + length n) t look)
 
   -- the joined values of the items of a tree, whose text begins at position p

@@ -1,7 +1,7 @@
 -- Well-formed trees.
 use Rattle.subst_core.specs.Language.Bytes.{IsPlain, IsSpecial}
 use Rattle.subst_core.specs.Language.Name.{IsName, IsNameByte}
-use Rattle.subst_core.specs.Language.Tree.{Item, Plain, Escaped, Short, Braced, Default, Tree, Empty, Then, text}
+use Rattle.subst_core.specs.Language.Tree.{Item, Plain, Escaped, Short, Braced, Optional, Default, Tree, Empty, Then, text}
 use Rattle.subst_core.specs.Language.Balanced.{IsBalanced}
 
 -- the tree doesn't begin with a plain name byte, so a name before it ends there
@@ -18,6 +18,7 @@ abbrev mutual
   IsItem (Escaped b) next = IsSpecial b
   IsItem (Short n) next = IsName n × EndsName next
   IsItem (Braced n) next = IsName n
+  IsItem (Optional n) next = IsName n
   IsItem (Default n t) next = IsName n × IsWellFormed t × IsBalanced (text t)
 
   pub IsWellFormed : Tree → Type 0
