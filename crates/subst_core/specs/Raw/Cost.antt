@@ -2,17 +2,18 @@
 use Rattle.std.specs.Prelude.{ℕ, ◌+◌, ◌-◌, ◌*◌, ◌≤◌, length, Result, Ok, Err}
 use Rattle.subst_error.specs.declared.ParseError.{ParseError}
 use Rattle.subst_core.specs.declared.template.raw.item.Placeholder.{Placeholder}
-use Rattle.subst_core.specs.declared.template.raw.item.Placeholder.TheVariants.{Short, Braced, Default}
+use Rattle.subst_core.specs.declared.template.raw.item.Placeholder.TheVariants.{Short, Braced, Optional, Default}
 use Rattle.subst_core.specs.declared.template.raw.parse.Parser.{Parser}
 
 -- a count goes from old to new, by at least low and at most high
 abbrev pub GrowsBetween : (low high old new : ℕ) → Type 0
 GrowsBetween low high old new = (old + low ≤ new) × (new ≤ old + high)
 
--- where the name in a placeholder ends
+-- where the name in a placeholder ends, with its question mark
 abbrev pub end_of_name : Placeholder → ℕ
 end_of_name (Short name) = name.end
 end_of_name (Braced name) = name.end
+end_of_name (Optional name) = name.end + 1
 end_of_name (Default name) = name.end
 
 -- A step of the parser adds at least one read and at most three for each byte that it goes on; where it ends

@@ -3,13 +3,13 @@ use Rattle.std.specs.Prelude.{◌≡◌, ℕ, ◌+◌, List, ◌∷◌, ◌++◌
 use Rattle.subst_error.specs.Fault.{Fault}
 use Rattle.subst_error.specs.ErrorFault.{parse_fault}
 use Rattle.subst_error.specs.declared.ParseError.{ParseError}
-use Rattle.subst_core.specs.Language.Bytes.{dollar, colon, backslash, opening_brace, closing_brace, IsSpecial}
+use Rattle.subst_core.specs.Language.Bytes.{dollar, colon, question_mark, backslash, opening_brace, closing_brace, IsSpecial}
 use Rattle.subst_core.specs.Language.Name.{IsName, IsNameByte, BeginsWithNo}
 use Rattle.subst_core.specs.Language.BadItem.{IsBad}
 use Rattle.subst_core.specs.Raw.Span.{IsSpan, span_bytes}
 use Rattle.subst_core.specs.declared.template.raw.Span.{Span}
 use Rattle.subst_core.specs.declared.template.raw.item.Placeholder.{Placeholder}
-use Rattle.subst_core.specs.declared.template.raw.item.Placeholder.TheVariants.{Short, Braced, Default}
+use Rattle.subst_core.specs.declared.template.raw.item.Placeholder.TheVariants.{Short, Braced, Optional, Default}
 
 -- an escape of the byte b is at the position at
 pub record IsEscape (s : List ℕ) (at b : ℕ) : Type 0 where
@@ -35,10 +35,16 @@ pub record IsInBraces (s : List ℕ) (at : ℕ) (name : Span) (b : ℕ) : Type 0
   pub starts : name.start ≡ at + 2
   pub spelled : drop at s ≡ dollar ∷ opening_brace ∷ span_bytes name s ++ b ∷ drop (name.end + 1) s
 
+-- the same with a question mark, which a closing brace follows
+pub record IsOptional (s : List ℕ) (at : ℕ) (name : Span) : Type 0 where
+  pub head : IsInBraces s at name question_mark
+  pub closed : drop (name.end + 1) s ≡ closing_brace ∷ drop (name.end + 2) s
+
 -- the placeholder at the position at, or its head up to the colon of its default
 abbrev pub IsPlaceholder : List ℕ → ℕ → Placeholder → Type 0
 IsPlaceholder s at (Short name) = IsShort s at name
 IsPlaceholder s at (Braced name) = IsInBraces s at name closing_brace
+IsPlaceholder s at (Optional name) = IsOptional s at name
 IsPlaceholder s at (Default name) = IsInBraces s at name colon
 
 -- The text r at position p begins with a bad item whose fault is f, and so does each prefix of r that a

@@ -31,6 +31,7 @@ pub(crate) enum Part {
     /// A variable that has to have a value.
     Variable(Span),
     /// A variable with a default, whose parts come right after this one, up to the index `next` of the
-    /// list. Where the map has a value for the name, they are jumped over.
+    /// list. Where the map has a value for the name, they are jumped over. An optional variable has the
+    /// empty default, so `next` is the index right after it.
     Default { name: Span, next: usize },
 }

@@ -1,10 +1,10 @@
 //! Escapes and placeholders, one at a time.
 
 ghost use Rattle.std.specs.Prelude.{◌≡◌, ◌+◌, ◌-◌, ◌∷◌, List, ℕ, IfOk, IfErr, MatchResult, drop, length};
-ghost use Rattle.subst_core.specs.Language.Bytes.{dollar, backslash, opening_brace};
+ghost use Rattle.subst_core.specs.Language.Bytes.{dollar, question_mark, backslash, opening_brace};
 ghost use Rattle.subst_core.specs.Language.Name.{BeginsWithNo};
 ghost use Rattle.subst_core.specs.Raw.Cost.{GrowsBetween, end_of_name};
-ghost use Rattle.subst_core.specs.Raw.Placeholder.{IsEscape, IsPlaceholder, StatesBadItem};
+ghost use Rattle.subst_core.specs.Raw.Placeholder.{IsEscape, IsInBraces, IsPlaceholder, StatesBadItem};
 
 use super::Span;
 use super::byte_class::is_special;
@@ -21,6 +21,8 @@ pub(super) enum Placeholder {
     Short(Span),
     /// `${name}`
     Braced(Span),
+    /// `${name?}`
+    Optional(Span),
     /// `${name:`
     Default(Span),
 }
@@ -91,8 +93,8 @@ fn short_at(tape: &mut Tape<'_>, at: usize) -> Result<Placeholder, ParseError>
     Ok(Placeholder::Short(Span { start, end }))
 }
 
-/// Returns the placeholder `${name}` whose dollar and opening brace are at an offset, or `${name:` up to
-/// its colon.
+/// Returns the placeholder `${name}` or `${name?}` whose dollar and opening brace are at an offset, or
+/// `${name:` up to its colon.
 fn braced_at(tape: &mut Tape<'_>, at: usize) -> Result<Placeholder, ParseError>
     requires { drop at tape.old.source.now
         ≡ dollar ∷ opening_brace ∷ drop (at + 2) tape.old.source.now }
@@ -118,10 +120,36 @@ fn braced_at(tape: &mut Tape<'_>, at: usize) -> Result<Placeholder, ParseError>
         None => Err(MissingClosingBrace { position: at + 1 }.into()),
         Some(b'}') => Ok(Placeholder::Braced(name)),
         Some(b':') => Ok(Placeholder::Default(name)),
+        Some(b'?') => optional_at(tape, at, name),
         Some(_) => Err(UnexpectedCharacter {
             position: end,
             character: tape.character_at(end),
-            expected: ExpectedCharacter::new("a closing brace ('}') or colon (':')"),
+            expected: ExpectedCharacter::new(
+                "a closing brace ('}'), colon (':') or question mark ('?')",
+            ),
+        }
+        .into()),
+    }
+}
+
+/// Returns the placeholder `${name?}` at an offset, where it has been read up to its question mark.
+fn optional_at(tape: &mut Tape<'_>, at: usize, name: Span) -> Result<Placeholder, ParseError>
+    requires { IsInBraces tape.old.source.now at name question_mark }
+    ensures ok { IfOk result (IsPlaceholder tape.old.source.now at) }
+    ensures err { IfErr result (λ e. StatesBadItem e tape.old.source.now at) }
+    ensures same { tape.new.source ≡ tape.old.source }
+    ensures end { IfOk result (λ p. end_of_name p ≡ name.end + 1) }
+    ensures cost { MatchResult result (λ p. GrowsBetween 1 1 tape.old.reads tape.new.reads)
+        (λ e. GrowsBetween 1 5 tape.old.reads tape.new.reads) }
+{
+    let end = name.end + 1;
+    match tape.byte_at(end) {
+        None => Err(MissingClosingBrace { position: at + 1 }.into()),
+        Some(b'}') => Ok(Placeholder::Optional(name)),
+        Some(_) => Err(UnexpectedCharacter {
+            position: end,
+            character: tape.character_at(end),
+            expected: ExpectedCharacter::new("a closing brace ('}')"),
         }
         .into()),
     }

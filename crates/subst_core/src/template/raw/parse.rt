@@ -8,7 +8,7 @@ ghost use Rattle.subst_core.specs.Language.BadItem.{HasFault};
 ghost use Rattle.subst_core.specs.Calls.Outcome.{OnFault};
 ghost use Rattle.subst_core.specs.Raw.Cost.{GrowsBetween, StepReads, StepReadsAfterFirst};
 ghost use Rattle.subst_core.specs.Raw.Parts.{IsTemplateOf};
-ghost use Rattle.subst_core.specs.Raw.Placeholder.{IsInBraces, StatesBadItem};
+ghost use Rattle.subst_core.specs.Raw.Placeholder.{IsInBraces, IsOptional, StatesBadItem};
 
 use super::item::{Placeholder, escape_at, placeholder_at};
 use super::scan::closes_all;
@@ -197,6 +197,7 @@ impl<'s> Parser<'s> {
         match placeholder_at(&mut self.tape, self.at) {
             Ok(Placeholder::Short(name)) => self.add_part(Part::Variable(name), name.end),
             Ok(Placeholder::Braced(name)) => self.add_part(Part::Variable(name), name.end + 1),
+            Ok(Placeholder::Optional(name)) => self.add_optional(name),
             Ok(Placeholder::Default(name)) => self.open_default(name),
             Err(fault) => Err(self.fault_of_source(fault)),
         }
@@ -237,6 +238,23 @@ impl<'s> Parser<'s> {
         self.parts.push(part)?;
         self.at = end;
         self.literal_start = end;
+        Ok(())
+    }
+
+    /// Adds the part of the placeholder `${name?}` at `at`: a default without parts, whose jump leads to the
+    /// part right after it.
+    fn add_optional(&mut self, name: Span) -> Result<(), ParseError>
+        requires reading { IsReading self.old }
+        requires optional { IsOptional self.old.tape.source.now self.old.at name }
+        ensures answer { StepsOrFails self.old result self.new }
+        ensures position { OnOk result (self.new.at ≡ name.end + 2) }
+        ensures same { self.new.tape ≡ self.old.tape }
+    {
+        self.flush_literal()?;
+        let next = self.parts.len() + 1;
+        self.parts.push(Part::Default { name, next })?;
+        self.at = name.end + 2;
+        self.literal_start = self.at;
         Ok(())
     }
 
