@@ -9,6 +9,7 @@ pub mod EveryDepth
 pub mod FirstFault
 pub mod NotAnswered
 pub mod OneAnswer
+pub mod OptionalVariables
 pub mod PastAscii
 pub mod Words
 use Rattle.std.proofs.Common.{◌≡◌, ℕ, List, [], ◌∷◌, ◌++◌, codes, refl}

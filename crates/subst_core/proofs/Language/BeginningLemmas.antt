@@ -3,21 +3,21 @@
 use Rattle.std.proofs.Common.{◌≡◌, ◌≢◌, ◌⊎◌, ◌==◌, ℕ, ◌+◌, ◌<◌, Bool, IsTrue, IsFalse, cond, List, [], ◌∷◌, ◌++◌, length, Some, None, refl, sym, ap, ◌∙◌, subst, inl, inr, append_assoc, append-nil, ne_eqb}
 use Rattle.std.proofs.lemmas.Bool.{cond-true, cond-false, cond_both, eqb-true, eqb-false, false≢true, false_from_ne_true}
 use Rattle.std.specs.List.{AllByRecursion}
-use Rattle.subst_core.specs.Language.Bytes.{dollar, colon, backslash, opening_brace, closing_brace, is_special}
+use Rattle.subst_core.specs.Language.Bytes.{dollar, colon, question_mark, backslash, opening_brace, closing_brace, is_special}
 use Rattle.subst_core.specs.Language.Name.{IsNameByte, IsName}
 use Rattle.subst_core.specs.Language.Name.{BeginsWithNo}
-use Rattle.subst_core.specs.Language.Tree.{Item, Plain, Escaped, Short, Braced, Default, Tree, Empty, Then, item_text, text}
+use Rattle.subst_core.specs.Language.Tree.{Item, Plain, Escaped, Short, Braced, Optional, Default, Tree, Empty, Then, item_text, text}
 use Rattle.subst_core.specs.Language.Balanced.{IsBalanced, Closes}
 use Rattle.subst_core.specs.Language.WellFormed.{IsItem}
 use Rattle.subst_core.specs.Language.Followed.{IsFollowed}
 use Rattle.subst_error.specs.Fault.{Fault, InvalidEscapeSequence, MissingVariableName, UnexpectedCharacter, MissingClosingBrace}
-use Rattle.subst_core.specs.Language.BadItem.{brace_or_colon, IsBad, HasFault}
-use Rattle.subst_core.specs.Language.BadItem.IsBad.{escape_at_end, escape, dollar_at_end, dollar_alone, brace_at_end, brace_alone, name_at_end, name_alone, unclosed, inside}
+use Rattle.subst_core.specs.Language.BadItem.{after_name, after_question_mark, IsBad, HasFault}
+use Rattle.subst_core.specs.Language.BadItem.IsBad.{escape_at_end, escape, dollar_at_end, dollar_alone, brace_at_end, brace_alone, name_at_end, name_alone, optional_at_end, optional_alone, unclosed, inside}
 use Rattle.subst_core.proofs.Language.BalancedLemmas.{cut_unique}
 use Rattle.subst_core.proofs.Language.CharacterLemmas.{front_character, character_unique}
 use Rattle.subst_core.proofs.Language.ClosesOrNotLemmas.{closes_or_not}
 use Rattle.subst_core.proofs.Language.ItemLemmas.{default_text, default_shorter}
-use Rattle.subst_core.proofs.Language.NameLemmas.{split, split_unique, name_byte_differs, opening_no_name, closing_no_name, colon_no_name}
+use Rattle.subst_core.proofs.Language.NameLemmas.{split, split_unique, name_byte_differs, opening_no_name, closing_no_name, colon_no_name, question_mark_no_name}
 
 -- what a text begins with
 pub data Beginning : Type 0 where
@@ -89,25 +89,40 @@ after_colon n w (inl c) =
     (WithDefault n c.0 c.1, λ h. (h, c.2, ap (λ u. dollar ∷ opening_brace ∷ n ++ colon ∷ u) c.3))
 after_colon n w (inr f) = (Bad (λ p. MissingClosingBrace (p + 1)), λ h p. unclosed n w h f)
 
+-- after a name in braces and a question mark
+abbrev after_optional_name : (n x : List ℕ)
+    → BeginningOf (IsName n) (dollar ∷ opening_brace ∷ n ++ question_mark ∷ x)
+after_optional_name n [] = (Bad (λ p. MissingClosingBrace (p + 1)), λ h p. optional_at_end n h)
+after_optional_name n (b ∷ x) =
+    let c = front_character b x in
+    by_byte (λ (b : ℕ). dollar ∷ opening_brace ∷ n ++ (question_mark ∷ b ∷ x)) b closing_brace (
+      Simple (Optional n) x,
+      λ h. (h, tt, sym (append_assoc (dollar ∷ opening_brace ∷ n) (question_mark ∷ closing_brace ∷ []) x)),
+    ) (
+      Bad (λ p. UnexpectedCharacter (p + 3 + length n) c.0 after_question_mark),
+      λ h p. optional_alone n x h.0 h.1 c.1,
+    )
+
 -- after a name in braces
-abbrev after_name : (n x : List ℕ)
+abbrev after_braced_name : (n x : List ℕ)
     → BeginningOf (IsName n × BeginsWithNo IsNameByte x) (dollar ∷ opening_brace ∷ n ++ x)
-after_name n [] = (Bad (λ p. MissingClosingBrace (p + 1)), λ h p. rw append-nil (name_at_end n h.0))
-after_name n (b ∷ x) =
+after_braced_name n [] = (Bad (λ p. MissingClosingBrace (p + 1)), λ h p. rw append-nil (name_at_end n h.0))
+after_braced_name n (b ∷ x) =
     let c = front_character b x in
     let t = λ (b : ℕ). dollar ∷ opening_brace ∷ n ++ b ∷ x in
     by_byte t b closing_brace
     (Simple (Braced n) x, λ h. (h.0, tt, sym (append_assoc (dollar ∷ opening_brace ∷ n) (closing_brace ∷ []) x)))
-    (by_byte t b colon (given refl (λ h. h.0.0) (after_colon n x (closes_or_not x))) (
-      Bad (λ p. UnexpectedCharacter (p + 2 + length n) c.0 brace_or_colon),
-      λ h p. name_alone n x h.0.0.0 h.0.0.1 h.0.1 h.1 c.1,
-    ))
+    (by_byte t b colon (given refl (λ h. h.0.0) (after_colon n x (closes_or_not x)))
+    (by_byte t b question_mark (given refl (λ h. h.0.0.0) (after_optional_name n x)) (
+      Bad (λ p. UnexpectedCharacter (p + 2 + length n) c.0 after_name),
+      λ h p. name_alone n x h.0.0.0.0 h.0.0.0.1 h.0.0.1 h.0.1 h.1 c.1,
+    )))
 
 -- after a dollar and an opening brace, at name bytes that may be none
 abbrev after_brace : (n x : List ℕ)
     → BeginningOf (AllByRecursion IsNameByte n × BeginsWithNo IsNameByte x) (dollar ∷ opening_brace ∷ n ++ x)
 after_brace [] x = (Bad (λ p. MissingVariableName p 2), λ h p. bad_braces p x h.1)
-after_brace (a ∷ n) x = after_name (a ∷ n) x
+after_brace (a ∷ n) x = after_braced_name (a ∷ n) x
 
 -- after a dollar, at name bytes that may be none
 abbrev after_short : (n x : List ℕ)
@@ -165,7 +180,7 @@ beginning-no_name x f = split_as (λ a y. (after_brace a y).0) x [] x refl tt f
 
 -- a dollar and an opening brace before a name
 beginning-name : (s n x : List ℕ) → s ≡ n ++ x → IsName n → BeginsWithNo IsNameByte x
-    → beginning (dollar ∷ opening_brace ∷ s) ≡ (after_name n x).0
+    → beginning (dollar ∷ opening_brace ∷ s) ≡ (after_braced_name n x).0
 beginning-name s [] x e h f = absurd h
 beginning-name s (b ∷ n) x e h f = split_as (λ a y. (after_brace a y).0) s (b ∷ n) x e h f
 
@@ -205,6 +220,9 @@ beginning-item (Short (b ∷ n)) rest x i f =
     beginning-short b (n ++ x) (b ∷ n) x (name_byte_differs b opening_brace i.0.0 opening_no_name) refl i.0 f
 beginning-item (Braced n) rest x i f =
     beginning-name _ n (closing_brace ∷ x) (append_assoc n (closing_brace ∷ []) x) i closing_no_name
+beginning-item (Optional n) rest x i f =
+    beginning-name _ n (question_mark ∷ closing_brace ∷ x)
+    (append_assoc n (question_mark ∷ closing_brace ∷ []) x) i question_mark_no_name
 beginning-item (Default n d) rest x i f = ap beginning (default_text n (text d) x) ∙ beginning-closed n (text d) x i.0 i.2
 
 -- a text of m bytes at byte offset p that begins so has the fault f; the text of the default is shorter
@@ -225,9 +243,14 @@ beginning-bad (dollar_alone {b = b} {x = x} o f) = rw (beginning-short b x [] (b
 beginning-bad brace_at_end = rw (beginning-no_name [] tt) refl
 beginning-bad (brace_alone {b = b} {x = x} f) = rw (beginning-no_name (b ∷ x) f) refl
 beginning-bad (name_at_end n h) = rw (beginning-name n n [] (sym (append-nil n)) h tt) refl
-beginning-bad {p = p} (name_alone {b = b} {c = c} n x h i j k l) =
+beginning-bad {p = p} (name_alone {b = b} {c = c} n x h i j k q l) =
     let d = front_character b x in
-    rw (beginning-name (n ++ b ∷ x) n (b ∷ x) refl h i, ne_eqb b closing_brace j, ne_eqb b colon k)
-    (ap (λ c. UnexpectedCharacter (p + 2 + length n) c brace_or_colon) (character_unique (b ∷ x) c d.0 l d.1))
+    rw (beginning-name (n ++ b ∷ x) n (b ∷ x) refl h i, ne_eqb b closing_brace j, ne_eqb b colon k, ne_eqb b question_mark q)
+    (ap (λ c. UnexpectedCharacter (p + 2 + length n) c after_name) (character_unique (b ∷ x) c d.0 l d.1))
+beginning-bad (optional_at_end n h) = rw (beginning-name _ n (question_mark ∷ []) refl h question_mark_no_name) refl
+beginning-bad {p = p} (optional_alone {b = b} {c = c} n x h j l) =
+    let d = front_character b x in
+    rw (beginning-name _ n (question_mark ∷ b ∷ x) refl h question_mark_no_name, ne_eqb b closing_brace j)
+    (ap (λ c. UnexpectedCharacter (p + 3 + length n) c after_question_mark) (character_unique (b ∷ x) c d.0 l d.1))
 beginning-bad (unclosed n w h f) = rw (beginning-unclosed n w h f) refl
 beginning-bad (inside n w x h b f) = rw (beginning-closed n w x h b) (default_shorter n w x, f)

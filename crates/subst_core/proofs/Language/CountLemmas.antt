@@ -1,6 +1,6 @@
 -- How many parts trees have: of trees concatenated, of runs of plain bytes, and how they are bounded.
 use Rattle.std.proofs.Common.{◌≡◌, ℕ, ◌+◌, ◌<◌, ◌≤◌, Bool, true, false, Option, Some, None, List, [], ◌∷◌, ◌++◌, length, refl, length-append, arith}
-use Rattle.subst_core.specs.Language.Tree.{Item, Plain, Escaped, Short, Braced, Default, Tree, Empty, Then, item_text, text}
+use Rattle.subst_core.specs.Language.Tree.{Item, Plain, Escaped, Short, Braced, Optional, Default, Tree, Empty, Then, item_text, text}
 use Rattle.subst_core.specs.Language.LookUp.{LookUp}
 use Rattle.subst_core.specs.Language.Counts.{is_plain, if_missing, item_part_count, part_count_after, item_visited_count, visited_count_after, visited_count}
 use Rattle.subst_core.specs.Raw.PlainEnds.{ends_plain, HasNoPlainEnds}
@@ -47,6 +47,7 @@ visited_count_after-apart after (Then (Plain b) rest) look ends = let plain = en
 visited_count_after-apart after (Then (Escaped b) rest) look ends = refl
 visited_count_after-apart after (Then (Short n) rest) look ends = refl
 visited_count_after-apart after (Then (Braced n) rest) look ends = refl
+visited_count_after-apart after (Then (Optional n) rest) look ends = refl
 visited_count_after-apart after (Then (Default n t) rest) look ends = refl
 
 -- what counts only where nothing was found is no more than itself
@@ -62,6 +63,7 @@ mutual
   item_visited_count_at_most after (Escaped b) look = omega arith
   item_visited_count_at_most after (Short n) look = omega arith
   item_visited_count_at_most after (Braced n) look = omega arith
+  item_visited_count_at_most after (Optional n) look = omega arith
   item_visited_count_at_most after (Default n t) look =
       omega (arith, missing_at_most (look n) (visited_count_after false t look) (part_count_after false t) (visited_count_after_at_most false t look))
 
@@ -80,6 +82,7 @@ mutual
   item_part_count_at_most after (Escaped b) = omega arith
   item_part_count_at_most after (Short n) = omega arith
   item_part_count_at_most after (Braced n) = omega arith
+  item_part_count_at_most after (Optional n) = omega arith
   item_part_count_at_most after (Default n t) =
       omega (arith, part_count_after_at_most false t, length-append n (colon ∷ text t ++ closing_brace ∷ []), length-append (text t) (closing_brace ∷ []))
 

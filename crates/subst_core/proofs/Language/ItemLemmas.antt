@@ -1,7 +1,7 @@
 -- The texts of items: their lengths, induction by the length of a text, and which of them have braces that
 -- match.
 use Rattle.std.proofs.Common.{◌≡◌, ℕ, ◌<◌, List, [], ◌∷◌, ◌++◌, length, ap, subst, append_assoc, length-append, arith}
-use Rattle.subst_core.specs.Language.Bytes.{dollar, colon, opening_brace, closing_brace, backslash}
+use Rattle.subst_core.specs.Language.Bytes.{dollar, colon, question_mark, opening_brace, closing_brace, backslash}
 use Rattle.subst_core.specs.Language.Name.{IsName}
 use Rattle.subst_core.specs.Language.Tree.{Item, Plain, item_text}
 use Rattle.subst_core.specs.Language.Balanced.{IsBalanced}
@@ -42,14 +42,25 @@ short_balanced n named = dollar_balanced (name_balanced n named)
 pub braced_balanced : (n : List ℕ) → IsName n → IsBalanced (dollar ∷ opening_brace ∷ n ++ closing_brace ∷ [])
 braced_balanced n named = dollar_balanced (braces (name_balanced n named) empty)
 
+-- a name and a balanced text in braces after a dollar are balanced
+in_braces_balanced : (n w : List ℕ) → IsName n → IsBalanced w
+    → IsBalanced (dollar ∷ opening_brace ∷ n ++ (w ++ closing_brace ∷ []))
+in_braces_balanced n w named inner =
+    dollar_balanced
+    (subst (λ (u : List ℕ). IsBalanced (opening_brace ∷ u)) (append_assoc n w (closing_brace ∷ []))
+    (braces (balanced_append (name_balanced n named) inner) empty))
+
+-- `${name?}` is balanced
+pub optional_balanced : (n : List ℕ) → IsName n
+    → IsBalanced (dollar ∷ opening_brace ∷ n ++ (question_mark ∷ closing_brace ∷ []))
+optional_balanced n named =
+    in_braces_balanced n (question_mark ∷ []) named (byte (omega arith) (omega arith) (omega arith) empty)
+
 -- `${name:default}` is balanced where the default is
 pub default_balanced : (n w : List ℕ) → IsName n → IsBalanced w
     → IsBalanced (dollar ∷ opening_brace ∷ n ++ (colon ∷ w ++ closing_brace ∷ []))
 default_balanced n w named inner =
-    let front : IsBalanced (n ++ (colon ∷ w)) =
-    balanced_append (name_balanced n named) (byte (omega arith) (omega arith) (omega arith) inner) in
-    dollar_balanced
-    (subst (λ (u : List ℕ). IsBalanced (opening_brace ∷ u)) (append_assoc n (colon ∷ w) (closing_brace ∷ [])) (braces front empty))
+    in_braces_balanced n (colon ∷ w) named (byte (omega arith) (omega arith) (omega arith) inner)
 
 -- an escape is balanced
 pub escape_balanced : (b : ℕ) → IsBalanced (backslash ∷ b ∷ [])

@@ -6,7 +6,7 @@ use Rattle.std.specs.Str.{IsAscii, IsUtf8}
 use Rattle.std.proofs.lemmas.Bool.Decides.{nat_tests}
 use Rattle.std.proofs.lemmas.Str.{IsUtf8-from_ascii}
 use Rattle.std.proofs.lemmas.Str.Ascii.{IsAscii-nil, IsAscii-cons}
-use Rattle.subst_core.specs.Language.Bytes.{dollar, colon, backslash, opening_brace, closing_brace}
+use Rattle.subst_core.specs.Language.Bytes.{dollar, colon, question_mark, backslash, opening_brace, closing_brace}
 use Rattle.subst_core.specs.Language.Name.{BeginsWithNo}
 use Rattle.subst_core.specs.Language.Name.{is_name_byte, IsNameByte, IsName}
 use Rattle.subst_core.specs.Language.Balanced.{IsBalanced}
@@ -39,6 +39,10 @@ closing_no_name h = cc
 -- nor a colon
 pub colon_no_name : ¬ (IsNameByte colon)
 colon_no_name h = cc
+
+-- nor a question mark
+pub question_mark_no_name : ¬ (IsNameByte question_mark)
+question_mark_no_name h = cc
 
 -- a name has name bytes alone
 pub name_bytes : (n : List ℕ) → IsName n → AllByRecursion IsNameByte n

@@ -1,6 +1,6 @@
 -- A text is the text of one well-formed tree at most.
 use Rattle.std.proofs.Common.{◌≡◌, ◌⊎◌, ℕ, List, [], ◌++◌, refl, sym, ap, ◌∙◌, inl, inr, append_assoc}
-use Rattle.subst_core.specs.Language.Tree.{Item, Plain, Escaped, Short, Braced, Default, Tree, Empty, Then, item_text, text}
+use Rattle.subst_core.specs.Language.Tree.{Item, Plain, Escaped, Short, Braced, Optional, Default, Tree, Empty, Then, item_text, text}
 use Rattle.subst_core.specs.Language.WellFormed.{IsItem, IsWellFormed}
 use Rattle.subst_core.specs.Language.Sentence.{Spells}
 use Rattle.subst_core.specs.Language.Followed.{IsFollowed}
@@ -64,6 +64,7 @@ like_by_front (Plain b) (Default m c) x y e = absurd cc
 like_by_front (Escaped b) (Default m c) x y e = absurd cc
 like_by_front (Short n) (Default m c) x y e = absurd cc
 like_by_front (Braced n) (Default m c) x y e = absurd cc
+like_by_front (Optional n) (Default m c) x y e = absurd cc
 like_by_front (Default n d) _ x y e = absurd cc
 like_by_front _ _ x y e = (cc, cc)
 

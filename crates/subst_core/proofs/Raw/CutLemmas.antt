@@ -3,11 +3,11 @@
 use Rattle.std.proofs.Common.{◌≡◌, ◌≢◌, ℕ, List, [], ◌∷◌, ◌++◌, refl, sym, ◌∙◌, subst, arith}
 use Rattle.std.specs.List.{AllByRecursion}
 use Rattle.std.proofs.lemmas.List.{append-nil}
-use Rattle.subst_core.specs.Language.Bytes.{IsSpecial, closing_brace, dollar, backslash, opening_brace}
+use Rattle.subst_core.specs.Language.Bytes.{IsSpecial, closing_brace, dollar, question_mark, backslash, opening_brace}
 use Rattle.subst_core.specs.Language.Name.{IsName, IsNameByte}
 use Rattle.subst_core.specs.Language.BadItem.{IsBad}
 use Rattle.subst_error.specs.Fault.{Fault}
-use Rattle.subst_core.specs.Language.BadItem.IsBad.{escape_at_end, escape, dollar_at_end, dollar_alone, brace_at_end, brace_alone, name_at_end, name_alone, unclosed, inside}
+use Rattle.subst_core.specs.Language.BadItem.IsBad.{escape_at_end, escape, dollar_at_end, dollar_alone, brace_at_end, brace_alone, name_at_end, name_alone, optional_at_end, optional_alone, unclosed, inside}
 use Rattle.subst_core.specs.Raw.Placeholder.{IsBadWhenCut}
 use Rattle.subst_core.specs.Language.Name.{BeginsWithNo}
 use Rattle.subst_core.proofs.Language.FrontCharacterLemmas.{front_cut}
@@ -71,10 +71,17 @@ cut_bad {p = p} (brace_alone {b = b} unnamed) simple x q e =
     rw is (bad_braces p y (begins_no_front IsNameByte y (closing_brace ∷ q) unnamed f))
 cut_bad (name_at_end n named) simple x q e =
     absurd (uncut (dollar ∷ opening_brace ∷ n) x q (braced_uncut n named) e)
-cut_bad (name_alone {b = b} {c = c} n r named unnamed no_close no_colon beginning) simple x q e =
+cut_bad (name_alone {b = b} {c = c} n r named unnamed no_close no_colon no_mark beginning) simple x q e =
     let (y, is, f) = cut_after (dollar ∷ opening_brace ∷ n) x q (braced_uncut n named) e in
     let (z, same, g) = cut_after (b ∷ []) y q (no_close, tt) f in
-    rw (is, same) (name_alone n z named unnamed no_close no_colon (front_cut b z q c (rw g at beginning)))
+    rw (is, same) (name_alone n z named unnamed no_close no_colon no_mark (front_cut b z q c (rw g at beginning)))
+cut_bad (optional_at_end n named) simple x q e =
+    let (y, is, f) = cut_after (dollar ∷ opening_brace ∷ n) x q (braced_uncut n named) e in
+    absurd (uncut (question_mark ∷ []) y q (omega arith, tt) f)
+cut_bad (optional_alone {b = b} {c = c} n r named no_close beginning) simple x q e =
+    let (y, is, f) = cut_after (dollar ∷ opening_brace ∷ n) x q (braced_uncut n named) e in
+    let (z, same, g) = cut_after (question_mark ∷ b ∷ []) y q (omega arith, (no_close, tt)) f in
+    rw (is, same) (optional_alone n z named no_close (front_cut b z q c (rw g at beginning)))
 cut_bad (unclosed n w h i) simple x q e = absurd simple
 cut_bad (inside n w v h b i) simple x q e = absurd simple
 

@@ -14,7 +14,7 @@ use Rattle.subst_core.specs.Raw.Parts.{IsTemplateOf}
 use Rattle.subst_error.specs.ErrorFault.{parse_fault}
 use Rattle.subst_error.specs.declared.ParseError.{ParseError}
 use Rattle.std.specs.Option.{IfSome, IsSomeAnd}
-use Rattle.subst_core.specs.Raw.Placeholder.{IsInBraces, IsBadWhenCut}
+use Rattle.subst_core.specs.Raw.Placeholder.{IsInBraces, IsOptional, IsBadWhenCut}
 use Rattle.subst_core.specs.Raw.Parsing.{StackHolds, StackHoldsFlushed, IsReading, IsPart, StepsOrFails}
 use Rattle.subst_core.specs.declared.template.raw.Span.{Span}
 use Rattle.subst_core.specs.declared.template.raw.Part.{Part}
@@ -24,6 +24,7 @@ use Rattle.subst_core.specs.declared.template.raw.parse.Parser.{Parser}
 use Rattle.subst_core.specs.declared.template.raw.tape.Tape.{Tape}
 use Rattle.subst_core.proofs.Language.ListLemmas.{split_last, split_first, reverse_last}
 use Rattle.subst_core.proofs.Raw.StackHoldsLemmas.{holds_tree, holds_byte, holds_opening, holds_closing, holds_default, holds_closed, holds_run, holds_any, holds_some, holds_open, holds_top}
+use Rattle.subst_core.proofs.Raw.PartOfLemmas.{optional_part}
 use Rattle.subst_core.proofs.Raw.LiftLemmas.{lift, unclosed_outermost, find_outermost, template_at_end}
 use Rattle.subst_core.proofs.Language.ClosingLemmas.{closes_nothing}
 
@@ -59,7 +60,7 @@ IsFlushed old mid = (mid ≡ record old { parts = mid.parts; literal_start = old
 -- a part is added
 pub reading_added : (old mid : Parser) (parts : Vec Part Global) (part : Part) (end : ℕ) → IsReading old
     → IsFlushed old mid
-    → parts.items ≡ mid.parts.items ++ part ∷ [] → IsPart old.tape.source.now old.at end part
+    → parts.items ≡ mid.parts.items ++ part ∷ [] → IsPart old.tape.source.now old.at end (length mid.parts.items) part
     → end ≤ length old.tape.source.now → old.at < end
     → IsReading (record mid { parts = parts; literal_start = end; at = end }) × (mid.tape.source ≡ old.tape.source)
     × (old.at < end)
@@ -70,7 +71,7 @@ reading_added old mid parts part end reading given pushed is within forward =
     let added =
     holds_tree old.tape.source.now (reverse old.defaults.items) old.depth mid.parts.items
     (part ∷ []) old.at end
-    is.tree is.at is.balanced is.ends (is.mean (length mid.parts.items)) given.1 in (
+    is.tree is.at is.balanced is.ends is.mean given.1 in (
       record {
         small = rw tape reading.small;
         within = rw tape within;
@@ -80,6 +81,23 @@ reading_added old mid parts part end reading given pushed is within forward =
       ap (λ (t : Tape). t.source) tape,
       forward,
     )
+
+-- an optional variable lies in the source
+optional_inside : (s : List ℕ) (at : ℕ) (name : Span) → IsOptional s at name → name.end + 2 ≤ length s
+optional_inside s at name is = omega (arith, simp length-drop at (ap length is.closed))
+
+-- the part of an optional variable is added, whose jump is to the next part
+pub reading_optional : (old mid : Parser) (parts : Vec Part Global) (name : Span) → IsReading old
+    → IsFlushed old mid
+    → parts.items ≡ mid.parts.items ++ Default name (mid.parts.len + 1) ∷ []
+    → IsOptional old.tape.source.now old.at name
+    → IsReading (record mid { parts = parts; literal_start = name.end + 2; at = name.end + 2 })
+    × (mid.tape.source ≡ old.tape.source) × (old.at < name.end + 2)
+reading_optional old mid parts name reading given pushed is =
+    let s = old.tape.source.now in
+    let i = length mid.parts.items in
+    reading_added old mid parts (Default name (i + 1)) (name.end + 2) reading given (rw mid.parts.ok.0 at pushed)
+    (optional_part s old.at name i is) (optional_inside s old.at name is) (omega (arith, is.head.starts, is.head.named.ends))
 
 -- the front of a placeholder with a default lies in the source
 pub head_inside : (s : List ℕ) (at : ℕ) (name : Span) (b : ℕ) → IsInBraces s at name b → at ≤ length s

@@ -2,7 +2,7 @@
 use Rattle.std.proofs.Common.{◌≡◌, ℕ, ◌+◌, ◌<◌, ◌≤◌, suc, lt-ltb, le-ltb, false, Option, Some, None, inl, inr, List, [], ◌∷◌, ◌++◌, length, length-append, refl, sym, ap, ◌∙◌, subst, arith}
 use Rattle.std.proofs.lemmas.Bool.{cases_lt}
 use Rattle.subst_core.specs.Language.Name.{IsName}
-use Rattle.subst_core.specs.Language.Tree.{Item, Short, Braced, Tree, Empty, Then, text}
+use Rattle.subst_core.specs.Language.Tree.{Item, Short, Braced, Optional, Tree, Empty, Then, text}
 use Rattle.subst_core.specs.Language.Tree as tree
 use Rattle.subst_core.specs.Language.LookUp.{LookUp}
 use Rattle.subst_core.specs.Language.Value.{Bytes, Missing, joined, found_or, item_value, value}
@@ -202,6 +202,13 @@ pub mean_braced : (s : List ℕ) (i : ℕ) (name : Span) (p : ℕ) → IsSpan s 
 mean_braced s i name p inside named starts =
     mean_one s i (Variable name) p (Braced (span_bytes name s)) (inside, named)
     (λ look. ap (λ position. found_or (look (span_bytes name s)) (Missing position (span_bytes name s))) starts) (λ look. refl)
+
+-- a default's part that jumps over no parts means the name with a question mark
+pub mean_optional : (s : List ℕ) (i : ℕ) (name : Span) (p : ℕ) → IsSpan s name → IsName (span_bytes name s)
+    → PartsMean s i (Default name (i + 1) ∷ []) p (Then (Optional (span_bytes name s)) Empty)
+mean_optional s i name p inside named =
+    mean_one s i (Default name (i + 1)) p (Optional (span_bytes name s)) (inside, named, omega arith, omega arith)
+    (λ look. refl) (λ look. refl)
 
 -- what a default's part and the parts after it give: what was found, or else what the parts give
 joined_value-default : (found : Option (List ℕ)) (parts : List Part) (i : ℕ) (s : List ℕ) (look : LookUp)

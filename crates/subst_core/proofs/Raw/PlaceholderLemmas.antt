@@ -3,17 +3,18 @@ use Rattle.std.proofs.Common.{◌≡◌, ◌≢◌, ℕ, ◌+◌, ◌≤◌, tru
 use Rattle.std.specs.List.{AllByRecursion}
 use Rattle.std.proofs.lemmas.Bool.{false≢true}
 use Rattle.std.proofs.lemmas.List.{append-nil}
-use Rattle.subst_core.specs.Language.Bytes.{is_special, dollar, opening_brace, backslash, closing_brace, colon}
+use Rattle.subst_core.specs.Language.Bytes.{is_special, dollar, opening_brace, backslash, closing_brace, colon, question_mark}
 use Rattle.subst_core.specs.Language.Name.{IsName, IsNameByte}
 use Rattle.subst_core.specs.Raw.ByteRun.{IsRun}
 use Rattle.subst_core.specs.Language.Name.{BeginsWithNo}
 use Rattle.subst_core.specs.Raw.Span.{span_bytes}
 use Rattle.subst_error.specs.Fault.{InvalidEscapeSequence, MissingVariableName, UnexpectedCharacter, MissingClosingBrace}
 use Rattle.subst_core.specs.Language.Character.{IsFrontCharacter}
-use Rattle.subst_core.specs.Language.BadItem.{brace_or_colon}
+use Rattle.subst_core.specs.Language.BadItem.{after_name, after_question_mark}
 use Rattle.subst_core.specs.Raw.Placeholder.{IsEscape, IsNameAt, IsShort, IsInBraces, IsBadWhenCut}
 use Rattle.subst_error.specs.declared.CharOrByte.{CharOrByte}
-use Rattle.subst_core.specs.Language.BadItem.IsBad.{escape_at_end, escape, dollar_at_end, dollar_alone, brace_at_end, brace_alone, name_at_end, name_alone}
+use Rattle.subst_core.specs.declared.template.raw.Span.{Span}
+use Rattle.subst_core.specs.Language.BadItem.IsBad.{escape_at_end, escape, dollar_at_end, dollar_alone, brace_at_end, brace_alone, name_at_end, name_alone, optional_at_end, optional_alone}
 use Rattle.subst_core.proofs.Raw.CutLemmas.{bad_however}
 use Rattle.subst_core.proofs.Language.ListLemmas.{next_element, next_elements}
 use Rattle.subst_core.proofs.Raw.ByteRunLemmas.{slice_of_run}
@@ -120,14 +121,33 @@ module _ (s : List ℕ) (at end : ℕ) (begins : drop at s ≡ dollar ∷ openin
   -- a byte after a name in braces that may not follow it
   pub unexpected_byte_at : (b : ℕ) (c : CharOrByte) (expected : List ℕ) → at + 2 ≢ end
       → BeginsWithNo IsNameByte (drop end s)
-      → drop end s ≡ b ∷ drop (end + 1) s → b ≢ closing_brace → b ≢ colon → IsFrontCharacter (drop end s) c
-      → expected ≡ brace_or_colon
+      → drop end s ≡ b ∷ drop (end + 1) s → b ≢ closing_brace → b ≢ colon → b ≢ question_mark
+      → IsFrontCharacter (drop end s) c → expected ≡ after_name
       → IsBadWhenCut at (drop at s) (UnexpectedCharacter end c expected)
-  unexpected_byte_at b c expected some longest follows no_close no_colon front is =
+  unexpected_byte_at b c expected some longest follows no_close no_colon no_mark front is =
       let whole : drop (at + 2) s ≡ run.run ++ b ∷ drop (end + 1) s =
       run.spelled ∙ ap (λ (x : List ℕ). run.run ++ x) follows in
       let named = run_named s (at + 2) end run some in
-      let bad : IsBadWhenCut at (dollar ∷ opening_brace ∷ run.run ++ b ∷ drop (end + 1) s) (UnexpectedCharacter (at + 2 + length run.run) c brace_or_colon) =
+      let bad : IsBadWhenCut at (dollar ∷ opening_brace ∷ run.run ++ b ∷ drop (end + 1) s) (UnexpectedCharacter (at + 2 + length run.run) c after_name) =
       bad_however
-      (name_alone run.run (drop (end + 1) s) named (rw follows at longest) no_close no_colon (rw follows at front)) tt in
+      (name_alone run.run (drop (end + 1) s) named (rw follows at longest) no_close no_colon no_mark (rw follows at front)) tt in
       rw (begins, whole, is) (rw (← run.ends) at bad)
+
+module _ (s : List ℕ) (at : ℕ) (name : Span) (head : IsInBraces s at name question_mark) where
+  -- a name and a question mark in braces at the end
+  pub unended_optional_at : drop (name.end + 1) s ≡ []
+      → IsBadWhenCut at (drop at s) (MissingClosingBrace (at + 1))
+  unended_optional_at ends =
+      rw (head.spelled, ends) (bad_however (optional_at_end (span_bytes name s) head.named.valid) tt)
+
+  -- a byte after a name and a question mark in braces that is no closing brace
+  pub unclosed_optional_at : (b : ℕ) (c : CharOrByte) (expected : List ℕ)
+      → drop (name.end + 1) s ≡ b ∷ drop (name.end + 1 + 1) s → b ≢ closing_brace
+      → IsFrontCharacter (drop (name.end + 1) s) c → expected ≡ after_question_mark
+      → IsBadWhenCut at (drop at s) (UnexpectedCharacter (name.end + 1) c expected)
+  unclosed_optional_at b c expected follows no_close front is =
+      let n = span_bytes name s in
+      let position : at + 3 + length n ≡ name.end + 1 = omega (arith, head.starts, head.named.ends) in
+      let bad : IsBadWhenCut at (dollar ∷ opening_brace ∷ n ++ (question_mark ∷ b ∷ drop (name.end + 1 + 1) s)) (UnexpectedCharacter (at + 3 + length n) c after_question_mark) =
+      bad_however (optional_alone n (drop (name.end + 1 + 1) s) head.named.valid no_close (rw follows at front)) tt in
+      rw (head.spelled, follows, is) (rw position at bad)

@@ -1,12 +1,12 @@
 -- The items of a source, each as a tree of one item.
 use Rattle.std.proofs.Common.{◌≡◌, ℕ, ◌+◌, List, [], ◌∷◌, ◌++◌, length, drop, refl, ◌∙◌, append_assoc, append-nil, length-append, arith}
-use Rattle.subst_core.specs.Language.Bytes.{colon, closing_brace}
-use Rattle.subst_core.specs.Language.Tree.{Item, Escaped, Short, Braced, Default, Tree, Empty, Then, item_text, text}
+use Rattle.subst_core.specs.Language.Bytes.{colon, question_mark, closing_brace}
+use Rattle.subst_core.specs.Language.Tree.{Item, Escaped, Short, Braced, Optional, Default, Tree, Empty, Then, item_text, text}
 use Rattle.subst_core.specs.Language.WellFormed.{IsItem, IsWellFormed}
 use Rattle.subst_core.specs.Language.Followed.{IsFollowed}
 use Rattle.subst_core.specs.Language.Balanced.{IsBalanced}
 use Rattle.subst_core.specs.Raw.Span.{span_bytes}
-use Rattle.subst_core.specs.Raw.Placeholder.{IsEscape, IsShort, IsInBraces}
+use Rattle.subst_core.specs.Raw.Placeholder.{IsEscape, IsShort, IsInBraces, IsOptional}
 use Rattle.subst_core.specs.declared.template.raw.Span.{Span}
 use Rattle.subst_core.specs.Raw.Parsing.{IsTreeAt}
 
@@ -40,6 +40,14 @@ braced_tree_at s at name is =
     one_tree_at s at (name.end + 1) (Braced (span_bytes name s)) is.named.valid tt
     (is.spelled ∙ rw append_assoc refl)
     (omega (arith, is.starts, is.named.ends, length-append (span_bytes name s) (closing_brace ∷ [])))
+
+-- a name in braces with a question mark
+pub optional_tree_at : (s : List ℕ) (at : ℕ) (name : Span) → IsOptional s at name
+    → IsTreeAt s at (name.end + 2) (Then (Optional (span_bytes name s)) Empty)
+optional_tree_at s at name is =
+    one_tree_at s at (name.end + 2) (Optional (span_bytes name s)) is.head.named.valid tt
+    (is.head.spelled ∙ rw (is.closed, append_assoc) refl)
+    (omega (arith, is.head.starts, is.head.named.ends, length-append (span_bytes name s) (question_mark ∷ closing_brace ∷ [])))
 
 -- a name with a default that closes
 pub default_tree_at : (s : List ℕ) (at to : ℕ) (name : Span) (t : Tree) → IsInBraces s at name colon

@@ -1,12 +1,12 @@
 -- The bad items whose kind a test decides, so that an example of one is short.
-use Rattle.std.proofs.Common.{ℕ, ◌+◌, not, ◌&&◌, ◌==◌, IsTrue, List, ◌∷◌, ◌++◌, length, Some}
+use Rattle.std.proofs.Common.{ℕ, ◌+◌, not, ◌&&◌, ◌==◌, IsTrue, List, [], ◌∷◌, ◌++◌, length, Some}
 use Rattle.std.proofs.lemmas.Bool.{and_parts, not-true}
-use Rattle.subst_core.specs.Language.Bytes.{dollar, colon, backslash, opening_brace, closing_brace, is_special}
+use Rattle.subst_core.specs.Language.Bytes.{dollar, colon, question_mark, backslash, opening_brace, closing_brace, is_special}
 use Rattle.subst_core.specs.Language.Name.{is_name_byte}
 use Rattle.subst_error.specs.Fault.{Fault, InvalidEscapeSequence, MissingVariableName, UnexpectedCharacter, MissingClosingBrace}
 use Rattle.subst_core.specs.Language.Character.{IsFrontCharacter}
-use Rattle.subst_core.specs.Language.BadItem.{brace_or_colon, IsBad, HasFault}
-use Rattle.subst_core.specs.Language.BadItem.IsBad.{escape, dollar_alone, brace_alone, name_at_end, name_alone, unclosed, inside}
+use Rattle.subst_core.specs.Language.BadItem.{after_name, after_question_mark, IsBad, HasFault}
+use Rattle.subst_core.specs.Language.BadItem.IsBad.{escape, dollar_alone, brace_alone, name_at_end, name_alone, optional_at_end, optional_alone, unclosed, inside}
 use Rattle.subst_error.specs.declared.CharOrByte.{CharOrByte}
 use Rattle.subst_core.proofs.WorkedExamples.Braces.{is_balanced, balanced_from_test, closes, never_closes}
 use Rattle.subst_core.proofs.WorkedExamples.Forms.{is_name, name_from_test, not_from_test, other_byte}
@@ -29,15 +29,28 @@ brace_before b x h = brace_alone (not_from_test (is_name_byte b) h)
 pub name_ends : {p : ℕ} (n : List ℕ) → IsTrue (is_name n) → IsBad p (dollar ∷ opening_brace ∷ n) (MissingClosingBrace (p + 1))
 name_ends n h = name_at_end n (name_from_test n h)
 
--- `${name` before a byte that is of no name, no closing brace and no colon
+-- `${name` before a byte that is of no name, no closing brace, no colon and no question mark
 pub name_before : {p : ℕ} (n : List ℕ) (b : ℕ) (x : List ℕ) (c : CharOrByte) → IsFrontCharacter (b ∷ x) c
-    → IsTrue (is_name n && (not (is_name_byte b) && (not (b == closing_brace) && not (b == colon))))
-    → IsBad p (dollar ∷ opening_brace ∷ n ++ b ∷ x) (UnexpectedCharacter (p + 2 + length n) c brace_or_colon)
+    → IsTrue (is_name n && (not (is_name_byte b) && (not (b == closing_brace) && (not (b == colon) && not (b == question_mark)))))
+    → IsBad p (dollar ∷ opening_brace ∷ n ++ b ∷ x) (UnexpectedCharacter (p + 2 + length n) c after_name)
 name_before n b x c k h =
-    let t = and_parts (is_name n) (not (is_name_byte b) && (not (b == closing_brace) && not (b == colon))) h in
-    let u = and_parts (not (is_name_byte b)) (not (b == closing_brace) && not (b == colon)) t.1 in
-    let v = and_parts (not (b == closing_brace)) (not (b == colon)) u.1 in
-    name_alone n x (name_from_test n t.0) (not_from_test (is_name_byte b) u.0) (other_byte b closing_brace v.0) (other_byte b colon v.1) k
+    let t = and_parts (is_name n) (not (is_name_byte b) && (not (b == closing_brace) && (not (b == colon) && not (b == question_mark)))) h in
+    let u = and_parts (not (is_name_byte b)) (not (b == closing_brace) && (not (b == colon) && not (b == question_mark))) t.1 in
+    let v = and_parts (not (b == closing_brace)) (not (b == colon) && not (b == question_mark)) u.1 in
+    let w = and_parts (not (b == colon)) (not (b == question_mark)) v.1 in
+    name_alone n x (name_from_test n t.0) (not_from_test (is_name_byte b) u.0) (other_byte b closing_brace v.0) (other_byte b colon w.0) (other_byte b question_mark w.1) k
+
+-- `${name?` at the end
+pub optional_ends : {p : ℕ} (n : List ℕ) → IsTrue (is_name n) → IsBad p (dollar ∷ opening_brace ∷ n ++ question_mark ∷ []) (MissingClosingBrace (p + 1))
+optional_ends n h = optional_at_end n (name_from_test n h)
+
+-- `${name?` before a byte that is no closing brace
+pub optional_before : {p : ℕ} (n : List ℕ) (b : ℕ) (x : List ℕ) (c : CharOrByte) → IsFrontCharacter (b ∷ x) c
+    → IsTrue (is_name n && not (b == closing_brace))
+    → IsBad p (dollar ∷ opening_brace ∷ n ++ (question_mark ∷ b ∷ x)) (UnexpectedCharacter (p + 3 + length n) c after_question_mark)
+optional_before n b x c k h =
+    let t = and_parts (is_name n) (not (b == closing_brace)) h in
+    optional_alone n x (name_from_test n t.0) (other_byte b closing_brace t.1) k
 
 -- `${name:` whose default is never closed
 pub never_closed : {p : ℕ} (n w : List ℕ) → IsTrue (is_name n && not (closes w)) → IsBad p (dollar ∷ opening_brace ∷ n ++ colon ∷ w) (MissingClosingBrace (p + 1))

@@ -4,7 +4,7 @@ use Rattle.std.proofs.lemmas.Bool.{and_parts, eqb-false, not-true}
 use Rattle.std.specs.List.{AllByRecursion}
 use Rattle.subst_core.specs.Language.Bytes.{dollar, backslash, is_special}
 use Rattle.subst_core.specs.Language.Name.{is_name_byte, IsNameByte, IsName}
-use Rattle.subst_core.specs.Language.Tree.{Item, Plain, Escaped, Short, Braced, Default, Tree, Empty, Then, text}
+use Rattle.subst_core.specs.Language.Tree.{Item, Plain, Escaped, Short, Braced, Optional, Default, Tree, Empty, Then, text}
 use Rattle.subst_core.specs.Language.WellFormed.{EndsName, IsItem, IsWellFormed}
 use Rattle.subst_core.specs.Language.LookUp.{LookUp}
 use Rattle.subst_core.specs.Language.Value.{value, Bytes, Missing}
@@ -35,6 +35,7 @@ abbrev mutual
   is_item (Escaped b) next = is_special b
   is_item (Short n) next = is_name n && ends_name next
   is_item (Braced n) next = is_name n
+  is_item (Optional n) next = is_name n
   is_item (Default n t) next = is_name n && (is_well_formed t && is_balanced (text t))
 
   -- a test for a well-formed tree
@@ -72,6 +73,7 @@ ends_name_from_test (Then (Plain b) rest) h = not_from_test (is_name_byte b) h
 ends_name_from_test (Then (Escaped b) rest) h = tt
 ends_name_from_test (Then (Short n) rest) h = tt
 ends_name_from_test (Then (Braced n) rest) h = tt
+ends_name_from_test (Then (Optional n) rest) h = tt
 ends_name_from_test (Then (Default n t) rest) h = tt
 
 mutual
@@ -85,6 +87,7 @@ mutual
       let p = and_parts (is_name n) (ends_name rest) h in
       (name_from_test n p.0, ends_name_from_test rest p.1)
   item_from_test (Braced n) rest h = name_from_test n h
+  item_from_test (Optional n) rest h = name_from_test n h
   item_from_test (Default n t) rest h =
       let p = and_parts (is_name n) (is_well_formed t && is_balanced (text t)) h in
       let q = and_parts (is_well_formed t) (is_balanced (text t)) p.1 in

@@ -4,7 +4,7 @@ use Rattle.subst_core.specs.Language.Tree.{Short, Default, Then, text}
 use Rattle.subst_core.specs.Language.WellFormed.{IsWellFormed}
 use Rattle.subst_core.specs.Language.LookUp.{LookUp}
 use Rattle.subst_error.specs.Fault.{InvalidEscapeSequence, MissingVariableName, MissingClosingBrace, UnexpectedCharacter, NoSuchVariable}
-use Rattle.subst_core.specs.Language.BadItem.{brace_or_colon}
+use Rattle.subst_core.specs.Language.BadItem.{after_name}
 use Rattle.subst_core.specs.Language.Answer.{Answers, Gives, Refuses}
 use Rattle.subst_error.specs.declared.CharOrByte.TheVariants.{Char, Byte}
 use Rattle.subst_core.proofs.WorkedExamples.{brace_after_default, longest_name, value_verbatim, unused_default}
@@ -69,7 +69,7 @@ pub escape_not_before_unclosed : (look : LookUp) → ¬ (Answers (codes "${a:\\x
 escape_not_before_unclosed look = not_refused (Refuses (MissingClosingBrace 1)) _ _ _ (unclosed_before_escape look) (λ e. cc)
 
 -- and a placeholder
-pub placeholder_not_before_unclosed : (look : LookUp) → ¬ (Answers (codes "${a:${b)}") look (Refuses (UnexpectedCharacter 7 (Char 41) brace_or_colon)))
+pub placeholder_not_before_unclosed : (look : LookUp) → ¬ (Answers (codes "${a:${b)}") look (Refuses (UnexpectedCharacter 7 (Char 41) after_name)))
 placeholder_not_before_unclosed look = not_refused (Refuses (MissingClosingBrace 1)) _ _ _ (unclosed_before_placeholder look) (λ e. cc)
 
 -- nor is an inner placeholder that never closes

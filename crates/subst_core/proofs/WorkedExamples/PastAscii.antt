@@ -6,7 +6,7 @@ use Rattle.subst_core.specs.Language.Bytes.{backslash, is_special}
 use Rattle.subst_core.specs.Language.Tree.{Empty}
 use Rattle.subst_core.specs.Language.LookUp.{LookUp}
 use Rattle.subst_error.specs.Fault.{InvalidEscapeSequence, UnexpectedCharacter}
-use Rattle.subst_core.specs.Language.BadItem.{brace_or_colon}
+use Rattle.subst_core.specs.Language.BadItem.{after_name}
 use Rattle.subst_core.specs.Language.Character.{IsFrontCharacter}
 use Rattle.subst_core.specs.Language.Answer.{Answers, Refuses}
 use Rattle.subst_error.specs.declared.CharOrByte.{CharOrByte}
@@ -99,16 +99,16 @@ unfolding encode_utf8 chars
 escaped_too_great look = escaped look 0xF4 (0x90 ∷ 0x80 ∷ 0x80 ∷ []) (Byte 0xF4) refl (byte_in_front 0xF4 (0x90 ∷ 0x80 ∷ 0x80 ∷ []) refl)
 
 -- a character after a name: U+00E9
-pub character_after_name : (look : LookUp) → Answers (codes "${a" ++ 0xC3 ∷ 0xA9 ∷ codes "}") look (Refuses (UnexpectedCharacter 3 (Char 0xE9) brace_or_colon))
+pub character_after_name : (look : LookUp) → Answers (codes "${a" ++ 0xC3 ∷ 0xA9 ∷ codes "}") look (Refuses (UnexpectedCharacter 3 (Char 0xE9) after_name))
 unfolding encode_utf8
 character_after_name look = refused _ (codes "${a" ++ 0xC3 ∷ 0xA9 ∷ codes "}") _ look Empty refl refl (name_before (codes "a") 0xC3 (0xA9 ∷ codes "}") (Char 0xE9) (char_in_front 0xE9 _ (codes "}") refl refl) refl)
 
 -- the byte FF after a name
-pub byte_after_name : (look : LookUp) → Answers (codes "${a" ++ 0xFF ∷ []) look (Refuses (UnexpectedCharacter 3 (Byte 0xFF) brace_or_colon))
+pub byte_after_name : (look : LookUp) → Answers (codes "${a" ++ 0xFF ∷ []) look (Refuses (UnexpectedCharacter 3 (Byte 0xFF) after_name))
 unfolding encode_utf8 chars
 byte_after_name look = refused _ (codes "${a" ++ 0xFF ∷ []) _ look Empty refl refl (name_before (codes "a") 0xFF [] (Byte 0xFF) (byte_in_front 0xFF [] refl) refl)
 
 -- the first two bytes of a character that is cut, before the placeholder and after it
-pub cut_character_after_name : (look : LookUp) → Answers (0xE2 ∷ 0x98 ∷ codes "Hello ${name" ++ 0xE2 ∷ 0x98 ∷ []) look (Refuses (UnexpectedCharacter 14 (Byte 0xE2) brace_or_colon))
+pub cut_character_after_name : (look : LookUp) → Answers (0xE2 ∷ 0x98 ∷ codes "Hello ${name" ++ 0xE2 ∷ 0x98 ∷ []) look (Refuses (UnexpectedCharacter 14 (Byte 0xE2) after_name))
 unfolding encode_utf8 chars
 cut_character_after_name look = refused _ (codes "${name" ++ 0xE2 ∷ 0x98 ∷ []) _ look (only_plain (0xE2 ∷ 0x98 ∷ codes "Hello ")) refl refl (name_before (codes "name") 0xE2 (0x98 ∷ []) (Byte 0xE2) (byte_in_front 0xE2 (0x98 ∷ []) refl) refl)

@@ -4,7 +4,7 @@ use Rattle.std.proofs.Common.{[], ◌∷◌, ◌++◌, codes, Some, None, refl}
 use Rattle.subst_core.specs.Language.Tree.{Escaped, Short, Braced, Empty}
 use Rattle.subst_core.specs.Language.LookUp.{LookUp}
 use Rattle.subst_error.specs.Fault.{InvalidEscapeSequence, MissingVariableName, UnexpectedCharacter, MissingClosingBrace}
-use Rattle.subst_core.specs.Language.BadItem.{brace_or_colon}
+use Rattle.subst_core.specs.Language.BadItem.{after_name}
 use Rattle.subst_core.specs.Language.BadItem.IsBad.{escape_at_end, dollar_at_end, brace_at_end}
 use Rattle.subst_core.specs.Language.Answer.{Answers, Refuses}
 use Rattle.subst_error.specs.declared.CharOrByte.TheVariants.{Char}
@@ -51,11 +51,11 @@ pub unclosed_name : (look : LookUp) → Answers (codes "${a") look (Refuses (Mis
 unclosed_name look = refused _ (codes "${a") _ look Empty refl refl (name_ends (codes "a") refl)
 
 -- a name in braces before another byte, with what was expected in words
-pub other_byte_after_name : (look : LookUp) → Answers (codes "${a)") look (Refuses (UnexpectedCharacter 3 (Char 41) (codes "a closing brace ('}') or colon (':')")))
+pub other_byte_after_name : (look : LookUp) → Answers (codes "${a)") look (Refuses (UnexpectedCharacter 3 (Char 41) (codes "a closing brace ('}'), colon (':') or question mark ('?')")))
 other_byte_after_name look = refused _ (codes "${a)") _ look Empty refl refl (name_before (codes "a") 41 [] (Char 41) (ascii_in_front 41 [] refl) refl)
 
 -- a dash is no name byte
-pub dash_after_name : (look : LookUp) → Answers (codes "${a-b}") look (Refuses (UnexpectedCharacter 3 (Char 45) brace_or_colon))
+pub dash_after_name : (look : LookUp) → Answers (codes "${a-b}") look (Refuses (UnexpectedCharacter 3 (Char 45) after_name))
 dash_after_name look = refused _ (codes "${a-b}") _ look Empty refl refl (name_before (codes "a") 45 (codes "b}") (Char 45) (ascii_in_front 45 (codes "b}") refl) refl)
 
 -- a default that never closes
@@ -86,7 +86,7 @@ dollar_in_default look = refused _ (codes "${a:$}") _ look Empty refl refl
     (in_default (codes "a") (codes "$") [] _ (fault_after_tree 4 _ (codes "$") _ Empty refl refl dollar_at_end) refl)
 
 -- a placeholder in a closed default
-pub placeholder_in_default : (look : LookUp) → Answers (codes "${a:${b)}}") look (Refuses (UnexpectedCharacter 7 (Char 41) brace_or_colon))
+pub placeholder_in_default : (look : LookUp) → Answers (codes "${a:${b)}}") look (Refuses (UnexpectedCharacter 7 (Char 41) after_name))
 placeholder_in_default look = refused _ (codes "${a:${b)}}") _ look Empty refl refl
     (in_default (codes "a") (codes "${b)}") [] _
     (fault_after_tree 4 _ (codes "${b)}") _ Empty refl refl (name_before (codes "b") 41 (codes "}") (Char 41) (ascii_in_front 41 (codes "}") refl) refl)) refl)

@@ -82,13 +82,14 @@ pub record IsReading (parser : Parser) : Type 0 where
   pub nested : StackHolds true parser.tape.source.now (reverse parser.defaults.items) parser.depth
       parser.parts.items parser.literal_start parser.at
 
--- the part means a tree that is at this range of the source, and that leaves all braces as they are
-pub record IsPart (s : List ℕ) (from to : ℕ) (part : Part) : Type 0 where
+-- the part, which has index i, means a tree that is at this range of the source, and that leaves all braces
+-- as they are
+pub record IsPart (s : List ℕ) (from to i : ℕ) (part : Part) : Type 0 where
   pub tree : Tree
   pub at : IsTreeAt s from to tree
   pub balanced : IsBalanced (text tree)
   pub ends : HasNoPlainEnds tree
-  pub mean : (i : ℕ) → PartsMean s i (part ∷ []) from tree
+  pub mean : PartsMean s i (part ∷ []) from tree
 
 -- one step of the parser: it goes on, or returns the fault of the source, or memory ran out
 abbrev pub StepsOrFails : Parser → Result (Unit {0}) ParseError → Parser → Type 0

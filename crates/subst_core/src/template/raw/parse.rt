@@ -227,7 +227,7 @@ impl<'s> Parser<'s> {
     /// Adds the part of the bytes from `at` up to `end`.
     fn add_part(&mut self, part: Part, end: usize) -> Result<(), ParseError>
         requires reading { IsReading self.old }
-        requires part { IsPart self.old.tape.source.now self.old.at end part }
+        requires part { (i : ℕ) → IsPart self.old.tape.source.now self.old.at end i part }
         requires within { end ≤ length self.old.tape.source.now }
         requires forward { self.old.at < end }
         ensures answer { StepsOrFails self.old result self.new }

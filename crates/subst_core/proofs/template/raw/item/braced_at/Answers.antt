@@ -28,9 +28,16 @@ returns-in-Some-eq58-clause-ok c =
     in_braces_at c.args.tape.now.source.now c.args.at c.name_end-end.result c.requires found.run c.in-Some-eq58.field-0 58 c.if-start-end.false found.within
     (rw found.same at c.in-Some-eq58.ensures.byte) c.in-Some-eq58.field-0-test
 
+pub optional_at-requires : goal.optional_at-requires
+optional_at-requires c =
+    let found = c.name_end-end.ensures in
+    rw (c.in-Some-eq63.ensures.same, found.same)
+    (in_braces_at c.args.tape.now.source.now c.args.at c.name_end-end.result c.requires found.run c.in-Some-eq63.field-0 63 c.if-start-end.false found.within
+    (rw found.same at c.in-Some-eq63.ensures.byte) c.in-Some-eq63.field-0-test)
+
 pub returns-in-Some-clause-err : goal.returns-in-Some-clause-err
 returns-in-Some-clause-err c =
     let found = c.name_end-end.ensures in
     rw c.into-in-Some.ensures (unexpected_byte_at c.args.tape.now.source.now c.args.at c.name_end-end.result c.requires found.run c.in-Some.field-0 c.character_at.result _
-    c.if-start-end.false found.end (rw found.same at c.in-Some.ensures.byte) c.in-Some.field-0-test.0.1 c.in-Some.field-0-test.1 (rw (c.in-Some.ensures.same, found.same) at c.character_at.ensures.answer)
+    c.if-start-end.false found.end (rw found.same at c.in-Some.ensures.byte) c.in-Some.field-0-test.0.0.1 c.in-Some.field-0-test.0.1 c.in-Some.field-0-test.1 (rw (c.in-Some.ensures.same, found.same) at c.character_at.ensures.answer)
     (c.new.ensures.whole (omega arith)))

@@ -9,7 +9,8 @@ overflow_add-self c =
     omega arith
 
 pub add_part-requires-clause-part : goal.add_part-requires-clause-part
-add_part-requires-clause-part c = rw c.escape_at.ensures.same (escape_part c.args.self.now.tape.source.now c.args.self.now.at c.in-Ok.byte c.in-Ok.ensures.ok)
+add_part-requires-clause-part c =
+    λ i. rw c.escape_at.ensures.same (escape_part c.args.self.now.tape.source.now c.args.self.now.at c.in-Ok.byte i c.in-Ok.ensures.ok)
 
 pub add_part-requires-clause-within : goal.add_part-requires-clause-within
 add_part-requires-clause-within c =

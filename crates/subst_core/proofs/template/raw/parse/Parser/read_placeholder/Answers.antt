@@ -7,7 +7,7 @@ use Rattle.subst_core.proofs.template.raw.parse.Parser.read_placeholder.Goals as
 pub add_part-requires-clause-part : goal.add_part-requires-clause-part
 add_part-requires-clause-part c =
     let is = rw c.in-Ok-Short.field-0-is at c.in-Ok-Short.ensures.ok in
-    rw c.placeholder_at.ensures.same (short_part c.args.self.now.tape.source.now c.args.self.now.at c.in-Ok-Short.name is)
+    λ i. rw c.placeholder_at.ensures.same (short_part c.args.self.now.tape.source.now c.args.self.now.at c.in-Ok-Short.name i is)
 
 pub overflow_add-name : goal.overflow_add-name
 overflow_add-name c =
@@ -19,7 +19,7 @@ overflow_add-name c =
 pub add_part-requires-in-Ok-Braced-clause-part : goal.add_part-requires-in-Ok-Braced-clause-part
 add_part-requires-in-Ok-Braced-clause-part c =
     let is = rw c.in-Ok-Braced.field-0-is at c.in-Ok-Braced.ensures.ok in
-    rw c.placeholder_at.ensures.same (braced_part c.args.self.now.tape.source.now c.args.self.now.at c.in-Ok-Braced.name is)
+    λ i. rw c.placeholder_at.ensures.same (braced_part c.args.self.now.tape.source.now c.args.self.now.at c.in-Ok-Braced.name i is)
 
 pub add_part-requires-in-Ok-Braced-clause-within : goal.add_part-requires-in-Ok-Braced-clause-within
 add_part-requires-in-Ok-Braced-clause-within c =
