@@ -142,13 +142,13 @@ fn optional_at(tape: &mut Tape<'_>, at: usize, name: Span) -> Result<Placeholder
     ensures cost { MatchResult result (λ p. GrowsBetween 1 1 tape.old.reads tape.new.reads)
         (λ e. GrowsBetween 1 5 tape.old.reads tape.new.reads) }
 {
-    let end = name.end + 1;
-    match tape.byte_at(end) {
+    let closing = name.end + 1;
+    match tape.byte_at(closing) {
         None => Err(MissingClosingBrace { position: at + 1 }.into()),
         Some(b'}') => Ok(Placeholder::Optional(name)),
         Some(_) => Err(UnexpectedCharacter {
-            position: end,
-            character: tape.character_at(end),
+            position: closing,
+            character: tape.character_at(closing),
             expected: ExpectedCharacter::new("a closing brace ('}')"),
         }
         .into()),
