@@ -87,17 +87,19 @@ optional_inside : (s : List ℕ) (at : ℕ) (name : Span) → IsOptional s at na
 optional_inside s at name is = omega (arith, simp length-drop at (ap length is.closed))
 
 -- the part of an optional variable is added, whose jump is to the next part
-pub reading_optional : (old mid : Parser) (parts : Vec Part Global) (name : Span) → IsReading old
-    → IsFlushed old mid
-    → parts.items ≡ mid.parts.items ++ Default name (mid.parts.len + 1) ∷ []
-    → IsOptional old.tape.source.now old.at name
-    → IsReading (record mid { parts = parts; literal_start = name.end + 2; at = name.end + 2 })
-    × (mid.tape.source ≡ old.tape.source) × (old.at < name.end + 2)
-reading_optional old mid parts name reading given pushed is =
+pub reading_optional : (old mid : Parser) (parts : Vec Part Global) (name : Span) (next end : ℕ)
+    → IsReading old → IsFlushed old mid → IsOptional old.tape.source.now old.at name
+    → parts.items ≡ mid.parts.items ++ Default name next ∷ []
+    → next ≡ mid.parts.len + 1 → end ≡ name.end + 2
+    → IsReading (record mid { parts = parts; literal_start = end; at = end })
+    × (mid.tape.source ≡ old.tape.source) × (old.at < end)
+reading_optional old mid parts name next end reading given is pushed jumps ends =
     let s = old.tape.source.now in
     let i = length mid.parts.items in
-    reading_added old mid parts (Default name (i + 1)) (name.end + 2) reading given (rw mid.parts.ok.0 at pushed)
-    (optional_part s old.at name i is) (optional_inside s old.at name is) (omega (arith, is.head.starts, is.head.named.ends))
+    let after : next ≡ i + 1 = omega (arith, jumps, mid.parts.ok.0) in
+    reading_added old mid parts (Default name next) end reading given pushed
+    (rw (after, ends) (optional_part s old.at name i is)) (rw ends (optional_inside s old.at name is))
+    (omega (arith, ends, is.head.starts, is.head.named.ends))
 
 -- the front of a placeholder with a default lies in the source
 pub head_inside : (s : List ℕ) (at : ℕ) (name : Span) (b : ℕ) → IsInBraces s at name b → at ≤ length s

@@ -135,19 +135,19 @@ module _ (s : List ℕ) (at end : ℕ) (begins : drop at s ≡ dollar ∷ openin
 
 module _ (s : List ℕ) (at : ℕ) (name : Span) (head : IsInBraces s at name question_mark) where
   -- a name and a question mark in braces at the end
-  pub unended_optional_at : drop (name.end + 1) s ≡ []
-      → IsBadWhenCut at (drop at s) (MissingClosingBrace (at + 1))
-  unended_optional_at ends =
-      rw (head.spelled, ends) (bad_however (optional_at_end (span_bytes name s) head.named.valid) tt)
+  pub unended_optional_at : (position : ℕ) → drop (name.end + 1) s ≡ [] → position ≡ at + 1
+      → IsBadWhenCut at (drop at s) (MissingClosingBrace position)
+  unended_optional_at position ends is =
+      rw (head.spelled, ends, is) (bad_however (optional_at_end (span_bytes name s) head.named.valid) tt)
 
   -- a byte after a name and a question mark in braces that is no closing brace
-  pub unclosed_optional_at : (b : ℕ) (c : CharOrByte) (expected : List ℕ)
+  pub unclosed_optional_at : (position b : ℕ) (c : CharOrByte) (expected : List ℕ)
       → drop (name.end + 1) s ≡ b ∷ drop (name.end + 1 + 1) s → b ≢ closing_brace
-      → IsFrontCharacter (drop (name.end + 1) s) c → expected ≡ after_question_mark
-      → IsBadWhenCut at (drop at s) (UnexpectedCharacter (name.end + 1) c expected)
-  unclosed_optional_at b c expected follows no_close front is =
+      → IsFrontCharacter (drop (name.end + 1) s) c → position ≡ name.end + 1 → expected ≡ after_question_mark
+      → IsBadWhenCut at (drop at s) (UnexpectedCharacter position c expected)
+  unclosed_optional_at position b c expected follows no_close front here is =
       let n = span_bytes name s in
-      let position : at + 3 + length n ≡ name.end + 1 = omega (arith, head.starts, head.named.ends) in
+      let there : at + 3 + length n ≡ position = omega (arith, here, head.starts, head.named.ends) in
       let bad : IsBadWhenCut at (dollar ∷ opening_brace ∷ n ++ (question_mark ∷ b ∷ drop (name.end + 1 + 1) s)) (UnexpectedCharacter (at + 3 + length n) c after_question_mark) =
       bad_however (optional_alone n (drop (name.end + 1 + 1) s) head.named.valid no_close (rw follows at front)) tt in
-      rw (head.spelled, follows, is) (rw position at bad)
+      rw (head.spelled, follows, is) (rw there at bad)
