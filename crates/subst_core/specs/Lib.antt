@@ -1,3 +1,4 @@
 pub mod Calls
+pub mod Earlier
 pub mod Language
 pub mod Raw

@@ -1,0 +1,9 @@
+-- The earlier language, which has no `${name?}`, and what the present one keeps of it. Each definition that
+-- changed is here as it was, under its name; all others are shared.
+pub mod Answer
+pub mod BadItem
+pub mod Extension
+pub mod Sentence
+pub mod Tree
+pub mod Value
+pub mod WellFormed
