@@ -1,5 +1,6 @@
 pub mod Errors
 pub use Rattle.subst_core.specs.Calls
+pub use Rattle.subst_core.specs.Earlier
 pub use Rattle.subst_core.specs.Language
 pub use Rattle.subst_error.specs.Display
 pub use Rattle.subst_error.specs.ErrorFault

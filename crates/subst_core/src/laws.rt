@@ -2,6 +2,7 @@
 
 ghost use Rattle.std.specs.Prelude.{◌≤◌, ℕ, List, length};
 ghost use Rattle.subst_core.specs.Language.Laws.{OneTreeOrOneFault};
+ghost use Rattle.subst_core.specs.Earlier.Extension.{KeepsReading};
 ghost use Rattle.subst_core.specs.Calls.VariableMap.{ReadsAs};
 ghost use Rattle.subst_core.specs.Language.Tree.{Tree, text};
 ghost use Rattle.subst_core.specs.Language.LookUp.{LookUp};
@@ -16,6 +17,14 @@ use std::convert::AsSlice;
 /// fault at each position that it may be at.
 pub fn law_1()
     ensures { (s : List ℕ) → OneTreeOrOneFault s }
+{}
+
+/// The law of extension. Each sentence of the earlier language, which had no `${name?}`, is a sentence, with
+/// the same tree, item for item, and the same value at each position under each look-up. A byte string
+/// without a question mark is a sentence of both languages or of neither; and if of neither, its faults in
+/// the two are equal but for the message of what was expected.
+pub fn law_9()
+    ensures { (s : List ℕ) → KeepsReading s }
 {}
 
 /// The law of turns. An expansion visits at most as many parts as the source has, and a source has at most
