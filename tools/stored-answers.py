@@ -1,25 +1,39 @@
 #!/usr/bin/env python3
-"""stored-answers.py [--check] ANSWERS.tsv   Makes the stored run of subst_answers from a file of answers.
+"""stored-answers.py [--check]   Makes the stored run of subst_answers from the files of answers in tests/data.
 
-Writes crates/subst_answers/stdin, each record of the file as a record of the kind `bytes`, and
-crates/subst_answers/stdout, the answer that the file has for it, up to the text of the error. With --check it writes
-nothing, and fails where one of the two isn't what it would write. The paths are relative to the parent of this
-script's folder.
+Writes crates/subst_answers/stdin, each record of the files as a record of the kind `bytes`, and
+crates/subst_answers/stdout, the answer that the files have for it, up to the text of the error. With --check it writes
+nothing, and fails where one of the two isn't what it would write.
 """
 import itertools
 import pathlib
+import re
 import sys
 
 TOP = pathlib.Path(__file__).resolve().parent.parent
+DATA = TOP / 'tests' / 'data'
 CRATE = pathlib.Path('crates', 'subst_answers')
 KIND = 'bytes'
 # The columns of an answer that are kept: `ok OUTPUT`, or `fault CASE POSITION DETAIL EXPECTED DISPLAY`.
 KEPT = {'ok': 2, 'fault': 6}
+# What may come after a name in braces, as the Rust crate says it, and as it is with `${name?}`.
+AFTER_NAME = "a closing brace ('}') or colon (':')".encode().hex()
+AFTER_NAME_NOW = "a closing brace ('}'), colon (':') or question mark ('?')".encode().hex()
+# What the Rust crate takes for a fault, and we don't.
+OPTIONAL = re.compile(rb'\$\{[0-9A-Za-z_]+\?')
+
+
+def with_optional_variables(rows):
+    """Answers of the Rust crate, as they are in the language that has `${name?}`: sources that hold this form are left
+    out, and of the others only the message differs that says what may come after a name in braces."""
+    for source, pairs, answer in rows:
+        if not OPTIONAL.search(bytes.fromhex(source.strip('-'))):
+            yield source, pairs, [column.replace(AFTER_NAME, AFTER_NAME_NOW) for column in answer]
 
 
 def records(name):
-    """The source, the pairs and the columns of the answer of each record of the file."""
-    with open(name, encoding='ascii', newline='\n') as lines:
+    """The source, the pairs and the columns of the answer of each record of a file."""
+    with open(DATA / name, encoding='ascii', newline='\n') as lines:
         for line in lines:
             if not line.startswith('#'):
                 source, pairs, *answer = line.rstrip('\n').split('\t')
@@ -41,7 +55,7 @@ def difference(stored, made):
     return next(number for number, (a, b) in enumerate(pairs, 1) if a != b)
 
 
-def check(name, run):
+def check(run):
     """Compares the stored files with the run, and counts those that are the same."""
     passed = 0
     for file, text in run.items():
@@ -50,24 +64,25 @@ def check(name, run):
         if line is None:
             passed += 1
         else:
-            print(f'{CRATE / file} is not what {name} makes: line {line} differs. '
-                  f'To make it anew: python3 tools/stored-answers.py {name}')
+            print(f'{CRATE / file} is not what the files in tests/data make: line {line} differs. '
+                  'To make it anew: python3 tools/stored-answers.py')
     failed = len(run) - passed
     print(f'{passed} passed, {failed} failed')
     return failed == 0
 
 
 def main():
-    arguments = sys.argv[1:]
-    checking = arguments[:1] == ['--check']
-    if len(arguments) != (2 if checking else 1):
+    if sys.argv[1:] not in ([], ['--check']):
         sys.exit(__doc__)
-    name = arguments[-1]
-    rows = list(records(name))
-    run = stored_run(rows)
-    print(f'{len(rows)} records')
-    if checking:
-        sys.exit(0 if check(name, run) else 1)
+    rust = list(records('answers.tsv'))
+    kept = list(with_optional_variables(rust))
+    optional = list(records('answers-optional.tsv'))
+    left_out, changed = len(rust) - len(kept), len(kept) - sum(row in rust for row in kept)
+    print(f'{len(rust)} records of the Rust crate ({left_out} left out, {changed} with another message), '
+          f'{len(optional)} with optional variables')
+    run = stored_run(kept + optional)
+    if sys.argv[1:]:
+        sys.exit(0 if check(run) else 1)
     for file, text in run.items():
         (TOP / CRATE / file).write_text(text, encoding='ascii')
 
