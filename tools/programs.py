@@ -249,7 +249,7 @@ def test_filter_prints_faults():
         (b'a $name', b'No such variable: $name'),
         (b'${a:\\x}', b'Invalid escape sequence: \\x'),
         (b'${a:\\x', b'Missing closing brace'),
-        (b'${a)', b"Unexpected character: ')', expected a closing brace ('}') or colon (':')"),
+        (b'${a)', b"Unexpected character: ')', expected a closing brace ('}'), colon (':') or question mark ('?')"),
     ]
     for source, fault in rows:
         expect(fill_in(['b=1'], b'text $b ' + source), 1, errors=b'subst: ' + fault + b'\n')

@@ -75,7 +75,7 @@ fn escaped_characters_are_shown(rt: HostRuntime) -> Result<(), Fail> {
 fn expect_quoted(rt: &impl Abort, alloc: Global, source: &[u8], quoted: &str) -> Result<(), Fail> {
     let text = fault_text(alloc, source)?;
     let want = format!(in alloc;
-        "Unexpected character: {quoted}, expected a closing brace ('}}') or colon (':')"
+        "Unexpected character: {quoted}, expected a closing brace ('}}'), colon (':') or question mark ('?')"
     )?;
     assert_eq!(rt; text.as_str(), want.as_str(), "{source:?}");
     Ok(())

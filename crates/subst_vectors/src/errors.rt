@@ -10,7 +10,7 @@ use subst::error::{
     MissingVariableName, NoSuchVariable, ParseError, UnexpectedCharacter,
 };
 
-const BRACE_OR_COLON: &str = "a closing brace ('}') or colon (':')";
+const AFTER_NAME: &str = "a closing brace ('}'), colon (':') or question mark ('?')";
 
 fn escape(position: usize, character: Option<CharOrByte>) -> ParseError {
     ParseError::InvalidEscapeSequence(InvalidEscapeSequence {
@@ -126,16 +126,16 @@ fn describes_each_fault(rt: HostRuntime) -> Result<(), Fail> {
         (missing_name(6, 1), "Missing variable name"),
         (missing_name(6, 2), "Missing variable name"),
         (
-            unexpected(12, CharOrByte::Char(')'), BRACE_OR_COLON),
-            "Unexpected character: ')', expected a closing brace ('}') or colon (':')",
+            unexpected(12, CharOrByte::Char(')'), AFTER_NAME),
+            "Unexpected character: ')', expected a closing brace ('}'), colon (':') or question mark ('?')",
         ),
         (
-            unexpected(14, CharOrByte::Byte(0xE2), BRACE_OR_COLON),
-            "Unexpected character: '\\xE2', expected a closing brace ('}') or colon (':')",
+            unexpected(14, CharOrByte::Byte(0xE2), AFTER_NAME),
+            "Unexpected character: '\\xE2', expected a closing brace ('}'), colon (':') or question mark ('?')",
         ),
         (
-            unexpected(12, CharOrByte::Char('❤'), BRACE_OR_COLON),
-            "Unexpected character: '❤', expected a closing brace ('}') or colon (':')",
+            unexpected(12, CharOrByte::Char('❤'), AFTER_NAME),
+            "Unexpected character: '❤', expected a closing brace ('}'), colon (':') or question mark ('?')",
         ),
         (no_brace(7), "Missing closing brace"),
         (ParseError::OutOfMemory(AllocError), "out of memory"),
@@ -210,9 +210,9 @@ fn tells_names_apart(rt: HostRuntime) -> Result<(), Fail> {
 
 #[test]
 fn keeps_the_message(rt: HostRuntime) -> Result<(), Fail> {
-    let expected = ExpectedCharacter::new(BRACE_OR_COLON);
-    assert_eq!(rt; expected.message(), BRACE_OR_COLON);
-    assert_eq!(rt; expected, ExpectedCharacter::new(BRACE_OR_COLON));
+    let expected = ExpectedCharacter::new(AFTER_NAME);
+    assert_eq!(rt; expected.message(), AFTER_NAME);
+    assert_eq!(rt; expected, ExpectedCharacter::new(AFTER_NAME));
     let long = ExpectedCharacter::new(
         "a letter, a digit, an underscore, a brace, a colon, a dollar or a backslash",
     );

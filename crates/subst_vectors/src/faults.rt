@@ -71,7 +71,7 @@ fn faults_are_described(rt: HostRuntime) -> Result<(), Fail> {
         (b"Hello ${name}!", "No such variable: $name"),
         (
             b"Hello ${name)!",
-            "Unexpected character: ')', expected a closing brace ('}') or colon (':')",
+            "Unexpected character: ')', expected a closing brace ('}'), colon (':') or question mark ('?')",
         ),
     ];
     for &(source, want) in rows {
@@ -107,7 +107,7 @@ fn expand_error_is_described(rt: HostRuntime) -> Result<(), Fail> {
 fn expected_characters_are_named(rt: HostRuntime) -> Result<(), Fail> {
     match substitute_bytes(rt.alloc(), b"${a)", &map_of(rt.alloc(), "a=1")?) {
         Err(Error::UnexpectedCharacter(fault)) => {
-            let words = "a closing brace ('}') or colon (':')";
+            let words = "a closing brace ('}'), colon (':') or question mark ('?')";
             assert_eq!(rt; fault.expected.message(), words);
         }
         _ => assert!(rt; false, "another result"),

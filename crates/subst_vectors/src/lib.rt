@@ -21,6 +21,8 @@ mod faults;
 #[cfg(test)]
 mod names;
 #[cfg(test)]
+mod optional;
+#[cfg(test)]
 mod plain;
 #[cfg(test)]
 mod positions;
