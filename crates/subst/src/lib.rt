@@ -1,10 +1,11 @@
 //! Shell-like variables in byte strings.
 //!
-//! `$name`, `${name}` and `${name:default}` are filled in from a map of variables. A name is one or more
-//! ASCII letters, ASCII digits and underscores; without braces it is the longest such run. A default is
-//! again a template, and is used where the map has no value; it ends at the brace that closes the
-//! placeholder, so braces in it have to match. A backslash escapes each of `\ $ { } :`. At the top level
-//! bare braces and colons are literal.
+//! `$name`, `${name}`, `${name?}` and `${name:default}` are filled in from a map of variables. A name is one
+//! or more ASCII letters, ASCII digits and underscores; without braces it is the longest such run. Where the
+//! map has no value, `${name?}` gives nothing, and a default is used, which is again a template; it ends at
+//! the brace that closes the placeholder, so braces in it have to match. A backslash escapes each of
+//! `\ $ { } :`. At the top level bare braces and colons are literal, and so is a question mark anywhere but
+//! right after a name in braces.
 //!
 //! A value is inserted as it is, and never read as a template. A fault of a source is returned with its
 //! position, a byte offset in the whole source from 0, also inside defaults.
