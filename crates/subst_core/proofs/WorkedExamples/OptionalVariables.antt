@@ -43,11 +43,11 @@ optional_not_missing = not_refused (Gives (codes "ab")) _ _ _ optional_without_v
 pub braced_missing_after_optional : Answers (codes "${x?}${x}") nothing (Refuses (NoSuchVariable 7 (codes "x")))
 braced_missing_after_optional = missing _ _ _ _ (Then (Optional (codes "x")) (only (Braced (codes "x")))) refl refl refl
 
--- in a default, without a value and with one
+-- in a default that is needed it gives nothing either, so the default is empty
 pub optional_in_default : Answers (codes "${a:${b?}}") nothing (Gives [])
 optional_in_default = gives _ _ _ (only (Default (codes "a") (only (Optional (codes "b"))))) refl refl refl
 
--- with one
+-- or its value
 pub optional_in_default_with_value : Answers (codes "${a:${b?}}") (looking_up ((codes "b", codes "1") ∷ [])) (Gives (codes "1"))
 optional_in_default_with_value = gives _ _ _ (only (Default (codes "a") (only (Optional (codes "b"))))) refl refl refl
 
@@ -55,7 +55,7 @@ optional_in_default_with_value = gives _ _ _ (only (Default (codes "a") (only (O
 pub plain_question_marks : Answers (codes "$x?{?}") (looking_up ((codes "x", codes "1") ∷ [])) (Gives (codes "1?{?}"))
 plain_question_marks = gives _ _ _ (Then (Short (codes "x")) (only_plain (codes "?{?}"))) refl refl refl
 
--- so it does in a default, also first
+-- so it does in a default, also at its start
 pub question_mark_in_default : Answers (codes "${a:?}") nothing (Gives (codes "?"))
 question_mark_in_default = gives _ _ _ (only (Default (codes "a") (only_plain (codes "?")))) refl refl refl
 
@@ -63,7 +63,11 @@ question_mark_in_default = gives _ _ _ (only (Default (codes "a") (only_plain (c
 pub brace_after_optional : Answers (codes "${x?}}") (looking_up ((codes "x", codes "1") ∷ [])) (Gives (codes "1}"))
 brace_after_optional = gives _ _ _ (Then (Optional (codes "x")) (only_plain (codes "}"))) refl refl refl
 
--- it needs no escape and has none
+-- it does so where there is no value too
+pub brace_after_optional_without_value : Answers (codes "${x?}}") nothing (Gives (codes "}"))
+brace_after_optional_without_value = gives _ _ _ (Then (Optional (codes "x")) (only_plain (codes "}"))) refl refl refl
+
+-- a question mark needs no escape and has none
 pub question_mark_not_escaped : (look : LookUp) → Answers (codes "\\?") look (Refuses (InvalidEscapeSequence 0 (Some (Char 63))))
 question_mark_not_escaped look = refused _ (codes "\\?") _ look Empty refl refl (backslash_before question_mark [] (Char 63) (ascii_in_front question_mark [] refl) refl)
 
