@@ -3,7 +3,9 @@
 ghost use Rattle.std.specs.Prelude.{◌≡◌, ◌↔◌, IsTrue, IfOk};
 ghost use Rattle.subst.specs.ErrorFault.{error_fault};
 
-use std::alloc::{AllocError, AllocFailed};
+use std::alloc::{AllocError, AllocFailed, Global};
+use std::fmt::Display;
+use std::process::Abort;
 use std::test::Fail;
 use subst::error::{
     CharOrByte, Error, ExpandError, ExpectedCharacter, InvalidEscapeSequence, MissingClosingBrace,
@@ -90,12 +92,29 @@ fn quotes_characters(rt: HostRuntime) -> Result<(), Fail> {
         (CharOrByte::Byte(0x7F), "'\\u{7f}'"),
         (CharOrByte::Byte(0x81), "'\\x81'"),
         (CharOrByte::Byte(0xE2), "'\\xE2'"),
+        (CharOrByte::Char('é'), "'é'"),
         (CharOrByte::Char('❤'), "'❤'"),
+        (CharOrByte::Char('\u{85}'), "'\\u{85}'"),
+        (CharOrByte::Char('\u{301}'), "'\\u{301}'"),
         (CharOrByte::Char('\u{200b}'), "'\\u{200b}'"),
+        (CharOrByte::Char('\u{10ffff}'), "'\\u{10ffff}'"),
     ];
     for &(character, text) in rows {
         let quoted = character.quoted_printable();
         assert_eq!(rt; format!(in rt.alloc(); "{quoted}")?.as_str(), text);
+    }
+    Ok(())
+}
+
+#[test]
+fn quotes_every_character_as_debug_does(rt: HostRuntime) -> Result<(), Fail> {
+    for number in 0..0x110000 {
+        if let Some(c) = char::from_u32(number) {
+            let quoted = CharOrByte::Char(c).quoted_printable();
+            let quoted = format!(in rt.alloc(); "{quoted}")?;
+            let debug = format!(in rt.alloc(); "{c:?}")?;
+            assert_eq!(rt; quoted.as_str(), debug.as_str());
+        }
     }
     Ok(())
 }
@@ -159,6 +178,71 @@ fn describes_each_fault(rt: HostRuntime) -> Result<(), Fail> {
     assert!(rt; Error::from(AllocFailed { value: 7u8 }) == Error::from(AllocError));
     let full = ExpandError::from(AllocFailed { value: 7u8 });
     assert_eq!(rt; format!(in rt.alloc(); "{full}")?.as_str(), "out of memory");
+    Ok(())
+}
+
+// The text of a value is this, whatever options it is formatted with.
+fn expect_text<D: Display>(
+    rt: &impl Abort,
+    alloc: Global,
+    value: &D,
+    text: &str,
+) -> Result<(), Fail> {
+    assert_eq!(rt; format!(in alloc; "{value:>90}")?.as_str(), text);
+    assert_eq!(rt; format!(in alloc; "{value:<90}")?.as_str(), text);
+    assert_eq!(rt; format!(in alloc; "{value:*^90}")?.as_str(), text);
+    assert_eq!(rt; format!(in alloc; "{value:.2}")?.as_str(), text);
+    assert_eq!(rt; format!(in alloc; "{value:+#090.2}")?.as_str(), text);
+    Ok(())
+}
+
+#[test]
+fn formats_of_errors_have_no_width(rt: HostRuntime) -> Result<(), Fail> {
+    let rows: &[(ParseError, &str)] = &[
+        (
+            escape(6, Some(CharOrByte::Char('❤'))),
+            "Invalid escape sequence: \\❤",
+        ),
+        (
+            escape(12, None),
+            "Invalid escape sequence: missing escape character",
+        ),
+        (missing_name(6, 2), "Missing variable name"),
+        (
+            unexpected(12, CharOrByte::Char(')'), "a brace"),
+            "Unexpected character: ')', expected a brace",
+        ),
+        (
+            unexpected(12, CharOrByte::Char('❤'), "a brace"),
+            "Unexpected character: '❤', expected a brace",
+        ),
+        (no_brace(7), "Missing closing brace"),
+        (ParseError::OutOfMemory(AllocError), "out of memory"),
+    ];
+    for &(fault, text) in rows {
+        expect_text(&rt, rt.alloc(), &fault, text)?;
+        expect_text(&rt, rt.alloc(), &Error::from(fault), text)?;
+    }
+    let missing = no_variable(&rt, 8, "name")?;
+    expect_text(&rt, rt.alloc(), &missing, "No such variable: $name")?;
+    let error = Error::from(missing);
+    expect_text(&rt, rt.alloc(), &error, "No such variable: $name")
+}
+
+#[test]
+fn formats_of_characters_have_no_width(rt: HostRuntime) -> Result<(), Fail> {
+    let rows: &[(CharOrByte, &str, &str)] = &[
+        (CharOrByte::Char('w'), "w", "'w'"),
+        (CharOrByte::Char('\t'), "\t", "'\\t'"),
+        (CharOrByte::Char('❤'), "❤", "'❤'"),
+        (CharOrByte::Char('\u{200b}'), "\u{200b}", "'\\u{200b}'"),
+        (CharOrByte::Byte(0x79), "y", "'y'"),
+        (CharOrByte::Byte(0xE2), "0xE2", "'\\xE2'"),
+    ];
+    for &(character, shown, quoted) in rows {
+        expect_text(&rt, rt.alloc(), &character, shown)?;
+        expect_text(&rt, rt.alloc(), &character.quoted_printable(), quoted)?;
+    }
     Ok(())
 }
 
