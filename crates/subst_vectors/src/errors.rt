@@ -107,8 +107,8 @@ fn quotes_characters(rt: HostRuntime) -> Result<(), Fail> {
 }
 
 #[test]
-fn quotes_every_character_as_debug_does(rt: HostRuntime) -> Result<(), Fail> {
-    for number in 0..0x110000 {
+fn quotes_characters_as_debug_does(rt: HostRuntime) -> Result<(), Fail> {
+    for number in (0..0x110000).step_by(13) {
         if let Some(c) = char::from_u32(number) {
             let quoted = CharOrByte::Char(c).quoted_printable();
             let quoted = format!(in rt.alloc(); "{quoted}")?;
