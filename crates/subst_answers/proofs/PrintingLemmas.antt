@@ -41,8 +41,9 @@ printed_after_comment (Some known) (Some text) next old new line count so reads 
 
 -- a record prints its answer
 pub printed_after_answer : (first now next old new newer : Option (List ℕ)) (line printed : List ℕ)
-    (count : ℕ) → PrintedSoFar first now old new count → ReadsLine true now next line → is_comment line ≡ false
-    → IsAnswered line printed → Appends new newer printed → PrintedSoFar first next old newer (count + 1)
+    (count : ℕ) → PrintedSoFar first now old new count → ReadsLine true now next line
+    → is_comment line ≡ false → IsAnswered line printed → Appends new newer printed
+    → PrintedSoFar first next old newer (count + 1)
 printed_after_answer None now next old new newer line printed count so reads is answers writes = tt
 printed_after_answer (Some known) None next old new newer line printed count so reads is answers writes =
     absurd so
@@ -113,7 +114,8 @@ pub fails_at : (first now next old new : Option (List ℕ)) (line : List ℕ) (c
     → PrintedSoFar first now old new count → ReadsLine true now next line → ReadsAtMostALine now next
     → is_comment line ≡ false → IsFailureAt (count + 1) line failure → FailsBy first next old new failure
 fails_at None now next old new line count (Malformed number column) so reads most is fails = tt
-fails_at (Some known) None next old new line count (Malformed number column) so reads most is fails = absurd so
+fails_at (Some known) None next old new line count (Malformed number column) so reads most is fails =
+    absurd so
 fails_at (Some known) (Some text) next old new line count (Malformed number column) so reads most is fails =
     record {
       left = text;
@@ -137,17 +139,18 @@ ends_within : (first now next old new newer : Option (List ℕ)) (line printed :
     → IfSome first (λ known. EndsWithin known next old newer)
 ends_within None now next old new newer line printed count so reads is answers begun = tt
 ends_within (Some known) None next old new newer line printed count so reads is answers begun = absurd so
-ends_within (Some known) (Some left) next old new newer line printed count so reads is answers begun = record {
-  left = left;
-  count = count;
-  between = new;
-  before = answered_before known left old new count so;
-  is_record = ap is_comment (sym reads.1) ∙ is;
-  answer = printed;
-  is_answer = subst (λ (l : List ℕ). IsAnswered l printed) reads.1 answers;
-  begun = begun;
-  read = reads.2;
-}
+ends_within (Some known) (Some left) next old new newer line printed count so reads is answers begun =
+    record {
+      left = left;
+      count = count;
+      between = new;
+      before = answered_before known left old new count so;
+      is_record = ap is_comment (sym reads.1) ∙ is;
+      answer = printed;
+      is_answer = subst (λ (l : List ℕ). IsAnswered l printed) reads.1 answers;
+      begun = begun;
+      read = reads.2;
+    }
 
 -- where a write failed
 pub write_fails : (first now next old new newer : Option (List ℕ)) (line printed : List ℕ) (count : ℕ)

@@ -47,8 +47,8 @@ pub data ArePrinted : (text left printed : List ℕ) → (count : ℕ) → Type 
       → ArePrinted (drop_through newline text) left printed count
       → ArePrinted text left (first ++ printed) (suc count)
 
--- The answers to the lines of a text before those that are left have been written after what was written before,
--- and nothing else. So many of these lines are records.
+-- The answers to the lines of a text before those that are left have been written after what was written
+-- before, and nothing else. So many of these lines are records.
 pub record AreAnswered (text left : List ℕ) (old new : Option (List ℕ)) (count : ℕ) : Type 0 where
   pub printed : List ℕ
   pub answers : ArePrinted text left printed count
@@ -58,9 +58,10 @@ pub record AreAnswered (text left : List ℕ) (old new : Option (List ℕ)) (cou
 abbrev pub Prints : Option (List ℕ) → Option (List ℕ) → Option (List ℕ) → Type 0
 Prints text old new = IfSome text (λ known. (count : ℕ) × AreAnswered known [] old new count)
 
--- The lines before the record of this number have been answered. The record is malformed in this column, and was the
--- last line to be read.
-pub record IsMalformedAt (text : List ℕ) (rest old new : Option (List ℕ)) (number : ℕ) (c : Column) : Type 0 where
+-- The lines before the record of this number have been answered. The record is malformed in this column, and
+-- was the last line to be read.
+pub record IsMalformedAt (text : List ℕ) (rest old new : Option (List ℕ)) (number : ℕ) (c : Column)
+    : Type 0 where
   pub left : List ℕ
   pub count : ℕ
   pub before : AreAnswered text left old new count
@@ -97,8 +98,8 @@ pub record EndsWithin (text : List ℕ) (rest old new : Option (List ℕ)) : Typ
   pub begun : AppendsPart between new answer
   pub read : rest ≡ Some (drop_through newline left)
 
--- How a run over a text ended that failed, if the text was known. A malformed record is as the failure says, and only
--- where a write failed, an answer was printed in part.
+-- How a run over a text ended that failed, if the text was known. A malformed record is as the failure says,
+-- and only where a write failed, an answer was printed in part.
 abbrev pub FailsBy : (text rest old new : Option (List ℕ)) → Failure → Type 0
 FailsBy text rest old new (Malformed number column) =
     IfSome text (λ known. IsMalformedAt known rest old new number column)

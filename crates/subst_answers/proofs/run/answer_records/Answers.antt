@@ -50,7 +50,8 @@ loop-preserved g c =
       few = omega (arith, c.loop.invariant.few);
       so_far = printed_after_answer (remaining c.args.input.now) (remaining c.loop.input)
           (remaining c.read_line.new.input) (contents c.args.output.now) old new line printed c.loop.number
-          c.loop.invariant.so_far (rw c.if-not-branch.false at c.in_ok-read_line.ensures.ok) is answered written;
+          c.loop.invariant.so_far (rw c.if-not-branch.false at c.in_ok-read_line.ensures.ok) is answered
+          written;
     }
 
 pub returns-in_err-read_line-clause-err : goal.returns-in_err-read_line-clause-err
@@ -101,7 +102,8 @@ returns-in_err-map_err-clause-err g c =
     rw (given.1, given.2) (write_fails (remaining c.args.input.now) (remaining c.loop.input)
     (remaining c.read_line.new.input) (contents c.args.output.now) old new line printed c.loop.number
     c.write_line.result c.in_err-map_err.field-0.0 c.loop.invariant.so_far
-    (rw c.if-not-branch.false at c.in_ok-read_line.ensures.ok) is answered sent c.in_err-map_err.ensures.cases)
+    (rw c.if-not-branch.false at c.in_ok-read_line.ensures.ok) is answered sent
+    c.in_err-map_err.ensures.cases)
 
 pub returns-clause-err : goal.returns-clause-err
 returns-clause-err g c =
