@@ -4,6 +4,7 @@ pub mod ByteRun
 pub mod Closing
 pub mod Cost
 pub mod Filled
+pub mod Halt
 pub mod Parsing
 pub mod Parts
 pub mod Placeholder

@@ -11,8 +11,8 @@ use Rattle.subst_core.specs.Raw.Closing.{ClosesAll}
 use Rattle.subst_error.specs.Fault.{Fault, MissingClosingBrace}
 use Rattle.subst_core.specs.Language.BadItem.{HasFault}
 use Rattle.subst_core.specs.Raw.Parts.{IsTemplateOf}
-use Rattle.subst_error.specs.ErrorFault.{parse_fault}
-use Rattle.subst_error.specs.declared.ParseError.{ParseError}
+use Rattle.subst_core.specs.Raw.Halt.{halt_fault}
+use Rattle.subst_core.specs.declared.template.raw.halt.Halt.{Halt}
 use Rattle.std.specs.Option.{IfSome, IsSomeAnd}
 use Rattle.subst_core.specs.Raw.Placeholder.{IsInBraces, IsOptional, IsBadWhenCut}
 use Rattle.subst_core.specs.Raw.Parsing.{StackHolds, StackHoldsFlushed, IsReading, IsPart, StepsOrFails}
@@ -47,10 +47,10 @@ reading_with p tape same reading = record {
 }
 
 -- a step after reads is a step
-pub steps_with : (p new : Parser) (tape : Tape) (r : Result (Unit {0}) ParseError) → tape.source ≡ p.tape.source
+pub steps_with : (p new : Parser) (tape : Tape) (r : Result (Unit {0}) Halt) → tape.source ≡ p.tape.source
     → StepsOrFails (record p { tape = tape }) r new → StepsOrFails p r new
 steps_with p new tape (Ok done) same steps = (steps.0, steps.1 ∙ same, steps.2)
-steps_with p new tape (Err e) same steps = subst (λ (s : List ℕ). IfSome (parse_fault e) (HasFault 0 s)) (ap (λ x. x.now) same) steps
+steps_with p new tape (Err e) same steps = subst (λ (s : List ℕ). IfSome (halt_fault e) (HasFault 0 s)) (ap (λ x. x.now) same) steps
 
 -- the state when the plain bytes have got their part
 abbrev pub IsFlushed : Parser → Parser → Type 0
@@ -346,10 +346,10 @@ fault_at_end p outermost reading end first =
     (subst (λ d. ClosesAll d []) depth (subst (ClosesAll p.depth) (drop_all p.at p.tape.source.now end) closes)))
 
 -- the fault that was found, where all open braces close
-pub fault_known : (p : Parser) (e : ParseError) → IsReading p
-    → IsSomeAnd (parse_fault e) (IsBadWhenCut p.at (drop p.at p.tape.source.now))
-    → ClosesAll p.depth (drop p.at p.tape.source.now) → IfSome (parse_fault e) (HasFault 0 p.tape.source.now)
-fault_known p e reading bad closes = of (parse_fault e) bad
+pub fault_known : (p : Parser) (e : Halt) → IsReading p
+    → IsSomeAnd (halt_fault e) (IsBadWhenCut p.at (drop p.at p.tape.source.now))
+    → ClosesAll p.depth (drop p.at p.tape.source.now) → IfSome (halt_fault e) (HasFault 0 p.tape.source.now)
+fault_known p e reading bad closes = of (halt_fault e) bad
   where
     of : (o : Option Fault) → IsSomeAnd o (IsBadWhenCut p.at (drop p.at p.tape.source.now))
         → IfSome o (HasFault 0 p.tape.source.now)

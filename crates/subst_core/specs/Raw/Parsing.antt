@@ -1,7 +1,5 @@
 -- How far the parser has read a source, and what its parts and its open defaults stand for.
 use Rattle.std.specs.Prelude.{◌≡◌, ℕ, suc, ◌+◌, ◌^◌, ◌<◌, ◌≤◌, List, [], ◌∷◌, ◌++◌, length, drop, reverse, Bool, true, false, IsTrue, Result, Ok, Err, IfSome}
-use Rattle.subst_error.specs.ErrorFault.{parse_fault}
-use Rattle.subst_error.specs.declared.ParseError.{ParseError}
 use Rattle.subst_core.specs.Language.Bytes.{colon, IsPlain}
 use Rattle.subst_core.specs.Language.Tree.{Tree, text}
 use Rattle.subst_core.specs.Language.WellFormed.{IsWellFormed}
@@ -10,11 +8,13 @@ use Rattle.subst_core.specs.Language.Balanced.{IsBalanced}
 use Rattle.subst_core.specs.Language.BadItem.{HasFault}
 use Rattle.subst_core.specs.Raw.ByteRun.{IsRun}
 use Rattle.subst_core.specs.Raw.Closing.{ChangesDepth}
+use Rattle.subst_core.specs.Raw.Halt.{halt_fault}
 use Rattle.subst_core.specs.Raw.Placeholder.{IsInBraces}
 use Rattle.subst_core.specs.Raw.PlainEnds.{ends_plain, HasNoPlainEnds}
 use Rattle.subst_core.specs.Raw.Parts.{PartsMean}
 use Rattle.subst_core.specs.declared.template.raw.Part.{Part}
 use Rattle.subst_core.specs.declared.template.raw.Part.TheVariants.{Default}
+use Rattle.subst_core.specs.declared.template.raw.halt.Halt.{Halt}
 use Rattle.subst_core.specs.declared.template.raw.parse.OpenDefault.{OpenDefault}
 use Rattle.subst_core.specs.declared.template.raw.parse.Parser.{Parser}
 
@@ -92,6 +92,6 @@ pub record IsPart (s : List ℕ) (from to i : ℕ) (part : Part) : Type 0 where
   pub mean : PartsMean s i (part ∷ []) from tree
 
 -- one step of the parser: it goes on, or returns the fault of the source, or memory ran out
-abbrev pub StepsOrFails : Parser → Result (Unit {0}) ParseError → Parser → Type 0
+abbrev pub StepsOrFails : Parser → Result (Unit {0}) Halt → Parser → Type 0
 StepsOrFails old (Ok _) new = IsReading new × (new.tape.source ≡ old.tape.source) × (old.at < new.at)
-StepsOrFails old (Err e) new = IfSome (parse_fault e) (HasFault 0 old.tape.source.now)
+StepsOrFails old (Err e) new = IfSome (halt_fault e) (HasFault 0 old.tape.source.now)

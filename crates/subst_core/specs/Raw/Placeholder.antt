@@ -1,13 +1,13 @@
 -- What is at a position of a source where a dollar or a backslash is.
 use Rattle.std.specs.Prelude.{◌≡◌, ℕ, ◌+◌, List, ◌∷◌, ◌++◌, length, drop, IsSomeAnd}
 use Rattle.subst_error.specs.Fault.{Fault}
-use Rattle.subst_error.specs.ErrorFault.{parse_fault}
-use Rattle.subst_error.specs.declared.ParseError.{ParseError}
 use Rattle.subst_core.specs.Language.Bytes.{dollar, colon, question_mark, backslash, opening_brace, closing_brace, IsSpecial}
 use Rattle.subst_core.specs.Language.Name.{IsName, IsNameByte, BeginsWithNo}
 use Rattle.subst_core.specs.Language.BadItem.{IsBad}
+use Rattle.subst_core.specs.Raw.Halt.{halt_fault}
 use Rattle.subst_core.specs.Raw.Span.{IsSpan, span_bytes}
 use Rattle.subst_core.specs.declared.template.raw.Span.{Span}
+use Rattle.subst_core.specs.declared.template.raw.halt.Halt.{Halt}
 use Rattle.subst_core.specs.declared.template.raw.item.Placeholder.{Placeholder}
 use Rattle.subst_core.specs.declared.template.raw.item.Placeholder.TheVariants.{Short, Braced, Optional, Default}
 
@@ -54,5 +54,5 @@ pub record IsBadWhenCut (p : ℕ) (r : List ℕ) (f : Fault) : Type 0 where
   pub cut : (x q : List ℕ) → r ≡ x ++ closing_brace ∷ q → IsBad p x f
 
 -- the error states the fault of the bad item at the position at
-abbrev pub StatesBadItem : ParseError → List ℕ → ℕ → Type 0
-StatesBadItem e s at = IsSomeAnd (parse_fault e) (IsBadWhenCut at (drop at s))
+abbrev pub StatesBadItem : Halt → List ℕ → ℕ → Type 0
+StatesBadItem e s at = IsSomeAnd (halt_fault e) (IsBadWhenCut at (drop at s))

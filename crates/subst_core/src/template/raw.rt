@@ -3,6 +3,7 @@
 mod byte_class;
 mod character;
 mod expand;
+mod halt;
 mod item;
 mod parse;
 mod part_list;

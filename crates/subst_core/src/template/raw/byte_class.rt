@@ -5,6 +5,7 @@ ghost use Rattle.subst_core.specs.Language.Bytes as bytes;
 ghost use Rattle.subst_core.specs.Language.Name as name;
 
 /// Whether a byte is an ASCII letter, an ASCII digit or an underscore.
+#[inline(always)]
 pub(super) fn is_name_byte(b: u8) -> bool
     ensures { result ≡ name.is_name_byte b }
 {
@@ -12,6 +13,7 @@ pub(super) fn is_name_byte(b: u8) -> bool
 }
 
 /// Whether a backslash escapes the byte.
+#[inline(always)]
 pub(super) fn is_special(b: u8) -> bool
     ensures { result ≡ bytes.is_special b }
 {

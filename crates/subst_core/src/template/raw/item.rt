@@ -8,11 +8,8 @@ ghost use Rattle.subst_core.specs.Raw.Placeholder.{IsEscape, IsInBraces, IsPlace
 
 use super::Span;
 use super::byte_class::is_special;
+use super::halt::Halt;
 use super::tape::Tape;
-use subst_error::{
-    ExpectedCharacter, InvalidEscapeSequence, MissingClosingBrace, MissingVariableName, ParseError,
-    UnexpectedCharacter,
-};
 
 /// A placeholder, of one with a default the part up to the colon.
 #[derive(Clone, Copy)]
@@ -28,7 +25,8 @@ pub(super) enum Placeholder {
 }
 
 /// Returns the byte that the backslash at an offset escapes.
-pub(super) fn escape_at(tape: &mut Tape<'_>, at: usize) -> Result<u8, ParseError>
+#[inline(always)]
+pub(super) fn escape_at(tape: &mut Tape<'_>, at: usize) -> Result<u8, Halt>
     requires { (rest : List ℕ) × (drop at tape.old.source.now ≡ backslash ∷ rest) }
     ensures ok { IfOk result (IsEscape tape.old.source.now at) }
     ensures err { IfErr result (λ e. StatesBadItem e tape.old.source.now at) }
@@ -37,22 +35,18 @@ pub(super) fn escape_at(tape: &mut Tape<'_>, at: usize) -> Result<u8, ParseError
         (λ e. GrowsBetween 1 5 tape.old.reads tape.new.reads) }
 {
     match tape.byte_at(at + 1) {
-        None => Err(InvalidEscapeSequence {
-            position: at,
-            character: None,
-        }
-        .into()),
+        None => Err(Halt::EscapeAtEnd { position: at }),
         Some(byte) if is_special(byte) => Ok(byte),
-        Some(_) => Err(InvalidEscapeSequence {
+        Some(_) => Err(Halt::BadEscape {
             position: at,
-            character: Some(tape.character_at(at + 1)),
-        }
-        .into()),
+            character: tape.character_at(at + 1),
+        }),
     }
 }
 
 /// Returns the placeholder whose dollar is at an offset, up to the colon of its default.
-pub(super) fn placeholder_at(tape: &mut Tape<'_>, at: usize) -> Result<Placeholder, ParseError>
+#[inline(always)]
+pub(super) fn placeholder_at(tape: &mut Tape<'_>, at: usize) -> Result<Placeholder, Halt>
     requires { (rest : List ℕ) × (drop at tape.old.source.now ≡ dollar ∷ rest) }
     ensures ok { IfOk result (IsPlaceholder tape.old.source.now at) }
     ensures err { IfErr result (λ e. StatesBadItem e tape.old.source.now at) }
@@ -70,7 +64,8 @@ pub(super) fn placeholder_at(tape: &mut Tape<'_>, at: usize) -> Result<Placehold
 }
 
 /// Returns the placeholder `$name` whose dollar is at an offset, with no opening brace after it.
-fn short_at(tape: &mut Tape<'_>, at: usize) -> Result<Placeholder, ParseError>
+#[inline(always)]
+fn short_at(tape: &mut Tape<'_>, at: usize) -> Result<Placeholder, Halt>
     requires dollar { drop at tape.old.source.now ≡ dollar ∷ drop (at + 1) tape.old.source.now }
     requires unbraced { BeginsWithNo (λ b. b ≡ opening_brace) (drop (at + 1) tape.old.source.now) }
     ensures ok { IfOk result (IsPlaceholder tape.old.source.now at) }
@@ -84,18 +79,18 @@ fn short_at(tape: &mut Tape<'_>, at: usize) -> Result<Placeholder, ParseError>
     let start = at + 1;
     let end = tape.name_end(start);
     if start == end {
-        return Err(MissingVariableName {
+        return Err(Halt::NoName {
             position: at,
             len: 1,
-        }
-        .into());
+        });
     }
     Ok(Placeholder::Short(Span { start, end }))
 }
 
 /// Returns the placeholder `${name}` or `${name?}` whose dollar and opening brace are at an offset, or
 /// `${name:` up to its colon.
-fn braced_at(tape: &mut Tape<'_>, at: usize) -> Result<Placeholder, ParseError>
+#[inline(always)]
+fn braced_at(tape: &mut Tape<'_>, at: usize) -> Result<Placeholder, Halt>
     requires { drop at tape.old.source.now
         ≡ dollar ∷ opening_brace ∷ drop (at + 2) tape.old.source.now }
     ensures ok { IfOk result (IsPlaceholder tape.old.source.now at) }
@@ -109,31 +104,26 @@ fn braced_at(tape: &mut Tape<'_>, at: usize) -> Result<Placeholder, ParseError>
     let start = at + 2;
     let end = tape.name_end(start);
     if start == end {
-        return Err(MissingVariableName {
+        return Err(Halt::NoName {
             position: at,
             len: 2,
-        }
-        .into());
+        });
     }
     let name = Span { start, end };
     match tape.byte_at(end) {
-        None => Err(MissingClosingBrace { position: at + 1 }.into()),
+        None => Err(Halt::Unclosed { position: at + 1 }),
         Some(b'}') => Ok(Placeholder::Braced(name)),
         Some(b':') => Ok(Placeholder::Default(name)),
         Some(b'?') => optional_at(tape, at, name),
-        Some(_) => Err(UnexpectedCharacter {
+        Some(_) => Err(Halt::AfterName {
             position: end,
             character: tape.character_at(end),
-            expected: ExpectedCharacter::new(
-                "a closing brace ('}'), colon (':') or question mark ('?')",
-            ),
-        }
-        .into()),
+        }),
     }
 }
 
 /// Returns the placeholder `${name?}` at an offset, where it has been read up to its question mark.
-fn optional_at(tape: &mut Tape<'_>, at: usize, name: Span) -> Result<Placeholder, ParseError>
+fn optional_at(tape: &mut Tape<'_>, at: usize, name: Span) -> Result<Placeholder, Halt>
     requires { IsInBraces tape.old.source.now at name question_mark }
     ensures ok { IfOk result (IsPlaceholder tape.old.source.now at) }
     ensures err { IfErr result (λ e. StatesBadItem e tape.old.source.now at) }
@@ -144,13 +134,11 @@ fn optional_at(tape: &mut Tape<'_>, at: usize, name: Span) -> Result<Placeholder
 {
     let closing = name.end + 1;
     match tape.byte_at(closing) {
-        None => Err(MissingClosingBrace { position: at + 1 }.into()),
+        None => Err(Halt::Unclosed { position: at + 1 }),
         Some(b'}') => Ok(Placeholder::Optional(name)),
-        Some(_) => Err(UnexpectedCharacter {
+        Some(_) => Err(Halt::AfterQuestionMark {
             position: closing,
             character: tape.character_at(closing),
-            expected: ExpectedCharacter::new("a closing brace ('}')"),
-        }
-        .into()),
+        }),
     }
 }

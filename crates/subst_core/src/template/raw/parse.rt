@@ -7,9 +7,11 @@ ghost use Rattle.subst_core.specs.Language.Bytes.{dollar, colon, backslash, clos
 ghost use Rattle.subst_core.specs.Language.BadItem.{HasFault};
 ghost use Rattle.subst_core.specs.Calls.Outcome.{OnFault};
 ghost use Rattle.subst_core.specs.Raw.Cost.{GrowsBetween, StepReads, StepReadsAfterFirst};
+ghost use Rattle.subst_core.specs.Raw.Halt.{halt_fault};
 ghost use Rattle.subst_core.specs.Raw.Parts.{IsTemplateOf};
 ghost use Rattle.subst_core.specs.Raw.Placeholder.{IsInBraces, IsOptional, StatesBadItem};
 
+use super::halt::Halt;
 use super::item::{Placeholder, escape_at, placeholder_at};
 use super::scan::closes_all;
 use super::tape::Tape;
@@ -69,7 +71,7 @@ pub(in crate::template) fn parse(
     *reads = tape.into_reads();
     match outcome {
         Ok(()) => Ok(parts),
-        Err(e) => Err(e),
+        Err(halt) => Err(halt.into()),
     }
 }
 
@@ -92,11 +94,11 @@ impl<'s> Parser<'s> {
     }
 
     /// Reads the source to its end, or to its first bad item.
-    fn read_to_end(&mut self) -> Result<(), ParseError>
+    fn read_to_end(&mut self) -> Result<(), Halt>
         requires reading { IsReading self.old }
         requires start { self.old.at ≡ 0 }
         ensures ok { OnOk result (IsTemplateOf self.old.tape.source.now self.new.parts.items) }
-        ensures err { OnFault parse_fault result (HasFault 0 self.old.tape.source.now) }
+        ensures err { OnFault halt_fault result (HasFault 0 self.old.tape.source.now) }
         ensures bound { self.new.tape.reads
             ≤ self.old.tape.reads + 3 * length self.old.tape.source.now + 8 }
         ensures grows { self.old.tape.reads ≤ self.new.tape.reads }
@@ -111,7 +113,8 @@ impl<'s> Parser<'s> {
     }
 
     /// Reads up to and including the next special byte or item.
-    fn read_item(&mut self) -> Result<(), ParseError>
+    #[inline(always)]
+    fn read_item(&mut self) -> Result<(), Halt>
         requires reading { IsReading self.old }
         requires more { self.old.at < length self.old.tape.source.now }
         ensures answer { StepsOrFails self.old result self.new }
@@ -125,6 +128,7 @@ impl<'s> Parser<'s> {
     }
 
     /// Returns whether no brace is open.
+    #[inline(always)]
     fn is_at_top(&self) -> bool
         ensures { IsTrue result ↔ (self.now.depth ≡ 0) }
     {
@@ -132,7 +136,8 @@ impl<'s> Parser<'s> {
     }
 
     /// Reads, where no brace is open, plain bytes and the escape or placeholder after them.
-    fn read_at_top(&mut self) -> Result<(), ParseError>
+    #[inline(always)]
+    fn read_at_top(&mut self) -> Result<(), Halt>
         requires reading { IsReading self.old }
         requires more { self.old.at < length self.old.tape.source.now }
         requires top { self.old.depth ≡ 0 }
@@ -148,7 +153,8 @@ impl<'s> Parser<'s> {
     }
 
     /// Reads, inside a default, one byte, or an escape or a placeholder.
-    fn read_in_default(&mut self) -> Result<(), ParseError>
+    #[inline(always)]
+    fn read_in_default(&mut self) -> Result<(), Halt>
         requires reading { IsReading self.old }
         requires more { self.old.at < length self.old.tape.source.now }
         requires inside { 0 < self.old.depth }
@@ -173,7 +179,8 @@ impl<'s> Parser<'s> {
     }
 
     /// Reads the escape at `at`.
-    fn read_escape(&mut self) -> Result<(), ParseError>
+    #[inline(always)]
+    fn read_escape(&mut self) -> Result<(), Halt>
         requires reading { IsReading self.old }
         requires spelled { (rest : List ℕ)
             × (drop self.old.at self.old.tape.source.now ≡ backslash ∷ rest) }
@@ -182,12 +189,13 @@ impl<'s> Parser<'s> {
     {
         match escape_at(&mut self.tape, self.at) {
             Ok(byte) => self.add_part(Part::Escaped(byte), self.at + 2),
-            Err(fault) => Err(self.fault_of_source(fault)),
+            Err(halt) => Err(self.fault_of_source(halt)),
         }
     }
 
     /// Reads the placeholder at `at`, of one with a default the part up to the colon.
-    fn read_placeholder(&mut self) -> Result<(), ParseError>
+    #[inline(always)]
+    fn read_placeholder(&mut self) -> Result<(), Halt>
         requires reading { IsReading self.old }
         requires spelled { (rest : List ℕ)
             × (drop self.old.at self.old.tape.source.now ≡ dollar ∷ rest) }
@@ -199,11 +207,12 @@ impl<'s> Parser<'s> {
             Ok(Placeholder::Braced(name)) => self.add_part(Part::Variable(name), name.end + 1),
             Ok(Placeholder::Optional(name)) => self.add_optional(name),
             Ok(Placeholder::Default(name)) => self.open_default(name),
-            Err(fault) => Err(self.fault_of_source(fault)),
+            Err(halt) => Err(self.fault_of_source(halt)),
         }
     }
 
     /// Flushes the pending literal bytes into a `Literal` part.
+    #[inline(always)]
     fn flush_literal(&mut self) -> Result<(), AllocError>
         requires { IsReading self.old }
         ensures kept { OnOk result
@@ -225,7 +234,8 @@ impl<'s> Parser<'s> {
     }
 
     /// Adds the part of the bytes from `at` up to `end`.
-    fn add_part(&mut self, part: Part, end: usize) -> Result<(), ParseError>
+    #[inline(always)]
+    fn add_part(&mut self, part: Part, end: usize) -> Result<(), Halt>
         requires reading { IsReading self.old }
         requires part { (i : ℕ) → IsPart self.old.tape.source.now self.old.at end i part }
         requires within { end ≤ length self.old.tape.source.now }
@@ -243,7 +253,7 @@ impl<'s> Parser<'s> {
 
     /// Adds the part of the placeholder `${name?}` at `at`: a default without parts, whose jump leads to the
     /// part right after it.
-    fn add_optional(&mut self, name: Span) -> Result<(), ParseError>
+    fn add_optional(&mut self, name: Span) -> Result<(), Halt>
         requires reading { IsReading self.old }
         requires optional { IsOptional self.old.tape.source.now self.old.at name }
         ensures answer { StepsOrFails self.old result self.new }
@@ -259,7 +269,7 @@ impl<'s> Parser<'s> {
     }
 
     /// Opens the default of the placeholder at `at`. Its part gets its jump when the default closes.
-    fn open_default(&mut self, name: Span) -> Result<(), ParseError>
+    fn open_default(&mut self, name: Span) -> Result<(), Halt>
         requires reading { IsReading self.old }
         requires head { IsInBraces self.old.tape.source.now self.old.at name colon }
         ensures answer { StepsOrFails self.old result self.new }
@@ -280,7 +290,7 @@ impl<'s> Parser<'s> {
     }
 
     /// Reads a closing brace inside a default: that of the default, or of a bare brace in it.
-    fn close_brace(&mut self) -> Result<(), ParseError>
+    fn close_brace(&mut self) -> Result<(), Halt>
         requires reading { IsReading self.old }
         requires inside { 0 < self.old.depth }
         requires spelled { drop self.old.at self.old.tape.source.now
@@ -300,7 +310,7 @@ impl<'s> Parser<'s> {
     }
 
     /// Closes the innermost default.
-    fn close_default(&mut self, innermost: OpenDefault) -> Result<(), ParseError>
+    fn close_default(&mut self, innermost: OpenDefault) -> Result<(), Halt>
         requires reading { IsReading self.old }
         requires innermost { slice_get self.old.defaults.items
             (length self.old.defaults.items - 1) ≡ Some innermost }
@@ -326,29 +336,31 @@ impl<'s> Parser<'s> {
 
     /// Returns the fault of the source, where a bad item is at `at`: a default that is never closed comes
     /// before what is wrong inside it.
-    fn fault_of_source(&mut self, fault: ParseError) -> ParseError
+    #[cold]
+    #[inline(never)]
+    fn fault_of_source(&mut self, halt: Halt) -> Halt
         requires reading { IsReading self.old }
-        requires bad { StatesBadItem fault self.old.tape.source.now self.old.at }
-        ensures answer { IfSome (parse_fault result) (HasFault 0 self.old.tape.source.now) }
+        requires bad { StatesBadItem halt self.old.tape.source.now self.old.at }
+        ensures answer { IfSome (halt_fault result) (HasFault 0 self.old.tape.source.now) }
         ensures cost { GrowsBetween 0 (length self.old.tape.source.now - self.old.at + 1)
             self.old.tape.reads self.new.tape.reads }
     {
         let Some(outermost) = self.defaults.first().copied() else {
-            return fault;
+            return halt;
         };
         if closes_all(&mut self.tape, self.at, self.depth) {
-            fault
+            halt
         } else {
             unclosed(outermost)
         }
     }
 
     /// Flushes the last literal bytes, at the end of the source.
-    fn finish(&mut self) -> Result<(), ParseError>
+    fn finish(&mut self) -> Result<(), Halt>
         requires reading { IsReading self.old }
         requires end { length self.old.tape.source.now ≤ self.old.at }
         ensures ok { OnOk result (IsTemplateOf self.old.tape.source.now self.new.parts.items) }
-        ensures err { OnFault parse_fault result (HasFault 0 self.old.tape.source.now) }
+        ensures err { OnFault halt_fault result (HasFault 0 self.old.tape.source.now) }
         ensures same { self.new.tape ≡ self.old.tape }
         ensures some { IfErr result (λ e. 0 < self.old.at) }
     {
@@ -361,12 +373,11 @@ impl<'s> Parser<'s> {
 }
 
 /// Returns the fault of a default that is never closed.
-fn unclosed(default: OpenDefault) -> ParseError
+fn unclosed(default: OpenDefault) -> Halt
     requires { 0 < default.name.start }
-    ensures { parse_fault result ≡ Some (MissingClosingBrace (default.name.start - 1)) }
+    ensures { halt_fault result ≡ Some (MissingClosingBrace (default.name.start - 1)) }
 {
-    subst_error::MissingClosingBrace {
+    Halt::Unclosed {
         position: default.name.start - 1,
     }
-    .into()
 }

@@ -37,6 +37,7 @@ impl<'s> Tape<'s> {
     }
 
     /// Returns whether there is a byte at an offset. Reads nothing.
+    #[inline(always)]
     pub fn has(&self, at: usize) -> bool
         ensures { IsTrue result ↔ (at < length self.now.source.now) }
     {
@@ -44,6 +45,7 @@ impl<'s> Tape<'s> {
     }
 
     /// Returns the byte at an offset, or nothing after the last byte.
+    #[inline(always)]
     pub fn byte_at(&mut self, at: usize) -> Option<u8>
         ensures byte { MatchOption result (drop at self.old.source.now ≡ [])
             (λ b. drop at self.old.source.now ≡ b ∷ drop (at + 1) self.old.source.now) }
@@ -56,6 +58,7 @@ impl<'s> Tape<'s> {
     }
 
     /// Returns the first offset from `from` on of a dollar or a backslash, or the end of the source.
+    #[inline(always)]
     pub fn plain_end(&mut self, from: usize) -> usize
         requires { from ≤ length self.old.source.now }
         ensures run { IsRun IsPlain self.old.source.now from result }
@@ -78,6 +81,7 @@ impl<'s> Tape<'s> {
     }
 
     /// Returns the first offset from `from` on of a byte that is no name byte, or the end of the source.
+    #[inline(always)]
     pub fn name_end(&mut self, from: usize) -> usize
         requires { from ≤ length self.old.source.now }
         ensures run { IsRun IsNameByte self.old.source.now from result }
@@ -98,6 +102,8 @@ impl<'s> Tape<'s> {
 
     /// Returns the character at an offset, or the byte there where no character begins. Looks at up to four
     /// bytes.
+    #[cold]
+    #[inline(never)]
     pub fn character_at(&mut self, at: usize) -> CharOrByte
         requires { at < length self.old.source.now }
         ensures answer { IsFrontCharacter (drop at self.old.source.now) result }
@@ -110,6 +116,7 @@ impl<'s> Tape<'s> {
     }
 
     /// Returns the bytes from an offset on.
+    #[inline(always)]
     fn rest(&self, at: usize) -> &'s [u8]
         requires { at ≤ length self.now.source.now }
         ensures { result.now ≡ drop at self.now.source.now }

@@ -1,5 +1,5 @@
 -- One lemma for no name, and one for what is after a name.
-use Rattle.std.proofs.Common.{length, ap, arith, length-drop}
+use Rattle.std.proofs.Common.{length, refl, ap, arith, length-drop}
 use Rattle.subst_core.proofs.Raw.PlaceholderLemmas.{in_braces_at, nameless_braces_at, unended_name_at, unexpected_byte_at}
 use Rattle.subst_core.proofs.template.raw.item.braced_at.Goals as goal
 
@@ -9,12 +9,12 @@ name_end-end-requires c = omega (arith, simp length-drop at (ap length c.require
 pub returns-then-start-end-clause-err : goal.returns-then-start-end-clause-err
 returns-then-start-end-clause-err c =
     let found = c.name_end-end.ensures in
-    rw c.into.ensures (nameless_braces_at c.args.tape.now.source.now c.args.at c.name_end-end.result c.requires found.run found.end c.if-start-end.true)
+    nameless_braces_at c.args.tape.now.source.now c.args.at c.name_end-end.result c.requires found.run found.end c.if-start-end.true
 
 pub returns-in-None-clause-err : goal.returns-in-None-clause-err
 returns-in-None-clause-err c =
-    rw c.into-in-None.ensures (unended_name_at c.args.tape.now.source.now c.args.at c.name_end-end.result c.requires c.name_end-end.ensures.run
-    c.if-start-end.false (rw c.name_end-end.ensures.same at c.in-None.ensures.byte))
+    unended_name_at c.args.tape.now.source.now c.args.at c.name_end-end.result c.requires c.name_end-end.ensures.run
+    c.if-start-end.false (rw c.name_end-end.ensures.same at c.in-None.ensures.byte)
 
 pub returns-in-Some-eq125-clause-ok : goal.returns-in-Some-eq125-clause-ok
 returns-in-Some-eq125-clause-ok c =
@@ -38,6 +38,5 @@ optional_at-requires c =
 pub returns-in-Some-clause-err : goal.returns-in-Some-clause-err
 returns-in-Some-clause-err c =
     let found = c.name_end-end.ensures in
-    rw c.into-in-Some.ensures (unexpected_byte_at c.args.tape.now.source.now c.args.at c.name_end-end.result c.requires found.run c.in-Some.field-0 c.character_at.result _
-    c.if-start-end.false found.end (rw found.same at c.in-Some.ensures.byte) c.in-Some.field-0-test.0.0.1 c.in-Some.field-0-test.0.1 c.in-Some.field-0-test.1 (rw (c.in-Some.ensures.same, found.same) at c.character_at.ensures.answer)
-    (c.new.ensures.whole (omega arith)))
+    unexpected_byte_at c.args.tape.now.source.now c.args.at c.name_end-end.result c.requires found.run c.in-Some.field-0 c.character_at.result _
+    c.if-start-end.false found.end (rw found.same at c.in-Some.ensures.byte) c.in-Some.field-0-test.0.0.1 c.in-Some.field-0-test.0.1 c.in-Some.field-0-test.1 (rw (c.in-Some.ensures.same, found.same) at c.character_at.ensures.answer) refl

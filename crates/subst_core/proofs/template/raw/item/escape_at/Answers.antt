@@ -5,7 +5,7 @@ use Rattle.subst_core.proofs.template.raw.item.escape_at.Goals as goal
 
 pub returns-in-None-clause-err : goal.returns-in-None-clause-err
 returns-in-None-clause-err c =
-    rw c.into.ensures (lone_backslash_at c.args.tape.now.source.now c.args.at c.requires.0 c.requires.1 c.in-None.ensures.byte)
+    lone_backslash_at c.args.tape.now.source.now c.args.at c.requires.0 c.requires.1 c.in-None.ensures.byte
 
 pub returns-in-Some-clause-ok : goal.returns-in-Some-clause-ok
 returns-in-Some-clause-ok c =
@@ -14,6 +14,5 @@ returns-in-Some-clause-ok c =
 
 pub returns-in-Some-2-clause-err : goal.returns-in-Some-2-clause-err
 returns-in-Some-2-clause-err c =
-    rw c.into-in-Some-2.ensures
-    (other_escape_at c.args.tape.now.source.now c.args.at c.requires.0 c.requires.1 c.in-Some.byte c.character_at.result c.in-Some.ensures.byte
-    (sym c.is_special.ensures ∙ c.if-is_special.false) (rw c.in-Some.ensures.same at c.character_at.ensures.answer))
+    other_escape_at c.args.tape.now.source.now c.args.at c.requires.0 c.requires.1 c.in-Some.byte c.character_at.result c.in-Some.ensures.byte
+    (sym c.is_special.ensures ∙ c.if-is_special.false) (rw c.in-Some.ensures.same at c.character_at.ensures.answer)

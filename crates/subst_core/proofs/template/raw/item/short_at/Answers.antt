@@ -5,7 +5,7 @@ use Rattle.subst_core.proofs.template.raw.item.short_at.Goals as goal
 pub returns-then-start-end-clause-err : goal.returns-then-start-end-clause-err
 returns-then-start-end-clause-err c =
     let found = c.name_end-end.ensures in
-    rw c.into.ensures (nameless_dollar_at c.args.tape.now.source.now c.args.at c.name_end-end.result c.requires.dollar found.run found.end c.requires.unbraced c.if-start-end.true)
+    nameless_dollar_at c.args.tape.now.source.now c.args.at c.name_end-end.result c.requires.dollar found.run found.end c.requires.unbraced c.if-start-end.true
 
 pub returns-clause-ok : goal.returns-clause-ok
 returns-clause-ok c =

@@ -22,11 +22,11 @@ returns-else-closes_all-clause-answer c =
 
 pub returns-then-closes_all-clause-answer : goal.returns-then-closes_all-clause-answer
 returns-then-closes_all-clause-answer c =
-    fault_known c.args.self.now c.args.fault c.requires.reading c.requires.bad (c.closes_all.ensures.answer.0 c.if-closes_all.true)
+    fault_known c.args.self.now c.args.halt c.requires.reading c.requires.bad (c.closes_all.ensures.answer.0 c.if-closes_all.true)
 
 pub returns-in_default-clause-answer : goal.returns-in_default-clause-answer
 returns-in_default-clause-answer c =
     let first = sym c.first.ensures.value ∙ sym c.copied.ensures ∙ c.in_default.is in
     let none = subst (λ (xs : List OpenDefault). slice_get xs 0 ≡ None) c.deref.ensures.value first in
-    fault_known c.args.self.now c.args.fault c.requires.reading c.requires.bad
+    fault_known c.args.self.now c.args.halt c.requires.reading c.requires.bad
     (closes_top c.args.self.now c.requires.reading (no_first c.args.self.now.defaults.items none))
