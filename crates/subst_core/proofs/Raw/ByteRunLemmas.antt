@@ -54,6 +54,11 @@ slice_of_run {P} {s} {from} {to} r =
 pub run_nothing : (P : ℕ → Type 0) (s : List ℕ) (at : ℕ) → IsRun P s at at
 run_nothing P s at = record { run = []; each = tt; spelled = refl; ends = omega arith }
 
+-- one byte of the kind is a run
+pub run_one : {P : ℕ → Type 0} {s : List ℕ} {at b : ℕ} → P b → drop at s ≡ b ∷ drop (at + 1) s
+    → IsRun P s at (at + 1)
+run_one {P} {s} {at} {b} is reads = record { run = b ∷ []; each = (is, tt); spelled = reads; ends = refl }
+
 -- two runs concatenated
 pub run_append : {P : ℕ → Type 0} {s : List ℕ} {from at to : ℕ} → IsRun P s from at → IsRun P s at to
     → IsRun P s from to

@@ -22,7 +22,7 @@ use Rattle.std.proofs.lemmas.List.{append_cancel_right}
 use Rattle.subst_core.specs.Raw.Closing.{Completes}
 use Rattle.subst_core.proofs.Language.CountLemmas.{no_plain_ends}
 use Rattle.subst_core.proofs.Language.ItemLemmas.{default_balanced}
-use Rattle.subst_core.proofs.Raw.ByteRunLemmas.{run_append, run_nothing}
+use Rattle.subst_core.proofs.Raw.ByteRunLemmas.{run_append, run_nothing, run_one}
 use Rattle.subst_core.proofs.Raw.PartsLemmas.{mean_nothing, mean_default}
 use Rattle.subst_core.proofs.Raw.ParsedLemmas.{add_item, current_any, give_part, no_part}
 use Rattle.subst_core.proofs.Raw.TreeAtLemmas.{default_tree_at}
@@ -115,7 +115,7 @@ longer : {s : List ℕ} {start literal_start at i : ℕ} {own : List Part} (b : 
 longer {s} {start} {literal_start} {at} {i} {own} b plain reads current =
     subst (λ ps. IsParsedWithTail true s start literal_start (at + 1) i ps) (sym (append-nil own)) (record {
       level = current.level;
-      run = run_append current.run (record { run = b ∷ []; each = (plain, tt); spelled = reads; ends = refl });
+      run = run_append current.run (run_one plain reads);
       begins = current.begins;
     })
 

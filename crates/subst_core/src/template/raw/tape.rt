@@ -57,9 +57,29 @@ impl<'s> Tape<'s> {
         self.source.get(at).copied()
     }
 
-    /// Returns the first offset from `from` on of a dollar or a backslash, or the end of the source.
+    /// Returns the first offset from `from` on of a dollar or a backslash, or the end of the source. Right
+    /// after an escape or a placeholder the next one often is, and then nothing is searched.
     #[inline(always)]
     pub fn plain_end(&mut self, from: usize) -> usize
+        requires { from < length self.old.source.now }
+        ensures run { IsRun IsPlain self.old.source.now from result }
+        ensures end { BeginsWithNo IsPlain (drop result self.old.source.now) }
+        ensures within { result ≤ length self.old.source.now }
+        ensures same { self.new.source ≡ self.old.source }
+        ensures cost { self.new.reads + from
+            ≡ self.old.reads + min (result + 1) (length self.old.source.now) }
+    {
+        match self.byte_at(from) {
+            None => from,
+            Some(b'$' | b'\\') => from,
+            Some(_) => self.search_plain_end(from + 1),
+        }
+    }
+
+    /// Returns, by a search, the first offset from `from` on of a dollar or a backslash, or the end of the
+    /// source.
+    #[inline(always)]
+    fn search_plain_end(&mut self, from: usize) -> usize
         requires { from ≤ length self.old.source.now }
         ensures run { IsRun IsPlain self.old.source.now from result }
         ensures end { BeginsWithNo IsPlain (drop result self.old.source.now) }
