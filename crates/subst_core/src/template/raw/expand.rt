@@ -125,10 +125,8 @@ fn name_at(source: &[u8], name: Span) -> &str
     requires name { IsName (span_bytes name source.now) }
     ensures { result.now ≡ span_bytes name source.now }
 {
-    let Ok(name) = str::from_utf8(bytes_at(source, name)) else {
-        unreachable!()
-    };
-    name
+    // The bytes of a name are ASCII.
+    unsafe { str::from_utf8_unchecked(bytes_at(source, name)) }
 }
 
 /// Returns the error for a name that has no value.
