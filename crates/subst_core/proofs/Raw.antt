@@ -4,6 +4,7 @@ pub mod CutLemmas
 pub mod DepthLemmas
 pub mod ExpandLemmas
 pub mod FilledLemmas
+pub mod InnerLemmas
 pub mod LiftLemmas
 pub mod ParsedLemmas
 pub mod ParserLemmas
@@ -12,5 +13,6 @@ pub mod PartsLemmas
 pub mod PlaceholderLemmas
 pub mod ScanLemmas
 pub mod StackHoldsLemmas
+pub mod TableLemmas
 pub mod TemplateOfLemmas
 pub mod TreeAtLemmas

@@ -5,6 +5,7 @@ pub mod Closing
 pub mod Cost
 pub mod Filled
 pub mod Halt
+pub mod Inner
 pub mod Parsing
 pub mod Parts
 pub mod Placeholder

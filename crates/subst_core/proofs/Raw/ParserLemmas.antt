@@ -5,6 +5,7 @@ use Rattle.std.proofs.lemmas.List.{reverse-append, drop_all}
 use Rattle.std.specs.List.{slice_get}
 use Rattle.subst_core.specs.Language.Bytes.{colon, closing_brace, backslash, dollar, opening_brace}
 use Rattle.subst_core.specs.Raw.ByteRun.{IsRun}
+use Rattle.subst_core.specs.Raw.Inner.{IsInner}
 use Rattle.subst_core.specs.Language.Bytes.{IsPlain}
 use Rattle.subst_core.specs.Language.Balanced.IsBalanced.{empty}
 use Rattle.subst_core.specs.Raw.Closing.{ClosesAll}
@@ -23,7 +24,7 @@ use Rattle.subst_core.specs.declared.template.raw.parse.OpenDefault.{OpenDefault
 use Rattle.subst_core.specs.declared.template.raw.parse.Parser.{Parser}
 use Rattle.subst_core.specs.declared.template.raw.tape.Tape.{Tape}
 use Rattle.subst_core.proofs.Language.ListLemmas.{split_last, split_first, reverse_last}
-use Rattle.subst_core.proofs.Raw.StackHoldsLemmas.{holds_tree, holds_byte, holds_opening, holds_closing, holds_default, holds_closed, holds_run, holds_any, holds_some, holds_open, holds_top}
+use Rattle.subst_core.proofs.Raw.StackHoldsLemmas.{holds_tree, holds_inner, holds_opening, holds_closing, holds_default, holds_closed, holds_run, holds_any, holds_some, holds_open, holds_top}
 use Rattle.subst_core.proofs.Raw.PartOfLemmas.{optional_part}
 use Rattle.subst_core.proofs.Raw.LiftLemmas.{lift, unclosed_outermost, find_outermost, template_at_end}
 use Rattle.subst_core.proofs.Language.ClosingLemmas.{closes_nothing}
@@ -197,24 +198,23 @@ reading_bare p innermost reading inside some reads last other =
           (subst (λ ds. StackHolds true s ds p.depth p.parts.items p.literal_start p.at) stack reading.nested));
     }
 
--- inside a default, a byte that has no meaning
-pub reading_byte : (p : Parser) (b : ℕ) → IsReading p → p.at < length p.tape.source.now → 0 < p.depth
-    → b ≢ dollar → b ≢ backslash → b ≢ opening_brace → b ≢ closing_brace
-    → drop p.at p.tape.source.now ≡ b ∷ drop (p.at + 1) p.tape.source.now
-    → IsReading (record p { at = p.at + 1 })
-reading_byte p b reading inside some no_dollar no_backslash no_opening no_closing reads =
+-- inside a default, a run of bytes that have no meaning, and other reads
+pub reading_inner : (p : Parser) (tape : Tape) (to : ℕ) → tape.source ≡ p.tape.source → IsReading p → 0 < p.depth
+    → to ≤ length p.tape.source.now → IsRun IsInner p.tape.source.now p.at to
+    → IsReading (record p { tape = tape; at = to })
+reading_inner p tape to same reading some within run =
     let s = p.tape.source.now in
     let (default, rest, stack) =
     holds_open s (reverse p.defaults.items) p.depth p.parts.items p.literal_start p.at some reading.nested in
-    record {
+    reading_with (record p { at = to }) tape same (record {
       small = reading.small;
-      within = omega arith;
-      shallow = omega (arith, reading.shallow);
+      within = within;
+      shallow = omega (arith, reading.shallow, run.ends);
       nested =
           rw stack
-          (holds_byte s default rest p.depth p.parts.items p.literal_start p.at b (no_dollar, no_backslash) no_opening no_closing reads
+          (holds_inner s default rest p.depth p.parts.items p.literal_start p.at to run
           (subst (λ ds. StackHolds true s ds p.depth p.parts.items p.literal_start p.at) stack reading.nested));
-    }
+    })
 
 -- inside a default, a bare opening brace
 pub reading_opening : (p : Parser) → IsReading p → p.at < length p.tape.source.now → 0 < p.depth

@@ -7,6 +7,7 @@ use Rattle.subst_core.specs.Language.Tree as tree
 use Rattle.subst_core.specs.Language.Balanced.{IsBalanced}
 use Rattle.subst_core.specs.Language.Balanced.IsBalanced.{empty}
 use Rattle.subst_core.specs.Raw.ByteRun.{IsRun}
+use Rattle.subst_core.specs.Raw.Inner.{IsInner}
 use Rattle.subst_core.specs.Language.Bytes.{IsPlain}
 use Rattle.subst_core.specs.Raw.Span.{span_bytes}
 use Rattle.subst_core.specs.Raw.Placeholder.{IsInBraces}
@@ -23,10 +24,11 @@ use Rattle.subst_core.specs.Raw.Closing.{Completes}
 use Rattle.subst_core.proofs.Language.CountLemmas.{no_plain_ends}
 use Rattle.subst_core.proofs.Language.ItemLemmas.{default_balanced}
 use Rattle.subst_core.proofs.Raw.ByteRunLemmas.{run_append, run_nothing, run_one}
+use Rattle.subst_core.proofs.Raw.InnerLemmas.{inner_balanced, run_of_inner}
 use Rattle.subst_core.proofs.Raw.PartsLemmas.{mean_nothing, mean_default}
 use Rattle.subst_core.proofs.Raw.ParsedLemmas.{add_item, current_any, give_part, no_part}
 use Rattle.subst_core.proofs.Raw.TreeAtLemmas.{default_tree_at}
-use Rattle.subst_core.proofs.Raw.DepthLemmas.{depth_append, depth_balanced, depth_byte, depth_opening, depth_closing}
+use Rattle.subst_core.proofs.Raw.DepthLemmas.{depth_append, depth_balanced, depth_opening, depth_closing}
 
 -- a step of the text inside a default
 change_inside : {pending pending' : Bool} {s : List ℕ} {default : OpenDefault} {depth : ℕ} {parts : List Part}
@@ -108,14 +110,13 @@ pub holds_run : (s : List ℕ) (parts : List Part) (literal_start at to : ℕ) �
 holds_run s parts literal_start at to run within =
     (refl, record { level = within.1.level; run = run_append within.1.run run; begins = within.1.begins })
 
--- one more plain byte
-longer : {s : List ℕ} {start literal_start at i : ℕ} {own : List Part} (b : ℕ) → IsPlain b
-    → drop at s ≡ b ∷ drop (at + 1) s
-    → IsParsedWithTail true s start literal_start at i own → IsParsedWithTail true s start literal_start (at + 1) i (own ++ [])
-longer {s} {start} {literal_start} {at} {i} {own} b plain reads current =
-    subst (λ ps. IsParsedWithTail true s start literal_start (at + 1) i ps) (sym (append-nil own)) (record {
+-- more plain bytes
+longer : {s : List ℕ} {start literal_start at to i : ℕ} {own : List Part} → IsRun IsPlain s at to
+    → IsParsedWithTail true s start literal_start at i own → IsParsedWithTail true s start literal_start to i (own ++ [])
+longer {s} {start} {literal_start} {at} {to} {i} {own} run current =
+    subst (λ ps. IsParsedWithTail true s start literal_start to i ps) (sym (append-nil own)) (record {
       level = current.level;
-      run = run_append current.run (run_one plain reads);
+      run = run_append current.run run;
       begins = current.begins;
     })
 
@@ -128,17 +129,18 @@ byte_inside : (s : List ℕ) (default : OpenDefault) (defaults : List OpenDefaul
     → StackHolds true s (default ∷ defaults) after parts literal_start (at + 1)
 byte_inside s default defaults depth after parts literal_start at b bare plain reads within braces takes =
     subst (λ ps. StackHolds true s (default ∷ defaults) after ps literal_start (at + 1)) (append-nil parts)
-    (change_inside (b ∷ []) [] after literal_start (at + 1) within reads (λ start i own position current. longer b plain reads current) bare braces takes)
+    (change_inside (b ∷ []) [] after literal_start (at + 1) within reads (λ start i own position current. longer (run_one plain reads) current) bare braces takes)
 
--- a byte that is no brace
-pub holds_byte : (s : List ℕ) (default : OpenDefault) (defaults : List OpenDefault) (depth : ℕ)
-    (parts : List Part) (literal_start at b : ℕ)
-    → IsPlain b → b ≢ opening_brace → b ≢ closing_brace → drop at s ≡ b ∷ drop (at + 1) s
+-- a run of bytes that are no braces
+pub holds_inner : (s : List ℕ) (default : OpenDefault) (defaults : List OpenDefault) (depth : ℕ)
+    (parts : List Part) (literal_start at to : ℕ) → IsRun IsInner s at to
     → StackHolds true s (default ∷ defaults) depth parts literal_start at
-    → StackHolds true s (default ∷ defaults) depth parts literal_start (at + 1)
-holds_byte s default defaults depth parts literal_start at b plain no_opening no_closing reads within =
-    byte_inside s default defaults depth depth parts literal_start at b within.bare plain reads within within.braces
-    (depth_byte within.bare b plain.1 no_opening no_closing)
+    → StackHolds true s (default ∷ defaults) depth parts literal_start to
+holds_inner s default defaults depth parts literal_start at to run within =
+    subst (λ ps. StackHolds true s (default ∷ defaults) depth ps literal_start to) (append-nil parts)
+    (change_inside run.run [] depth literal_start to within run.spelled
+    (λ start i own position current. longer (run_of_inner run) current) within.bare within.braces
+    (depth_balanced within.bare (inner_balanced run.run run.each)))
 
 -- a bare opening brace
 pub holds_opening : (s : List ℕ) (default : OpenDefault) (defaults : List OpenDefault) (depth : ℕ)

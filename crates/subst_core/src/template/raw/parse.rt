@@ -152,7 +152,7 @@ impl<'s> Parser<'s> {
         }
     }
 
-    /// Reads, inside a default, one byte, or an escape or a placeholder.
+    /// Reads, inside a default, plain bytes and the brace, escape or placeholder after them.
     #[inline(always)]
     fn read_in_default(&mut self) -> Result<(), Halt>
         requires reading { IsReading self.old }
@@ -161,8 +161,9 @@ impl<'s> Parser<'s> {
         ensures answer { StepsOrFails self.old result self.new }
         ensures cost { StepReads self.old result self.new }
     {
+        self.at = self.tape.inner_end(self.at);
         match self.tape.byte_at(self.at) {
-            None => unreachable!(),
+            None => Ok(()),
             Some(b'\\') => self.read_escape(),
             Some(b'$') => self.read_placeholder(),
             Some(b'{') => {
@@ -170,11 +171,7 @@ impl<'s> Parser<'s> {
                 self.at += 1;
                 Ok(())
             }
-            Some(b'}') => self.close_brace(),
-            Some(_) => {
-                self.at += 1;
-                Ok(())
-            }
+            Some(_) => self.close_brace(),
         }
     }
 

@@ -5,8 +5,9 @@ ghost use Rattle.subst_core.specs.Language.Bytes.{IsPlain};
 ghost use Rattle.subst_core.specs.Language.Name.{IsNameByte, BeginsWithNo};
 ghost use Rattle.subst_core.specs.Language.Character.{IsFrontCharacter};
 ghost use Rattle.subst_core.specs.Raw.ByteRun.{IsRun};
+ghost use Rattle.subst_core.specs.Raw.Inner.{IsInner};
 
-use super::byte_class::is_name_byte;
+use super::byte_class::{is_inner, is_name_byte};
 use super::character::front_character;
 use crate::steps::Reads;
 use memchr::memchr2;
@@ -114,6 +115,26 @@ impl<'s> Tape<'s> {
         for (i, b) in self.rest(from).iter().enumerate() {
             self.reads.add(1);
             if !is_name_byte(*b) {
+                return from + i;
+            }
+        }
+        self.source.len()
+    }
+
+    /// Returns the first offset from `from` on of a backslash, a dollar or a brace, or the end of the source.
+    #[inline(always)]
+    pub fn inner_end(&mut self, from: usize) -> usize
+        requires { from ≤ length self.old.source.now }
+        ensures run { IsRun IsInner self.old.source.now from result }
+        ensures end { BeginsWithNo IsInner (drop result self.old.source.now) }
+        ensures within { result ≤ length self.old.source.now }
+        ensures same { self.new.source ≡ self.old.source }
+        ensures cost { self.new.reads + from
+            ≡ self.old.reads + min (result + 1) (length self.old.source.now) }
+    {
+        for (i, b) in self.rest(from).iter().enumerate() {
+            self.reads.add(1);
+            if !is_inner(*b) {
                 return from + i;
             }
         }
