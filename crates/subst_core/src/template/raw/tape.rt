@@ -124,6 +124,30 @@ impl<'s> Tape<'s> {
     /// Returns the first offset from `from` on of a backslash, a dollar or a brace, or the end of the source.
     #[inline(always)]
     pub fn inner_end(&mut self, from: usize) -> usize
+        requires { from < length self.old.source.now }
+        ensures run { IsRun IsInner self.old.source.now from result }
+        ensures end { BeginsWithNo IsInner (drop result self.old.source.now) }
+        ensures within { result ≤ length self.old.source.now }
+        ensures same { self.new.source ≡ self.old.source }
+        ensures cost { self.new.reads + from
+            ≡ self.old.reads + min (result + 1) (length self.old.source.now) }
+    {
+        match self.byte_at(from) {
+            None => from,
+            Some(b) => {
+                if is_inner(b) {
+                    self.search_inner_end(from + 1)
+                } else {
+                    from
+                }
+            }
+        }
+    }
+
+    /// Returns, by a search, the first offset from `from` on of a backslash, a dollar or a brace, or the end
+    /// of the source.
+    #[inline(never)]
+    fn search_inner_end(&mut self, from: usize) -> usize
         requires { from ≤ length self.old.source.now }
         ensures run { IsRun IsInner self.old.source.now from result }
         ensures end { BeginsWithNo IsInner (drop result self.old.source.now) }
@@ -132,13 +156,15 @@ impl<'s> Tape<'s> {
         ensures cost { self.new.reads + from
             ≡ self.old.reads + min (result + 1) (length self.old.source.now) }
     {
-        for (i, b) in self.rest(from).iter().enumerate() {
+        let mut at = from;
+        while at < self.source.len() {
             self.reads.add(1);
-            if !is_inner(*b) {
-                return from + i;
+            if !is_inner(self.source[at]) {
+                return at;
             }
+            at += 1;
         }
-        self.source.len()
+        at
     }
 
     /// Returns the character at an offset, or the byte there where no character begins. Looks at up to four
