@@ -1,6 +1,6 @@
 //! Reading a source once, from the left, into a list of parts.
 
-ghost use Rattle.std.specs.Prelude.{◌≡◌, ◌+◌, ◌-◌, ◌*◌, ◌<◌, ◌≤◌, ℕ, List, ◌∷◌, length, drop, reverse, slice_get, vec_len, IfOk, IfErr, OnOk, IfSome, IsTrue, ◌↔◌};
+ghost use Rattle.std.specs.Prelude.{◌≡◌, ◌+◌, ◌-◌, ◌*◌, ◌<◌, ◌≤◌, ℕ, List, [], ◌∷◌, length, drop, reverse, slice_get, vec_len, IfOk, IfErr, OnOk, IfSome, IsTrue, ◌↔◌};
 ghost use Rattle.subst_error.specs.ErrorFault.{parse_fault};
 ghost use Rattle.subst_error.specs.Fault.{MissingClosingBrace};
 ghost use Rattle.subst_core.specs.Language.Bytes.{dollar, colon, backslash, closing_brace};
@@ -20,6 +20,9 @@ use crate::steps::Reads;
 use std::alloc::{AllocError, Global};
 use std::mem;
 use subst_error::ParseError;
+
+/// For how many parts there is room at first, so that the lists of most templates are allocated once.
+const FIRST_PARTS: usize = 16;
 
 /// A default whose closing brace hasn't been read yet.
 #[derive(Clone, Copy)]
@@ -83,9 +86,10 @@ impl<'s> Parser<'s> {
         ensures source { result.tape ≡ tape.entry }
         ensures start { result.at ≡ 0 }
     {
+        let parts = empty_list(alloc, tape.has(0));
         Parser {
             tape,
-            parts: Vec::new(alloc),
+            parts,
             defaults: Vec::new(alloc),
             depth: 0,
             literal_start: 0,
@@ -367,6 +371,18 @@ impl<'s> Parser<'s> {
         self.flush_literal()?;
         Ok(())
     }
+}
+
+/// Returns an empty list of parts, with room for a few where some are to come.
+fn empty_list(alloc: Global, some: bool) -> Vec<Part>
+    ensures { result.items ≡ [] }
+{
+    let mut parts = Vec::new(alloc);
+    if some {
+        // Where there is no memory for it, a push will say so.
+        let _ = parts.reserve(FIRST_PARTS);
+    }
+    parts
 }
 
 /// Returns the fault of a default that is never closed.

@@ -7,5 +7,5 @@ returns-clause-reading c = record {
   small = omega arith;
   within = omega arith;
   shallow = omega arith;
-  nested = rw (c.new.ensures.items, c.new-2.ensures.items) (holds_start c.args.tape.source.now);
+  nested = rw (c.empty_list-parts.ensures, c.new.ensures.items) (holds_start c.args.tape.source.now);
 }
