@@ -6,6 +6,7 @@ pub mod ExpandLemmas
 pub mod FilledLemmas
 pub mod InnerLemmas
 pub mod LiftLemmas
+pub mod OpenPartLemmas
 pub mod ParsedLemmas
 pub mod ParserLemmas
 pub mod PartOfLemmas

@@ -1,5 +1,5 @@
 -- From what the parser has read to the fault of the whole source.
-use Rattle.std.proofs.Common.{◌≡◌, ℕ, suc, ◌+◌, ◌-◌, false, List, [], ◌∷◌, ◌++◌, length, drop, refl, sym, ap, ◌∙◌, subst, append_assoc, append-nil, arith}
+use Rattle.std.proofs.Common.{◌≡◌, ℕ, suc, ◌+◌, ◌-◌, ◌<◌, false, List, [], ◌∷◌, ◌++◌, length, drop, refl, sym, ap, ◌∙◌, subst, append_assoc, append-nil, arith}
 use Rattle.std.proofs.lemmas.List.{append_cancel_right}
 use Rattle.subst_core.specs.Language.Bytes.{colon, closing_brace, dollar, opening_brace}
 use Rattle.subst_core.specs.Language.Name.{IsName}
@@ -12,10 +12,12 @@ use Rattle.subst_core.specs.Language.BadItem.IsBad.{inside, unclosed}
 use Rattle.subst_core.specs.Language.BadItem.HasFault.{fault_after}
 use Rattle.subst_core.specs.Raw.Closing.{ClosesAll}
 use Rattle.subst_core.specs.Raw.Placeholder.{IsInBraces}
-use Rattle.subst_core.specs.Raw.Parts.{IsTemplateOf}
+use Rattle.subst_core.specs.Raw.Parts.{IsTemplateOf, HasName}
 use Rattle.subst_core.specs.Raw.Closing.{ChangesDepth}
 use Rattle.subst_core.specs.Raw.Parsing.{IsTreeAt, IsParsedWithTail, StackHoldsFlushed}
+use Rattle.subst_core.specs.declared.template.raw.Span.{Span}
 use Rattle.subst_core.specs.declared.template.raw.Part.{Part}
+use Rattle.subst_core.specs.declared.template.raw.Part.TheVariants.{Default}
 use Rattle.subst_core.specs.declared.template.raw.parse.OpenDefault.{OpenDefault}
 use Rattle.subst_core.proofs.Language.TreeLemmas.{join}
 use Rattle.subst_core.proofs.Language.PlainLemmas.{plains}
@@ -25,6 +27,7 @@ use Rattle.subst_core.proofs.Language.ClosingLemmas.{gather, closes_one, complet
 use Rattle.subst_core.proofs.Language.ItemLemmas.{default_balanced, default_text}
 use Rattle.subst_core.proofs.Language.NameLemmas.{name_balanced}
 use Rattle.subst_core.proofs.Raw.StackHoldsLemmas.{holds_some}
+use Rattle.subst_core.proofs.Raw.OpenPartLemmas.{named_after, name_unique}
 
 -- a bad item after a tree is the fault of the text that begins where the tree does
 fault_at : {s : List ℕ} {from at : ℕ} {t : Tree} (r : List ℕ) (f : Fault) → IsTreeAt s from at t → IsBad at r f
@@ -56,7 +59,7 @@ lift s [] depth parts literal_start at y z f within reads balanced bad cut close
     subst (λ x. HasFault 0 x f) (sym (at_tree.spelled ∙ rw reads refl)) (fault_at (y ++ z) f at_tree bad)
 lift s (default ∷ defaults) depth parts literal_start at y z f within reads balanced bad cut closes =
     let at_tree = current_tree_at within.current in
-    let n = span_bytes default.name s in
+    let n = span_bytes within.name s in
     let read = text (join within.current.level.tree (plains within.current.run.run)) in
     let count : depth ≡ suc (within.bare + default.depth) = omega (arith, within.braces) in
     let (v, q, completes, is, rest) =
@@ -67,11 +70,11 @@ lift s (default ∷ defaults) depth parts literal_start at y z f within reads ba
     let closed : IsBalanced w =
     subst (λ x. IsBalanced (x ++ (y ++ v))) same
     (within.change.completed (y ++ v) (completes_balanced within.bare v balanced completes)) in
-    let start : default.name.end + 1 ≡ within.position + 3 + length n =
+    let start : within.name.end + 1 ≡ within.position + 3 + length n =
     omega (arith, within.head.starts, within.head.named.ends) in
     let fault : HasFault (within.position + 3 + length n) w f =
     subst (λ p. HasFault p w f) start (fault_at (y ++ v) f at_tree (cut v q is)) in
-    let again : drop (default.name.end + 1) s ≡ w ++ closing_brace ∷ q =
+    let again : drop (within.name.end + 1) s ≡ w ++ closing_brace ∷ q =
     cut_again read y v q at_tree.spelled reads is in
     let around : drop within.position s
     ≡ (dollar ∷ opening_brace ∷ n ++ (colon ∷ w ++ closing_brace ∷ [])) ++ q =
@@ -91,60 +94,100 @@ depth_front d n valid =
     (depth_append (suc d) (suc d) (suc d) n (colon ∷ []) (depth_balanced (suc d) (name_balanced n valid))
     (depth_byte (suc d) colon (λ is. omega (arith, is)) (λ is. omega (arith, is)) (λ is. omega (arith, is)))))
 
--- Where the outermost default closes, all braces that are open after what was read close too.
-close_all : (s : List ℕ) (inner : List OpenDefault) (outermost : OpenDefault) (depth : ℕ) (parts : List Part)
-    (literal_start at : ℕ)
-    → StackHoldsFlushed s (inner ++ outermost ∷ []) depth parts literal_start at → Closes (drop (outermost.name.end + 1) s)
-    → ClosesAll depth (drop at s)
-close_all s [] outermost depth parts literal_start at within closes =
-    within.change.closed 0 1 depth (drop at s) (omega arith) (omega (arith, within.braces, within.around.0))
-    (subst (ClosesAll 1) within.spelled ((closes_one (drop (outermost.name.end + 1) s)).1 closes))
-close_all s (default ∷ inner) outermost depth parts literal_start at within closes =
-    let n = span_bytes default.name s in
+-- the outermost default: its part among all parts, what is before it, and that all braces which are open after
+-- what was read close where it does
+record IsOutermost (s : List ℕ) (outermost : OpenDefault) (depth : ℕ) (parts : List Part) (at : ℕ) : Type 0 where
+  before : List Part
+  own : List Part
+  name : Span
+  next : ℕ
+  splits : parts ≡ before ++ Default name next ∷ own
+  part : outermost.part ≡ length before
+  position : ℕ
+  head : IsInBraces s position name colon
+  current : IsParsedWithTail false s 0 position position 0 before
+  closes : Closes (drop (name.end + 1) s) → ClosesAll depth (drop at s)
+
+-- where the outermost default is
+find_outermost : (s : List ℕ) (inner : List OpenDefault) (outermost : OpenDefault) (depth : ℕ)
+    (parts : List Part) (literal_start at : ℕ)
+    → StackHoldsFlushed s (inner ++ outermost ∷ []) depth parts literal_start at
+    → IsOutermost s outermost depth parts at
+find_outermost s [] outermost depth parts literal_start at within = record {
+  before = within.before;
+  own = within.own;
+  name = within.name;
+  next = within.next;
+  splits = within.splits;
+  part = within.part;
+  position = within.position;
+  head = within.head;
+  current = within.around.1;
+  closes = λ closes.
+      within.change.closed 0 1 depth (drop at s) (omega arith) (omega (arith, within.braces, within.around.0))
+      (subst (ClosesAll 1) within.spelled ((closes_one (drop (within.name.end + 1) s)).1 closes));
+}
+find_outermost s (default ∷ inner) outermost depth parts literal_start at within =
+    let n = span_bytes within.name s in
     let valid = within.head.named.valid in
     let some =
     holds_some s inner outermost default.depth within.before within.position within.position within.around in
-    let before =
-    close_all s inner outermost default.depth within.before within.position within.position within.around closes in
+    let found =
+    find_outermost s inner outermost default.depth within.before within.position within.position within.around in
     let spelled : drop within.position s ≡ (dollar ∷ opening_brace ∷ n ++ colon ∷ []) ++ (within.read ++ drop at s) =
     within.head.spelled ∙ rw (within.spelled, append_assoc) refl in
-    let after =
-    (depth_front 0 n valid).closed (default.depth - 1) default.depth (suc default.depth) (within.read ++ drop at s)
-    (omega arith) (omega arith) (subst (ClosesAll default.depth) spelled before) in
-    within.change.closed default.depth (suc default.depth) depth (drop at s) (omega arith)
-    (omega (arith, within.braces)) after
+    record {
+      before = found.before;
+      own = found.own ++ Default within.name within.next ∷ within.own;
+      name = found.name;
+      next = found.next;
+      splits = within.splits
+          ∙ (ap (λ (parts : List Part). parts ++ Default within.name within.next ∷ within.own) found.splits
+          ∙ append_assoc found.before (Default found.name found.next ∷ found.own) (Default within.name within.next ∷ within.own));
+      part = found.part;
+      position = found.position;
+      head = found.head;
+      current = found.current;
+      closes = λ closes.
+          let after =
+          (depth_front 0 n valid).closed (default.depth - 1) default.depth (suc default.depth) (within.read ++ drop at s)
+          (omega arith) (omega arith) (subst (ClosesAll default.depth) spelled (found.closes closes)) in
+          within.change.closed default.depth (suc default.depth) depth (drop at s) (omega arith)
+          (omega (arith, within.braces)) after;
+    }
 
--- where the outermost default is
-pub find_outermost : (s : List ℕ) (inner : List OpenDefault) (outermost : OpenDefault) (depth : ℕ)
+-- the name in its part is after a dollar and a brace
+pub outermost_head : (s : List ℕ) (inner : List OpenDefault) (outermost : OpenDefault) (depth : ℕ)
     (parts : List Part) (literal_start at : ℕ)
     → StackHoldsFlushed s (inner ++ outermost ∷ []) depth parts literal_start at
-    → (before : List Part) × (position : ℕ) × IsInBraces s position outermost.name colon
-    × IsParsedWithTail false s 0 position position 0 before
-find_outermost s [] outermost depth parts literal_start at within =
-    (within.before, within.position, within.head, within.around.1)
-find_outermost s (default ∷ inner) outermost depth parts literal_start at within =
-    find_outermost s inner outermost default.depth within.before within.position within.position within.around
+    → (name : Span) × HasName parts outermost.part name × (0 < name.start)
+outermost_head s inner outermost depth parts literal_start at within =
+    let found = find_outermost s inner outermost depth parts literal_start at within in
+    (found.name, named_after parts found.before found.own found.name found.next outermost.part found.splits found.part, omega (arith, found.head.starts))
 
 -- Where not all open braces close, the outermost default is the fault of the source.
 pub unclosed_outermost : (s : List ℕ) (inner : List OpenDefault) (outermost : OpenDefault) (depth : ℕ)
-    (parts : List Part) (literal_start at : ℕ)
-    → StackHoldsFlushed s (inner ++ outermost ∷ []) depth parts literal_start at → ¬ (ClosesAll depth (drop at s))
-    → HasFault 0 s (MissingClosingBrace (outermost.name.start - 1))
-unclosed_outermost s inner outermost depth parts literal_start at within unclosed_there =
-    let (before, position, front, current) = find_outermost s inner outermost depth parts literal_start at within in
-    let at_tree = current_tree_at current in
-    let n = span_bytes outermost.name s in
-    let bad : IsBad position (dollar ∷ opening_brace ∷ n ++ colon ∷ drop (outermost.name.end + 1) s) (MissingClosingBrace (position + 1)) =
-    unclosed n (drop (outermost.name.end + 1) s) front.named.valid
-    (λ closes. unclosed_there (close_all s inner outermost depth parts literal_start at within closes)) in
-    let fault =
-    fault_at (dollar ∷ opening_brace ∷ n ++ colon ∷ drop (outermost.name.end + 1) s)
-    (MissingClosingBrace (position + 1)) at_tree bad in
-    let brace : position + 1 ≡ outermost.name.start - 1 = omega (arith, front.starts) in
-    let spelled : s ≡ text (join current.level.tree (plains current.run.run)) ++ (dollar ∷ opening_brace ∷ n ++ colon ∷ drop (outermost.name.end + 1) s) =
-    at_tree.spelled ∙ ap (λ x. text (join current.level.tree (plains current.run.run)) ++ x) front.spelled in
+    (parts : List Part) (literal_start at : ℕ) (name : Span)
+    → StackHoldsFlushed s (inner ++ outermost ∷ []) depth parts literal_start at
+    → HasName parts outermost.part name → ¬ (ClosesAll depth (drop at s))
+    → HasFault 0 s (MissingClosingBrace (name.start - 1))
+unclosed_outermost s inner outermost depth parts literal_start at name within named unclosed_there =
+    let found = find_outermost s inner outermost depth parts literal_start at within in
+    let same : found.name ≡ name =
+    name_unique parts outermost.part found.name name
+    (named_after parts found.before found.own found.name found.next outermost.part found.splits found.part) named in
+    let at_tree = current_tree_at found.current in
+    let n = span_bytes found.name s in
+    let rest = dollar ∷ opening_brace ∷ n ++ colon ∷ drop (found.name.end + 1) s in
+    let bad : IsBad found.position rest (MissingClosingBrace (found.position + 1)) =
+    unclosed n (drop (found.name.end + 1) s) found.head.named.valid (λ closes. unclosed_there (found.closes closes)) in
+    let fault = fault_at rest (MissingClosingBrace (found.position + 1)) at_tree bad in
+    let brace : found.position + 1 ≡ name.start - 1 =
+    omega (arith, found.head.starts, ap (λ (name : Span). name.start) same) in
+    let tree = join found.current.level.tree (plains found.current.run.run) in
+    let spelled : s ≡ text tree ++ rest = at_tree.spelled ∙ ap (λ x. text tree ++ x) found.head.spelled in
     subst (λ q. HasFault 0 s (MissingClosingBrace q)) brace
-    (subst (λ x. HasFault 0 x (MissingClosingBrace (position + 1))) (sym spelled) fault)
+    (subst (λ x. HasFault 0 x (MissingClosingBrace (found.position + 1))) (sym spelled) fault)
 
 -- At the end of the source, where no default is open and all plain bytes have their parts, the parts are its
 -- template.

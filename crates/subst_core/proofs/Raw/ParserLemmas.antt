@@ -11,7 +11,7 @@ use Rattle.subst_core.specs.Language.Balanced.IsBalanced.{empty}
 use Rattle.subst_core.specs.Raw.Closing.{ClosesAll}
 use Rattle.subst_error.specs.Fault.{Fault, MissingClosingBrace}
 use Rattle.subst_core.specs.Language.BadItem.{HasFault}
-use Rattle.subst_core.specs.Raw.Parts.{IsTemplateOf}
+use Rattle.subst_core.specs.Raw.Parts.{IsTemplateOf, HasName}
 use Rattle.subst_core.specs.Raw.Halt.{halt_fault}
 use Rattle.subst_core.specs.declared.template.raw.halt.Halt.{Halt}
 use Rattle.std.specs.Option.{IfSome, IsSomeAnd}
@@ -26,7 +26,8 @@ use Rattle.subst_core.specs.declared.template.raw.tape.Tape.{Tape}
 use Rattle.subst_core.proofs.Language.ListLemmas.{split_last, split_first, reverse_last}
 use Rattle.subst_core.proofs.Raw.StackHoldsLemmas.{holds_tree, holds_inner, holds_opening, holds_closing, holds_default, holds_closed, holds_run, holds_any, holds_some, holds_open, holds_top}
 use Rattle.subst_core.proofs.Raw.PartOfLemmas.{optional_part}
-use Rattle.subst_core.proofs.Raw.LiftLemmas.{lift, unclosed_outermost, find_outermost, template_at_end}
+use Rattle.subst_core.proofs.Raw.LiftLemmas.{lift, unclosed_outermost, outermost_head, template_at_end}
+use Rattle.subst_core.proofs.Raw.OpenPartLemmas.{named_after, name_unique}
 use Rattle.subst_core.proofs.Language.ClosingLemmas.{closes_nothing}
 
 -- a byte that isn't plain and no backslash is a dollar
@@ -119,7 +120,7 @@ pub reading_opened : (old mid : Parser) (parts : Vec Part Global) (defaults : Ve
     (name : Span)
     → IsReading old → IsFlushed old mid → IsInBraces old.tape.source.now old.at name colon
     → defaults.items
-    ≡ mid.defaults.items ++ record { part = mid.parts.len; name = name; depth = mid.depth } ∷ []
+    ≡ mid.defaults.items ++ record { part = mid.parts.len; depth = mid.depth } ∷ []
     → parts.items ≡ mid.parts.items ++ Default name 0 ∷ []
     → IsReading (record mid { parts = parts; defaults = defaults; depth = mid.depth + 1; literal_start = name.end + 1; at = name.end + 1 })
     × (mid.tape.source ≡ old.tape.source) × (old.at < name.end + 1)
@@ -130,7 +131,7 @@ reading_opened old mid parts defaults name reading given front pushed_default pu
     let depth = ap (λ (p : Parser). p.depth) given.0 in
     let opened =
     holds_default s (reverse old.defaults.items) old.depth mid.parts.items old.at name front given.1 in
-    let stack : reverse defaults.items ≡ record { part = length mid.parts.items; name = name; depth = old.depth } ∷ reverse old.defaults.items =
+    let stack : reverse defaults.items ≡ record { part = length mid.parts.items; depth = old.depth } ∷ reverse old.defaults.items =
     ap reverse pushed_default ∙ reverse_last mid.defaults.items _ ∙ rw (same, depth, mid.parts.ok.0) refl in (
       record {
         small = rw tape reading.small;
@@ -152,25 +153,33 @@ given_innermost old mid front innermost given split =
 
 -- a default closes
 pub reading_closed : (old mid : Parser) (front : List OpenDefault) (parts : Vec Part Global)
-    (defaults : Vec OpenDefault Global) (innermost : OpenDefault)
+    (defaults : Vec OpenDefault Global) (innermost : OpenDefault) (name : Span)
     → IsReading old → IsFlushed old mid → old.at < length old.tape.source.now
     → drop old.at old.tape.source.now ≡ closing_brace ∷ drop (old.at + 1) old.tape.source.now
     → innermost.depth + 1 ≡ old.depth → old.defaults.items ≡ front ++ innermost ∷ [] → defaults.items ≡ front
-    → parts.items ≡ set mid.parts.items innermost.part (Default innermost.name mid.parts.len)
+    → HasName mid.parts.items innermost.part name
+    → parts.items ≡ set mid.parts.items innermost.part (Default name mid.parts.len)
     → IsReading (record mid { parts = parts; defaults = defaults; depth = innermost.depth; literal_start = mid.at + 1; at = mid.at + 1 })
     × (mid.tape.source ≡ old.tape.source) × (old.at < mid.at + 1)
-reading_closed old mid front parts defaults innermost reading given inside reads closes split popped jumped =
+reading_closed old mid front parts defaults innermost name reading given inside reads closes split popped named jumped =
     let s = old.tape.source.now in
     let tape = ap (λ (p : Parser). p.tape) given.0 in
     let at = ap (λ (p : Parser). p.at) given.0 in
     let nested = given_innermost old mid front innermost given split in
+    let same : name ≡ nested.name =
+    name_unique mid.parts.items innermost.part name nested.name named
+    (named_after mid.parts.items nested.before nested.own nested.name nested.next innermost.part nested.splits nested.part) in
     let closed =
-    holds_closed s innermost (reverse front) old.depth mid.parts.items old.at closes reads nested in (
+    holds_closed s innermost (reverse front) old.depth mid.parts.items old.at closes reads nested in
+    let known =
+    subst
+    (λ (n : Span). StackHolds true s (reverse front) innermost.depth (set mid.parts.items innermost.part (Default n (length mid.parts.items))) (old.at + 1) (old.at + 1))
+    (sym same) closed in (
       record {
         small = rw tape reading.small;
         within = rw (tape, at) (omega arith);
         shallow = omega (arith, at, reading.shallow);
-        nested = rw (tape, at, popped, jumped, mid.parts.ok.0) closed;
+        nested = rw (tape, at, popped, jumped, mid.parts.ok.0) known;
       },
       ap (λ (t : Tape). t.source) tape,
       omega (arith, at),
@@ -269,22 +278,28 @@ reading_outermost p outermost reading first =
     (reverse split.0, subst (λ ds. StackHoldsFlushed p.tape.source.now ds p.depth p.parts.items p.literal_start p.at) stack (reading_within p reading))
 
 -- the fault of a default that is never closed
-pub fault_unclosed : (p : Parser) (outermost : OpenDefault) → IsReading p
-    → slice_get p.defaults.items 0 ≡ Some outermost
+pub fault_unclosed : (p : Parser) (outermost : OpenDefault) (name : Span) → IsReading p
+    → slice_get p.defaults.items 0 ≡ Some outermost → HasName p.parts.items outermost.part name
     → ¬ (ClosesAll p.depth (drop p.at p.tape.source.now))
-    → HasFault 0 p.tape.source.now (MissingClosingBrace (outermost.name.start - 1))
-fault_unclosed p outermost reading first unclosed =
+    → HasFault 0 p.tape.source.now (MissingClosingBrace (name.start - 1))
+fault_unclosed p outermost name reading first named unclosed =
     let (inner, within) = reading_outermost p outermost reading first in
-    unclosed_outermost p.tape.source.now inner outermost p.depth p.parts.items p.literal_start p.at within unclosed
+    unclosed_outermost p.tape.source.now inner outermost p.depth p.parts.items p.literal_start p.at name within named unclosed
 
--- the name of an open default is after a dollar and a brace
-pub outermost_starts : (p : Parser) (outermost : OpenDefault) → IsReading p
-    → slice_get p.defaults.items 0 ≡ Some outermost → 0 < outermost.name.start
-outermost_starts p outermost reading first =
+-- the part of the outermost default has its name
+pub outermost_named : (p : Parser) (outermost : OpenDefault) → IsReading p
+    → slice_get p.defaults.items 0 ≡ Some outermost
+    → (name : Span) × HasName p.parts.items outermost.part name × (0 < name.start)
+outermost_named p outermost reading first =
     let (inner, within) = reading_outermost p outermost reading first in
-    let found =
-    find_outermost p.tape.source.now inner outermost p.depth p.parts.items p.literal_start p.at within in
-    omega (arith, found.2.starts)
+    outermost_head p.tape.source.now inner outermost p.depth p.parts.items p.literal_start p.at within
+
+-- which is after a dollar and a brace
+pub outermost_starts : (p : Parser) (outermost : OpenDefault) (name : Span) → IsReading p
+    → slice_get p.defaults.items 0 ≡ Some outermost → HasName p.parts.items outermost.part name → 0 < name.start
+outermost_starts p outermost name reading first named =
+    let (head, found, starts) = outermost_named p outermost reading first in
+    omega (arith, starts, ap (λ (name : Span). name.start) (name_unique p.parts.items outermost.part head name found named))
 
 -- what is bad at the byte offset that was reached is the fault of the source, where all open braces close
 pub fault_closed : (p : Parser) (f : Fault) → IsReading p → IsBadWhenCut p.at (drop p.at p.tape.source.now) f
@@ -314,6 +329,13 @@ reading_end p mid reading given end none =
     template_at_end s mid.parts.items p.at (drop_all p.at s end)
     (subst (λ d. StackHoldsFlushed s [] d mid.parts.items p.at p.at) nested.0 nested)
 
+-- the part of the innermost default has its name
+pub innermost_named : (old mid : Parser) (front : List OpenDefault) (innermost : OpenDefault) → IsFlushed old mid
+    → old.defaults.items ≡ front ++ innermost ∷ [] → (name : Span) × HasName mid.parts.items innermost.part name
+innermost_named old mid front innermost given split =
+    let nested = given_innermost old mid front innermost given split in
+    (nested.name, named_after mid.parts.items nested.before nested.own nested.name nested.next innermost.part nested.splits nested.part)
+
 -- the variable of the innermost default is one of the parts
 pub variable_inside : (old mid : Parser) (front : List OpenDefault) (innermost : OpenDefault) → IsFlushed old mid
     → old.defaults.items ≡ front ++ innermost ∷ [] → innermost.part < mid.parts.len
@@ -335,13 +357,14 @@ read_before_open p outermost reading first =
     omega (arith, reading.shallow, depth_open p outermost reading first)
 
 -- at the end of the source, a default that is open is never closed
-pub fault_at_end : (p : Parser) (outermost : OpenDefault) → IsReading p → length p.tape.source.now ≤ p.at
-    → slice_get p.defaults.items 0 ≡ Some outermost
-    → HasFault 0 p.tape.source.now (MissingClosingBrace (outermost.name.start - 1))
-fault_at_end p outermost reading end first =
+pub fault_at_end : (p : Parser) (outermost : OpenDefault) (name : Span) → IsReading p
+    → length p.tape.source.now ≤ p.at
+    → slice_get p.defaults.items 0 ≡ Some outermost → HasName p.parts.items outermost.part name
+    → HasFault 0 p.tape.source.now (MissingClosingBrace (name.start - 1))
+fault_at_end p outermost name reading end first named =
     let some = depth_open p outermost reading first in
     let depth : p.depth ≡ suc (p.depth - 1) = omega arith in
-    fault_unclosed p outermost reading first
+    fault_unclosed p outermost name reading first named
     (λ closes. closes_nothing (p.depth - 1)
     (subst (λ d. ClosesAll d []) depth (subst (ClosesAll p.depth) (drop_all p.at p.tape.source.now end) closes)))
 

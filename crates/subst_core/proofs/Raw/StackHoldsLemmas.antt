@@ -45,13 +45,14 @@ change_inside {s = s} {default = default}
     record {
       before = inside.before;
       own = inside.own ++ new;
+      name = inside.name;
       next = inside.next;
       splits = ap (λ parts. parts ++ new) inside.splits
-          ∙ append_assoc inside.before (Default default.name inside.next ∷ inside.own) new;
+          ∙ append_assoc inside.before (Default inside.name inside.next ∷ inside.own) new;
       part = inside.part;
       position = inside.position;
       head = inside.head;
-      current = step (default.name.end + 1) (length inside.before + 1) inside.own
+      current = step (inside.name.end + 1) (length inside.before + 1) inside.own
           (omega (arith, simp length-append at (ap length inside.splits))) inside.current;
       bare = bare;
       braces = braces;
@@ -168,11 +169,12 @@ holds_closing s default defaults depth parts literal_start at bare reads within 
 pub holds_default : (s : List ℕ) (defaults : List OpenDefault) (depth : ℕ) (parts : List Part) (at : ℕ)
     (name : Span)
     → IsInBraces s at name colon → StackHoldsFlushed s defaults depth parts at at
-    → StackHolds true s (record { part = length parts; name = name; depth = depth } ∷ defaults) (depth + 1) (parts ++ Default name 0 ∷ [])
+    → StackHolds true s (record { part = length parts; depth = depth } ∷ defaults) (depth + 1) (parts ++ Default name 0 ∷ [])
     (name.end + 1) (name.end + 1)
 holds_default s defaults depth parts at name front within = record {
   before = parts;
   own = [];
+  name = name;
   next = 0;
   splits = refl;
   part = refl;
@@ -211,33 +213,33 @@ read_balanced s default depth parts at Around inside closes =
 pub holds_closed : (s : List ℕ) (default : OpenDefault) (defaults : List OpenDefault) (depth : ℕ)
     (parts : List Part) (at : ℕ)
     → default.depth + 1 ≡ depth → drop at s ≡ closing_brace ∷ drop (at + 1) s
-    → StackHoldsFlushed s (default ∷ defaults) depth parts at at
-    → StackHolds true s defaults default.depth (set parts default.part (Default default.name (length parts))) (at + 1) (at + 1)
+    → (inside : StackHoldsFlushed s (default ∷ defaults) depth parts at at)
+    → StackHolds true s defaults default.depth (set parts default.part (Default inside.name (length parts))) (at + 1) (at + 1)
 holds_closed s default defaults depth parts at closes reads inside =
     let level = inside.current.level in
     let t = level.tree in
-    let n = span_bytes default.name s in
+    let n = span_bytes inside.name s in
     let balanced =
     read_balanced s default depth parts at
     (λ before position. StackHoldsFlushed s defaults default.depth before position position) inside closes in
     let count : length parts ≡ length inside.before + 1 + length inside.own =
     omega (arith, simp length-append at (ap length inside.splits)) in
-    let start : default.name.end + 1 ≡ inside.position + 3 + length n =
+    let start : inside.name.end + 1 ≡ inside.position + 3 + length n =
     omega (arith, inside.head.starts, inside.head.named.ends) in
-    let mean : PartsMean s (length inside.before) (Default default.name (length parts) ∷ inside.own) inside.position (Then (tree.Default n t) Empty) =
+    let mean : PartsMean s (length inside.before) (Default inside.name (length parts) ∷ inside.own) inside.position (Then (tree.Default n t) Empty) =
     subst
-    (λ next. PartsMean s (length inside.before) (Default default.name next ∷ inside.own) inside.position (Then (tree.Default n t) Empty)) (sym count)
-    (mean_default s (length inside.before) default.name inside.own inside.position t inside.head.named.inside inside.head.named.valid
+    (λ next. PartsMean s (length inside.before) (Default inside.name next ∷ inside.own) inside.position (Then (tree.Default n t) Empty)) (sym count)
+    (mean_default s (length inside.before) inside.name inside.own inside.position t inside.head.named.inside inside.head.named.valid
     (subst (λ p. PartsMean s (length inside.before + 1) inside.own p t) start level.mean)) in
     let added =
     holds_tree s defaults default.depth inside.before
-    (Default default.name (length parts) ∷ inside.own) inside.position (at + 1)
+    (Default inside.name (length parts) ∷ inside.own) inside.position (at + 1)
     (Then (tree.Default n t) Empty)
-    (default_tree_at s inside.position (at + 1) default.name t inside.head level.read.well_formed balanced
+    (default_tree_at s inside.position (at + 1) inside.name t inside.head level.read.well_formed balanced
     (level.read.spelled ∙ rw reads refl) (omega (arith, level.read.ends)))
     (rw append-nil (default_balanced n (text t) inside.head.named.valid balanced)) (no_plain_ends (tree.Default n t) refl) mean inside.around in
     subst (λ ps. StackHolds true s defaults default.depth ps (at + 1) (at + 1))
-    (sym (rw (inside.splits, inside.part) (set-append_seam inside.before (Default default.name inside.next) inside.own _)))
+    (sym (rw (inside.splits, inside.part) (set-append_seam inside.before (Default inside.name inside.next) inside.own _)))
     added
 
 -- what is fresh, taken as fresh or not

@@ -12,6 +12,7 @@ use Rattle.subst_core.specs.Raw.Halt.{halt_fault}
 use Rattle.subst_core.specs.Raw.Placeholder.{IsInBraces}
 use Rattle.subst_core.specs.Raw.PlainEnds.{ends_plain, HasNoPlainEnds}
 use Rattle.subst_core.specs.Raw.Parts.{PartsMean}
+use Rattle.subst_core.specs.declared.template.raw.Span.{Span}
 use Rattle.subst_core.specs.declared.template.raw.Part.{Part}
 use Rattle.subst_core.specs.declared.template.raw.Part.TheVariants.{Default}
 use Rattle.subst_core.specs.declared.template.raw.halt.Halt.{Halt}
@@ -47,16 +48,17 @@ pub record IsOpenDefault (pending : Bool) (s : List ℕ) (default : OpenDefault)
     (literal_start at : ℕ) (Around : List Part → ℕ → Type 0) : Type 0 where
   pub before : List Part
   pub own : List Part
+  pub name : Span
   pub next : ℕ
-  pub splits : parts ≡ before ++ Default default.name next ∷ own
+  pub splits : parts ≡ before ++ Default name next ∷ own
   pub part : default.part ≡ length before
   pub position : ℕ
-  pub head : IsInBraces s position default.name colon
-  pub current : IsParsedWithTail pending s (default.name.end + 1) literal_start at (length before + 1) own
+  pub head : IsInBraces s position name colon
+  pub current : IsParsedWithTail pending s (name.end + 1) literal_start at (length before + 1) own
   pub bare : ℕ
   pub braces : depth ≡ suc (default.depth + bare)
   pub read : List ℕ
-  pub spelled : drop (default.name.end + 1) s ≡ read ++ drop at s
+  pub spelled : drop (name.end + 1) s ≡ read ++ drop at s
   pub change : ChangesDepth read 0 bare
   pub around : Around before position
 

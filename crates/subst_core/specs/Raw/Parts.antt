@@ -7,6 +7,8 @@ use Rattle.subst_core.specs.Language.LookUp.{LookUp}
 use Rattle.subst_core.specs.Language.Value.{Value, Bytes, Missing, joined, found_or, value}
 use Rattle.subst_core.specs.Language.Counts.{visited_count}
 use Rattle.subst_core.specs.Raw.Span.{IsSpan, span_bytes}
+use Rattle.std.specs.List.{slice_get}
+use Rattle.subst_core.specs.declared.template.raw.Span.{Span}
 use Rattle.subst_core.specs.declared.template.raw.Part.{Part}
 use Rattle.subst_core.specs.declared.template.raw.Part.TheVariants.{Literal, Escaped, Variable, Default}
 
@@ -35,6 +37,10 @@ part_value (Default name next) s look = found_or (look (span_bytes name s)) (Byt
 abbrev pub if_found : Option (List ℕ) → ℕ → ℕ
 if_found (Some x) next = next
 if_found None next = 0
+
+-- the part at index i is that of a variable with a default, which has this name
+abbrev pub HasName : List Part → ℕ → Span → Type 0
+HasName parts i name = (next : ℕ) × (slice_get parts i ≡ Some (Default name next))
 
 -- the index before which the parts after this one are jumped over
 abbrev pub resume_index : Part → List ℕ → LookUp → ℕ

@@ -8,7 +8,7 @@ ghost use Rattle.subst_core.specs.Language.BadItem.{HasFault};
 ghost use Rattle.subst_core.specs.Calls.Outcome.{OnFault};
 ghost use Rattle.subst_core.specs.Raw.Cost.{GrowsBetween, StepReads, StepReadsAfterFirst};
 ghost use Rattle.subst_core.specs.Raw.Halt.{halt_fault};
-ghost use Rattle.subst_core.specs.Raw.Parts.{IsTemplateOf};
+ghost use Rattle.subst_core.specs.Raw.Parts.{HasName, IsTemplateOf};
 ghost use Rattle.subst_core.specs.Raw.Placeholder.{IsInBraces, IsOptional, StatesBadItem};
 
 use super::halt::Halt;
@@ -29,8 +29,6 @@ const FIRST_PARTS: usize = 16;
 pub(super) struct OpenDefault {
     /// The index of its part.
     pub part: usize,
-    /// Its name, right after its opening brace.
-    pub name: Span,
     /// How many braces are open around it.
     pub depth: usize,
 }
@@ -280,7 +278,6 @@ impl<'s> Parser<'s> {
         self.flush_literal()?;
         self.defaults.push(OpenDefault {
             part: self.parts.len(),
-            name,
             depth: self.depth,
         })?;
         self.parts.push(Part::Default { name, next: 0 })?;
@@ -324,15 +321,24 @@ impl<'s> Parser<'s> {
     {
         self.flush_literal()?;
         let _ = self.defaults.pop();
+        let name = self.name_of(innermost);
         let next = self.parts.len();
-        self.parts[innermost.part] = Part::Default {
-            name: innermost.name,
-            next,
-        };
+        self.parts[innermost.part] = Part::Default { name, next };
         self.depth = innermost.depth;
         self.at += 1;
         self.literal_start = self.at;
         Ok(())
+    }
+
+    /// Returns the name of an open default, which its part has.
+    fn name_of(&self, default: OpenDefault) -> Span
+        requires { (name : Span) × HasName self.now.parts.items default.part name }
+        ensures { HasName self.now.parts.items default.part result }
+    {
+        match self.parts[default.part] {
+            Part::Default { name, .. } => name,
+            _ => unreachable!(),
+        }
     }
 
     /// Returns the fault of the source, where a bad item is at `at`: a default that is never closed comes
@@ -352,7 +358,7 @@ impl<'s> Parser<'s> {
         if closes_all(&mut self.tape, self.at, self.depth) {
             halt
         } else {
-            unclosed(outermost)
+            unclosed(self.name_of(outermost))
         }
     }
 
@@ -365,8 +371,8 @@ impl<'s> Parser<'s> {
         ensures same { self.new.tape ≡ self.old.tape }
         ensures some { IfErr result (λ e. 0 < self.old.at) }
     {
-        if let Some(outermost) = self.defaults.first() {
-            return Err(unclosed(*outermost));
+        if let Some(outermost) = self.defaults.first().copied() {
+            return Err(unclosed(self.name_of(outermost)));
         }
         self.flush_literal()?;
         Ok(())
@@ -385,12 +391,12 @@ fn empty_list(alloc: Global, some: bool) -> Vec<Part>
     parts
 }
 
-/// Returns the fault of a default that is never closed.
-fn unclosed(default: OpenDefault) -> Halt
-    requires { 0 < default.name.start }
-    ensures { halt_fault result ≡ Some (MissingClosingBrace (default.name.start - 1)) }
+/// Returns the fault of a default that is never closed, by its name.
+fn unclosed(name: Span) -> Halt
+    requires { 0 < name.start }
+    ensures { halt_fault result ≡ Some (MissingClosingBrace (name.start - 1)) }
 {
     Halt::Unclosed {
-        position: default.name.start - 1,
+        position: name.start - 1,
     }
 }
