@@ -14,6 +14,5 @@ pub mod PartsLemmas
 pub mod PlaceholderLemmas
 pub mod ScanLemmas
 pub mod StackHoldsLemmas
-pub mod TableLemmas
 pub mod TemplateOfLemmas
 pub mod TreeAtLemmas

@@ -1,6 +1,5 @@
 -- Bytes inside a default that stand for themselves and are no braces.
-use Rattle.std.proofs.Common.{◌≡◌, ◌≢◌, ℕ, List, [], ◌∷◌, true, arith}
-use Rattle.std.proofs.lemmas.Bool.{false≢true}
+use Rattle.std.proofs.Common.{◌≡◌, ◌≢◌, ℕ, List, [], ◌∷◌, arith}
 use Rattle.std.specs.List.{AllByRecursion}
 use Rattle.subst_core.specs.Language.Bytes.{dollar, backslash, opening_brace, closing_brace, IsPlain}
 use Rattle.subst_core.specs.Language.Balanced.{IsBalanced}

@@ -1,8 +1,7 @@
 -- The part of an open default, which has its name.
-use Rattle.std.proofs.Common.{◌≡◌, ℕ, ◌+◌, List, ◌∷◌, ◌++◌, length, Some, refl, sym, ap, ◌∙◌, subst, length-append, arith}
+use Rattle.std.proofs.Common.{◌≡◌, ℕ, List, ◌∷◌, ◌++◌, length, Some, refl, sym, ap, ◌∙◌, length-append, arith}
 use Rattle.std.proofs.Math.Seq.{get_or-append_seam}
 use Rattle.std.proofs.lemmas.Option.{slice_get_read}
-use Rattle.std.specs.List.{slice_get}
 use Rattle.subst_core.specs.Raw.Parts.{HasName}
 use Rattle.subst_core.specs.declared.template.raw.Span.{Span}
 use Rattle.subst_core.specs.declared.template.raw.Part.{Part}

@@ -1,5 +1,5 @@
 -- How the parser's steps change what it has read: each step changes the innermost text alone.
-use Rattle.std.proofs.Common.{◌≡◌, ◌≢◌, ℕ, suc, ◌+◌, ◌-◌, ◌<◌, ◌≤◌, Bool, true, false, List, [], ◌∷◌, ◌++◌, length, drop, refl, sym, ap, ◌∙◌, subst, append_assoc, append-nil, length-append, arith, set}
+use Rattle.std.proofs.Common.{◌≡◌, ℕ, suc, ◌+◌, ◌-◌, ◌<◌, ◌≤◌, Bool, true, false, List, [], ◌∷◌, ◌++◌, length, drop, refl, sym, ap, ◌∙◌, subst, append_assoc, append-nil, length-append, arith, set}
 use Rattle.std.proofs.Math.Seq.{set-append_seam}
 use Rattle.subst_core.specs.Language.Bytes.{colon, closing_brace, opening_brace}
 use Rattle.subst_core.specs.Language.Tree.{Tree, Empty, Then, text}

@@ -1,9 +1,8 @@
 use Rattle.std.proofs.Common.{nat_eq, get_or, refl, arith}
 use Rattle.subst_core.specs.declared.template.raw.byte_class.TheConstants.{MARKERS}
 use Rattle.subst_core.specs.Raw.Inner.{is_inner}
-use Rattle.subst_core.proofs.Raw.TableLemmas.{agree_below, agree_at}
+use Rattle.std.proofs.lemmas.Bool.{agree_below_at}
 use Rattle.subst_core.proofs.template.raw.byte_class.is_inner.Goals as goal
 
 pub returns : goal.returns
-unfolding agree_below
-returns c = agree_at (λ k. nat_eq (get_or MARKERS k 0) 44) is_inner 256 refl c.args.b (omega arith)
+returns c = agree_below_at (λ k. nat_eq (get_or MARKERS k 0) 44) is_inner 256 c.args.b refl (omega arith)
