@@ -57,12 +57,12 @@ steps_with p new tape (Err e) same steps = subst (λ (s : List ℕ). IfSome (hal
 -- the state when the plain bytes have got their part
 abbrev pub IsFlushed : Parser → Parser → Type 0
 IsFlushed old mid = (mid ≡ record old { parts = mid.parts; literal_start = old.at })
-    × StackHoldsFlushed old.tape.source.now (reverse old.defaults.items) old.depth mid.parts.items old.at old.at
+    × StackHoldsFlushed old.tape.source.now (reverse old.defaults.items) old.depth mid.parts old.at old.at
 
 -- a part is added
-pub reading_added : (old mid : Parser) (parts : Vec Part Global) (part : Part) (end : ℕ) → IsReading old
+pub reading_added : (old mid : Parser) (parts : List Part) (part : Part) (end : ℕ) → IsReading old
     → IsFlushed old mid
-    → parts.items ≡ mid.parts.items ++ part ∷ [] → IsPart old.tape.source.now old.at end (length mid.parts.items) part
+    → parts ≡ mid.parts ++ part ∷ [] → IsPart old.tape.source.now old.at end (length mid.parts) part
     → end ≤ length old.tape.source.now → old.at < end
     → IsReading (record mid { parts = parts; literal_start = end; at = end }) × (mid.tape.source ≡ old.tape.source)
     × (old.at < end)
@@ -71,7 +71,7 @@ reading_added old mid parts part end reading given pushed is within forward =
     let defaults = ap (λ (p : Parser). p.defaults) given.0 in
     let depth = ap (λ (p : Parser). p.depth) given.0 in
     let added =
-    holds_tree old.tape.source.now (reverse old.defaults.items) old.depth mid.parts.items
+    holds_tree old.tape.source.now (reverse old.defaults.items) old.depth mid.parts
     (part ∷ []) old.at end
     is.tree is.at is.balanced is.ends is.mean given.1 in (
       record {
@@ -89,16 +89,16 @@ optional_inside : (s : List ℕ) (at : ℕ) (name : Span) → IsOptional s at na
 optional_inside s at name is = omega (arith, simp length-drop at (ap length is.closed))
 
 -- the part of an optional variable is added, whose jump is to the next part
-pub reading_optional : (old mid : Parser) (parts : Vec Part Global) (name : Span) (next end : ℕ)
+pub reading_optional : (old mid : Parser) (parts : List Part) (name : Span) (next end : ℕ)
     → IsReading old → IsFlushed old mid → IsOptional old.tape.source.now old.at name
-    → parts.items ≡ mid.parts.items ++ Default name next ∷ []
-    → next ≡ mid.parts.len + 1 → end ≡ name.end + 2
+    → parts ≡ mid.parts ++ Default name next ∷ []
+    → next ≡ length mid.parts + 1 → end ≡ name.end + 2
     → IsReading (record mid { parts = parts; literal_start = end; at = end })
     × (mid.tape.source ≡ old.tape.source) × (old.at < end)
 reading_optional old mid parts name next end reading given is pushed jumps ends =
     let s = old.tape.source.now in
-    let i = length mid.parts.items in
-    let after : next ≡ i + 1 = omega (arith, jumps, mid.parts.ok.0) in
+    let i = length mid.parts in
+    let after : next ≡ i + 1 = omega (arith, jumps) in
     reading_added old mid parts (Default name next) end reading given pushed
     (rw (after, ends) (optional_part s old.at name i is)) (rw ends (optional_inside s old.at name is))
     (omega (arith, ends, is.head.starts, is.head.named.ends))
@@ -116,12 +116,12 @@ head_inside s at name b front inside =
     )
 
 -- a default opens
-pub reading_opened : (old mid : Parser) (parts : Vec Part Global) (defaults : Vec OpenDefault Global)
+pub reading_opened : (old mid : Parser) (parts : List Part) (defaults : Vec OpenDefault Global)
     (name : Span)
     → IsReading old → IsFlushed old mid → IsInBraces old.tape.source.now old.at name colon
     → defaults.items
-    ≡ mid.defaults.items ++ record { part = mid.parts.len; depth = mid.depth } ∷ []
-    → parts.items ≡ mid.parts.items ++ Default name 0 ∷ []
+    ≡ mid.defaults.items ++ record { part = length mid.parts; depth = mid.depth } ∷ []
+    → parts ≡ mid.parts ++ Default name 0 ∷ []
     → IsReading (record mid { parts = parts; defaults = defaults; depth = mid.depth + 1; literal_start = name.end + 1; at = name.end + 1 })
     × (mid.tape.source ≡ old.tape.source) × (old.at < name.end + 1)
 reading_opened old mid parts defaults name reading given front pushed_default pushed =
@@ -130,9 +130,9 @@ reading_opened old mid parts defaults name reading given front pushed_default pu
     let same = ap (λ (p : Parser). p.defaults) given.0 in
     let depth = ap (λ (p : Parser). p.depth) given.0 in
     let opened =
-    holds_default s (reverse old.defaults.items) old.depth mid.parts.items old.at name front given.1 in
-    let stack : reverse defaults.items ≡ record { part = length mid.parts.items; depth = old.depth } ∷ reverse old.defaults.items =
-    ap reverse pushed_default ∙ reverse_last mid.defaults.items _ ∙ rw (same, depth, mid.parts.ok.0) refl in (
+    holds_default s (reverse old.defaults.items) old.depth mid.parts old.at name front given.1 in
+    let stack : reverse defaults.items ≡ record { part = length mid.parts; depth = old.depth } ∷ reverse old.defaults.items =
+    ap reverse pushed_default ∙ reverse_last mid.defaults.items _ ∙ rw (same, depth) refl in (
       record {
         small = rw tape reading.small;
         within = rw tape (head_inside s old.at name colon front reading.within);
@@ -146,19 +146,19 @@ reading_opened old mid parts defaults name reading given front pushed_default pu
 -- the same, where the innermost default is known
 given_innermost : (old mid : Parser) (front : List OpenDefault) (innermost : OpenDefault) → IsFlushed old mid
     → old.defaults.items ≡ front ++ innermost ∷ []
-    → StackHoldsFlushed old.tape.source.now (innermost ∷ reverse front) old.depth mid.parts.items old.at old.at
+    → StackHoldsFlushed old.tape.source.now (innermost ∷ reverse front) old.depth mid.parts old.at old.at
 given_innermost old mid front innermost given split =
-    subst (λ ds. StackHoldsFlushed old.tape.source.now ds old.depth mid.parts.items old.at old.at)
+    subst (λ ds. StackHoldsFlushed old.tape.source.now ds old.depth mid.parts old.at old.at)
     (ap reverse split ∙ reverse_last front innermost) given.1
 
 -- a default closes
-pub reading_closed : (old mid : Parser) (front : List OpenDefault) (parts : Vec Part Global)
+pub reading_closed : (old mid : Parser) (front : List OpenDefault) (parts : List Part)
     (defaults : Vec OpenDefault Global) (innermost : OpenDefault) (name : Span)
     → IsReading old → IsFlushed old mid → old.at < length old.tape.source.now
     → drop old.at old.tape.source.now ≡ closing_brace ∷ drop (old.at + 1) old.tape.source.now
     → innermost.depth + 1 ≡ old.depth → old.defaults.items ≡ front ++ innermost ∷ [] → defaults.items ≡ front
-    → HasName mid.parts.items innermost.part name
-    → parts.items ≡ set mid.parts.items innermost.part (Default name mid.parts.len)
+    → HasName mid.parts innermost.part name
+    → parts ≡ set mid.parts innermost.part (Default name (length mid.parts))
     → IsReading (record mid { parts = parts; defaults = defaults; depth = innermost.depth; literal_start = mid.at + 1; at = mid.at + 1 })
     × (mid.tape.source ≡ old.tape.source) × (old.at < mid.at + 1)
 reading_closed old mid front parts defaults innermost name reading given inside reads closes split popped named jumped =
@@ -167,19 +167,19 @@ reading_closed old mid front parts defaults innermost name reading given inside 
     let at = ap (λ (p : Parser). p.at) given.0 in
     let nested = given_innermost old mid front innermost given split in
     let same : name ≡ nested.name =
-    name_unique mid.parts.items innermost.part name nested.name named
-    (named_after mid.parts.items nested.before nested.own nested.name nested.next innermost.part nested.splits nested.part) in
+    name_unique mid.parts innermost.part name nested.name named
+    (named_after mid.parts nested.before nested.own nested.name nested.next innermost.part nested.splits nested.part) in
     let closed =
-    holds_closed s innermost (reverse front) old.depth mid.parts.items old.at closes reads nested in
+    holds_closed s innermost (reverse front) old.depth mid.parts old.at closes reads nested in
     let known =
     subst
-    (λ (n : Span). StackHolds true s (reverse front) innermost.depth (set mid.parts.items innermost.part (Default n (length mid.parts.items))) (old.at + 1) (old.at + 1))
+    (λ (n : Span). StackHolds true s (reverse front) innermost.depth (set mid.parts innermost.part (Default n (length mid.parts))) (old.at + 1) (old.at + 1))
     (sym same) closed in (
       record {
         small = rw tape reading.small;
         within = rw (tape, at) (omega arith);
         shallow = omega (arith, at, reading.shallow);
-        nested = rw (tape, at, popped, jumped, mid.parts.ok.0) known;
+        nested = rw (tape, at, popped, jumped) known;
       },
       ap (λ (t : Tape). t.source) tape,
       omega (arith, at),
@@ -203,8 +203,8 @@ reading_bare p innermost reading inside some reads last other =
       shallow = omega (arith, reading.shallow);
       nested =
           rw stack
-          (holds_closing s innermost (reverse split.0) p.depth p.parts.items p.literal_start p.at other reads
-          (subst (λ ds. StackHolds true s ds p.depth p.parts.items p.literal_start p.at) stack reading.nested));
+          (holds_closing s innermost (reverse split.0) p.depth p.parts p.literal_start p.at other reads
+          (subst (λ ds. StackHolds true s ds p.depth p.parts p.literal_start p.at) stack reading.nested));
     }
 
 -- inside a default, a run of bytes that have no meaning, and other reads
@@ -214,15 +214,15 @@ pub reading_inner : (p : Parser) (tape : Tape) (to : ℕ) → tape.source ≡ p.
 reading_inner p tape to same reading some within run =
     let s = p.tape.source.now in
     let (default, rest, stack) =
-    holds_open s (reverse p.defaults.items) p.depth p.parts.items p.literal_start p.at some reading.nested in
+    holds_open s (reverse p.defaults.items) p.depth p.parts p.literal_start p.at some reading.nested in
     reading_with (record p { at = to }) tape same (record {
       small = reading.small;
       within = within;
       shallow = omega (arith, reading.shallow, run.ends);
       nested =
           rw stack
-          (holds_inner s default rest p.depth p.parts.items p.literal_start p.at to run
-          (subst (λ ds. StackHolds true s ds p.depth p.parts.items p.literal_start p.at) stack reading.nested));
+          (holds_inner s default rest p.depth p.parts p.literal_start p.at to run
+          (subst (λ ds. StackHolds true s ds p.depth p.parts p.literal_start p.at) stack reading.nested));
     })
 
 -- inside a default, a bare opening brace
@@ -232,13 +232,13 @@ pub reading_opening : (p : Parser) → IsReading p → p.at < length p.tape.sour
 reading_opening p reading inside some reads =
     let s = p.tape.source.now in
     let (default, rest, stack) =
-    holds_open s (reverse p.defaults.items) p.depth p.parts.items p.literal_start p.at some reading.nested in
+    holds_open s (reverse p.defaults.items) p.depth p.parts p.literal_start p.at some reading.nested in
     record {
       small = reading.small;
       within = omega arith;
       shallow = omega (arith, reading.shallow);
-      nested = rw stack (holds_opening s default rest p.depth p.parts.items p.literal_start p.at reads
-          (subst (λ ds. StackHolds true s ds p.depth p.parts.items p.literal_start p.at) stack reading.nested));
+      nested = rw stack (holds_opening s default rest p.depth p.parts p.literal_start p.at reads
+          (subst (λ ds. StackHolds true s ds p.depth p.parts p.literal_start p.at) stack reading.nested));
     }
 
 -- where no brace is open, a run of plain bytes
@@ -248,65 +248,65 @@ pub reading_run : (p : Parser) (to : ℕ) → IsReading p → p.depth ≡ 0 → 
 reading_run p to reading top forward within run =
     let s = p.tape.source.now in
     let stack =
-    holds_top s (reverse p.defaults.items) p.depth p.parts.items p.literal_start p.at top reading.nested in
-    let nested : StackHolds true s [] 0 p.parts.items p.literal_start p.at =
-    subst (λ d. StackHolds true s [] d p.parts.items p.literal_start p.at) top
-    (subst (λ ds. StackHolds true s ds p.depth p.parts.items p.literal_start p.at) stack reading.nested) in
+    holds_top s (reverse p.defaults.items) p.depth p.parts p.literal_start p.at top reading.nested in
+    let nested : StackHolds true s [] 0 p.parts p.literal_start p.at =
+    subst (λ d. StackHolds true s [] d p.parts p.literal_start p.at) top
+    (subst (λ ds. StackHolds true s ds p.depth p.parts p.literal_start p.at) stack reading.nested) in
     record {
       small = reading.small;
       within = within;
       shallow = omega arith;
-      nested = rw (stack, top) (holds_run s p.parts.items p.literal_start p.at to run nested);
+      nested = rw (stack, top) (holds_run s p.parts p.literal_start p.at to run nested);
     }
 
 -- how far the parser has read, whether the innermost text is fresh or not
 reading_within : (p : Parser) → IsReading p
-    → StackHoldsFlushed p.tape.source.now (reverse p.defaults.items) p.depth p.parts.items p.literal_start p.at
+    → StackHoldsFlushed p.tape.source.now (reverse p.defaults.items) p.depth p.parts p.literal_start p.at
 reading_within p reading =
     holds_any p.tape.source.now
-    (reverse p.defaults.items) p.depth p.parts.items p.literal_start p.at reading.nested
+    (reverse p.defaults.items) p.depth p.parts p.literal_start p.at reading.nested
 
 -- how far the parser has read, where the outermost default is known
 reading_outermost : (p : Parser) (outermost : OpenDefault) → IsReading p
     → slice_get p.defaults.items 0 ≡ Some outermost
     → (inner : List OpenDefault)
-    × StackHoldsFlushed p.tape.source.now (inner ++ outermost ∷ []) p.depth p.parts.items p.literal_start p.at
+    × StackHoldsFlushed p.tape.source.now (inner ++ outermost ∷ []) p.depth p.parts p.literal_start p.at
 reading_outermost p outermost reading first =
     let split = split_first p.defaults.items outermost first in
     let stack : reverse p.defaults.items ≡ reverse split.0 ++ outermost ∷ [] =
     ap reverse split.1 ∙ reverse-append (outermost ∷ []) split.0 in
-    (reverse split.0, subst (λ ds. StackHoldsFlushed p.tape.source.now ds p.depth p.parts.items p.literal_start p.at) stack (reading_within p reading))
+    (reverse split.0, subst (λ ds. StackHoldsFlushed p.tape.source.now ds p.depth p.parts p.literal_start p.at) stack (reading_within p reading))
 
 -- the fault of a default that is never closed
 pub fault_unclosed : (p : Parser) (outermost : OpenDefault) (name : Span) → IsReading p
-    → slice_get p.defaults.items 0 ≡ Some outermost → HasName p.parts.items outermost.part name
+    → slice_get p.defaults.items 0 ≡ Some outermost → HasName p.parts outermost.part name
     → ¬ (ClosesAll p.depth (drop p.at p.tape.source.now))
     → HasFault 0 p.tape.source.now (MissingClosingBrace (name.start - 1))
 fault_unclosed p outermost name reading first named unclosed =
     let (inner, within) = reading_outermost p outermost reading first in
-    unclosed_outermost p.tape.source.now inner outermost p.depth p.parts.items p.literal_start p.at name within named unclosed
+    unclosed_outermost p.tape.source.now inner outermost p.depth p.parts p.literal_start p.at name within named unclosed
 
 -- the part of the outermost default has its name
 pub outermost_named : (p : Parser) (outermost : OpenDefault) → IsReading p
     → slice_get p.defaults.items 0 ≡ Some outermost
-    → (name : Span) × HasName p.parts.items outermost.part name × (0 < name.start)
+    → (name : Span) × HasName p.parts outermost.part name × (0 < name.start)
 outermost_named p outermost reading first =
     let (inner, within) = reading_outermost p outermost reading first in
-    outermost_head p.tape.source.now inner outermost p.depth p.parts.items p.literal_start p.at within
+    outermost_head p.tape.source.now inner outermost p.depth p.parts p.literal_start p.at within
 
 -- which is after a dollar and a brace
 pub outermost_starts : (p : Parser) (outermost : OpenDefault) (name : Span) → IsReading p
-    → slice_get p.defaults.items 0 ≡ Some outermost → HasName p.parts.items outermost.part name → 0 < name.start
+    → slice_get p.defaults.items 0 ≡ Some outermost → HasName p.parts outermost.part name → 0 < name.start
 outermost_starts p outermost name reading first named =
     let (head, found, starts) = outermost_named p outermost reading first in
-    omega (arith, starts, ap (λ (name : Span). name.start) (name_unique p.parts.items outermost.part head name found named))
+    omega (arith, starts, ap (λ (name : Span). name.start) (name_unique p.parts outermost.part head name found named))
 
 -- what is bad at the byte offset that was reached is the fault of the source, where all open braces close
 pub fault_closed : (p : Parser) (f : Fault) → IsReading p → IsBadWhenCut p.at (drop p.at p.tape.source.now) f
     → ClosesAll p.depth (drop p.at p.tape.source.now) → HasFault 0 p.tape.source.now f
 fault_closed p f reading bad closes =
     let s = p.tape.source.now in
-    lift s (reverse p.defaults.items) p.depth p.parts.items p.literal_start p.at [] (drop p.at s) f
+    lift s (reverse p.defaults.items) p.depth p.parts p.literal_start p.at [] (drop p.at s) f
     (reading_within p reading) refl empty bad.bad bad.cut closes
 
 -- where no default is open, no brace is
@@ -314,41 +314,41 @@ pub closes_top : (p : Parser) → IsReading p → p.defaults.items ≡ []
     → ClosesAll p.depth (drop p.at p.tape.source.now)
 closes_top p reading none =
     let s = p.tape.source.now in
-    let nested : StackHolds true s [] p.depth p.parts.items p.literal_start p.at =
-    subst (λ ds. StackHolds true s ds p.depth p.parts.items p.literal_start p.at) (ap reverse none) reading.nested in
+    let nested : StackHolds true s [] p.depth p.parts p.literal_start p.at =
+    subst (λ ds. StackHolds true s ds p.depth p.parts p.literal_start p.at) (ap reverse none) reading.nested in
     subst (λ d. ClosesAll d (drop p.at s)) (sym nested.0) tt
 
 -- the parts at the end of the source
 pub reading_end : (p mid : Parser) → IsReading p → IsFlushed p mid → length p.tape.source.now ≤ p.at
     → p.defaults.items ≡ []
-    → IsTemplateOf p.tape.source.now mid.parts.items
+    → IsTemplateOf p.tape.source.now mid.parts
 reading_end p mid reading given end none =
     let s = p.tape.source.now in
-    let nested : StackHoldsFlushed s [] p.depth mid.parts.items p.at p.at =
-    subst (λ ds. StackHoldsFlushed s ds p.depth mid.parts.items p.at p.at) (ap reverse none) given.1 in
-    template_at_end s mid.parts.items p.at (drop_all p.at s end)
-    (subst (λ d. StackHoldsFlushed s [] d mid.parts.items p.at p.at) nested.0 nested)
+    let nested : StackHoldsFlushed s [] p.depth mid.parts p.at p.at =
+    subst (λ ds. StackHoldsFlushed s ds p.depth mid.parts p.at p.at) (ap reverse none) given.1 in
+    template_at_end s mid.parts p.at (drop_all p.at s end)
+    (subst (λ d. StackHoldsFlushed s [] d mid.parts p.at p.at) nested.0 nested)
 
 -- the part of the innermost default has its name
 pub innermost_named : (old mid : Parser) (front : List OpenDefault) (innermost : OpenDefault) → IsFlushed old mid
-    → old.defaults.items ≡ front ++ innermost ∷ [] → (name : Span) × HasName mid.parts.items innermost.part name
+    → old.defaults.items ≡ front ++ innermost ∷ [] → (name : Span) × HasName mid.parts innermost.part name
 innermost_named old mid front innermost given split =
     let nested = given_innermost old mid front innermost given split in
-    (nested.name, named_after mid.parts.items nested.before nested.own nested.name nested.next innermost.part nested.splits nested.part)
+    (nested.name, named_after mid.parts nested.before nested.own nested.name nested.next innermost.part nested.splits nested.part)
 
 -- the variable of the innermost default is one of the parts
 pub variable_inside : (old mid : Parser) (front : List OpenDefault) (innermost : OpenDefault) → IsFlushed old mid
-    → old.defaults.items ≡ front ++ innermost ∷ [] → innermost.part < mid.parts.len
+    → old.defaults.items ≡ front ++ innermost ∷ [] → innermost.part < length mid.parts
 variable_inside old mid front innermost given split =
     let nested = given_innermost old mid front innermost given split in
-    omega (arith, nested.part, mid.parts.ok.0, simp length-append at (ap length nested.splits))
+    omega (arith, nested.part, simp length-append at (ap length nested.splits))
 
 -- where a default is open, some brace is
 depth_open : (p : Parser) (outermost : OpenDefault) → IsReading p
     → slice_get p.defaults.items 0 ≡ Some outermost → 0 < p.depth
 depth_open p outermost reading first =
     let (inner, within) = reading_outermost p outermost reading first in
-    holds_some p.tape.source.now inner outermost p.depth p.parts.items p.literal_start p.at within
+    holds_some p.tape.source.now inner outermost p.depth p.parts p.literal_start p.at within
 
 -- so some byte has been read
 pub read_before_open : (p : Parser) (outermost : OpenDefault) → IsReading p
@@ -359,7 +359,7 @@ read_before_open p outermost reading first =
 -- at the end of the source, a default that is open is never closed
 pub fault_at_end : (p : Parser) (outermost : OpenDefault) (name : Span) → IsReading p
     → length p.tape.source.now ≤ p.at
-    → slice_get p.defaults.items 0 ≡ Some outermost → HasName p.parts.items outermost.part name
+    → slice_get p.defaults.items 0 ≡ Some outermost → HasName p.parts outermost.part name
     → HasFault 0 p.tape.source.now (MissingClosingBrace (name.start - 1))
 fault_at_end p outermost name reading end first named =
     let some = depth_open p outermost reading first in

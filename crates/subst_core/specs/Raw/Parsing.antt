@@ -82,7 +82,7 @@ pub record IsReading (parser : Parser) : Type 0 where
   pub within : parser.at ≤ length parser.tape.source.now
   pub shallow : parser.depth ≤ parser.at
   pub nested : StackHolds true parser.tape.source.now (reverse parser.defaults.items) parser.depth
-      parser.parts.items parser.literal_start parser.at
+      parser.parts parser.literal_start parser.at
 
 -- the part, which has index i, means a tree that is at this range of the source, and that leaves all braces
 -- as they are

@@ -12,9 +12,8 @@ ghost use Rattle.subst_core.specs.Calls.Outcome.{OnFault, Expands};
 use crate::map::VariableMap;
 use crate::steps::{Reads, Turns};
 use crate::template::raw;
-use crate::template::raw::{Part, SliceBytes};
+use crate::template::raw::{CowParts, SliceBytes};
 use std::alloc::Global;
-use std::borrow::CowSlice;
 use std::convert::AsSlice;
 use std::marker::Model;
 use subst_error::{ExpandError, ParseError};
@@ -23,19 +22,18 @@ use subst_error::{ExpandError, ParseError};
 #[derive(Drop)]
 pub struct ByteTemplate<'a> {
     source: &'a [u8],
-    parts: CowSlice<'a, Part>,
+    parts: CowParts<'a>,
 }
 
 impl<'a> Model for ByteTemplate<'a> {
     ghost use Rattle.std.specs.Prelude.{ℕ, List};
-    ghost use Rattle.std.specs.Cow.{cow_slice_items};
     ghost use Rattle.subst_core.specs.Raw.Parts.{IsTemplateOf};
 
     ghost Value = { List ℕ };
 
     ghost view = { λ t. t.source.now };
 
-    ghost invariant = { λ t. IsTemplateOf t.source.now (cow_slice_items t.parts) };
+    ghost invariant = { λ t. IsTemplateOf t.source.now t.parts };
 }
 
 impl<'a> ByteTemplate<'a> {
@@ -75,7 +73,6 @@ impl<'a> ByteTemplate<'a> {
         ensures refused { IfErr result (λ e. reads.old + 1 ≤ reads.new) }
     {
         let parts = raw::parse(alloc, source, reads)?;
-        let parts = CowSlice::Owned(parts);
         Ok(ByteTemplate { source, parts })
     }
 

@@ -2,15 +2,18 @@
 
 mod byte_class;
 mod character;
+mod cow_parts;
 mod expand;
 mod halt;
 mod item;
 mod parse;
 mod part_list;
+mod part_vec;
 mod read_value;
 mod scan;
 mod tape;
 
+pub(super) use cow_parts::CowParts;
 pub(super) use expand::expand;
 pub(super) use parse::parse;
 pub(super) use read_value::SliceBytes;

@@ -10,6 +10,7 @@ ghost use Rattle.subst_core.specs.Raw.Span.{IsSpan, span_bytes};
 ghost use Rattle.subst_core.specs.Raw.Parts.{AllFit, parts_value, visited_parts};
 ghost use Rattle.subst_core.specs.Raw.Filled.{FillsMarks, marks_of};
 
+use super::cow_parts::CowParts;
 use super::part_list::PartList;
 use super::read_value::ReadValue;
 use super::{Part, Span};
@@ -28,7 +29,7 @@ use subst_error::{ExpandError, NoSuchVariable};
 pub(in crate::template) fn expand<'a, M: VariableMap<'a>, R: ReadValue<M::Value>>(
     alloc: Global,
     source: &[u8],
-    parts: &[Part],
+    parts: &CowParts<'_>,
     variables: &'a M,
     turns: &mut Turns,
 ) -> Result<Vec<u8>, ExpandError>
@@ -49,7 +50,7 @@ where
     ensures filled { IfOk result (λ output. FillsMarks R.is_read
         (parts_value parts.now source.now (marks_of (M.look_up variables.now))) output.items) }
 {
-    let mut list = PartList::new(parts, mem::replace(turns, Turns::new()));
+    let mut list = PartList::new(parts.as_slice(), mem::replace(turns, Turns::new()));
     let outcome = expand_list::<M, R>(alloc, source, &mut list, variables);
     *turns = list.into_turns();
     outcome

@@ -11,8 +11,10 @@ ghost use Rattle.subst_core.specs.Raw.Halt.{halt_fault};
 ghost use Rattle.subst_core.specs.Raw.Parts.{HasName, IsTemplateOf};
 ghost use Rattle.subst_core.specs.Raw.Placeholder.{IsInBraces, IsOptional, StatesBadItem};
 
+use super::cow_parts::CowParts;
 use super::halt::Halt;
 use super::item::{Placeholder, escape_at, placeholder_at};
+use super::part_vec::PartVec;
 use super::scan::closes_all;
 use super::tape::Tape;
 use super::{Part, Span};
@@ -37,7 +39,7 @@ pub(super) struct OpenDefault {
 #[derive(Drop)]
 pub(super) struct Parser<'s> {
     tape: Tape<'s>,
-    parts: Vec<Part>,
+    parts: PartVec,
     /// The defaults that are open, the outermost first.
     defaults: Vec<OpenDefault>,
     /// How many braces are open: those of the defaults, and bare ones inside defaults.
@@ -57,8 +59,8 @@ pub(in crate::template) fn parse(
     alloc: Global,
     source: &[u8],
     reads: &mut Reads,
-) -> Result<Vec<Part>, ParseError>
-    ensures ok { IfOk result (λ parts. IsTemplateOf source.now parts.items) }
+) -> Result<CowParts<'static>, ParseError>
+    ensures ok { IfOk result (λ parts. IsTemplateOf source.now parts) }
     ensures err { OnFault parse_fault result (HasFault 0 source.now) }
     ensures bound { reads.new ≤ reads.old + 3 * length source.now + 8 }
     ensures grows { reads.old ≤ reads.new }
@@ -71,7 +73,7 @@ pub(in crate::template) fn parse(
     let Parser { tape, parts, .. } = parser;
     *reads = tape.into_reads();
     match outcome {
-        Ok(()) => Ok(parts),
+        Ok(()) => Ok(parts.into_parts()),
         Err(halt) => Err(halt.into()),
     }
 }
@@ -99,7 +101,7 @@ impl<'s> Parser<'s> {
     fn read_to_end(&mut self) -> Result<(), Halt>
         requires reading { IsReading self.old }
         requires start { self.old.at ≡ 0 }
-        ensures ok { OnOk result (IsTemplateOf self.old.tape.source.now self.new.parts.items) }
+        ensures ok { OnOk result (IsTemplateOf self.old.tape.source.now self.new.parts) }
         ensures err { OnFault halt_fault result (HasFault 0 self.old.tape.source.now) }
         ensures bound { self.new.tape.reads
             ≤ self.old.tape.reads + 3 * length self.old.tape.source.now + 8 }
@@ -217,7 +219,7 @@ impl<'s> Parser<'s> {
         ensures kept { OnOk result
             (self.new ≡ record self.old { parts = self.new.parts; literal_start = self.old.at }) }
         ensures nested { OnOk result (StackHoldsFlushed self.old.tape.source.now
-            (reverse self.old.defaults.items) self.old.depth self.new.parts.items
+            (reverse self.old.defaults.items) self.old.depth self.new.parts
             self.old.at self.old.at) }
         ensures same { self.new.tape ≡ self.old.tape }
         ensures some { IfErr result (λ e. 0 < self.old.at) }
@@ -323,7 +325,8 @@ impl<'s> Parser<'s> {
         let _ = self.defaults.pop();
         let name = self.name_of(innermost);
         let next = self.parts.len();
-        self.parts[innermost.part] = Part::Default { name, next };
+        self.parts
+            .set(innermost.part, Part::Default { name, next })?;
         self.depth = innermost.depth;
         self.at += 1;
         self.literal_start = self.at;
@@ -332,11 +335,11 @@ impl<'s> Parser<'s> {
 
     /// Returns the name of an open default, which its part has.
     fn name_of(&self, default: OpenDefault) -> Span
-        requires { (name : Span) × HasName self.now.parts.items default.part name }
-        ensures { HasName self.now.parts.items default.part result }
+        requires { (name : Span) × HasName self.now.parts default.part name }
+        ensures { HasName self.now.parts default.part result }
     {
-        match self.parts[default.part] {
-            Part::Default { name, .. } => name,
+        match self.parts.get(default.part) {
+            Some(Part::Default { name, .. }) => name,
             _ => unreachable!(),
         }
     }
@@ -366,7 +369,7 @@ impl<'s> Parser<'s> {
     fn finish(&mut self) -> Result<(), Halt>
         requires reading { IsReading self.old }
         requires end { length self.old.tape.source.now ≤ self.old.at }
-        ensures ok { OnOk result (IsTemplateOf self.old.tape.source.now self.new.parts.items) }
+        ensures ok { OnOk result (IsTemplateOf self.old.tape.source.now self.new.parts) }
         ensures err { OnFault halt_fault result (HasFault 0 self.old.tape.source.now) }
         ensures same { self.new.tape ≡ self.old.tape }
         ensures some { IfErr result (λ e. 0 < self.old.at) }
@@ -380,10 +383,10 @@ impl<'s> Parser<'s> {
 }
 
 /// Returns an empty list of parts, with room for a few where some are to come.
-fn empty_list(alloc: Global, some: bool) -> Vec<Part>
-    ensures { result.items ≡ [] }
+fn empty_list(alloc: Global, some: bool) -> PartVec
+    ensures { result ≡ [] }
 {
-    let mut parts = Vec::new(alloc);
+    let mut parts = PartVec::new(alloc);
     if some {
         // Where there is no memory for it, a push will say so.
         let _ = parts.reserve(FIRST_PARTS);

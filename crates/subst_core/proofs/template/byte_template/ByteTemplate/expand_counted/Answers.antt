@@ -1,13 +1,10 @@
 -- What the parts give and how many of them are visited is what the source's tree gives, and how many of its
 -- parts are visited.
-use Rattle.std.proofs.Common.{◌≡◌, ◌≤◌, ◌+◌, List, length, sym, ap, ◌∙◌, subst}
+use Rattle.std.proofs.Common.{◌≡◌, ◌≤◌, ◌+◌, sym, subst}
 use Rattle.std.specs.Prelude.{OnOk}
-use Rattle.std.specs.Cow.{cow_slice_items}
 use Rattle.subst_core.specs.Language.Sentence.{Spells}
 use Rattle.subst_core.specs.Calls.Outcome.{Expands}
-use Rattle.subst_core.specs.Raw.Parts.{visited_parts, parts_value}
 use Rattle.subst_core.specs.Calls.VariableMap.{look_up_of}
-use Rattle.subst_core.specs.declared.template.raw.Part.{Part}
 use Rattle.subst_core.proofs.Raw.TemplateOfLemmas.{template_value, template_count}
 use Rattle.subst_core.proofs.template.byte_template.ByteTemplate.expand_counted.Goals as goal
 
@@ -16,8 +13,7 @@ returns-clause-value g c bytes reads t spells =
     let s = c.self.inside.source.now in
     let look = look_up_of bytes (g.M.VariableMap.look_up c.args.variables.now) in
     let spells_here : Spells t s = subst (λ x. Spells t x) (sym c.self.view_is) spells in
-    let parts = ap (λ (ps : List Part). parts_value ps s look) c.deref.ensures.value in
-    subst (Expands (λ output. output.items) c.expand.result) (parts ∙ template_value s (cow_slice_items c.self.inside.parts) t look c.self.invariant spells_here)
+    subst (Expands (λ output. output.items) c.expand.result) (template_value s c.self.inside.parts t look c.self.invariant spells_here)
     (c.expand.ensures.value bytes reads)
 
 pub returns-clause-counted : goal.returns-clause-counted
@@ -25,15 +21,13 @@ returns-clause-counted g c bytes reads t spells =
     let s = c.self.inside.source.now in
     let look = look_up_of bytes (g.M.VariableMap.look_up c.args.variables.now) in
     let spells_here : Spells t s = subst (λ x. Spells t x) (sym c.self.view_is) spells in
-    let parts = ap (λ (ps : List Part). length (visited_parts ps 0 0 s look)) c.deref.ensures.value in
     subst (λ n. OnOk c.expand.result (c.expand.new.turns ≡ c.args.turns.now + n))
-    (parts ∙ template_count s (cow_slice_items c.self.inside.parts) t look c.self.invariant spells_here) (c.expand.ensures.counted bytes reads)
+    (template_count s c.self.inside.parts t look c.self.invariant spells_here) (c.expand.ensures.counted bytes reads)
 
 pub returns-clause-at_most : goal.returns-clause-at_most
 returns-clause-at_most g c bytes reads t spells =
     let s = c.self.inside.source.now in
     let look = look_up_of bytes (g.M.VariableMap.look_up c.args.variables.now) in
     let spells_here : Spells t s = subst (λ x. Spells t x) (sym c.self.view_is) spells in
-    let parts = ap (λ (ps : List Part). length (visited_parts ps 0 0 s look)) c.deref.ensures.value in
     subst (λ n. c.expand.new.turns ≤ c.args.turns.now + n)
-    (parts ∙ template_count s (cow_slice_items c.self.inside.parts) t look c.self.invariant spells_here) (c.expand.ensures.at_most bytes reads)
+    (template_count s c.self.inside.parts t look c.self.invariant spells_here) (c.expand.ensures.at_most bytes reads)

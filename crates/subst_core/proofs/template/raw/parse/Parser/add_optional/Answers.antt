@@ -6,4 +6,4 @@ pub returns-clause-answer : goal.returns-clause-answer
 returns-clause-answer c =
     let given = c.in_ok-flush_literal.ensures in
     reading_optional c.args.self.now c.flush_literal.new.self c.push.new.self c.args.name _ _ c.requires.reading (given.kept, given.nested)
-    c.requires.optional c.in_ok-push.ensures.items (omega (arith, c.len-next.ensures)) (omega arith)
+    c.requires.optional c.in_ok-push.ensures (omega (arith, c.len-next.ensures.len)) (omega arith)

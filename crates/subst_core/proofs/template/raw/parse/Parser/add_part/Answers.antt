@@ -6,4 +6,4 @@ pub returns-clause-answer : goal.returns-clause-answer
 returns-clause-answer c =
     let given = c.in_ok-flush_literal.ensures in
     reading_added c.args.self.now c.flush_literal.new.self c.push.new.self c.args.part c.args.end c.requires.reading (given.kept, given.nested)
-    c.in_ok-push.ensures.items (c.requires.part (length c.flush_literal.new.self.parts.items)) c.requires.within c.requires.forward
+    c.in_ok-push.ensures (c.requires.part (length c.flush_literal.new.self.parts)) c.requires.within c.requires.forward

@@ -21,7 +21,7 @@ returns-in_default-clause-answer c =
       | in_default-via-in_default w ↦
           let none : slice_get p.defaults.items (length p.defaults.items - 1) ≡ None =
           subst (λ (xs : List OpenDefault). slice_get xs (length xs - 1) ≡ None) c.deref.ensures.value (last ∙ w.in_default.is) in
-          let some = holds_open s (reverse p.defaults.items) p.depth p.parts.items p.literal_start p.at c.requires.inside c.requires.reading.nested in
+          let some = holds_open s (reverse p.defaults.items) p.depth p.parts p.literal_start p.at c.requires.inside c.requires.reading.nested in
           let no_default = ap reverse (no_last p.defaults.items none) in
           absurd cc
     ]

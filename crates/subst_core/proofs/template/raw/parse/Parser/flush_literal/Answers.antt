@@ -9,8 +9,8 @@ returns-clause-nested c =
     let s = p.tape.source.now in
     elim c.if-self.branch [
       | then-self+in_ok-push w ↦
-          rw (w.self-is, w.in_ok-push.ensures.items)
-          (holds_given s (reverse p.defaults.items) p.depth p.parts.items p.literal_start p.at w.if-self.true c.requires.within c.requires.nested)
+          rw (w.self-is, w.in_ok-push.ensures)
+          (holds_given s (reverse p.defaults.items) p.depth p.parts p.literal_start p.at w.if-self.true c.requires.within c.requires.nested)
       | else-self w ↦
-          rw w.self-is (holds_same s (reverse p.defaults.items) p.depth p.parts.items p.literal_start p.at w.if-self.false c.requires.nested)
+          rw w.self-is (holds_same s (reverse p.defaults.items) p.depth p.parts p.literal_start p.at w.if-self.false c.requires.nested)
     ]

@@ -8,7 +8,7 @@ pub returns-clause-answer : goal.returns-clause-answer
 returns-clause-answer c =
     let given = c.in_ok-flush_literal.ensures in
     reading_opened c.args.self.now c.flush_literal.new.self c.push-2.new.self c.push.new.self c.args.name c.requires.reading (given.kept, given.nested)
-    c.requires.head (rw (← c.len.ensures) c.in_ok-push.ensures.items) c.in_ok-push-2.ensures.items
+    c.requires.head (rw (← c.len.ensures.len) c.in_ok-push.ensures.items) c.in_ok-push-2.ensures
 
 pub overflow_add-self-2 : goal.overflow_add-self-2
 overflow_add-self-2 c =
