@@ -9,6 +9,7 @@ pub mod LiftLemmas
 pub mod OpenPartLemmas
 pub mod ParsedLemmas
 pub mod ParserLemmas
+pub mod PackedLemmas
 pub mod PartOfLemmas
 pub mod PartsLemmas
 pub mod PlaceholderLemmas

@@ -3,10 +3,14 @@
 pub mod ByteRun
 pub mod Closing
 pub mod Cost
+pub mod CowParts
 pub mod Filled
 pub mod Halt
 pub mod Inner
+pub mod Packed
 pub mod Parsing
+pub mod PartList
+pub mod PartLists
 pub mod Parts
 pub mod Placeholder
 pub mod PlainEnds

@@ -1,5 +1,5 @@
 -- How far an expansion has come, and how many turns it has made.
-use Rattle.std.proofs.Common.{◌≡◌, ℕ, ◌+◌, ◌-◌, ◌<◌, ◌≤◌, zero, suc, Option, Some, None, Bor, List, [], ◌∷◌, ◌++◌, length, drop, take, append-nil, refl, sym, ap, ◌∙◌, subst, arith}
+use Rattle.std.proofs.Common.{◌≡◌, ℕ, ◌+◌, ◌-◌, ◌<◌, ◌≤◌, zero, suc, Option, Some, None, List, [], ◌∷◌, ◌++◌, length, drop, take, append-nil, refl, sym, ap, ◌∙◌, subst, arith}
 use Rattle.std.proofs.lemmas.List.{drop_all, drop-drop, length-take-le}
 use Rattle.std.specs.Prelude.{IfSome}
 use Rattle.std.specs.List.{slice_get}
@@ -26,15 +26,14 @@ fits_there end s {parts = parts} {at = at} {part = part} fit here =
     (fit_at 0 end s (take at parts) part (drop (at + 1) parts) (subst (AllFit 0 end s) (sym (around here)) fit))
 
 -- a part that was read from the list is there
-pub part_here : {read parts : Bor (List Part)} {at : ℕ} {found part : Part} → slice_get read.now at ≡ Some found
-    → read ≡ parts → found ≡ part → IsElementAt parts.now at part
+pub part_here : {read parts : List Part} {at : ℕ} {found part : Part} → slice_get read at ≡ Some found
+    → read ≡ parts → found ≡ part → IsElementAt parts at part
 part_here {at = at} reads same is =
-    element_at (ap (λ (xs : Bor (List Part)). slice_get xs.now at) (sym same) ∙ reads ∙ ap Some is)
+    element_at (ap (λ (xs : List Part). slice_get xs at) (sym same) ∙ reads ∙ ap Some is)
 
 -- an index after the last part that was read is after the last part
-pub none_here : {read parts : Bor (List Part)} {at : ℕ} → length read.now ≤ at → read ≡ parts
-    → length parts.now ≤ at
-none_here {at = at} past same = subst (λ (xs : Bor (List Part)). length xs.now ≤ at) same past
+pub none_here : {read parts : List Part} {at : ℕ} → length read ≤ at → read ≡ parts → length parts ≤ at
+none_here {at = at} past same = subst (λ (xs : List Part). length xs ≤ at) same past
 
 -- of a list that is jumped into, an expansion visits what it visits of the rest by itself
 visited_parts-jump : (k i : ℕ) (s : List ℕ) (xs : List Part) (look : LookUp)

@@ -2,50 +2,53 @@
 
 ghost use Rattle.std.specs.Prelude.{◌≡◌, IfOk};
 
-use super::Part;
+use super::part_slice::PartSlice;
+use super::part_vec::PartVec;
 use std::alloc::{AllocError, Global};
-use std::borrow::CowSlice;
 use std::marker::Model;
 
 /// A list of parts that is lent or owned. Contracts see it as the list of its parts.
 #[derive(Drop)]
 pub(in crate::template) struct CowParts<'a> {
-    list: CowSlice<'a, Part>,
+    list: CowList<'a>,
+}
+
+#[derive(Drop)]
+enum CowList<'a> {
+    Borrowed(PartSlice<'a>),
+    Owned(PartVec),
 }
 
 impl<'a> Model for CowParts<'a> {
     ghost use Rattle.std.specs.Prelude.{List};
-    ghost use Rattle.std.specs.Cow.{cow_slice_items};
     ghost use Rattle.subst_core.specs.declared.template.raw.Part.{Part};
 
     ghost Value = { List Part };
 
-    ghost view = { λ parts. cow_slice_items parts.list };
+    ghost use Rattle.subst_core.specs.Raw.CowParts.{cow_parts};
+
+    ghost view = { λ parts. cow_parts parts.list };
 }
 
 impl<'a> CowParts<'a> {
-    /// Returns the list of these parts.
-    pub(super) fn new(list: Vec<Part>) -> Self
-        ensures { result ≡ list.items }
-    {
-        CowParts {
-            list: CowSlice::Owned(list),
-        }
-    }
-
-    /// Returns the parts as a slice.
-    pub(super) fn as_slice(&self) -> &[Part]
-        ensures { result.now ≡ self.now }
-    {
-        self.list.as_slice()
-    }
+    ghost use Rattle.subst_core.specs.Raw.PartLists.{slice_parts};
 
     /// Returns the same list, lent.
     pub fn lend(&self) -> CowParts<'_>
         ensures { result ≡ self.now }
     {
         CowParts {
-            list: CowSlice::Borrowed(self.list.as_slice()),
+            list: CowList::Borrowed(self.as_slice()),
+        }
+    }
+
+    /// Returns the parts, lent.
+    pub(super) fn as_slice(&self) -> PartSlice<'_>
+        ensures { slice_parts result ≡ self.now }
+    {
+        match &self.list {
+            CowList::Borrowed(parts) => *parts,
+            CowList::Owned(parts) => parts.as_slice(),
         }
     }
 
@@ -53,9 +56,22 @@ impl<'a> CowParts<'a> {
     pub fn into_owned(self, alloc: Global) -> Result<CowParts<'static>, AllocError>
         ensures { IfOk result (λ parts. parts ≡ self.entry) }
     {
-        Ok(CowParts {
-            list: CowSlice::Owned(self.list.into_owned(alloc)?),
-        })
+        let CowParts { list } = self;
+        let parts = match list {
+            CowList::Borrowed(parts) => PartVec::from_slice(alloc, parts)?,
+            CowList::Owned(parts) => parts,
+        };
+        Ok(parts.into())
+    }
+}
+
+impl From<PartVec> for CowParts<'static> {
+    ghost from_gives = { λ parts cow. cow ≡ parts };
+
+    fn from(parts: PartVec) -> CowParts<'static> {
+        CowParts {
+            list: CowList::Owned(parts),
+        }
     }
 }
 
@@ -63,8 +79,10 @@ impl<'a> Clone for CowParts<'a> {
     ghost is_clone = { λ parts copy. copy ≡ parts };
 
     fn clone(&self) -> Result<CowParts<'a>, AllocError> {
-        Ok(CowParts {
-            list: self.list.clone()?,
-        })
+        let list = match &self.list {
+            CowList::Borrowed(parts) => CowList::Borrowed(*parts),
+            CowList::Owned(parts) => CowList::Owned(parts.clone()?),
+        };
+        Ok(CowParts { list })
     }
 }

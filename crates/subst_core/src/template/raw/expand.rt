@@ -7,11 +7,14 @@ ghost use Rattle.subst_core.specs.Language.Name.{IsName};
 ghost use Rattle.subst_core.specs.Calls.VariableMap.{ByLookUp};
 ghost use Rattle.subst_core.specs.Calls.Outcome.{Expands};
 ghost use Rattle.subst_core.specs.Raw.Span.{IsSpan, span_bytes};
+ghost use Rattle.subst_core.specs.Raw.Packed.{unpacked_parts};
 ghost use Rattle.subst_core.specs.Raw.Parts.{AllFit, parts_value, visited_parts};
 ghost use Rattle.subst_core.specs.Raw.Filled.{FillsMarks, marks_of};
 
 use super::cow_parts::CowParts;
+use super::packed_part::{Offset, PackedPart};
 use super::part_list::PartList;
+use super::part_slice::PartSlice;
 use super::read_value::ReadValue;
 use super::{Part, Span};
 use crate::map::VariableMap;
@@ -50,34 +53,70 @@ where
     ensures filled { IfOk result (λ output. FillsMarks R.is_read
         (parts_value parts.now source.now (marks_of (M.look_up variables.now))) output.items) }
 {
-    let mut list = PartList::new(parts.as_slice(), mem::replace(turns, Turns::new()));
-    let outcome = expand_list::<M, R>(alloc, source, &mut list, variables);
+    match parts.as_slice() {
+        PartSlice::Narrow(packed) => {
+            expand_packed::<M, R, u32>(alloc, source, packed, variables, turns)
+        }
+        PartSlice::Wide(packed) => {
+            expand_packed::<M, R, usize>(alloc, source, packed, variables, turns)
+        }
+    }
+}
+
+/// Returns what packed parts give, as `expand`.
+fn expand_packed<'a, M: VariableMap<'a>, R: ReadValue<M::Value>, O: Offset>(
+    alloc: Global,
+    source: &[u8],
+    packed: &[PackedPart<O>],
+    variables: &'a M,
+    turns: &mut Turns,
+) -> Result<Vec<u8>, ExpandError>
+where
+    M::Value: Drop,
+    requires { let parts = unpacked_parts O.value packed.now in
+        AllFit 0 (length parts) source.now parts }
+    ensures value { ByLookUp R.read M.see (M.look_up variables.now)
+        (λ look. Expands (λ output. output.items) result
+        (parts_value (unpacked_parts O.value packed.now) source.now look)) }
+    ensures counted { ByLookUp R.read M.see (M.look_up variables.now)
+        (λ look. OnOk result (turns.new ≡ turns.old
+        + length (visited_parts (unpacked_parts O.value packed.now) 0 0 source.now look))) }
+    ensures at_most { ByLookUp R.read M.see (M.look_up variables.now)
+        (λ look. turns.new ≤ turns.old
+        + length (visited_parts (unpacked_parts O.value packed.now) 0 0 source.now look)) }
+    ensures grown { turns.old ≤ turns.new }
+    ensures filled { IfOk result (λ output. FillsMarks R.is_read
+        (parts_value (unpacked_parts O.value packed.now) source.now
+        (marks_of (M.look_up variables.now))) output.items) }
+{
+    let mut list = PartList::new(packed, mem::replace(turns, Turns::new()));
+    let outcome = expand_list::<M, R, O>(alloc, source, &mut list, variables);
     *turns = list.into_turns();
     outcome
 }
 
 /// Returns what the parts of a list give, as `expand`.
-fn expand_list<'a, M: VariableMap<'a>, R: ReadValue<M::Value>>(
+fn expand_list<'a, M: VariableMap<'a>, R: ReadValue<M::Value>, O: Offset>(
     alloc: Global,
     source: &[u8],
-    list: &mut PartList<'_>,
+    list: &mut PartList<'_, O>,
     variables: &'a M,
 ) -> Result<Vec<u8>, ExpandError>
 where
     M::Value: Drop,
-    requires { AllFit 0 (length list.old.parts.now) source.now list.old.parts.now }
+    requires { AllFit 0 (length list.old.parts) source.now list.old.parts }
     ensures value { ByLookUp R.read M.see (M.look_up variables.now)
         (λ look. Expands (λ output. output.items) result
-        (parts_value list.old.parts.now source.now look)) }
+        (parts_value list.old.parts source.now look)) }
     ensures counted { ByLookUp R.read M.see (M.look_up variables.now)
         (λ look. OnOk result (list.new.turns
-        ≡ list.old.turns + length (visited_parts list.old.parts.now 0 0 source.now look))) }
+        ≡ list.old.turns + length (visited_parts list.old.parts 0 0 source.now look))) }
     ensures at_most { ByLookUp R.read M.see (M.look_up variables.now)
         (λ look. list.new.turns
-        ≤ list.old.turns + length (visited_parts list.old.parts.now 0 0 source.now look)) }
+        ≤ list.old.turns + length (visited_parts list.old.parts 0 0 source.now look)) }
     ensures grown { list.old.turns ≤ list.new.turns }
     ensures filled { IfOk result (λ output. FillsMarks R.is_read
-        (parts_value list.old.parts.now source.now (marks_of (M.look_up variables.now)))
+        (parts_value list.old.parts source.now (marks_of (M.look_up variables.now)))
         output.items) }
     ensures same { list.new.parts ≡ list.old.parts }
 {

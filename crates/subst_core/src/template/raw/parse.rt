@@ -73,7 +73,7 @@ pub(in crate::template) fn parse(
     let Parser { tape, parts, .. } = parser;
     *reads = tape.into_reads();
     match outcome {
-        Ok(()) => Ok(parts.into_parts()),
+        Ok(()) => Ok(parts.into()),
         Err(halt) => Err(halt.into()),
     }
 }

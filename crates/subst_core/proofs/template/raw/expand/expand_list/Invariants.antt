@@ -11,7 +11,7 @@ use Rattle.subst_core.proofs.template.raw.expand.expand_list.Given as goal
 abbrev pub invariant-loop-part : goal.invariant-loop-part
 invariant-loop-part g l =
     let look_up = g.M.VariableMap.look_up l.variables in
-    let parts = l.initial.list.parts.now in
+    let parts = l.initial.list.parts in
     record {
       same : l.list.parts ≡ l.initial.list.parts;
       within : l.at ≤ length parts;
@@ -24,4 +24,4 @@ invariant-loop-part g l =
     }
 
 abbrev pub decreases-loop-part : goal.decreases-loop-part
-decreases-loop-part g l = length l.initial.list.parts.now - l.at
+decreases-loop-part g l = length l.initial.list.parts - l.at
