@@ -1,6 +1,8 @@
 -- The words of a command line, and the look-up of the variables that they give.
+use denote.Ref.{Bor}
 use Rattle.std.specs.Prelude.{ℕ, ◌==◌, Bool, false, ◌&&◌, List, [], ◌∷◌, reverse, find, codes, String, string_bytes}
 use Rattle.std.specs.Global.{Global}
+use Rattle.std.specs.HashMap.{HashMap, get_by}
 use Rattle.std.specs.List.{before_first, after_first, list_any, list_all}
 use Rattle.std.specs.Option.{option_map}
 use Rattle.std.specs.Str.{bytes_eq}
@@ -41,3 +43,7 @@ abbrev pub are_right : List (String Global) → Bool
 are_right [] = false
 are_right (first ∷ pairs) =
     bytes_eq (string_bytes first) (codes "bytes") && list_all (λ word. is_pair (string_bytes word)) pairs
+
+-- the value that a map has under each name, where names and values are lent
+abbrev pub value_under : {S : Type 0} → HashMap (Bor (List ℕ)) (Bor (List ℕ)) S → LookUp
+value_under values name = option_map (λ value. value.now) (get_by (λ given. bytes_eq name given.now) values)

@@ -79,7 +79,10 @@ pub fn run_program<I: ByteInput, O: ByteOutput, P: ByteOutput>(
 {
     // No word asks for the environment yet.
     drop(pairs);
-    let Some(variables) = variables(words) else {
+    let Ok(given) = variables(alloc, words) else {
+        return end_with(&RunError::OutOfMemory, errors);
+    };
+    let Some(variables) = given else {
         write_text(errors, USAGE);
         return WRONG_WORDS;
     };

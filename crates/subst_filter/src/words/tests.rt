@@ -13,16 +13,16 @@ fn words(alloc: Global, line: &[&str]) -> Result<Vec<String>, AllocError> {
 #[test]
 fn last_word_of_a_name_gives_its_value(rt: HostRuntime) -> Result<(), Fail> {
     let line = words(rt.alloc(), &["bytes", "a=1", "=x", "b=c=d", "a=2", "e="])?;
-    let variables = variables(&line).ok_or("wrong words")?;
+    let values = variables(rt.alloc(), &line)?.ok_or("wrong words")?;
     let rows: &[(&str, &str)] = &[("a", "2"), ("", "x"), ("b", "c=d"), ("e", "")];
     for &(name, value) in rows {
         assert_eq!(rt;
-            variables.get(name).ok_or("no value")?,
+            values.get(name).ok_or("no value")?,
             value.as_bytes(),
             "at {name}"
         );
     }
-    assert!(rt; variables.get("bytes").is_none());
+    assert!(rt; values.get("bytes").is_none());
     Ok(())
 }
 
@@ -39,7 +39,7 @@ fn wrong_words_give_no_variables(rt: HostRuntime) -> Result<(), Fail> {
     ];
     for (row, line) in rows.iter().enumerate() {
         let line = words(rt.alloc(), line)?;
-        assert!(rt; variables(&line).is_none(), "at row {row}");
+        assert!(rt; variables(rt.alloc(), &line)?.is_none(), "at row {row}");
     }
     Ok(())
 }
