@@ -3,9 +3,10 @@
 //! A run reads its source to the end, fills the variables in, and only then writes. The runs are in the child
 //! modules; what they share is here.
 
-ghost use Rattle.std.specs.Prelude.{◌≡◌, true, IfOk, IfErr, OnOk, OnErr, MatchOption};
+ghost use Rattle.std.specs.Prelude.{◌≡◌, ◌↔◌, true, All, IsTrue, IfOk, IfErr, OnOk, OnErr, MatchOption};
 ghost use Rattle.std.specs.Io.KnownBytes.{Appends};
 ghost use Rattle.subst.specs.ErrorFault.{error_fault};
+ghost use Rattle.subst.specs.Language.Bytes.{IsPlain};
 ghost use Rattle.subst_filter.specs.Device.{ReadsExactly, AppendsPrefix};
 ghost use Rattle.subst_filter.specs.FilterRun.{UnlessReadFails};
 ghost use Rattle.subst_filter.specs.RunError.{IsReadFault, IsWriteFault};
@@ -13,6 +14,7 @@ ghost use Rattle.subst_filter.specs.RunError.{IsReadFault, IsWriteFault};
 use crate::device::{ByteInput, ByteOutput, Failed};
 use crate::run_error::RunError;
 pub use bytes::run_bytes;
+use memchr::memchr2;
 use std::alloc::Global;
 use subst::Error;
 
@@ -42,6 +44,13 @@ fn read_all<I: ByteInput>(alloc: Global, input: &mut I) -> Result<Vec<u8>, RunEr
         }
         all.extend_from_slice(&chunk[..count])?;
     }
+}
+
+/// Whether the source has no dollar and no backslash, so that it gives itself.
+fn is_plain(source: &[u8]) -> bool
+    ensures { IsTrue result ↔ All IsPlain source.now }
+{
+    memchr2(b'$', b'\\', source).is_none()
 }
 
 /// The error of a run whose substitution returned `e`. `shown` shows the position of the fault.

@@ -24,6 +24,9 @@ const SENTENCE: &[u8] = b"Hi ${hi:\\{${who:you}\\}} and $name!";
 /// The bytes that it gives.
 const GIVEN: &[u8] = b"Hi {you} and the whole round world with all that is in it!";
 
+/// A source without a dollar and a backslash.
+const PLAIN: &[u8] = b"Hi {you}!";
+
 /// A sentence that needs a variable which is missing.
 const MISSING: &[u8] = b"Hi ${hi:$name and ${who:$absent}}!";
 
@@ -124,6 +127,17 @@ fn run_bytes_over_a_sentence(rt: HostRuntime) -> Result<(), Fail> {
     assert_eq!(rt; drip.taken.as_slice(), GIVEN);
     assert_eq!(rt; drip.passed_on, GIVEN.len());
     assert!(rt; are_unchanged(&variables));
+    Ok(())
+}
+
+#[test]
+fn run_bytes_over_a_plain_source(rt: HostRuntime) -> Result<(), Fail> {
+    let variables = variables(rt.alloc())?;
+    let mut drip = drip(rt.alloc())?;
+    let result = run_again(rt.alloc(), &rt, PLAIN, &mut drip, &variables);
+    assert!(rt; result.is_ok());
+    assert_eq!(rt; drip.taken.as_slice(), PLAIN);
+    assert_eq!(rt; drip.passed_on, PLAIN.len());
     Ok(())
 }
 

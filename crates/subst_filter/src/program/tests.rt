@@ -67,6 +67,7 @@ fn variables_of_the_words_are_filled_in(rt: HostRuntime) -> Result<(), Fail> {
         ("bytes A=1 A=2", "$A", "2"),
         ("bytes =x a=b=c", "$a", "b=c"),
         ("bytes", "", ""),
+        ("bytes a=1", "a}:{?", "a}:{?"),
     ];
     for &(line, source, output) in rows {
         let end = run(rt.alloc(), line, source.as_bytes(), NEVER)?;
