@@ -20,7 +20,10 @@ use subst::Error;
 
 mod bytes;
 
-/// How many bytes a read asks for: as many as a pipe holds.
+/// How many bytes a read asks for at first: more than most sources have, and few to clear.
+const FIRST_CHUNK: usize = 4096;
+
+/// How many bytes a read asks for once a read has got all that it asked for: as many as a pipe holds.
 const CHUNK: usize = 65536;
 
 /// Reads all that is left of the input.
@@ -28,13 +31,14 @@ const CHUNK: usize = 65536;
 /// # Errors
 ///
 /// [`RunError::Read`] if the input fails, and [`RunError::OutOfMemory`] if memory runs out.
+#[tactic(auto, using(crate::proofs::DeviceLemmas::reads_to_end, crate::proofs::DeviceLemmas::reads_on))]
 fn read_all<I: ByteInput>(alloc: Global, input: &mut I) -> Result<Vec<u8>, RunError>
     ensures ok { IfOk result (λ all. ReadsExactly (I.left input.old) (I.left input.new) all.items) }
     ensures err { IfErr result (IsReadFault (I.has_failed input.new)) }
     ensures unfailed { UnlessReadFails result (I.has_failed input.new ≡ I.has_failed input.old) }
 {
     let mut all = Vec::new(alloc);
-    let mut chunk = [0u8; CHUNK];
+    let mut chunk = vec![in alloc; 0; FIRST_CHUNK]?;
     loop {
         let Ok(count) = input.read(&mut chunk) else {
             return Err(RunError::Read);
@@ -43,6 +47,9 @@ fn read_all<I: ByteInput>(alloc: Global, input: &mut I) -> Result<Vec<u8>, RunEr
             return Ok(all);
         }
         all.extend_from_slice(&chunk[..count])?;
+        if count == chunk.len() {
+            chunk.resize(CHUNK, 0)?;
+        }
     }
 }
 
