@@ -1,0 +1,16 @@
+-- The words that name kinds of work.
+use Rattle.std.specs.Prelude.{◌≡◌, ◌≢◌, ℕ, List, codes, Option, Some, None}
+use Rattle.subst_bench.specs.declared.work.Work.{Work}
+use Rattle.subst_bench.specs.declared.work.Work.TheVariants.{Parse, Expand, Both, Nothing}
+
+-- the word that names a kind of work
+abbrev pub word_of : Work → List ℕ
+word_of Parse = codes "parse"
+word_of Expand = codes "expand"
+word_of Both = codes "both"
+word_of Nothing = codes "none"
+
+-- the text is the word of this kind of work, or that of no kind where there is none
+abbrev pub IsNameOf : List ℕ → Option Work → Type 0
+IsNameOf text (Some work) = text ≡ word_of work
+IsNameOf text None = (work : Work) → text ≢ word_of work

@@ -1,0 +1,72 @@
+//! The kinds of work.
+
+ghost use Rattle.subst_bench.specs.Work.{IsNameOf};
+
+use std::alloc::Global;
+use std::collections::BTreeMap;
+use subst::{ByteTemplate, Error, substitute_bytes};
+
+/// The variables that a source is filled in from.
+pub type Variables = BTreeMap<String, Vec<u8>>;
+
+/// What a round does.
+#[derive(Clone, Copy)]
+pub enum Work {
+    /// Parses the source.
+    Parse,
+    /// Expands a template that is made before the first round.
+    Expand,
+    /// Both, by `substitute_bytes`.
+    Both,
+    /// Nothing.
+    Nothing,
+}
+
+impl Work {
+    /// Returns the work that the word names, or `None` if it names none.
+    pub fn named(word: &str) -> Option<Work>
+        ensures { IsNameOf word.now result }
+    {
+        match word {
+            "parse" => Some(Work::Parse),
+            "expand" => Some(Work::Expand),
+            "both" => Some(Work::Both),
+            "none" => Some(Work::Nothing),
+            _ => None,
+        }
+    }
+
+    /// Does the work, and returns the length that the last round gave.
+    pub fn repeat(
+        self,
+        alloc: Global,
+        rounds: u64,
+        source: &[u8],
+        variables: &Variables,
+    ) -> Result<usize, Error> {
+        match self {
+            Work::Parse => last(rounds, || {
+                Ok(ByteTemplate::from_slice(alloc, source)?.source().len())
+            }),
+            Work::Expand => {
+                let template = ByteTemplate::from_slice(alloc, source)?;
+                last(rounds, || Ok(template.expand(alloc, variables)?.len()))
+            }
+            Work::Both => last(rounds, || {
+                Ok(substitute_bytes(alloc, source, variables)?.len())
+            }),
+            Work::Nothing => Ok(0),
+        }
+    }
+}
+
+/// Returns what the last round gives, or 0 if there is none.
+fn last<F: Fn() -> Result<usize, Error>>(rounds: u64, round: F) -> Result<usize, Error>
+    requires { F.IsAlwaysCallable round }
+{
+    let mut given = Ok(0);
+    for _ in 0..rounds {
+        given = round();
+    }
+    given
+}
