@@ -13,7 +13,7 @@ pub use map::VariableMap;
 use std::alloc::Global;
 use std::convert::AsSlice;
 use subst_error::Error;
-pub use template::ByteTemplate;
+pub use template::{ByteTemplate, ByteTemplateBuf};
 
 pub mod laws;
 mod map;

@@ -1,6 +1,9 @@
 //! Templates: sources that are parsed once and expanded any number of times.
 
 pub use byte_template::ByteTemplate;
+pub use byte_template_buf::ByteTemplateBuf;
 
+mod byte_string;
 mod byte_template;
+mod byte_template_buf;
 mod raw;

@@ -11,18 +11,20 @@ ghost use Rattle.subst_core.specs.Calls.Outcome.{OnFault, Expands};
 
 use crate::map::VariableMap;
 use crate::steps::{Reads, Turns};
+use crate::template::byte_string::ByteString;
 use crate::template::raw;
 use crate::template::raw::{CowParts, SliceBytes};
-use std::alloc::Global;
+use std::alloc::{AllocError, Global};
 use std::convert::AsSlice;
+use std::fmt;
 use std::marker::Model;
 use subst_error::{ExpandError, ParseError};
 
 /// A template over a byte source that it borrows. Contracts see it as its source.
 #[derive(Drop)]
 pub struct ByteTemplate<'a> {
-    source: &'a [u8],
-    parts: CowParts<'a>,
+    pub(super) source: &'a [u8],
+    pub(super) parts: CowParts<'a>,
 }
 
 impl<'a> Model for ByteTemplate<'a> {
@@ -73,6 +75,7 @@ impl<'a> ByteTemplate<'a> {
         ensures refused { IfErr result (λ e. reads.old + 1 ≤ reads.new) }
     {
         let parts = raw::parse(alloc, source, reads)?;
+        let parts = CowParts::from(parts);
         Ok(ByteTemplate { source, parts })
     }
 
@@ -131,5 +134,29 @@ impl<'a> ByteTemplate<'a> {
         ensures grown { turns.old ≤ turns.new }
     {
         raw::expand::<M, SliceBytes>(alloc, self.source, &self.parts, variables, turns)
+    }
+}
+
+/// A copy has the same source. It allocates unless the template was lent.
+impl<'a> Clone for ByteTemplate<'a> {
+    ghost use Rattle.std.specs.Prelude.{◌≡◌};
+
+    ghost is_clone = { λ template copy. copy ≡ template };
+
+    fn clone(&self) -> Result<Self, AllocError> {
+        let parts = self.parts.clone()?;
+        Ok(ByteTemplate {
+            source: self.source,
+            parts,
+        })
+    }
+}
+
+/// The source, as `ByteTemplate(b"Hello $name!")`.
+impl<'a> fmt::Debug for ByteTemplate<'a> {
+    fn fmt<W: fmt::Write>(&self, f: &mut fmt::Formatter<W>) -> fmt::Result {
+        f.debug_tuple("ByteTemplate")
+            .field(&ByteString(self.source))
+            .finish()
     }
 }

@@ -18,6 +18,7 @@ mod tape;
 pub(super) use cow_parts::CowParts;
 pub(super) use expand::expand;
 pub(super) use parse::parse;
+pub(super) use part_vec::PartVec;
 pub(super) use read_value::SliceBytes;
 
 /// A range of bytes of the source.

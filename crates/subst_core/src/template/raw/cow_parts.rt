@@ -33,13 +33,20 @@ impl<'a> Model for CowParts<'a> {
 impl<'a> CowParts<'a> {
     ghost use Rattle.subst_core.specs.Raw.PartLists.{slice_parts};
 
-    /// Returns the same list, lent.
-    pub fn lend(&self) -> CowParts<'_>
-        ensures { result ≡ self.now }
+    /// Returns a list that is owned, lent.
+    pub fn lent(parts: &'a PartVec) -> CowParts<'a>
+        ensures { result ≡ parts.now }
     {
         CowParts {
-            list: CowList::Borrowed(self.as_slice()),
+            list: CowList::Borrowed(parts.as_slice()),
         }
+    }
+
+    /// Returns the same list, owned.
+    pub fn to_vec(&self, alloc: Global) -> Result<PartVec, AllocError>
+        ensures { IfOk result (λ parts. parts ≡ self.now) }
+    {
+        PartVec::from_slice(alloc, self.as_slice())
     }
 
     /// Returns the parts, lent.
@@ -53,22 +60,21 @@ impl<'a> CowParts<'a> {
     }
 
     /// Returns the same list, owned. Memory is asked for only where it was lent.
-    pub fn into_owned(self, alloc: Global) -> Result<CowParts<'static>, AllocError>
+    pub fn into_vec(self, alloc: Global) -> Result<PartVec, AllocError>
         ensures { IfOk result (λ parts. parts ≡ self.entry) }
     {
         let CowParts { list } = self;
-        let parts = match list {
-            CowList::Borrowed(parts) => PartVec::from_slice(alloc, parts)?,
-            CowList::Owned(parts) => parts,
-        };
-        Ok(parts.into())
+        match list {
+            CowList::Borrowed(parts) => PartVec::from_slice(alloc, parts),
+            CowList::Owned(parts) => Ok(parts),
+        }
     }
 }
 
-impl From<PartVec> for CowParts<'static> {
+impl<'a> From<PartVec> for CowParts<'a> {
     ghost from_gives = { λ parts cow. cow ≡ parts };
 
-    fn from(parts: PartVec) -> CowParts<'static> {
+    fn from(parts: PartVec) -> CowParts<'a> {
         CowParts {
             list: CowList::Owned(parts),
         }

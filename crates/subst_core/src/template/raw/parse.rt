@@ -11,7 +11,6 @@ ghost use Rattle.subst_core.specs.Raw.Halt.{halt_fault};
 ghost use Rattle.subst_core.specs.Raw.Parts.{HasName, IsTemplateOf};
 ghost use Rattle.subst_core.specs.Raw.Placeholder.{IsInBraces, IsOptional, StatesBadItem};
 
-use super::cow_parts::CowParts;
 use super::halt::Halt;
 use super::item::{Placeholder, escape_at, placeholder_at};
 use super::part_vec::PartVec;
@@ -59,7 +58,7 @@ pub(in crate::template) fn parse(
     alloc: Global,
     source: &[u8],
     reads: &mut Reads,
-) -> Result<CowParts<'static>, ParseError>
+) -> Result<PartVec, ParseError>
     ensures ok { IfOk result (λ parts. IsTemplateOf source.now parts) }
     ensures err { OnFault parse_fault result (HasFault 0 source.now) }
     ensures bound { reads.new ≤ reads.old + 3 * length source.now + 8 }
@@ -73,7 +72,7 @@ pub(in crate::template) fn parse(
     let Parser { tape, parts, .. } = parser;
     *reads = tape.into_reads();
     match outcome {
-        Ok(()) => Ok(parts.into()),
+        Ok(()) => Ok(parts),
         Err(halt) => Err(halt.into()),
     }
 }

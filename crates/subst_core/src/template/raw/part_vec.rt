@@ -14,7 +14,7 @@ use std::marker::Model;
 /// A part is kept in 16 bytes until one comes with an offset or index that needs more than 32 bits, which
 /// takes a source of more than 4 GiB. From then on each part is kept in 32 bytes.
 #[derive(Drop)]
-pub(super) struct PartVec {
+pub(in crate::template) struct PartVec {
     list: PackedVec,
 }
 
@@ -49,7 +49,7 @@ impl PartVec {
     }
 
     /// Returns a list of the same parts.
-    pub fn from_slice(alloc: Global, parts: PartSlice<'_>) -> Result<Self, AllocError>
+    pub(super) fn from_slice(alloc: Global, parts: PartSlice<'_>) -> Result<Self, AllocError>
         ensures { IfOk result (λ list. list ≡ slice_parts parts.entry) }
     {
         let list = match parts {
@@ -72,7 +72,7 @@ impl PartVec {
     }
 
     /// Returns the parts, lent.
-    pub fn as_slice(&self) -> PartSlice<'_>
+    pub(super) fn as_slice(&self) -> PartSlice<'_>
         ensures { slice_parts result ≡ self.now }
     {
         match &self.list {

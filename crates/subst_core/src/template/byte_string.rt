@@ -1,0 +1,17 @@
+//! How the sources of byte templates are shown.
+
+use std::fmt::Write;
+use std::{fmt, str};
+
+/// Bytes that `Debug` shows as a byte string, as `b"a"`, or as a list of numbers where they aren't UTF-8.
+#[derive(Clone, Copy)]
+pub(super) struct ByteString<'a>(pub(super) &'a [u8]);
+
+impl<'a> fmt::Debug for ByteString<'a> {
+    fn fmt<W: fmt::Write>(&self, f: &mut fmt::Formatter<W>) -> fmt::Result {
+        match str::from_utf8(self.0) {
+            Ok(text) => write!(f, "b{text:?}"),
+            Err(_) => fmt::Debug::fmt(&self.0, f),
+        }
+    }
+}

@@ -1,0 +1,160 @@
+//! Templates that own their byte sources.
+
+ghost use Rattle.std.specs.Prelude.{◌≡◌, IfOk};
+ghost use Rattle.subst_error.specs.ErrorFault.{parse_fault};
+ghost use Rattle.subst_core.specs.Language.Sentence.{IsSentence, ByTree};
+ghost use Rattle.subst_core.specs.Language.BadItem.{HasFault};
+ghost use Rattle.subst_core.specs.Language.Value.{value};
+ghost use Rattle.subst_core.specs.Calls.VariableMap.{ByLookUp};
+ghost use Rattle.subst_core.specs.Calls.Outcome.{OnFault, Expands};
+
+use crate::map::VariableMap;
+use crate::steps::Reads;
+use crate::template::byte_string::ByteString;
+use crate::template::byte_template::ByteTemplate;
+use crate::template::raw;
+use crate::template::raw::{CowParts, PartVec};
+use std::alloc::{AllocError, Global};
+use std::convert::AsSlice;
+use std::fmt;
+use std::marker::Model;
+use subst_error::{ExpandError, ParseError};
+
+/// A template that owns its byte source. Contracts see it as its source.
+#[derive(Drop)]
+pub struct ByteTemplateBuf {
+    source: Vec<u8>,
+    parts: PartVec,
+}
+
+impl Model for ByteTemplateBuf {
+    ghost use Rattle.std.specs.Prelude.{ℕ, List};
+    ghost use Rattle.subst_core.specs.Raw.Parts.{IsTemplateOf};
+
+    ghost Value = { List ℕ };
+
+    ghost view = { λ t. t.source.items };
+
+    ghost invariant = { λ t. IsTemplateOf t.source.items t.parts };
+}
+
+impl ByteTemplateBuf {
+    /// Returns the template of a source, which it takes over. A source that is refused is dropped.
+    ///
+    /// # Errors
+    ///
+    /// As [`ByteTemplate::from_slice`].
+    pub fn from_vec(source: Vec<u8>) -> Result<Self, ParseError>
+        // Only a sentence has a template, which is that of the source.
+        ensures ok { IfOk result (λ template. IsSentence source.items × (template ≡ source.items)) }
+        ensures err { OnFault parse_fault result (HasFault 0 source.items) }
+    {
+        let alloc = *source.allocator();
+        let parts = raw::parse(alloc, &source, &mut Reads::new())?;
+        Ok(ByteTemplateBuf { source, parts })
+    }
+
+    /// Returns a template of its own with the source of another one.
+    ///
+    /// # Errors
+    ///
+    /// Out of memory.
+    pub fn from_template(alloc: Global, other: &ByteTemplate<'_>) -> Result<Self, AllocError>
+        ensures { IfOk result (λ template. template ≡ other.now) }
+    {
+        let source = Vec::from_slice(alloc, other.source)?;
+        let parts = other.parts.to_vec(alloc)?;
+        Ok(ByteTemplateBuf { source, parts })
+    }
+
+    /// Returns a template of its own with the source of another one, whose parts it takes over.
+    ///
+    /// # Errors
+    ///
+    /// Out of memory.
+    pub fn of_template(alloc: Global, other: ByteTemplate<'_>) -> Result<Self, AllocError>
+        ensures { IfOk result (λ template. template ≡ other.entry) }
+    {
+        let source = Vec::from_slice(alloc, other.source)?;
+        let parts = other.parts.into_vec(alloc)?;
+        Ok(ByteTemplateBuf { source, parts })
+    }
+
+    /// Returns the template over the same source, lent. It takes no memory.
+    pub fn as_template(&self) -> ByteTemplate<'_>
+        ensures { result ≡ self.now }
+    {
+        ByteTemplate {
+            source: &self.source,
+            parts: CowParts::lent(&self.parts),
+        }
+    }
+
+    /// Returns the source, which is a sentence of the template language.
+    pub fn source(&self) -> &[u8]
+        ensures source { result.now ≡ self.now }
+        ensures sentence { IsSentence self.now }
+    {
+        &self.source
+    }
+
+    /// Returns the source, and drops what was parsed of it.
+    pub fn into_source(self) -> Vec<u8>
+        ensures source { result.items ≡ self }
+        ensures sentence { IsSentence self }
+    {
+        self.source
+    }
+
+    /// Returns the bytes of the source with its variables filled in from `variables`.
+    ///
+    /// # Errors
+    ///
+    /// As [`ByteTemplate::expand`].
+    pub fn expand<'b, M: VariableMap<'b>>(
+        &self,
+        alloc: Global,
+        variables: &'b M,
+    ) -> Result<Vec<u8>, ExpandError>
+    where
+        M::Value: AsSlice<u8> + Drop,
+        ensures { ByLookUp M.Value.items M.see (M.look_up variables.now)
+            (λ look. ByTree self.now
+            (λ t. Expands (λ output. output.items) result (value 0 t look))) }
+    {
+        self.as_template().expand(alloc, variables)
+    }
+}
+
+/// A copy has the same source.
+impl Clone for ByteTemplateBuf {
+    ghost use Rattle.std.specs.Prelude.{◌≡◌};
+
+    ghost is_clone = { λ template copy. copy ≡ template };
+
+    fn clone(&self) -> Result<Self, AllocError> {
+        let source = self.source.clone()?;
+        let parts = self.parts.clone()?;
+        Ok(ByteTemplateBuf { source, parts })
+    }
+}
+
+/// The lent template has the same source.
+impl<'a> From<&'a ByteTemplateBuf> for ByteTemplate<'a> {
+    ghost use Rattle.std.specs.Prelude.{◌≡◌};
+
+    ghost from_gives = { λ template lent. lent ≡ template.now };
+
+    fn from(template: &'a ByteTemplateBuf) -> Self {
+        template.as_template()
+    }
+}
+
+/// The source, as `ByteTemplateBuf(b"Hello $name!")`.
+impl fmt::Debug for ByteTemplateBuf {
+    fn fmt<W: fmt::Write>(&self, f: &mut fmt::Formatter<W>) -> fmt::Result {
+        f.debug_tuple("ByteTemplateBuf")
+            .field(&ByteString(&self.source))
+            .finish()
+    }
+}
