@@ -15,4 +15,5 @@ pub mod OneTreeLemmas
 pub mod PlainLemmas
 pub mod ReadingLemmas
 pub mod TreeLemmas
+pub mod Utf8Lemmas
 pub mod ValueLemmas

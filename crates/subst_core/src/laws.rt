@@ -1,16 +1,17 @@
 //! Laws of the definitions that the contracts cite. Each is the contract of a function that does nothing.
 
-ghost use Rattle.std.specs.Prelude.{◌≤◌, ℕ, List, length};
+ghost use Rattle.std.specs.Prelude.{◌≡◌, ◌≤◌, ℕ, List, length};
+ghost use Rattle.std.specs.Str.{IsUtf8};
 ghost use Rattle.subst_core.specs.Language.Laws.{OneTreeOrOneFault};
 ghost use Rattle.subst_core.specs.Earlier.Extension.{KeepsReading};
 ghost use Rattle.subst_core.specs.Calls.VariableMap.{ReadsAs};
 ghost use Rattle.subst_core.specs.Language.Tree.{Tree, text};
-ghost use Rattle.subst_core.specs.Language.LookUp.{LookUp};
+ghost use Rattle.subst_core.specs.Language.LookUp.{LookUp, GivesTexts};
+ghost use Rattle.subst_core.specs.Language.Sentence.{ByTree};
+ghost use Rattle.subst_core.specs.Language.Value.{Bytes, value};
 ghost use Rattle.subst_core.specs.Language.Counts.{part_count, visited_count};
 
-use crate::map::VariableMap;
-use std::collections::BTreeMap;
-use std::convert::AsSlice;
+use std::convert::{AsSlice, AsStr};
 
 /// The law of one reading. Each byte string is a sentence of the template language or has a fault, never
 /// both: a sentence is the text of exactly one well-formed tree, and any other byte string has exactly one
@@ -34,9 +35,21 @@ pub fn turns_are_bounded()
     ensures parts { (t : Tree) → part_count t ≤ length (text t) }
 {}
 
-/// A `BTreeMap` with text keys whose values are bytes is a look-up of bytes: for each name it has the bytes
-/// of the value under that key.
-pub fn btree_map_is_look_up<'a, V: AsSlice<u8> + 'a>()
-    ensures { ReadsAs ⟦<&'a V as AsSlice<u8>>⟧.items
-        ⟦<BTreeMap<String, V> as VariableMap<'a>>⟧.see V.items }
+/// The law of texts. Where a source is UTF-8, and so is each value of a look-up, the value of the source's
+/// tree is UTF-8 if it is bytes: no character is cut.
+pub fn texts_give_texts()
+    ensures { (s x : List ℕ) (p : ℕ) (look : LookUp) → IsUtf8 s → GivesTexts look
+        → ByTree s (λ t. value p t look ≡ Bytes x → IsUtf8 x) }
+{}
+
+/// Where values are bytes, and references to values are identified with what they point to, the bytes of a
+/// value follow from what it is identified with. So each map whose `get` lends such values, as a `BTreeMap`
+/// with text keys, is a look-up of bytes: for each name it has the bytes of the value under that key.
+pub fn slices_are_read<'a, V: AsSlice<u8> + 'a>()
+    ensures { ReadsAs ⟦<&'a V as AsSlice<u8>>⟧.items (λ v. v.now) V.items }
+{}
+
+/// The same where values are texts.
+pub fn texts_are_read<'a, V: AsStr + 'a>()
+    ensures { ReadsAs ⟦<&'a V as AsStr>⟧.text (λ v. v.now) V.text }
 {}

@@ -100,7 +100,7 @@ pub name_balanced : (n : List ℕ) → IsName n → IsBalanced n
 name_balanced n named = balanced_bytes n (name_bytes n named)
 
 -- a name byte is ASCII
-name_byte_ascii : (b : ℕ) → IsNameByte b → b < 128
+pub name_byte_ascii : (b : ℕ) → IsNameByte b → b < 128
 name_byte_ascii b is = grind (arith, nat_tests)
 
 -- name bytes are ASCII
