@@ -4,6 +4,7 @@ pub mod CutLemmas
 pub mod DepthLemmas
 pub mod ExpandLemmas
 pub mod FilledLemmas
+pub mod FilledTextLemmas
 pub mod InnerLemmas
 pub mod LiftLemmas
 pub mod OpenPartLemmas

@@ -4,16 +4,16 @@
 //! `subst` hands on all public items of this crate, and describes the language.
 #![tactic(auto)]
 
-ghost use Rattle.std.specs.Prelude.{IfSome};
+ghost use Rattle.std.specs.Prelude.{IfSome, string_bytes};
 ghost use Rattle.subst_core.specs.Language.Answer.{Answers};
 ghost use Rattle.subst_core.specs.Calls.VariableMap.{ByLookUp};
 ghost use Rattle.subst_core.specs.Calls.Outcome.{answer_of};
 
 pub use map::VariableMap;
 use std::alloc::Global;
-use std::convert::AsSlice;
+use std::convert::{AsSlice, AsStr};
 use subst_error::Error;
-pub use template::{ByteTemplate, ByteTemplateBuf};
+pub use template::{ByteTemplate, ByteTemplateBuf, Template, TemplateBuf};
 
 pub mod laws;
 mod map;
@@ -53,4 +53,28 @@ where
         (λ look. IfSome (answer_of (λ output. output.items) result) (Answers source.now look)) }
 {
     Ok(ByteTemplate::from_slice(alloc, source)?.expand(alloc, variables)?)
+}
+
+/// Returns `source` with its variables filled in from `variables`, whose values are texts.
+///
+/// It gives what [`substitute_bytes`] gives for the bytes of the texts, as a text. That this is UTF-8 is
+/// proved, so there is no error for it.
+///
+/// # Errors
+///
+/// As [`substitute_bytes`]. Positions are byte offsets in the whole source, from 0.
+pub fn substitute<'a, M: VariableMap<'a>>(
+    alloc: Global,
+    source: &str,
+    variables: &'a M,
+) -> Result<String, Error>
+where
+    M::Value: AsStr + Drop,
+
+    // The answer of the source under the map's look-up: there is one, and it is this.
+    ensures { ByLookUp M.Value.text M.see (M.look_up variables.now)
+        (λ look. IfSome (answer_of (λ output. string_bytes output) result)
+        (Answers source.now look)) }
+{
+    Ok(Template::from_str(alloc, source)?.expand(alloc, variables)?)
 }

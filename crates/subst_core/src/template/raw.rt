@@ -4,6 +4,7 @@ mod byte_class;
 mod character;
 mod cow_parts;
 mod expand;
+mod expand_text;
 mod halt;
 mod item;
 mod packed_part;
@@ -17,6 +18,7 @@ mod tape;
 
 pub(super) use cow_parts::CowParts;
 pub(super) use expand::expand;
+pub(super) use expand_text::expand_text;
 pub(super) use parse::parse;
 pub(super) use part_vec::PartVec;
 pub(super) use read_value::SliceBytes;

@@ -2,7 +2,7 @@
 
 ghost use Rattle.std.specs.Prelude.{◌≡◌, ℕ, List};
 
-use std::convert::AsSlice;
+use std::convert::{AsSlice, AsStr};
 
 /// A way to read the bytes of a value.
 ///
@@ -29,5 +29,20 @@ impl<V: AsSlice<u8>> ReadValue<V> for SliceBytes {
 
     fn bytes_of(value: &V) -> &[u8] {
         value.as_slice()
+    }
+}
+
+/// Reads values that are texts.
+pub(in crate::template) struct TextBytes;
+
+impl<V: AsStr> ReadValue<V> for TextBytes {
+    ghost use Rattle.std.specs.Str.{IsUtf8};
+
+    ghost read = { V.text };
+
+    ghost is_read = { IsUtf8 };
+
+    fn bytes_of(value: &V) -> &[u8] {
+        value.as_str().as_bytes()
     }
 }

@@ -1,0 +1,37 @@
+-- The parts give what the source's tree gives, and that is UTF-8 where the source and the values are.
+use Rattle.std.proofs.Common.{IfSome, ap, sym, ◌∙◌, subst}
+use Rattle.std.specs.Str.{IsUtf8}
+use Rattle.subst_error.specs.ErrorFault.{expand_fault}
+use Rattle.subst_core.specs.Language.Answer.{IsMissing}
+use Rattle.subst_core.specs.Language.Value.{Bytes}
+use Rattle.subst_core.specs.Calls.VariableMap.{look_up_of}
+use Rattle.subst_core.specs.Raw.Filled.{FillsMarks, marks_of}
+use Rattle.subst_core.specs.Raw.Parts.{parts_value}
+use Rattle.subst_core.proofs.Raw.FilledTextLemmas.{output_is_text}
+use Rattle.subst_core.proofs.Raw.TemplateOfLemmas.{template_value}
+use Rattle.subst_core.proofs.template.raw.expand_text.expand_text.Goals as goal
+
+pub from_utf8_unchecked-requires : goal.from_utf8_unchecked-requires
+from_utf8_unchecked-requires g c =
+    let look_up = g.M.VariableMap.look_up c.args.variables.now in
+    let parts = c.args.parts.now in
+    let output = c.in-Ok.output.items in
+    output_is_text c.args.source.now parts look_up output c.requires c.utf8.source
+    (subst (λ s. FillsMarks IsUtf8 (parts_value parts s (marks_of look_up)) output)
+    c.as_bytes.ensures.value c.in-Ok.ensures.filled)
+
+pub returns-in-Ok : goal.returns-in-Ok
+returns-in-Ok g c bytes reads t spells =
+    let look = look_up_of bytes (g.M.VariableMap.look_up c.args.variables.now) in
+    let same = ap (λ s. parts_value c.args.parts.now s look) c.as_bytes.ensures.value in
+    let gives = template_value c.args.source.now c.args.parts.now t look c.requires spells in
+    sym (same ∙ gives) ∙ c.in-Ok.ensures.value bytes reads
+    ∙ ap (λ v. Bytes v.items) (sym c.from_utf8_unchecked.ensures.value)
+
+pub returns-in-Err : goal.returns-in-Err
+returns-in-Err g c bytes reads t spells =
+    let look = look_up_of bytes (g.M.VariableMap.look_up c.args.variables.now) in
+    let same = ap (λ s. parts_value c.args.parts.now s look) c.as_bytes.ensures.value in
+    let gives = template_value c.args.source.now c.args.parts.now t look c.requires spells in
+    subst (λ v. IfSome (expand_fault c.in-Err.e) (IsMissing v)) (same ∙ gives)
+    (c.in-Err.ensures.value bytes reads)

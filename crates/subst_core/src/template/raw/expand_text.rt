@@ -1,0 +1,45 @@
+//! Expanding a list of parts over a source that is a text.
+
+ghost use Rattle.std.specs.Prelude.{string_bytes};
+ghost use Rattle.subst_core.specs.Language.Sentence.{ByTree};
+ghost use Rattle.subst_core.specs.Language.Value.{value};
+ghost use Rattle.subst_core.specs.Calls.VariableMap.{ByLookUp};
+ghost use Rattle.subst_core.specs.Calls.Outcome.{Expands};
+ghost use Rattle.subst_core.specs.Raw.Parts.{IsTemplateOf};
+
+use super::cow_parts::CowParts;
+use super::expand::expand;
+use super::read_value::TextBytes;
+use crate::map::VariableMap;
+use crate::steps::Turns;
+use std::alloc::Global;
+use std::convert::AsStr;
+use subst_error::ExpandError;
+
+/// Returns the text that the parts of a text give, with the values of `variables`. The output isn't checked:
+/// it is proved to be UTF-8, since a placeholder begins and ends at an ASCII byte, and what takes its place
+/// is UTF-8.
+///
+/// # Errors
+///
+/// `NoSuchVariable` for the first needed name that `variables` has no value for, or out of memory.
+pub(in crate::template) fn expand_text<'a, M: VariableMap<'a>>(
+    alloc: Global,
+    source: &str,
+    parts: &CowParts<'_>,
+    variables: &'a M,
+) -> Result<String, ExpandError>
+where
+    M::Value: AsStr + Drop,
+    requires { IsTemplateOf source.now parts.now }
+    ensures { ByLookUp M.Value.text M.see (M.look_up variables.now)
+        (λ look. ByTree source.now
+        (λ t. Expands (λ output. string_bytes output) result (value 0 t look))) }
+{
+    let mut turns = Turns::new();
+    match expand::<M, TextBytes>(alloc, source.as_bytes(), parts, variables, &mut turns) {
+        // What it requires, that the output is UTF-8, is proved.
+        Ok(output) => Ok(unsafe { String::from_utf8_unchecked(output) }),
+        Err(e) => Err(e),
+    }
+}

@@ -1,0 +1,158 @@
+//! Templates that own their texts.
+
+ghost use Rattle.std.specs.Prelude.{◌≡◌, IfOk, string_bytes};
+ghost use Rattle.subst_error.specs.ErrorFault.{parse_fault};
+ghost use Rattle.subst_core.specs.Language.Sentence.{IsSentence, ByTree};
+ghost use Rattle.subst_core.specs.Language.BadItem.{HasFault};
+ghost use Rattle.subst_core.specs.Language.Value.{value};
+ghost use Rattle.subst_core.specs.Calls.VariableMap.{ByLookUp};
+ghost use Rattle.subst_core.specs.Calls.Outcome.{OnFault, Expands};
+
+use crate::map::VariableMap;
+use crate::steps::Reads;
+use crate::template::raw;
+use crate::template::raw::{CowParts, PartVec};
+use crate::template::template::Template;
+use std::alloc::{AllocError, Global};
+use std::convert::AsStr;
+use std::fmt;
+use std::marker::Model;
+use subst_error::{ExpandError, ParseError};
+
+/// A template that owns its text. Contracts see it as the bytes of its source.
+#[derive(Drop)]
+pub struct TemplateBuf {
+    source: String,
+    parts: PartVec,
+}
+
+impl Model for TemplateBuf {
+    ghost use Rattle.std.specs.Prelude.{ℕ, List, string_bytes};
+    ghost use Rattle.subst_core.specs.Raw.Parts.{IsTemplateOf};
+
+    ghost Value = { List ℕ };
+
+    ghost view = { λ t. string_bytes t.source };
+
+    ghost invariant = { λ t. IsTemplateOf (string_bytes t.source) t.parts };
+}
+
+impl TemplateBuf {
+    /// Returns the template of a source, which it takes over. A source that is refused is dropped.
+    ///
+    /// # Errors
+    ///
+    /// As [`Template::from_str`].
+    pub fn from_string(source: String) -> Result<Self, ParseError>
+        // Only a sentence has a template, which is that of the source.
+        ensures ok { IfOk result
+            (λ template. IsSentence (string_bytes source) × (template ≡ string_bytes source)) }
+        ensures err { OnFault parse_fault result (HasFault 0 (string_bytes source)) }
+    {
+        let alloc = *source.allocator();
+        let parts = raw::parse(alloc, source.as_bytes(), &mut Reads::new())?;
+        Ok(TemplateBuf { source, parts })
+    }
+
+    /// Returns a template of its own with the source of another one.
+    ///
+    /// # Errors
+    ///
+    /// Out of memory.
+    pub fn from_template(alloc: Global, other: &Template<'_>) -> Result<Self, AllocError>
+        ensures { IfOk result (λ template. template ≡ other.now) }
+    {
+        let source = String::from_str(alloc, other.source)?;
+        let parts = other.parts.to_vec(alloc)?;
+        Ok(TemplateBuf { source, parts })
+    }
+
+    /// Returns a template of its own with the source of another one, whose parts it takes over.
+    ///
+    /// # Errors
+    ///
+    /// Out of memory.
+    pub fn of_template(alloc: Global, other: Template<'_>) -> Result<Self, AllocError>
+        ensures { IfOk result (λ template. template ≡ other.entry) }
+    {
+        let source = String::from_str(alloc, other.source)?;
+        let parts = other.parts.into_vec(alloc)?;
+        Ok(TemplateBuf { source, parts })
+    }
+
+    /// Returns the template over the same source, lent. It takes no memory.
+    pub fn as_template(&self) -> Template<'_>
+        ensures { result ≡ self.now }
+    {
+        Template {
+            source: self.source.as_str(),
+            parts: CowParts::lent(&self.parts),
+        }
+    }
+
+    /// Returns the source, which is a sentence of the template language.
+    pub fn source(&self) -> &str
+        ensures source { result.now ≡ self.now }
+        ensures sentence { IsSentence self.now }
+    {
+        self.source.as_str()
+    }
+
+    /// Returns the source, and drops what was parsed of it.
+    pub fn into_source(self) -> String
+        ensures source { string_bytes result ≡ self }
+        ensures sentence { IsSentence self }
+    {
+        self.source
+    }
+
+    /// Returns the source with its variables filled in from `variables`, whose values are texts.
+    ///
+    /// # Errors
+    ///
+    /// As [`Template::expand`].
+    pub fn expand<'b, M: VariableMap<'b>>(
+        &self,
+        alloc: Global,
+        variables: &'b M,
+    ) -> Result<String, ExpandError>
+    where
+        M::Value: AsStr + Drop,
+        ensures { ByLookUp M.Value.text M.see (M.look_up variables.now)
+            (λ look. ByTree self.now
+            (λ t. Expands (λ output. string_bytes output) result (value 0 t look))) }
+    {
+        self.as_template().expand(alloc, variables)
+    }
+}
+
+/// A copy has the same source.
+impl Clone for TemplateBuf {
+    ghost use Rattle.std.specs.Prelude.{◌≡◌};
+
+    ghost is_clone = { λ template copy. copy ≡ template };
+
+    fn clone(&self) -> Result<Self, AllocError> {
+        let source = self.source.clone()?;
+        let parts = self.parts.clone()?;
+        Ok(TemplateBuf { source, parts })
+    }
+}
+
+/// The lent template has the same source.
+impl<'a> From<&'a TemplateBuf> for Template<'a> {
+    ghost use Rattle.std.specs.Prelude.{◌≡◌};
+
+    ghost from_gives = { λ template lent. lent ≡ template.now };
+
+    fn from(template: &'a TemplateBuf) -> Self {
+        template.as_template()
+    }
+}
+
+/// The source, as `TemplateBuf("Hello $name!")`.
+impl fmt::Debug for TemplateBuf {
+    fn fmt<W: fmt::Write>(&self, f: &mut fmt::Formatter<W>) -> fmt::Result {
+        f.debug_tuple("TemplateBuf").field(&self.source).finish()
+    }
+}
