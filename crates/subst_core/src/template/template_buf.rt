@@ -85,7 +85,7 @@ impl TemplateBuf {
         ensures { result ≡ self.now }
     {
         Template {
-            source: self.source.as_str(),
+            source: &self.source,
             parts: CowParts::lent(&self.parts),
         }
     }
@@ -95,7 +95,7 @@ impl TemplateBuf {
         ensures source { result.now ≡ self.now }
         ensures sentence { IsSentence self.now }
     {
-        self.source.as_str()
+        &self.source
     }
 
     /// Returns the source, and drops what was parsed of it.
