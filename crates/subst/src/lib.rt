@@ -1,4 +1,4 @@
-//! Shell-like variables in byte strings.
+//! Shell-like variables in texts and byte strings.
 //!
 //! `$name`, `${name}`, `${name?}` and `${name:default}` are filled in from a map of variables. A name is one
 //! or more ASCII letters, ASCII digits and underscores; without braces it is the longest such run. Where the
@@ -10,6 +10,10 @@
 //! A value is inserted as it is, and never read as a template. A fault of a source is returned with its
 //! position, a byte offset in the whole source from 0, also inside defaults.
 //!
+//! [`substitute`] fills in a text from texts, and [`substitute_bytes`] bytes from bytes. A source that is used
+//! more than once is parsed once: [`Template`] and [`ByteTemplate`] borrow it, [`TemplateBuf`] and
+//! [`ByteTemplateBuf`] own it. All read one language: a text gives the text whose bytes its bytes give.
+//!
 //! Functions that allocate take an allocator and return `OutOfMemory` when allocation fails. After an
 //! error, sources, maps and templates that were lent are as before.
 //!
@@ -17,6 +21,9 @@
 //! `subst`, and has no code of its own.
 #![tactic(auto)]
 
-pub use subst_core::{ByteTemplate, VariableMap, laws, steps, substitute_bytes};
+pub use subst_core::{
+    ByteTemplate, ByteTemplateBuf, Template, TemplateBuf, VariableMap, laws, steps, substitute,
+    substitute_bytes,
+};
 pub use subst_error as error;
 pub use subst_error::Error;
