@@ -23,6 +23,8 @@ mod names;
 #[cfg(test)]
 mod optional;
 #[cfg(test)]
+mod owned;
+#[cfg(test)]
 mod plain;
 #[cfg(test)]
 mod positions;
@@ -30,3 +32,5 @@ mod positions;
 mod refused_memory;
 #[cfg(test)]
 mod rows;
+#[cfg(test)]
+mod texts;
