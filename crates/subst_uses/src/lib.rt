@@ -10,3 +10,4 @@ pub mod letter;
 mod memory;
 pub mod own_map;
 pub mod plain;
+pub mod texts;
