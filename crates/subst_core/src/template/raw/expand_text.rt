@@ -1,6 +1,7 @@
 //! Expanding a list of parts over a source that is a text.
 
-ghost use Rattle.std.specs.Prelude.{string_bytes};
+ghost use Rattle.std.specs.Prelude.{◌≡◌, string_bytes};
+ghost use Rattle.std.specs.Str.{IsUtf8};
 ghost use Rattle.subst_core.specs.Language.Sentence.{ByTree};
 ghost use Rattle.subst_core.specs.Language.Value.{value};
 ghost use Rattle.subst_core.specs.Calls.VariableMap.{ByLookUp};
@@ -16,9 +17,7 @@ use std::alloc::Global;
 use std::convert::AsStr;
 use subst_error::ExpandError;
 
-/// Returns the text that the parts of a text give, with the values of `variables`. The output isn't checked:
-/// it is proved to be UTF-8, since a placeholder begins and ends at an ASCII byte, and what takes its place
-/// is UTF-8.
+/// Returns the text that the parts of a text give, with the values of `variables`.
 ///
 /// # Errors
 ///
@@ -38,8 +37,15 @@ where
 {
     let mut turns = Turns::new();
     match expand::<M, TextBytes>(alloc, source.as_bytes(), parts, variables, &mut turns) {
-        // What it requires, that the output is UTF-8, is proved.
-        Ok(output) => Ok(unsafe { String::from_utf8_unchecked(output) }),
+        Ok(output) => Ok(text_of(output)),
         Err(e) => Err(e),
     }
+}
+
+/// Returns bytes that are UTF-8 as a text, without looking at them.
+fn text_of(bytes: Vec<u8>) -> String
+    requires { IsUtf8 bytes.items }
+    ensures { string_bytes result ≡ bytes.items }
+{
+    unsafe { String::from_utf8_unchecked(bytes) }
 }

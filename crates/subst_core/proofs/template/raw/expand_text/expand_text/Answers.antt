@@ -11,8 +11,8 @@ use Rattle.subst_core.proofs.Raw.FilledTextLemmas.{output_is_text}
 use Rattle.subst_core.proofs.Raw.TemplateOfLemmas.{template_value}
 use Rattle.subst_core.proofs.template.raw.expand_text.expand_text.Goals as goal
 
-pub from_utf8_unchecked-requires : goal.from_utf8_unchecked-requires
-from_utf8_unchecked-requires g c =
+pub text_of-requires : goal.text_of-requires
+text_of-requires g c =
     let look_up = g.M.VariableMap.look_up c.args.variables.now in
     let parts = c.args.parts.now in
     let output = c.in-Ok.output.items in
@@ -26,7 +26,7 @@ returns-in-Ok g c bytes reads t spells =
     let same = ap (λ s. parts_value c.args.parts.now s look) c.as_bytes.ensures.value in
     let gives = template_value c.args.source.now c.args.parts.now t look c.requires spells in
     sym (same ∙ gives) ∙ c.in-Ok.ensures.value bytes reads
-    ∙ ap (λ v. Bytes v.items) (sym c.from_utf8_unchecked.ensures.value)
+    ∙ ap Bytes (sym c.text_of.ensures)
 
 pub returns-in-Err : goal.returns-in-Err
 returns-in-Err g c bytes reads t spells =
