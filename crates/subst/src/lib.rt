@@ -10,8 +10,8 @@
 //! A value is inserted as it is, and never read as a template. A fault of a source is returned with its
 //! position, a byte offset in the whole source from 0, also inside defaults.
 //!
-//! [`substitute`] fills in a text from texts, and [`substitute_bytes`] bytes from bytes. A source that is used
-//! more than once is parsed once: [`Template`] and [`ByteTemplate`] borrow it, [`TemplateBuf`] and
+//! [`substitute`] fills in a text from texts, and [`substitute_bytes`] bytes from bytes. A source that is
+//! used more than once is parsed once: [`Template`] and [`ByteTemplate`] borrow it, [`TemplateBuf`] and
 //! [`ByteTemplateBuf`] own it. All read one language: a text gives the text whose bytes its bytes give.
 //!
 //! Functions that allocate take an allocator and return `OutOfMemory` when allocation fails. After an

@@ -1,5 +1,5 @@
-//! The template language over byte strings and texts: templates, maps of variables, substitution, and the laws
-//! of the language.
+//! The template language over byte strings and texts: templates, maps of variables, substitution, and the
+//! laws of the language.
 //!
 //! `subst` hands on all public items of this crate, and describes the language.
 #![tactic(auto)]

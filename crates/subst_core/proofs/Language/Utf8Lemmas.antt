@@ -17,14 +17,14 @@ use Rattle.subst_core.proofs.Language.NameLemmas.{name_byte_ascii, name_bytes}
 -- where an ASCII byte is in UTF-8, what is before it and what is after it are UTF-8
 pub cut_at : (x y : List ℕ) (b : ℕ) → b < 128 → IsUtf8 (x ++ b ∷ y) → IsUtf8 x × IsUtf8 y
 cut_at x y b ascii is =
-    let here : get_or (x ++ b ∷ y) (length x) 0 ≡ b = get_or-append_seam x b y 0 in
-    let below : get_or (x ++ b ∷ y) (length x) 0 < 128 = omega (arith, here, ascii) in
-    let inside : length x < length (x ++ b ∷ y) = omega (arith, length-append x (b ∷ y)) in (
-      subst IsUtf8 (take-append_seam x (b ∷ y))
-          (IsUtf8-take (x ++ b ∷ y) (length x) is (IsCharBoundary-before_ascii (x ++ b ∷ y) (length x) inside below)),
-      subst IsUtf8 (drop-append-add x (b ∷ y) 1)
-          (IsUtf8-drop (x ++ b ∷ y) (length x + 1) is (IsCharBoundary-after_ascii (x ++ b ∷ y) (length x) is inside below)),
-    )
+    let s = x ++ b ∷ y in
+    let n = length x in
+    let here : get_or s n 0 ≡ b = get_or-append_seam x b y 0 in
+    let below : get_or s n 0 < 128 = omega (arith, here, ascii) in
+    let inside : n < length s = omega (arith, length-append x (b ∷ y)) in
+    let before = IsUtf8-take s n is (IsCharBoundary-before_ascii s n inside below) in
+    let after = IsUtf8-drop s (n + 1) is (IsCharBoundary-after_ascii s n is inside below) in
+    (subst IsUtf8 (take-append_seam x (b ∷ y)) before, subst IsUtf8 (drop-append-add x (b ∷ y) 1) after)
 
 -- what is after an ASCII byte is UTF-8
 after_ascii : (x : List ℕ) (b : ℕ) → b < 128 → IsUtf8 (b ∷ x) → IsUtf8 x
@@ -81,16 +81,19 @@ mutual
       → ((v : List ℕ) → IsUtf8 (v ++ w) → IsUtf8 (v ++ z)) → IsUtf8 (u ++ (y ++ z))
   item_filled (Plain b) next p look u w y z fits texts is gives goes_on =
       let same : b ∷ [] ≡ y = cc in
+      let ends = subst IsUtf8 (sym (append_assoc u (b ∷ []) w)) is in
       subst (λ x. IsUtf8 (u ++ (x ++ z))) same
-      (subst IsUtf8 (append_assoc u (b ∷ []) z) (goes_on (u ++ b ∷ []) (subst IsUtf8 (sym (append_assoc u (b ∷ []) w)) is)))
+      (subst IsUtf8 (append_assoc u (b ∷ []) z) (goes_on (u ++ b ∷ []) ends))
   item_filled (Escaped b) next p look u w y z fits texts is gives goes_on =
       let same : b ∷ [] ≡ y = cc in
       let ascii = special_ascii b fits in
       let (before, escaped) = cut_at u (b ∷ w) backslash (omega arith) is in
-      between u y z before (subst IsUtf8 same (ascii_alone b ascii)) (goes_on [] (after_ascii w b ascii escaped))
+      let after = goes_on [] (after_ascii w b ascii escaped) in
+      between u y z before (subst IsUtf8 same (ascii_alone b ascii)) after
   item_filled (Short n) next p look u w y z fits texts is gives goes_on =
       let (before, name) = cut_at u (n ++ w) dollar (omega arith) is in
-      between u y z before (found_text (look n) _ y (texts n) (λ e. absurd cc) gives) (goes_on [] (after_name n w fits.0 name))
+      between u y z before (found_text (look n) _ y (texts n) (λ e. absurd cc) gives)
+      (goes_on [] (after_name n w fits.0 name))
   item_filled (Braced n) next p look u w y z fits texts is gives goes_on =
       let (before, closing) = in_braces u n (closing_brace ∷ []) w fits is in
       between u y z before (found_text (look n) _ y (texts n) (λ e. absurd cc) gives)
@@ -107,21 +110,23 @@ mutual
       let (inside, after) = cut_at (text t) w closing_brace (omega arith)
       (subst IsUtf8 (append_assoc (text t) (closing_brace ∷ []) w) behind) in
       between u y z before
-      (found_text (look n) _ y (texts n) (filled t (p + 3 + length n) look [] y fits.1 texts inside) gives)
+      (found_text (look n) _ y (texts n) (tree_filled t (p + 3 + length n) look [] y fits.1 texts inside) gives)
       (goes_on [] after)
 
   -- a tree's text after the bytes u, in UTF-8: with the tree's value in its place it is UTF-8
-  pub filled : (t : Tree) (p : ℕ) (look : LookUp) (u x : List ℕ) → IsWellFormed t → GivesTexts look
+  pub tree_filled : (t : Tree) (p : ℕ) (look : LookUp) (u x : List ℕ) → IsWellFormed t → GivesTexts look
       → IsUtf8 (u ++ text t) → value p t look ≡ Bytes x → IsUtf8 (u ++ x)
-  filled Empty p look u x fits texts is gives = let same : [] ≡ x = cc in subst (λ y. IsUtf8 (u ++ y)) same is
-  filled (Then item rest) p look u x fits texts is gives =
+  tree_filled Empty p look u x fits texts is gives =
+      let same : [] ≡ x = cc in subst (λ y. IsUtf8 (u ++ y)) same is
+  tree_filled (Then item rest) p look u x fits texts is gives =
       let q = p + length (item_text item) in
-      let (y, z, of_item, of_rest, same) = joined_bytes (item_value p item look) (value q rest look) x gives in
+      let (y, z, of_item, of_rest, same) =
+      joined_bytes (item_value p item look) (value q rest look) x gives in
       subst (λ v. IsUtf8 (u ++ v)) same
       (item_filled item rest p look u (text rest) y z fits.0 texts is of_item
-      (λ v ends. filled rest q look v z fits.1 texts ends of_rest))
+      (λ v ends. tree_filled rest q look v z fits.1 texts ends of_rest))
 
 -- the value of a tree whose text is UTF-8 is UTF-8 under a look-up of texts
 pub value_is_text : (t : Tree) (p : ℕ) (look : LookUp) (x : List ℕ) → IsWellFormed t → GivesTexts look
     → IsUtf8 (text t) → value p t look ≡ Bytes x → IsUtf8 x
-value_is_text t p look x fits texts is gives = filled t p look [] x fits texts is gives
+value_is_text t p look x fits texts is gives = tree_filled t p look [] x fits texts is gives
