@@ -120,11 +120,11 @@ mutual
       let same : [] ≡ x = cc in subst (λ y. IsUtf8 (u ++ y)) same is
   tree_filled (Then item rest) p look u x fits texts is gives =
       let q = p + length (item_text item) in
-      let (y, z, of_item, of_rest, same) =
+      let (y, z, here, there, same) =
       joined_bytes (item_value p item look) (value q rest look) x gives in
       subst (λ v. IsUtf8 (u ++ v)) same
-      (item_filled item rest p look u (text rest) y z fits.0 texts is of_item
-      (λ v ends. tree_filled rest q look v z fits.1 texts ends of_rest))
+      (item_filled item rest p look u (text rest) y z fits.0 texts is here
+      (λ v ends. tree_filled rest q look v z fits.1 texts ends there))
 
 -- the value of a tree whose text is UTF-8 is UTF-8 under a look-up of texts
 pub value_is_text : (t : Tree) (p : ℕ) (look : LookUp) (x : List ℕ) → IsWellFormed t → GivesTexts look
