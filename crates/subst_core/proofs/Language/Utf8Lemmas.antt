@@ -107,11 +107,10 @@ mutual
   item_filled (Default n t) next p look u w y z fits texts is gives goes_on =
       let (before, separated) = in_braces u n (colon ∷ text t ++ closing_brace ∷ []) w fits.0 is in
       let behind = after_ascii ((text t ++ closing_brace ∷ []) ++ w) colon (omega arith) separated in
-      let (inside, after) = cut_at (text t) w closing_brace (omega arith)
-      (subst IsUtf8 (append_assoc (text t) (closing_brace ∷ []) w) behind) in
-      between u y z before
-      (found_text (look n) _ y (texts n) (tree_filled t (p + 3 + length n) look [] y fits.1 texts inside) gives)
-      (goes_on [] after)
+      let closing = subst IsUtf8 (append_assoc (text t) (closing_brace ∷ []) w) behind in
+      let (inside, after) = cut_at (text t) w closing_brace (omega arith) closing in
+      let of_default = tree_filled t (p + 3 + length n) look [] y fits.1 texts inside in
+      between u y z before (found_text (look n) _ y (texts n) of_default gives) (goes_on [] after)
 
   -- a tree's text after the bytes u, in UTF-8: with the tree's value in its place it is UTF-8
   pub tree_filled : (t : Tree) (p : ℕ) (look : LookUp) (u x : List ℕ) → IsWellFormed t → GivesTexts look
