@@ -94,8 +94,8 @@ depth_front d n valid =
     (depth_append (suc d) (suc d) (suc d) n (colon ∷ []) (depth_balanced (suc d) (name_balanced n valid))
     (depth_byte (suc d) colon (λ is. omega (arith, is)) (λ is. omega (arith, is)) (λ is. omega (arith, is)))))
 
--- the outermost default: its part among all parts, what is before it, and that all braces which are open after
--- what was read close where it does
+-- the outermost default: its part among all parts, what is before it, and that all braces which are open
+-- after what was read close where it does
 record IsOutermost (s : List ℕ) (outermost : OpenDefault) (depth : ℕ) (parts : List Part) (at : ℕ) : Type 0 where
   before : List Part
   own : List Part
