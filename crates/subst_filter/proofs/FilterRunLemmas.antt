@@ -1,16 +1,19 @@
 -- How what was read, what was substituted and what was written make the answer of a run.
-use Rattle.std.proofs.Common.{◌≡◌, ℕ, Bool, List, Option, Some, None, IfSome, IsSomeAnd, MatchOption, Result, Ok, Err, OnOk, IfErr, String, refl, sym, subst}
+use Rattle.std.proofs.Common.{◌≡◌, ℕ, Bool, All, List, Option, Some, None, IfSome, IsSomeAnd, MatchOption, Result, Ok, Err, OnOk, IfErr, String, refl, sym, subst}
 use Rattle.std.specs.Global.{Global}
 use Rattle.std.specs.Io.KnownBytes.{Appends}
 use Rattle.std.specs.Option.{option_map}
+use Rattle.std.specs.Str.{IsUtf8}
+use Rattle.subst.proofs.Calling.{plain_answer}
 use Rattle.subst.specs.Language.Answer.{Answers, Gives, Refuses}
 use Rattle.subst.specs.ErrorFault.{error_fault}
 use Rattle.subst.specs.Fault.{Fault}
+use Rattle.subst.specs.Language.Bytes.{IsPlain}
 use Rattle.subst.specs.Language.LookUp.{LookUp}
 use Rattle.subst.specs.Errors.{Error}
 use Rattle.subst_filter.proofs.DeviceLemmas.{holds_of_source}
 use Rattle.subst_filter.specs.Device.{AppendsPrefix, ReadsExactly}
-use Rattle.subst_filter.specs.FilterRun.{IsRefusedWith, RunAnswers}
+use Rattle.subst_filter.specs.FilterRun.{IsRefusedWith, RunAnswers, TellsText}
 use Rattle.subst_filter.specs.RunError.{IsWriteFault}
 use Rattle.subst_filter.specs.declared.run_error.RunError.{RunError}
 use Rattle.subst_filter.specs.declared.run_error.RunError.TheVariants.{Read, Write, NotUtf8, Subst, OutOfMemory}
@@ -54,6 +57,13 @@ module _ (left rest : Option (List ℕ)) (all text : List ℕ) (look : LookUp) (
       holds_of_source (λ source. RunAnswers source look r old new) left rest all read
       (answered_by_bytes all sent look r failed old new gives whole prefix fault)
 
+  -- a run that read a plain source and wrote it as it is
+  pub delivered_plain : (sent : List ℕ) (r : Result (Unit {0}) RunError) (failed : Bool) → sent ≡ text
+      → All IsPlain text → OnOk r (Appends old new sent) → AppendsPrefix old new sent
+      → IfErr r (IsWriteFault failed) → IfSome left (λ source. RunAnswers source look r old new)
+  delivered_plain sent r failed is plain whole prefix fault =
+      delivered text sent r failed is (plain_answer text look plain) whole prefix fault
+
   -- a run that read its source, for which the substitution returned an error
   pub refused : (e : Error) (shown : String Global) (fault : RunError)
       → IfSome (option_map Refuses (error_fault e)) (Answers text look)
@@ -64,3 +74,35 @@ module _ (left rest : Option (List ℕ)) (all text : List ℕ) (look : LookUp) (
       subst (λ s. IfSome (option_map Refuses (error_fault e)) (Answers s look)) same given in
       holds_of_source (λ source. RunAnswers source look (Err fault) old new) left rest all read
       (answered_by_refusal all look e shown (error_fault e) fault old new refl refuses is)
+
+-- a result of writing, for a source that is UTF-8
+tells_written : (source : List ℕ) (r : Result (Unit {0}) RunError) (failed : Bool) → IsUtf8 source
+    → IfErr r (IsWriteFault failed) → TellsText r source
+tells_written source (Ok done) failed utf8 fault = utf8
+tells_written source (Err Write) failed utf8 fault = utf8
+tells_written source (Err Read) failed utf8 fault = absurd fault
+tells_written source (Err NotUtf8) failed utf8 fault = absurd fault
+tells_written source (Err (Subst e shown)) failed utf8 fault = absurd fault
+tells_written source (Err OutOfMemory) failed utf8 fault = absurd fault
+
+-- an error of the substitution as a result, for a source that is UTF-8
+tells_refused : (source : List ℕ) (e : Error) (shown : String Global) (f : Option Fault) (fault : RunError)
+    → IsUtf8 source → MatchOption f (fault ≡ OutOfMemory) (λ _. fault ≡ Subst e shown)
+    → TellsText (Err fault) source
+tells_refused source e shown None fault utf8 is = subst (λ x. TellsText (Err x) source) (sym is) tt
+tells_refused source e shown (Some f) fault utf8 is = subst (λ x. TellsText (Err x) source) (sym is) utf8
+
+module _ (left rest : Option (List ℕ)) (all : List ℕ) (read : ReadsExactly left rest all)
+    (utf8 : IsUtf8 all) where
+  -- a run over text that read its source and wrote
+  pub delivered_text : (r : Result (Unit {0}) RunError) (failed : Bool) → IfErr r (IsWriteFault failed)
+      → IfSome left (TellsText r)
+  delivered_text r failed fault =
+      holds_of_source (TellsText r) left rest all read (tells_written all r failed utf8 fault)
+
+  -- a run over text that read its source, for which the substitution returned an error
+  pub refused_text : (e : Error) (shown : String Global) (fault : RunError)
+      → MatchOption (error_fault e) (fault ≡ OutOfMemory) (λ _. fault ≡ Subst e shown)
+      → IfSome left (TellsText (Err fault))
+  refused_text e shown fault is = holds_of_source (TellsText (Err fault)) left rest all read
+      (tells_refused all e shown (error_fault e) fault utf8 is)

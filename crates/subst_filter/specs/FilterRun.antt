@@ -1,6 +1,7 @@
 -- How what a run writes is the answer of what it reads.
 use Rattle.std.specs.Prelude.{ℕ, ⊤, List, Option, IsSomeAnd, Result, Ok, Err}
 use Rattle.std.specs.Io.KnownBytes.{Appends}
+use Rattle.std.specs.Str.{IsUtf8}
 use Rattle.subst.specs.Language.Answer.{Answers, Gives, Refuses}
 use Rattle.subst.specs.ErrorFault.{error_fault}
 use Rattle.subst.specs.Fault.{Fault}
@@ -8,7 +9,7 @@ use Rattle.subst.specs.Language.LookUp.{LookUp}
 use Rattle.subst.specs.Errors.{Error}
 use Rattle.subst_filter.specs.Device.{AppendsPrefix}
 use Rattle.subst_filter.specs.declared.run_error.RunError.{RunError}
-use Rattle.subst_filter.specs.declared.run_error.RunError.TheVariants.{Read, Write, Subst, OutOfMemory}
+use Rattle.subst_filter.specs.declared.run_error.RunError.TheVariants.{Read, Write, NotUtf8, Subst, OutOfMemory}
 
 -- the bytes that the source gives were written, and nothing else
 pub record WritesAnswer (source : List ℕ) (look : LookUp) (old new : Option (List ℕ)) : Type 0 where
@@ -37,6 +38,14 @@ RunAnswers source look (Ok done) old new = WritesAnswer source look old new
 RunAnswers source look (Err Write) old new = WritesPrefix source look old new
 RunAnswers source look (Err (Subst e shown)) old new = IsRefusedWith source look e
 RunAnswers source look (Err _) old new = ⊤
+
+-- A run over text tells a text from other bytes: it says NotUtf8 where its source is not UTF-8, and only there, unless
+-- reading failed or memory ran out.
+abbrev pub TellsText : Result (Unit {0}) RunError → List ℕ → Type 0
+TellsText (Err Read) source = ⊤
+TellsText (Err OutOfMemory) source = ⊤
+TellsText (Err NotUtf8) source = ¬ (IsUtf8 source)
+TellsText _ source = IsUtf8 source
 
 -- P holds of a run that must have read its source to the end: any, unless reading failed or memory ran out
 abbrev pub OnceRead : Result (Unit {0}) RunError → Type 0 → Type 0

@@ -23,6 +23,11 @@ IsFaultOfBytes NotUtf8 = ⊥
 IsFaultOfBytes (Subst e shown) = IsSome (error_fault e) × (string_bytes shown ≡ [])
 IsFaultOfBytes _ = ⊤
 
+-- an error of a run over text: a refusal states a fault and shows no position
+abbrev pub IsFaultOfText : RunError → Type 0
+IsFaultOfText (Subst e shown) = IsSome (error_fault e) × (string_bytes shown ≡ [])
+IsFaultOfText _ = ⊤
+
 -- the status that the program ends with after this error
 abbrev pub status_of : RunError → ℕ
 status_of (Subst e shown) = REFUSED

@@ -17,8 +17,10 @@ pub use bytes::run_bytes;
 use memchr::memchr2;
 use std::alloc::Global;
 use subst::Error;
+pub use text::run_text;
 
 mod bytes;
+mod text;
 
 /// How many bytes a read asks for at first: more than most sources have, and few to clear.
 const FIRST_CHUNK: usize = 4096;

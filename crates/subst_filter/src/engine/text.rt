@@ -1,0 +1,80 @@
+//! The run over a source of text.
+
+ghost use Rattle.std.specs.Prelude.{◌≡◌, ℕ, List, true, OnOk, IfErr, IfSome, IsErrOf};
+ghost use Rattle.std.specs.Io.KnownBytes.{Keeps};
+ghost use Rattle.subst.specs.Calls.VariableMap.{ByLookUp};
+ghost use Rattle.subst_filter.specs.Device.{ReadsAll};
+ghost use Rattle.subst_filter.specs.FilterRun.{RunAnswers, TellsText, OnceRead, UnlessReadFails, UnlessWriteFails, UnlessWriting};
+ghost use Rattle.subst_filter.specs.RunError.{IsFaultOfText};
+
+use super::{deliver, is_plain, read_all, refusal};
+use crate::device::{ByteInput, ByteOutput};
+use crate::run_error::RunError;
+use std::alloc::Global;
+use std::convert::AsStr;
+use subst::{VariableMap, substitute};
+
+#[cfg(test)]
+mod tests;
+
+/// Reads the source from `input` to its end, fills its variables in from `variables`, whose values are texts,
+/// writes the resulting text to `output` and flushes it. Nothing is written before the whole source is read
+/// and filled in.
+///
+/// # Errors
+///
+/// - [`RunError::Read`] if the input fails.
+/// - [`RunError::NotUtf8`] if the source isn't UTF-8.
+/// - [`RunError::Subst`], with an empty text, if the source is refused.
+/// - [`RunError::Write`] if the output fails. Then a prefix of the resulting text's bytes was written.
+/// - [`RunError::OutOfMemory`] if memory runs out.
+#[tactic(auto, using(crate::proofs::FilterRunLemmas::delivered, crate::proofs::FilterRunLemmas::refused, crate::proofs::FilterRunLemmas::delivered_text, crate::proofs::FilterRunLemmas::refused_text))]
+pub fn run_text<'a, I: ByteInput, O: ByteOutput, M: VariableMap<'a>>(
+    alloc: Global,
+    input: &mut I,
+    output: &mut O,
+    variables: &'a M,
+) -> Result<(), RunError>
+where
+    M::Value: AsStr + Drop,
+
+    // What was written is the answer of what was read.
+    ensures answer { ByLookUp M.Value.text M.see (M.look_up variables.now)
+        (λ look. IfSome (I.left input.old) (λ source. RunAnswers source look
+        result (O.written output.old) (O.written output.new))) }
+
+    // The source is UTF-8, or is told not to be, unless reading failed or memory ran out.
+    ensures text { IfSome (I.left input.old) (TellsText result) }
+
+    // The source was read to its end, unless reading failed or memory ran out.
+    ensures whole { OnceRead result (ReadsAll (I.left input.old) (I.left input.new)) }
+
+    // Nothing was written, unless the run is done or writing failed.
+    ensures unwritten { UnlessWriting result (Keeps (O.written output.old) (O.written output.new)) }
+
+    // The output was flushed after the last byte was written.
+    ensures flushed { OnOk result (O.is_flushed output.new ≡ true) }
+
+    // A device is blamed only if it has failed.
+    ensures read_fault { IsErrOf result RunError.Read → I.has_failed input.new ≡ true }
+    ensures write_fault { IsErrOf result RunError.Write → O.has_failed output.new ≡ true }
+    ensures faults { IfErr result IsFaultOfText }
+
+    // A failure isn't forgotten: unless the result blames a device, that device has not failed meanwhile.
+    ensures input_unfailed { UnlessReadFails result
+        (I.has_failed input.new ≡ I.has_failed input.old) }
+    ensures output_unfailed { UnlessWriteFails result
+        (O.has_failed output.new ≡ O.has_failed output.old) }
+{
+    let bytes = read_all(alloc, input)?;
+    let Ok(source) = str::from_utf8(&bytes) else {
+        return Err(RunError::NotUtf8);
+    };
+    if is_plain(&bytes) {
+        return deliver(output, &bytes);
+    }
+    match substitute(alloc, source, variables) {
+        Ok(text) => deliver(output, text.as_bytes()),
+        Err(e) => Err(refusal(e, String::new(alloc))),
+    }
+}
