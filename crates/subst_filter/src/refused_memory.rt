@@ -6,7 +6,7 @@
 //! over the same source. If no allocation fails, it prints nothing.
 
 use crate::device::standard::{FromReader, ToWriter};
-use crate::engine::run_bytes;
+use crate::engine::{run_bytes, run_text};
 use crate::fakes::{Drip, NEVER, Trickle};
 use crate::program::run_program;
 use crate::run_error::RunError;
@@ -41,6 +41,9 @@ const BAD_ESCAPE_POSITION: usize = 24;
 
 /// The value of `name`, longer than each source.
 const VALUE: &[u8] = b"the whole round world with all that is in it";
+
+/// The value of `name` in a run over text, longer than each source.
+const TEXT_VALUE: &str = "❤ and the whole round world with all that is in it";
 
 /// How many bytes a writer has room for: more than any test writes.
 const ROOM: usize = 128;
@@ -164,6 +167,99 @@ fn run_bytes_over_a_bad_escape(rt: HostRuntime) -> Result<(), Fail> {
         return Err("another result".into());
     };
     assert_eq!(rt; fault.position, BAD_ESCAPE_POSITION);
+    assert!(rt; drip.taken.is_empty());
+    Ok(())
+}
+
+/// Variables whose values are texts.
+fn try_texts(alloc: Global) -> Result<BTreeMap<String, String>, AllocError> {
+    let mut texts = BTreeMap::new(alloc);
+    let name = String::from_str(alloc, "name")?;
+    texts.insert(name, String::from_str(alloc, TEXT_VALUE)?)?;
+    Ok(texts)
+}
+
+/// Such variables. If an allocation fails, they are made again.
+fn texts(alloc: Global) -> Result<BTreeMap<String, String>, AllocError> {
+    try_texts(alloc).or_else(|_| try_texts(alloc))
+}
+
+/// A run over text that is read one byte per call.
+fn run_over_text(
+    alloc: Global,
+    source: &[u8],
+    drip: &mut Drip,
+    texts: &BTreeMap<String, String>,
+) -> Result<(), RunError> {
+    let mut input = FromReader::new(Trickle::new(source, NEVER));
+    let mut output = ToWriter::new(drip);
+    run_text(alloc, &mut input, &mut output, texts)
+}
+
+/// Such a run, and another one if memory runs out in it.
+fn run_over_text_again(
+    alloc: Global,
+    rt: &(impl Print + Abort),
+    source: &[u8],
+    drip: &mut Drip,
+) -> Result<(), RunError> {
+    let texts = texts(alloc)?;
+    match run_over_text(alloc, source, drip, &texts) {
+        Err(RunError::OutOfMemory) => {
+            print_out_of_memory(rt);
+            assert!(rt; drip.taken.is_empty());
+            assert!(rt; texts.len() == 1);
+            assert!(rt;
+                texts
+                    .get("name")
+                    .is_some_and(|text| text.as_str() == TEXT_VALUE)
+            );
+            run_over_text(alloc, source, drip, &texts)
+        }
+        result => result,
+    }
+}
+
+#[test]
+fn run_text_over_a_sentence(rt: HostRuntime) -> Result<(), Fail> {
+    let mut drip = drip(rt.alloc())?;
+    let source = "${a:é}: ${b:\\{$name\\}}".as_bytes();
+    let result = run_over_text_again(rt.alloc(), &rt, source, &mut drip);
+    assert!(rt; result.is_ok());
+    let given = "é: {❤ and the whole round world with all that is in it}".as_bytes();
+    assert_eq!(rt; drip.taken.as_slice(), given);
+    assert_eq!(rt; drip.passed_on, given.len());
+    Ok(())
+}
+
+#[test]
+fn run_text_over_a_plain_source(rt: HostRuntime) -> Result<(), Fail> {
+    let mut drip = drip(rt.alloc())?;
+    let result = run_over_text_again(rt.alloc(), &rt, PLAIN, &mut drip);
+    assert!(rt; result.is_ok());
+    assert_eq!(rt; drip.taken.as_slice(), PLAIN);
+    assert_eq!(rt; drip.passed_on, PLAIN.len());
+    Ok(())
+}
+
+#[test]
+fn run_text_over_a_missing_variable(rt: HostRuntime) -> Result<(), Fail> {
+    let mut drip = drip(rt.alloc())?;
+    let result = run_over_text_again(rt.alloc(), &rt, MISSING, &mut drip);
+    let Err(RunError::Subst(Error::NoSuchVariable(missing), _)) = &result else {
+        return Err("another result".into());
+    };
+    assert_eq!(rt; missing.position, MISSING_POSITION);
+    assert_eq!(rt; missing.name.as_str(), "absent");
+    assert!(rt; drip.taken.is_empty());
+    Ok(())
+}
+
+#[test]
+fn run_text_over_no_text(rt: HostRuntime) -> Result<(), Fail> {
+    let mut drip = drip(rt.alloc())?;
+    let result = run_over_text_again(rt.alloc(), &rt, b"$name\xFF", &mut drip);
+    assert!(rt; matches!(result, Err(RunError::NotUtf8)));
     assert!(rt; drip.taken.is_empty());
     Ok(())
 }

@@ -57,6 +57,6 @@ fn refused_text_is_returned_and_nothing_is_written(rt: HostRuntime) {
     let Err(RunError::Subst(Error::MissingVariableName(fault), _)) = &result else {
         panic!(rt; "another result");
     };
-    assert_eq!(rt; fault.position, 7);
+    assert_eq!(rt; fault.position, 6);
     assert!(rt; drip.taken.is_empty());
 }
