@@ -1,14 +1,13 @@
 -- How what was read, what was substituted and what was written make the answer of a run.
-use Rattle.std.proofs.Common.{◌≡◌, ℕ, Bool, All, List, Option, Some, None, IfSome, IsSomeAnd, MatchOption, Result, Ok, Err, OnOk, IfErr, String, refl, sym, subst}
+use Rattle.std.proofs.Common.{◌≡◌, ℕ, Bool, List, Option, Some, None, IfSome, IsSomeAnd, MatchOption, Result, Ok, Err, OnOk, IfErr, String, string_bytes, refl, sym, subst}
+use Rattle.std.proofs.lemmas.Str.{IsUtf8-string_bytes}
 use Rattle.std.specs.Global.{Global}
 use Rattle.std.specs.Io.KnownBytes.{Appends}
 use Rattle.std.specs.Option.{option_map}
 use Rattle.std.specs.Str.{IsUtf8}
-use Rattle.subst.proofs.Calling.{plain_answer}
 use Rattle.subst.specs.Language.Answer.{Answers, Gives, Refuses}
 use Rattle.subst.specs.ErrorFault.{error_fault}
 use Rattle.subst.specs.Fault.{Fault}
-use Rattle.subst.specs.Language.Bytes.{IsPlain}
 use Rattle.subst.specs.Language.LookUp.{LookUp}
 use Rattle.subst.specs.Errors.{Error}
 use Rattle.subst_filter.proofs.DeviceLemmas.{holds_of_source}
@@ -57,13 +56,6 @@ module _ (left rest : Option (List ℕ)) (all text : List ℕ) (look : LookUp) (
       holds_of_source (λ source. RunAnswers source look r old new) left rest all read
       (answered_by_bytes all sent look r failed old new gives whole prefix fault)
 
-  -- a run that read a plain source and wrote it as it is
-  pub delivered_plain : (sent : List ℕ) (r : Result (Unit {0}) RunError) (failed : Bool) → sent ≡ text
-      → All IsPlain text → OnOk r (Appends old new sent) → AppendsPrefix old new sent
-      → IfErr r (IsWriteFault failed) → IfSome left (λ source. RunAnswers source look r old new)
-  delivered_plain sent r failed is plain whole prefix fault =
-      delivered text sent r failed is (plain_answer text look plain) whole prefix fault
-
   -- a run that read its source, for which the substitution returned an error
   pub refused : (e : Error) (shown : String Global) (fault : RunError)
       → IfSome (option_map Refuses (error_fault e)) (Answers text look)
@@ -74,6 +66,10 @@ module _ (left rest : Option (List ℕ)) (all text : List ℕ) (look : LookUp) (
       subst (λ s. IfSome (option_map Refuses (error_fault e)) (Answers s look)) same given in
       holds_of_source (λ source. RunAnswers source look (Err fault) old new) left rest all read
       (answered_by_refusal all look e shown (error_fault e) fault old new refl refuses is)
+
+-- bytes that a text has are UTF-8
+pub is_utf8 : (text : String Global) (bytes : List ℕ) → string_bytes text ≡ bytes → IsUtf8 bytes
+is_utf8 text bytes same = subst IsUtf8 same (IsUtf8-string_bytes text)
 
 -- a result of writing, for a source that is UTF-8
 tells_written : (source : List ℕ) (r : Result (Unit {0}) RunError) (failed : Bool) → IsUtf8 source

@@ -1,8 +1,11 @@
 //! The run over a source of text.
 
-ghost use Rattle.std.specs.Prelude.{◌≡◌, ℕ, List, true, OnOk, IfErr, IfSome, IsErrOf};
+ghost use Rattle.std.specs.Prelude.{◌≡◌, ℕ, List, true, OnOk, IfErr, IfSome, IsErrOf, MatchOption, string_bytes};
 ghost use Rattle.std.specs.Io.KnownBytes.{Keeps};
+ghost use Rattle.std.specs.Str.{IsUtf8};
+ghost use Rattle.subst.specs.Calls.Outcome.{answer_of};
 ghost use Rattle.subst.specs.Calls.VariableMap.{ByLookUp};
+ghost use Rattle.subst.specs.Language.Answer.{Answers};
 ghost use Rattle.subst_filter.specs.Device.{ReadsAll};
 ghost use Rattle.subst_filter.specs.FilterRun.{RunAnswers, TellsText, OnceRead, UnlessReadFails, UnlessWriteFails, UnlessWriting};
 ghost use Rattle.subst_filter.specs.RunError.{IsFaultOfText};
@@ -12,7 +15,7 @@ use crate::device::{ByteInput, ByteOutput};
 use crate::run_error::RunError;
 use std::alloc::Global;
 use std::convert::AsStr;
-use subst::{VariableMap, substitute};
+use subst::{Error, VariableMap, substitute};
 
 #[cfg(test)]
 mod tests;
@@ -66,15 +69,41 @@ where
     ensures output_unfailed { UnlessWriteFails result
         (O.has_failed output.new ≡ O.has_failed output.old) }
 {
-    let bytes = read_all(alloc, input)?;
-    let Ok(source) = str::from_utf8(&bytes) else {
+    let Some(source) = text_of(read_all(alloc, input)?) else {
         return Err(RunError::NotUtf8);
     };
-    if is_plain(&bytes) {
-        return deliver(output, &bytes);
-    }
-    match substitute(alloc, source, variables) {
+    match fill_in(alloc, source, variables) {
         Ok(text) => deliver(output, text.as_bytes()),
         Err(e) => Err(refusal(e, String::new(alloc))),
     }
+}
+
+/// The text that has these bytes, without a copy: none if they aren't UTF-8.
+fn text_of(bytes: Vec<u8>) -> Option<String>
+    ensures { MatchOption result (¬ (IsUtf8 bytes.items))
+        (λ text. (string_bytes text ≡ bytes.items) × IsUtf8 bytes.items) }
+{
+    match String::from_utf8(bytes) {
+        Ok(text) => Some(text),
+        Err(_) => None,
+    }
+}
+
+/// Fills the variables of the source in. A plain source is returned as it is, without a copy.
+#[tactic(auto, using(subst::proofs::Calling::plain_answer))]
+fn fill_in<'a, M: VariableMap<'a>>(
+    alloc: Global,
+    source: String,
+    variables: &'a M,
+) -> Result<String, Error>
+where
+    M::Value: AsStr + Drop,
+    ensures { ByLookUp M.Value.text M.see (M.look_up variables.now)
+        (λ look. IfSome (answer_of (λ output. string_bytes output) result)
+        (Answers (string_bytes source) look)) }
+{
+    if is_plain(source.as_bytes()) {
+        return Ok(source);
+    }
+    substitute(alloc, &source, variables)
 }
