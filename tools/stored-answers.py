@@ -1,9 +1,10 @@
 #!/usr/bin/env python3
 """stored-answers.py [--check]   Makes the stored run of subst_answers from the files of answers in tests/data.
 
-Writes crates/subst_answers/stdin, each record of the files as a record of the kind `bytes`, and
-crates/subst_answers/stdout, the answer that the files have for it, up to the text of the error. With --check it writes
-nothing, and fails where one of the two isn't what it would write.
+Writes crates/subst_answers/stdin, each record of the files as a record of the kind `bytes`, and after these each whose
+source and values are UTF-8 once more, of the kind `text`; and crates/subst_answers/stdout, the answer that the files
+have for each, up to the text of the error. With --check it writes nothing, and fails where one of the two isn't what it
+would write.
 """
 import itertools
 import pathlib
@@ -13,7 +14,6 @@ import sys
 TOP = pathlib.Path(__file__).resolve().parent.parent
 DATA = TOP / 'tests' / 'data'
 CRATE = pathlib.Path('crates', 'subst_answers')
-KIND = 'bytes'
 # The columns of an answer that are kept: `ok OUTPUT`, or `fault CASE POSITION DETAIL EXPECTED DISPLAY`.
 KEPT = {'ok': 2, 'fault': 6}
 # What may come after a name in braces, as the Rust crate says it, and as it is with `${name?}`.
@@ -40,10 +40,26 @@ def records(name):
                 yield source, pairs, answer
 
 
+def is_text(column):
+    """Whether the bytes of a column are UTF-8."""
+    try:
+        bytes.fromhex(column.strip('-')).decode('utf-8')
+    except UnicodeDecodeError:
+        return False
+    return True
+
+
+def are_texts(source, pairs):
+    """Whether the source and the values are UTF-8."""
+    values = [pair.split('=')[1] for pair in pairs.split(',')] if pairs != '-' else []
+    return all(map(is_text, [source] + values))
+
+
 def stored_run(rows):
     """The text of each file of the stored run, by its name."""
-    stdin = ['\t'.join((KIND, source, pairs)) + '\n' for source, pairs, _ in rows]
-    stdout = ['\t'.join(answer[:KEPT[answer[0]]]) + '\n' for _, _, answer in rows]
+    asked = [('bytes', *row) for row in rows] + [('text', *row) for row in rows if are_texts(*row[:2])]
+    stdin = ['\t'.join((kind, source, pairs)) + '\n' for kind, source, pairs, _ in asked]
+    stdout = ['\t'.join(answer[:KEPT[answer[0]]]) + '\n' for _, _, _, answer in asked]
     return {'stdin': ''.join(stdin), 'stdout': ''.join(stdout)}
 
 

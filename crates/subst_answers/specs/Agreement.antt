@@ -1,7 +1,7 @@
 -- What answers state, and whether they agree with the definition.
 use Rattle.std.specs.Prelude.{ℕ, List, Option, Some, None, IsSomeAnd, String}
 use Rattle.std.specs.BTreeMap.{BTreeMap, get_by_text}
-use Rattle.std.specs.Global.{Global, Vec}
+use Rattle.std.specs.Global.{Global}
 use Rattle.std.specs.Option.{option_map}
 use Rattle.subst.specs.Language.Answer as spec
 use Rattle.subst.specs.ErrorFault.{error_fault}
@@ -10,9 +10,9 @@ use Rattle.subst.specs.Language.LookUp.{LookUp}
 use Rattle.subst_answers.specs.declared.answer.Answer.{Answer}
 use Rattle.subst_answers.specs.declared.answer.Answer.TheVariants.{Gives, Refuses, Differs}
 
--- the values of variables, as a look-up of bytes
-abbrev pub values_of : BTreeMap (String Global) (Vec ℕ) → LookUp
-values_of pairs = look_up_of (λ v. v.items) (get_by_text pairs)
+-- the values of variables, as a look-up of their bytes
+abbrev pub values_of : {V : Type 0} → (V → List ℕ) → BTreeMap (String Global) V → LookUp
+values_of bytes_of pairs = look_up_of bytes_of (get_by_text pairs)
 
 -- the bytes or the fault that an answer states; a difference and out of memory state neither
 abbrev pub stated_by : Answer → Option spec.Answer

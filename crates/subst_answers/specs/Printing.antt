@@ -1,5 +1,5 @@
 -- What is printed for a text of records.
-use Rattle.std.specs.Prelude.{◌≡◌, ℕ, suc, ◌<◌, ◌==◌, Bool, true, false, List, [], ◌∷◌, ◌++◌, length, take, Option, Some, None, IfSome, ⊤}
+use Rattle.std.specs.Prelude.{◌≡◌, ℕ, suc, ◌<◌, ◌==◌, Bool, true, false, List, [], ◌∷◌, ◌++◌, length, take, Option, Some, None, IfSome, string_bytes, ⊤}
 use Rattle.std.specs.Io.{StopsAt}
 use Rattle.std.specs.Io.BufRead.{drop_through, first_piece}
 use Rattle.std.specs.Io.KnownBytes.{Appends, Consumes}
@@ -10,9 +10,8 @@ use Rattle.subst_answers.specs.declared.answer.Answer.{Answer}
 use Rattle.subst_answers.specs.declared.failure.Failure.{Failure}
 use Rattle.subst_answers.specs.declared.failure.Failure.TheVariants.{Malformed, Read, Write, OutOfMemory}
 use Rattle.subst_answers.specs.declared.record.Column.{Column}
-use Rattle.subst_answers.specs.declared.record.Kind.TheVariants as kinds
-use Rattle.subst_answers.specs.declared.record.Kind.{Kind}
 use Rattle.subst_answers.specs.declared.record.Record.{Record}
+use Rattle.subst_answers.specs.declared.record.Record.TheVariants as records
 
 -- a newline ends a line
 abbrev pub newline : ℕ
@@ -23,16 +22,19 @@ abbrev pub is_comment : List ℕ → Bool
 is_comment [] = false
 is_comment (b ∷ line) = b == 35
 
--- the answer to a record, by its kind
-abbrev pub IsAnswerBy : Kind → List ℕ → Record → Answer → Type 0
-IsAnswerBy kinds.Bytes source asked answer = IsTrueAnswer source (values_of asked.pairs) answer
+-- the answer to a record, of either kind
+abbrev pub IsAnswerTo : Record → Answer → Type 0
+IsAnswerTo (records.Bytes asked) answer =
+    IsTrueAnswer asked.source.items (values_of (λ v. v.items) asked.pairs) answer
+IsAnswerTo (records.Text asked) answer =
+    IsTrueAnswer (string_bytes asked.source) (values_of (λ v. string_bytes v) asked.pairs) answer
 
 -- the printed line is that of the answer to the line's record
 pub record IsAnswered (line printed : List ℕ) : Type 0 where
   pub asked : Record
   pub is : IsRecord line asked
   pub answer : Answer
-  pub answers : IsAnswerBy asked.kind asked.source.items asked answer
+  pub answers : IsAnswerTo asked answer
   pub shown : IsLineOf answer printed
 
 -- What is printed for the lines of a text before those that are left: nothing for a comment, and for each

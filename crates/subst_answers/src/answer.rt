@@ -36,6 +36,19 @@ impl Answer {
         }
     }
 
+    /// The answer that a result of texts states, unless it is out of memory.
+    pub fn of_text(filled: Result<String, Error>) -> Result<Answer, AllocError>
+        ensures stated { IfOk result
+            (λ answer. stated_by answer ≡ answer_of (λ output. string_bytes output) filled) }
+        ensures some { IfOk result (λ answer. IsSome (stated_by answer)) }
+        ensures err { OnErr result (answer_of (λ output. string_bytes output) filled ≡ None) }
+    {
+        match filled {
+            Ok(text) => Answer::of(Ok(text.into_bytes())),
+            Err(fault) => Answer::of(Err(fault)),
+        }
+    }
+
     /// The answer, if another way gives the same.
     pub fn agreed_with(self, other: &Answer) -> Answer
         ensures same { IsSome (stated_by self)

@@ -9,22 +9,22 @@ use std::alloc::{AllocError, Global};
 use subst::{ByteTemplate, Error, substitute_bytes};
 
 /// The answer of `substitute_bytes`, if a template that is parsed once and expanded twice gives the same.
-pub fn answer(alloc: Global, source: &[u8], pairs: &Pairs) -> Result<Answer, AllocError>
-    ensures { IfOk result (IsTrueAnswer source.now (values_of pairs.now)) }
+pub fn answer(alloc: Global, source: &[u8], pairs: &Pairs<Vec<u8>>) -> Result<Answer, AllocError>
+    ensures { IfOk result (IsTrueAnswer source.now (values_of (λ v. v.items) pairs.now)) }
 {
     let whole = at_once(alloc, source, pairs)?;
     let parsed = by_template(alloc, source, pairs)?;
     Ok(whole.agreed_with(&parsed))
 }
 
-fn at_once(alloc: Global, source: &[u8], pairs: &Pairs) -> Result<Answer, AllocError>
-    ensures { IfOk result (IsTrueAnswer source.now (values_of pairs.now)) }
+fn at_once(alloc: Global, source: &[u8], pairs: &Pairs<Vec<u8>>) -> Result<Answer, AllocError>
+    ensures { IfOk result (IsTrueAnswer source.now (values_of (λ v. v.items) pairs.now)) }
 {
     Answer::of(substitute_bytes(alloc, source, pairs))
 }
 
-fn by_template(alloc: Global, source: &[u8], pairs: &Pairs) -> Result<Answer, AllocError>
-    ensures { IfOk result (IsTrueAnswer source.now (values_of pairs.now)) }
+fn by_template(alloc: Global, source: &[u8], pairs: &Pairs<Vec<u8>>) -> Result<Answer, AllocError>
+    ensures { IfOk result (IsTrueAnswer source.now (values_of (λ v. v.items) pairs.now)) }
 {
     match ByteTemplate::from_slice(alloc, source) {
         Ok(template) => {
@@ -36,8 +36,12 @@ fn by_template(alloc: Global, source: &[u8], pairs: &Pairs) -> Result<Answer, Al
     }
 }
 
-fn expanded(alloc: Global, template: &ByteTemplate<'_>, pairs: &Pairs) -> Result<Answer, AllocError>
-    ensures { IfOk result (IsTrueAnswer template.now (values_of pairs.now)) }
+fn expanded(
+    alloc: Global,
+    template: &ByteTemplate<'_>,
+    pairs: &Pairs<Vec<u8>>,
+) -> Result<Answer, AllocError>
+    ensures { IfOk result (IsTrueAnswer template.now (values_of (λ v. v.items) pairs.now)) }
 {
     // By the contract of `source` it is a sentence, so `expand` says what the template gives.
     let _source = template.source();

@@ -2,10 +2,11 @@
 //!
 //! A record is three columns, separated by tabs: `KIND`, `SOURCE` and `PAIRS`.
 //!
-//! - `KIND` says how the source is filled in: `bytes` is by `substitute_bytes`.
-//! - `SOURCE` is the source, in lower-case hexadecimal. An empty byte string is `-`, here and everywhere.
+//! - `KIND` says how the source is filled in: `bytes` is by `substitute_bytes`, and `text` by `substitute`.
+//! - `SOURCE` is the source, in lower-case hexadecimal. An empty byte string is `-`, here and everywhere. The
+//!   source of a text is UTF-8.
 //! - `PAIRS` is `-`, or `NAME=VALUE` for each variable, separated by commas, with names and values in
-//!   hexadecimal. A name is UTF-8 and comes once.
+//!   hexadecimal. A name is UTF-8 and comes once. The values of a text are UTF-8.
 //!
 //! An answer is `ok` and the output, or `fault`, the case, its position, its detail, the words for what was
 //! expected (`-` if the case has none) and the text of the error, separated by tabs. The output, the words
@@ -37,6 +38,7 @@ mod record;
 mod run;
 #[cfg(test)]
 mod tests;
+mod text;
 
 fn answer_input<R: Input + Print + AllocGlobal>(rt: &R) -> Result<(), Failure> {
     let mut input = BufReader::new(rt.alloc(), rt.reader())?;

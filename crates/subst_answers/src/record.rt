@@ -1,7 +1,9 @@
 //! Records: a source, its variables, and how to fill them in.
 
-ghost use Rattle.std.specs.Prelude.{◌≡◌, IfOk, IfErr};
-ghost use Rattle.subst_answers.specs.Record.{ArePairsRead, IsNameOf, IsPairRead};
+ghost use Rattle.std.specs.Prelude.{◌≡◌, ℕ, List, IfOk, IfErr};
+ghost use Rattle.std.specs.Option.{option_map};
+ghost use Rattle.subst_answers.specs.Record.{ArePairsRead, IsContentOf, IsContentRead, IsNameOf, IsPairRead};
+ghost use Rattle.subst_answers.specs.declared.record.Kind.{Kind};
 
 use crate::column::{cut, read_bytes};
 use std::alloc::{AllocError, AllocFailed, Global};
@@ -13,6 +15,8 @@ use std::fmt;
 pub enum Kind {
     /// By `substitute_bytes`, and by a `ByteTemplate`.
     Bytes,
+    /// By `substitute`, by a `Template`, and by a `TemplateBuf`.
+    Text,
 }
 
 impl Kind {
@@ -21,23 +25,73 @@ impl Kind {
     {
         match name {
             b"bytes" => Some(Kind::Bytes),
+            b"text" => Some(Kind::Text),
             _ => None,
         }
     }
 }
 
-/// The variables of a record, each with its value.
-pub type Pairs = BTreeMap<String, Vec<u8>>;
+/// What the sources and the values of a kind of records are.
+pub trait Content: Drop + Sized {
+    // The kind of the records.
+    ghost kind: { Kind };
 
-/// A source and its variables, and how to fill them in.
+    ghost bytes_of: { Self → List ℕ };
+
+    /// The content that has these bytes, or `None` if there is no such one.
+    fn from_bytes(bytes: Vec<u8>) -> Option<Self>
+        ensures { IsContentOf kind bytes.items (option_map bytes_of result) };
+}
+
+/// All bytes are content.
+impl Content for Vec<u8> {
+    ghost use Rattle.subst_answers.specs.declared.record.Kind.TheVariants.{Bytes};
+
+    ghost kind = { Bytes };
+
+    ghost bytes_of = { λ v. v.items };
+
+    fn from_bytes(bytes: Vec<u8>) -> Option<Vec<u8>> {
+        Some(bytes)
+    }
+}
+
+/// Bytes are content if they are UTF-8.
+impl Content for String {
+    ghost use Rattle.std.specs.Prelude.{string_bytes};
+    ghost use Rattle.subst_answers.specs.declared.record.Kind.TheVariants.{Text};
+
+    ghost kind = { Text };
+
+    ghost bytes_of = { λ v. string_bytes v };
+
+    fn from_bytes(bytes: Vec<u8>) -> Option<String> {
+        match String::from_utf8(bytes) {
+            Ok(text) => Some(text),
+            Err(_) => None,
+        }
+    }
+}
+
+/// Variables, each with its value.
+pub type Pairs<V> = BTreeMap<String, V>;
+
+/// A source and its variables.
 #[derive(Drop)]
-pub struct Record {
-    /// How the source is filled in.
-    pub kind: Kind,
+pub struct Asked<V> {
     /// The source.
-    pub source: Vec<u8>,
+    pub source: V,
     /// The variables.
-    pub pairs: Pairs,
+    pub pairs: Pairs<V>,
+}
+
+/// A source and its variables, by how the source is filled in.
+#[derive(Drop)]
+pub enum Record {
+    /// Of the kind `bytes`.
+    Bytes(Asked<Vec<u8>>),
+    /// Of the kind `text`.
+    Text(Asked<String>),
 }
 
 /// A column of a record.
@@ -104,8 +158,29 @@ impl Record {
         let Some(after_kind) = after_kind else {
             return Err(RecordError::Malformed(Column::Source));
         };
+        match kind {
+            Kind::Bytes => Ok(Record::Bytes(Asked::read(alloc, after_kind)?)),
+            Kind::Text => Ok(Record::Text(Asked::read(alloc, after_kind)?)),
+        }
+    }
+}
+
+impl<V: Content> Asked<V> {
+    ghost use Rattle.subst_answers.specs.Record.{AreColumnsOf, IsRefusedFor};
+    ghost use Rattle.subst_answers.specs.Agreement.{values_of};
+
+    /// The source and the variables of the columns after a kind.
+    ///
+    /// # Errors
+    ///
+    /// The first column that is malformed, or out of memory.
+    fn read(alloc: Global, after_kind: &[u8]) -> Result<Asked<V>, RecordError>
+        ensures ok { IfOk result (λ asked. AreColumnsOf V.kind after_kind.now
+            (V.bytes_of asked.source) (values_of V.bytes_of asked.pairs)) }
+        ensures err { IfErr result (IsRefusedFor V.kind after_kind.now) }
+    {
         let (source, pairs) = cut(after_kind, b'\t');
-        let Some(source) = read_bytes(alloc, source)? else {
+        let Some(source) = read_content(alloc, source)? else {
             return Err(RecordError::Malformed(Column::Source));
         };
         let Some(pairs) = pairs else {
@@ -114,36 +189,35 @@ impl Record {
         let Some(pairs) = read_pairs(alloc, pairs)? else {
             return Err(RecordError::Malformed(Column::Pairs));
         };
-        Ok(Record {
-            kind,
-            source,
-            pairs,
-        })
+        Ok(Asked { source, pairs })
     }
 }
 
 /// The variables of a column, or `None` if it is malformed.
-fn read_pairs(alloc: Global, column: &[u8]) -> Result<Option<Pairs>, AllocError>
-    ensures { IfOk result (ArePairsRead column.now) }
+fn read_pairs<V: Content>(alloc: Global, column: &[u8]) -> Result<Option<Pairs<V>>, AllocError>
+    ensures { IfOk result (ArePairsRead V.kind V.bytes_of column.now) }
 {
     let mut pairs = BTreeMap::new(alloc);
     if column == b"-".as_slice() {
         return Ok(Some(pairs));
     }
-    for pair in column.split(|b| *b == b',') {
+    let mut left = Some(column);
+    while let Some(text) = left {
+        let (pair, after) = cut(text, b',');
         let Some((name, value)) = read_pair(alloc, pair)? else {
             return Ok(None);
         };
         if pairs.insert(name, value)?.is_some() {
             return Ok(None);
         }
+        left = after;
     }
     Ok(Some(pairs))
 }
 
 /// A name and its value, or `None` if they are malformed.
-fn read_pair(alloc: Global, pair: &[u8]) -> Result<Option<(String, Vec<u8>)>, AllocError>
-    ensures { IfOk result (IsPairRead pair.now) }
+fn read_pair<V: Content>(alloc: Global, pair: &[u8]) -> Result<Option<(String, V)>, AllocError>
+    ensures { IfOk result (IsPairRead V.kind V.bytes_of pair.now) }
 {
     let (name, value) = cut(pair, b'=');
     let Some(value) = value else {
@@ -152,11 +226,21 @@ fn read_pair(alloc: Global, pair: &[u8]) -> Result<Option<(String, Vec<u8>)>, Al
     let Some(name) = read_bytes(alloc, name)? else {
         return Ok(None);
     };
-    let Some(value) = read_bytes(alloc, value)? else {
+    let Some(value) = read_content(alloc, value)? else {
         return Ok(None);
     };
     match String::from_utf8(name) {
         Ok(name) => Ok(Some((name, value))),
         Err(_) => Ok(None),
+    }
+}
+
+/// The content of a column, or `None` if it is malformed.
+fn read_content<V: Content>(alloc: Global, column: &[u8]) -> Result<Option<V>, AllocError>
+    ensures { IfOk result (λ read. IsContentRead V.kind column.now (option_map V.bytes_of read)) }
+{
+    match read_bytes(alloc, column)? {
+        Some(bytes) => Ok(V::from_bytes(bytes)),
+        None => Ok(None),
     }
 }

@@ -3,12 +3,12 @@
 ghost use Rattle.std.specs.Prelude.{◌≡◌, IfErr, IfOk, OnErr, OnOk, string_bytes};
 ghost use Rattle.std.specs.Io.KnownBytes.{Appends};
 ghost use Rattle.subst_answers.specs.Failure.{IsFailureAt};
-ghost use Rattle.subst_answers.specs.Printing.{is_comment, AppendsPart, FailsBy, IsAnswerBy, IsAnswered, Prints, ReadsAtMostALine, ReadsLine};
+ghost use Rattle.subst_answers.specs.Printing.{is_comment, AppendsPart, FailsBy, IsAnswered, IsAnswerTo, Prints, ReadsAtMostALine, ReadsLine};
 
 use crate::answer::Answer;
-use crate::bytes;
 use crate::failure::Failure;
-use crate::record::{Kind, Record};
+use crate::record::Record;
+use crate::{bytes, text};
 use std::alloc::{AllocError, Global};
 use std::io;
 use std::io::{BufRead, ErrorKind, Write};
@@ -78,10 +78,11 @@ fn answer_line(alloc: Global, number: u64, line: &[u8]) -> Result<String, Failur
 }
 
 fn answer(alloc: Global, asked: &Record) -> Result<Answer, AllocError>
-    ensures { IfOk result (IsAnswerBy asked.now.kind asked.now.source.items asked.now) }
+    ensures { IfOk result (IsAnswerTo asked.now) }
 {
-    match asked.kind {
-        Kind::Bytes => bytes::answer(alloc, asked.source.as_slice(), &asked.pairs),
+    match asked {
+        Record::Bytes(asked) => bytes::answer(alloc, asked.source.as_slice(), &asked.pairs),
+        Record::Text(asked) => text::answer(alloc, asked.source.as_str(), &asked.pairs),
     }
 }
 

@@ -39,6 +39,16 @@ fn each_record_gets_its_answer(rt: HostRuntime) -> Result<(), Fail> {
         ("bytes\t-\t-\n", "ok\t-\n"),
         ("bytes\t2461\t61=2d,62=-\n", "ok\t2d\n"),
         ("bytes\t2461\t-=31,61=-", "ok\t-\n"),
+        ("bytes\t80\t61=80", "ok\t80\n"),
+        ("text\t-\t-\n", "ok\t-\n"),
+        ("text\tc3a92461\t61=c3a9\n", "ok\tc3a9c3a9\n"),
+        (
+            "text\t24\t-\nbytes\t24\t-\n",
+            "fault\tMissingVariableName\t0\t1\t-\t\
+             4d697373696e67207661726961626c65206e616d65\n\
+             fault\tMissingVariableName\t0\t1\t-\t\
+             4d697373696e67207661726961626c65206e616d65\n",
+        ),
         (
             "bytes\t5c\t-\nbytes\t30\t-\n",
             "fault\tInvalidEscapeSequence\t0\tnone\t-\t\
@@ -69,7 +79,9 @@ fn comments_get_no_answer(rt: HostRuntime) -> Result<(), Fail> {
 
 #[test]
 fn malformed_kind_ends_the_run(rt: HostRuntime) -> Result<(), Fail> {
-    let kinds: &[&str] = &["", "byte", "Bytes", "bytes ", " bytes", "bytes\r", "-"];
+    let kinds: &[&str] = &[
+        "", "byte", "Bytes", "bytes ", " bytes", "bytes\r", "-", "texts", "Text",
+    ];
     for &kind in kinds {
         let input = format!(in rt.alloc(); "bytes\t30\t-\n{kind}\t-\t-\nbytes\t30\t-\n")?;
         let end = "1 record 2: malformed column kind";
@@ -90,6 +102,13 @@ fn malformed_source_ends_the_run(rt: HostRuntime) -> Result<(), Fail> {
         &rt,
         rt.alloc(),
         "bytes\n",
+        "",
+        "1 record 1: malformed column source",
+    )?;
+    expect(
+        &rt,
+        rt.alloc(),
+        "text\t80\t-\n",
         "",
         "1 record 1: malformed column source",
     )
@@ -121,6 +140,13 @@ fn malformed_pairs_end_the_run(rt: HostRuntime) -> Result<(), Fail> {
         &rt,
         rt.alloc(),
         "bytes\t-",
+        "",
+        "1 record 1: malformed column pairs",
+    )?;
+    expect(
+        &rt,
+        rt.alloc(),
+        "text\t-\t61=80\n",
         "",
         "1 record 1: malformed column pairs",
     )

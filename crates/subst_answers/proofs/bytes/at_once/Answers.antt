@@ -6,6 +6,6 @@ use Rattle.subst_answers.proofs.bytes.at_once.Goals as goal
 
 pub returns : goal.returns
 returns c =
-    true_if_stated c.args.source.now (values_of c.args.pairs.now) c.of.result
+    true_if_stated c.args.source.now (values_of (λ v. v.items) c.args.pairs.now) c.of.result
     (answer_of (λ output. output.items) c.substitute_bytes.result) c.of.ensures.stated c.of.ensures.some
     (c.substitute_bytes.ensures (λ v. v.items) (λ v. refl))

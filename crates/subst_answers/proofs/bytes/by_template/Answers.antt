@@ -5,7 +5,7 @@ use Rattle.subst_answers.proofs.bytes.by_template.Goals as goal
 
 pub returns-in_ok-second-in-Ok : goal.returns-in_ok-second-in-Ok
 returns-in_ok-second-in-Ok c =
-    let look = values_of c.args.pairs.now in
+    let look = values_of (λ v. v.items) c.args.pairs.now in
     let of_source = c.in-Ok.ensures.ok.1 in
     let one = c.in_ok-first-in-Ok.first in
     let two = c.in_ok-second-in-Ok.second in
