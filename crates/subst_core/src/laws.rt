@@ -11,6 +11,8 @@ ghost use Rattle.subst_core.specs.Language.Sentence.{ByTree};
 ghost use Rattle.subst_core.specs.Language.Value.{Bytes, value};
 ghost use Rattle.subst_core.specs.Language.Counts.{part_count, visited_count};
 
+use crate::map::VariableMap;
+use std::collections::BTreeMap;
 use std::convert::{AsSlice, AsStr};
 
 /// The law of one reading. Each byte string is a sentence of the template language or has a fault, never
@@ -42,14 +44,16 @@ pub fn texts_give_texts()
         → ByTree s (λ t. value p t look ≡ Bytes x → IsUtf8 x) }
 {}
 
-/// Where values are bytes, and references to values are identified with what they point to, the bytes of a
-/// value follow from what it is identified with. So each map whose `get` lends such values, as a `BTreeMap`
-/// with text keys, is a look-up of bytes: for each name it has the bytes of the value under that key.
-pub fn slices_are_read<'a, V: AsSlice<u8> + 'a>()
-    ensures { ReadsAs ⟦<&'a V as AsSlice<u8>>⟧.items (λ v. v.now) V.items }
+/// A `BTreeMap` with text keys whose values are bytes is a look-up of bytes: for each name it has the bytes
+/// of the value under that key.
+pub fn btree_map_is_look_up<'a, V: AsSlice<u8> + 'a>()
+    ensures { ReadsAs ⟦<&'a V as AsSlice<u8>>⟧.items
+        ⟦<BTreeMap<String, V> as VariableMap<'a>>⟧.see V.items }
 {}
 
-/// The same where values are texts.
-pub fn texts_are_read<'a, V: AsStr + 'a>()
-    ensures { ReadsAs ⟦<&'a V as AsStr>⟧.text (λ v. v.now) V.text }
+/// A `BTreeMap` with text keys whose values are texts is a look-up of texts: for each name it has the text
+/// under that key.
+pub fn btree_map_is_look_up_of_texts<'a, V: AsStr + 'a>()
+    ensures { ReadsAs ⟦<&'a V as AsStr>⟧.text
+        ⟦<BTreeMap<String, V> as VariableMap<'a>>⟧.see V.text }
 {}
