@@ -1,4 +1,4 @@
-use Rattle.std.proofs.Common.{ap, refl}
+use Rattle.std.proofs.Common.{ap}
 use Rattle.subst_core.specs.declared.template.raw.parse.Parser.{Parser}
 use Rattle.subst_core.proofs.Raw.ParserLemmas.{reading_closed, variable_inside, innermost_named}
 use Rattle.subst_core.proofs.Language.ListLemmas.{position_inside, split_last, pop_front}
