@@ -13,6 +13,7 @@ pub(in crate::template) struct CowParts<'a> {
     list: CowList<'a>,
 }
 
+/// The packed parts, lent or owned.
 #[derive(Drop)]
 enum CowList<'a> {
     Borrowed(PartSlice<'a>),

@@ -50,7 +50,10 @@ impl<'p, O: Offset> PartList<'p, O> {
     pub fn part_at(&mut self, index: usize) -> Option<Part>
         ensures part { MatchOption result (length self.old.parts ≤ index)
             (λ part. slice_get self.old.parts index ≡ Some part) }
+
+        // The next index is a `usize`.
         ensures small { IfSome result (λ _. index + 1 < 2 ^ 64) }
+
         ensures same { self.new.parts ≡ self.old.parts }
         ensures counted { MatchOption result (self.new.turns ≡ self.old.turns)
             (λ _. self.new.turns ≡ self.old.turns + 1) }

@@ -2,7 +2,7 @@
 
 use super::packed_part::PackedPart;
 
-/// A list of parts that is lent, in as many bits a number as it is kept in.
+/// A list of packed parts that is lent, narrow or wide.
 #[derive(Clone, Copy)]
 pub(super) enum PartSlice<'p> {
     Narrow(&'p [PackedPart<u32>]),
