@@ -5,11 +5,13 @@ use Rattle.std.specs.declared.fmt.Formatter.{Formatter}
 use Rattle.std.specs.declared.fmt.Error.{Error}
 
 -- g is f after writing some text of which P holds
-pub record HasWrittenSome {W : Type 0} (took : W → List ℕ → W → Type 0) (f : Formatter W) (P : List ℕ → Type 0) (g : Formatter W) : Type 0 where
+pub record HasWrittenSome {W : Type 0} (took : W → List ℕ → W → Type 0) (f : Formatter W)
+    (P : List ℕ → Type 0) (g : Formatter W) : Type 0 where
   pub text : List ℕ
   pub holds : P text
   pub wrote : HasWritten took f text g
 
 -- if f is plain and r is `Ok`, then g is f after writing some text of which P holds
-abbrev pub WritesSome : {W : Type 0} → (W → List ℕ → W → Type 0) → Formatter W → Result (Unit {0}) Error → (List ℕ → Type 0) → Formatter W → Type 0
+abbrev pub WritesSome : {W : Type 0} → (W → List ℕ → W → Type 0) → Formatter W → Result (Unit {0}) Error
+    → (List ℕ → Type 0) → Formatter W → Type 0
 WritesSome took f r P g = IsPlainFormatter f → IsOk r → HasWrittenSome took f P g

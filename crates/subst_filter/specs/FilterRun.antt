@@ -39,8 +39,8 @@ RunAnswers source look (Err Write) old new = WritesPrefix source look old new
 RunAnswers source look (Err (Subst e shown)) old new = IsRefusedWith source look e
 RunAnswers source look (Err _) old new = ⊤
 
--- A run over text tells a text from other bytes: it says NotUtf8 where its source is not UTF-8, and only there, unless
--- reading failed or memory ran out.
+-- A run over text tells a text from other bytes: it says NotUtf8 where its source is not UTF-8, and only
+-- there, unless reading failed or memory ran out.
 abbrev pub TellsText : Result (Unit {0}) RunError → List ℕ → Type 0
 TellsText (Err Read) source = ⊤
 TellsText (Err OutOfMemory) source = ⊤

@@ -64,8 +64,8 @@ fn are_pairs(words: &[String]) -> bool
     words.iter().all(|word| word.as_bytes().contains(&b'='))
 }
 
-/// The values of words of the form NAME=VALUE under their names, where the last word of a name gives its value.
-/// Other words give none.
+/// The values of words of the form NAME=VALUE under their names, where the last word of a name gives its
+/// value. Other words give none.
 fn values_of(alloc: Global, words: &[String]) -> Result<HashMap<&str, &[u8]>, AllocError>
     ensures { IfOk result (λ by_name. value_under by_name ≡ look_up_in words.now) }
 {
