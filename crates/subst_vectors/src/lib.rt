@@ -23,8 +23,6 @@ mod names;
 #[cfg(test)]
 mod optional;
 #[cfg(test)]
-mod owned;
-#[cfg(test)]
 mod plain;
 #[cfg(test)]
 mod positions;
@@ -32,5 +30,3 @@ mod positions;
 mod refused_memory;
 #[cfg(test)]
 mod rows;
-#[cfg(test)]
-mod texts;

@@ -13,9 +13,6 @@ use std::test::Fail;
 use subst::error::{ExpandError, NoSuchVariable, ParseError};
 use subst::{ByteTemplate, Error, substitute_bytes};
 
-mod templates;
-mod texts;
-
 /// A default in a default, escapes, and a variable.
 const SENTENCE: &[u8] = b"Hi ${hi:\\{${who:you}\\}} and $name!";
 

@@ -4,13 +4,10 @@ use Answer::{Absent, BadEscape, Gives, NoName, OutOfMemory, Unclosed, Unexpected
 use std::alloc::Global;
 use std::collections::BTreeMap;
 use std::process::Abort;
-use std::str;
 use std::test::Fail;
 use subst::error::CharOrByte;
 use subst::steps::{Reads, Turns};
-use subst::{
-    ByteTemplate, ByteTemplateBuf, Error, Template, TemplateBuf, substitute, substitute_bytes,
-};
+use subst::{ByteTemplate, Error, substitute_bytes};
 
 /// An answer: bytes, or a fault with its fields except the words for what was expected.
 #[derive(Clone, Copy, Debug, PartialEq)]
@@ -51,19 +48,6 @@ pub fn map_of(alloc: Global, pairs: &str) -> Result<Map, Fail> {
     Ok(map)
 }
 
-pub type TextMap<'a> = BTreeMap<String, &'a str>;
-
-/// The same map, whose values are texts.
-pub fn text_map_of<'a>(alloc: Global, pairs: &'a str) -> Result<TextMap<'a>, Fail> {
-    let mut map = BTreeMap::new(alloc);
-    for pair in pairs.split(',') {
-        if let Some((name, value)) = pair.split_once('=') {
-            let _ = map.insert(String::from_str(alloc, name)?, value)?;
-        }
-    }
-    Ok(map)
-}
-
 /// The result of parsing a template and then expanding it.
 pub fn by_template(alloc: Global, source: &[u8], map: &Map) -> Result<Vec<u8>, Error> {
     let template = ByteTemplate::from_slice(alloc, source)?;
@@ -76,43 +60,7 @@ fn by_counted_calls(alloc: Global, source: &[u8], map: &Map) -> Result<Vec<u8>, 
     Ok(template.expand_counted(alloc, map, &mut Turns::new())?)
 }
 
-/// The same by a template that owns its source.
-fn by_owned_template(alloc: Global, source: &[u8], map: &Map) -> Result<Vec<u8>, Error> {
-    let template = ByteTemplateBuf::from_vec(Vec::from_slice(alloc, source)?)?;
-    Ok(template.expand(alloc, map)?)
-}
-
-/// The bytes of the result of parsing a text and then expanding it.
-fn by_text_template(alloc: Global, source: &str, map: &TextMap<'_>) -> Result<Vec<u8>, Error> {
-    let template = Template::from_str(alloc, source)?;
-    Ok(template.expand(alloc, map)?.into_bytes())
-}
-
-/// The same by a template that owns its text.
-fn by_owned_text(alloc: Global, source: &str, map: &TextMap<'_>) -> Result<Vec<u8>, Error> {
-    let template = TemplateBuf::from_string(String::from_str(alloc, source)?)?;
-    Ok(template.expand(alloc, map)?.into_bytes())
-}
-
-/// Each way over texts returns `want`.
-fn expect_text(
-    rt: &impl Abort,
-    alloc: Global,
-    source: &str,
-    pairs: &str,
-    want: &Answer<'_>,
-) -> Result<(), Fail> {
-    let map = text_map_of(alloc, pairs)?;
-    let whole = substitute(alloc, source, &map).map(String::into_bytes);
-    assert_eq!(rt; &answer_of(&whole), want, "{source:?} at once");
-    let parsed = by_text_template(alloc, source, &map);
-    assert_eq!(rt; &answer_of(&parsed), want, "{source:?} by a template");
-    let owned = by_owned_text(alloc, source, &map);
-    assert_eq!(rt; &answer_of(&owned), want, "{source:?} by an owned template");
-    Ok(())
-}
-
-/// Each way returns `want`, and each way over texts where the source is one.
+/// Each way returns `want`.
 pub fn expect(
     rt: &impl Abort,
     alloc: Global,
@@ -125,14 +73,9 @@ pub fn expect(
     assert_eq!(rt; &answer_of(&whole), want, "{source:?} at once");
     let parsed = by_template(alloc, source, &map);
     assert_eq!(rt; &answer_of(&parsed), want, "{source:?} by a template");
-    let owned = by_owned_template(alloc, source, &map);
-    assert_eq!(rt; &answer_of(&owned), want, "{source:?} by an owned template");
     let counted = by_counted_calls(alloc, source, &map);
     assert_eq!(rt; &answer_of(&counted), want, "{source:?} by counted calls");
-    match str::from_utf8(source) {
-        Ok(text) => expect_text(rt, alloc, text, pairs, want),
-        Err(_) => Ok(()),
-    }
+    Ok(())
 }
 
 /// Each way returns `want`, with some variables and with none.
