@@ -79,6 +79,8 @@ class Workload:
     # The programs to which the input means the same as to ours: their outputs have to be equal.
     same: tuple = ()
     perl: str = PERL
+    # The first word of our program. With `env` the variables are its environment, otherwise its words.
+    word: str = "bytes"
 
 
 @dataclass
@@ -225,6 +227,16 @@ INPUTS = (
 )
 
 
+def two_byte_characters():
+    """1 MiB of characters that take two bytes each."""
+    source = "".join(random.Random(6).choices("àâäçéèêëîïôöùûü", k=MIB // 2))
+    return Workload("two-byte characters, 1 MiB", source.encode())
+
+
+# What is expanded as bytes and as a text.
+TEXTS = (many_variables, plain, two_byte_characters)
+
+
 # Inputs that grow. Each family has its sizes with their workloads.
 
 
@@ -233,11 +245,21 @@ def by_depth():
         yield depth, Workload(f"nested defaults, {depth:,} deep", nested_text(depth * ["a"]))
 
 
-def by_words():
+def by_count(what, word):
+    """1 MiB with each of so many variables, which our program is given by this word."""
     for count in (10, 100, 1_000):
         rng = random.Random(5)
         variables = valued(rng, some_names(rng, count), 20)
-        yield count, Workload(f"variables, 1 MiB, {count:,} words", pieces(rng, list(variables)), variables)
+        source = pieces(rng, list(variables))
+        yield count, Workload(f"variables, 1 MiB, {count:,} {what}", source, variables, word=word)
+
+
+def by_words():
+    return by_count("words", "bytes")
+
+
+def by_pairs():
+    return by_count("pairs of the environment", "env")
 
 
 def by_plain_length():
@@ -252,7 +274,7 @@ def by_escapes_length():
         yield len(source), Workload(f"escapes, {size} MiB", source)
 
 
-FAMILIES = (by_depth, by_words, by_plain_length, by_escapes_length)
+FAMILIES = (by_depth, by_words, by_pairs, by_plain_length, by_escapes_length)
 
 
 # Programs.
@@ -268,7 +290,8 @@ def words(workload):
 
 def ours(workload):
     """Our program and its command line."""
-    return {OURS: [binary(OURS), "bytes", *words(workload)]}
+    given = [] if workload.word == "env" else words(workload)
+    return {OURS: [binary(OURS), workload.word, *given]}
 
 
 def programs_for(workload):
@@ -293,8 +316,9 @@ def bench(workload, work, rounds):
 
 
 def environment(name, workload):
-    """The environment of a program: the variables, except for ours, which get them as arguments."""
-    given = {} if name in (OURS, BENCH) else workload.variables
+    """The environment of a program: the variables, except for ours where they get them as arguments."""
+    has_arguments = name == BENCH or (name == OURS and workload.word != "env")
+    given = {} if has_arguments else workload.variables
     return {"PATH": os.environ["PATH"], "LC_ALL": "C", **given}
 
 
@@ -363,10 +387,14 @@ def instructions(command, env, source):
     return int(re.search(rb"Collected : (\d+)", run.stderr)[1])
 
 
+def rounds_for(workload):
+    return max(1, min(1000, MIB // len(workload.source)))
+
+
 def count_in_process(workload, source):
     """How many instructions the library takes to parse, to expand, and to do both: what a run takes more than one
     without work, by the number of its rounds."""
-    rounds = max(1, min(1000, MIB // len(workload.source)))
+    rounds = rounds_for(workload)
 
     def taken(work):
         return instructions(bench(workload, work, rounds), environment(BENCH, workload), source)
@@ -377,6 +405,23 @@ def count_in_process(workload, source):
     expand = (taken("expand") - nothing - parse) / rounds
     both = (taken("both") - nothing) / rounds
     return parse, expand, both
+
+
+def count_by_kind(workload, source):
+    """How many instructions the library takes to expand the workload as bytes, and as a text: what a run takes more
+    than one without rounds, by their number."""
+    Path(source).write_bytes(workload.source)
+    env = environment(BENCH, workload)
+    length, text_length = (output_of(bench(workload, work, 1), env, source) for work in ("expand", "text"))
+    if length != text_length:
+        sys.exit(f"{workload.name}: as a text something else comes out")
+    rounds = rounds_for(workload)
+
+    def taken(work):
+        with_rounds, without = (instructions(bench(workload, work, count), env, source) for count in (rounds, 0))
+        return (with_rounds - without) / rounds
+
+    return taken("expand"), taken("text")
 
 
 def result_of(workload, programs, arguments, source):
@@ -440,6 +485,16 @@ def table_in_process(results):
     )
     rust_columns = ["Rust: parse", "expand", "both", "ours to Rust"]
     return table(title, ["Input", "parse", "expand", "both", *rust_columns], rows)
+
+
+def table_of_texts(counts):
+    """A row for each workload and its two counts."""
+    rows = [[workload.name, *map(amount, kinds), ratio(kinds[1], kinds[0])] for workload, kinds in counts]
+    title = (
+        "Instructions in process of `expand` of the same input as bytes, by a `ByteTemplate`, and as a text, by a "
+        "`Template`:"
+    )
+    return table(title, ["Input", "bytes", "text", "text to bytes"], rows)
 
 
 def table_of_programs(results):
@@ -530,14 +585,25 @@ def measure_all(arguments, source):
     return results, families
 
 
+def measure_texts(arguments, source):
+    """The workloads that are expanded as bytes and as a text, and the two counts of each."""
+    workloads = [make() for make in TEXTS] if arguments.callgrind else []
+    chosen = [workload for workload in workloads if is_chosen(workload, arguments)]
+    return [(workload, count_by_kind(workload, source)) for workload in chosen]
+
+
 def main():
     arguments = arguments_given()
     build()
     with tempfile.TemporaryDirectory() as folder:
-        results, families = measure_all(arguments, os.path.join(folder, "source"))
+        source = os.path.join(folder, "source")
+        results, families = measure_all(arguments, source)
+        texts = measure_texts(arguments, source)
     tables = [table_of_times(results, arguments.runs)]
     if arguments.callgrind:
         tables += [table_in_process(results), table_of_programs(results)]
+    if texts:
+        tables.append(table_of_texts(texts))
     if any(families):
         tables.append(table_of_growth(families, results[0], arguments.callgrind))
     load = " ".join(f"{average:.1f}" for average in os.getloadavg())

@@ -7,6 +7,7 @@ worked out here, from the rules of the language and not from a run. A program th
 and built first. Each test prints a line, and the last line is 'N passed, M failed'.
 """
 import contextlib
+import ctypes
 import os
 import pathlib
 import random
@@ -26,6 +27,7 @@ PROGRAMS = {'subst_filter': ['bytes'], 'subst_answers': []}
 SECONDS = 30
 MIB = 1 << 20
 
+NOT_UTF8 = b'subst: input is not UTF-8\n'
 USAGE = b'usage: subst_filter bytes|text|env [NAME=VALUE]...\n'
 READ_FAILED = b'subst: read failed\n'
 WRITE_FAILED = b'subst: write failed\n'
@@ -90,6 +92,27 @@ def run(program, words=(), source=b'', **options):
 def fill_in(words, source=b'', **options):
     """Runs the filter over bytes, with these words of the form NAME=VALUE."""
     return run('subst_filter', ['bytes', *words], source, **options)
+
+
+def fill_text_in(words, source=b'', **options):
+    """Runs the filter over text, with these words of the form NAME=VALUE."""
+    return run('subst_filter', ['text', *words], source, **options)
+
+
+def fill_in_from(environment, source=b'', **options):
+    """Runs the filter over text, with the variables of this environment."""
+    return run('subst_filter', ['env'], source, env=environment, **options)
+
+
+def with_entries(words, entries):
+    """The option that runs the filter with these entries as its environment, which may be no names and values, or
+    have a name twice."""
+    def strings(items):
+        return (ctypes.c_char_p * (len(items) + 1))(*items, None)
+
+    path, libc = os.fsencode(path_of('subst_filter')), ctypes.CDLL(None)
+    arguments, environment = strings([path, *words]), strings(entries)
+    return {'preexec_fn': lambda: libc.execve(path, arguments, environment)}
 
 
 def answer(source, **options):
@@ -239,8 +262,71 @@ def test_filter_fills_variables_in():
     expect(fill_in([]), 0)
 
 
-def test_filter_takes_no_variables_from_the_environment():
-    expect(fill_in([], b'$name', env={'name': 'world'}), 1, errors=b'subst: No such variable: $name\n')
+def test_filter_fills_texts_in():
+    heart = '\u2764'.encode()
+    expect(fill_text_in(['name=world'], b'Hello $name!'), 0, b'Hello world!')
+    expect(fill_text_in([b'a=' + heart, 'b=x=y', 'a=2', '=z', b'a=' + heart], b'$a ${b} ${c:$a}'), 0,
+           heart + b' x=y ' + heart)
+    expect(fill_text_in([], heart + b'\x00 {}:\n'), 0, heart + b'\x00 {}:\n')
+    expect(fill_text_in([]), 0)
+
+
+def test_filter_refuses_input_that_is_no_text():
+    for source in (b'\xff', b'$a \xc3', b'\xed\xa0\x80', b'\xc3$'):
+        for end in (fill_text_in(['a=1'], source), fill_in_from({'a': '1'}, source)):
+            expect(end, 1, errors=NOT_UTF8)
+        # Where the input isn't read to its end, nothing is said of it.
+        with pipe() as (reader, writer):
+            os.set_blocking(reader, False)
+            os.write(writer, source)
+            expect(fill_text_in(['a=1'], stdin=reader), 3, errors=READ_FAILED)
+
+
+def test_filter_takes_variables_from_the_environment_for_the_word_env_alone():
+    expect(fill_in_from({'name': 'world'}, b'Hello $name!'), 0, b'Hello world!')
+    errors = b'subst: No such variable: $name\n'
+    for words in ([], ['a=1']):
+        expect(run('subst_filter', ['bytes', *words], b'$name', env={'name': 'world'}), 1, errors=errors)
+        expect(run('subst_filter', ['text', *words], b'$name', env={'name': 'world'}), 1,
+               errors=errors + b'  $name\n   ^^^^\n')
+
+
+def test_filter_takes_an_environment_as_it_is():
+    # A value that is empty, holds `=`, holds special bytes, or has two lines.
+    rows = [(b'', b''), (b'b=c', b'b=c'), (b'$a\\}', b'$a\\}'), (b'1\n2', b'1\n2')]
+    for value, output in rows:
+        expect(fill_in_from({b'a': value}, b'<$a>'), 0, b'<' + output + b'>')
+    expect(fill_in_from({}, b'<${a?}>'), 0, b'<>')
+    expect(fill_in_from({}, b'<$a>'), 1, errors=b'subst: No such variable: $a\n  <$a>\n    ^\n')
+    # Names that are no names of variables.
+    expect(fill_in_from({b'a.b': b'1', b'': b'2', '\u00e4'.encode(): b'3', b'a': b'4'}, b'$a.b'), 0, b'4.b')
+
+
+def test_filter_takes_the_first_of_two_entries_with_a_name():
+    expect(run('subst_filter', [], b'$A', **with_entries([b'env'], [b'A=1', b'A=2', b'B', b'=C'])), 0, b'1')
+    # The program `env` sets a name again, and so hands on the last value alone.
+    ran = subprocess.run(['env', '-i', 'A=1', 'A=2', path_of('subst_filter'), 'env'], input=b'$A', timeout=SECONDS,
+                         stdout=subprocess.PIPE, stderr=subprocess.PIPE)
+    expect(End(ran.returncode, ran.stdout, ran.stderr), 0, b'2')
+
+
+def test_filter_takes_an_environment_of_10000_variables():
+    variables = {f'NAME_{number}': f'value {number}' for number in range(10000)}
+    source = ''.join(f'${{{name}}}\n' for name in variables)
+    output = ''.join(f'{value}\n' for value in variables.values())
+    expect(fill_in_from(variables, source.encode()), 0, output.encode())
+
+
+def test_filter_fails_at_an_environment_outside_utf8():
+    for variables in ({b'a': b'\xff'}, {b'\xff': b'a'}, {b'a': b'1', b'b': b'\xed\xa0\x80'}):
+        with pipe() as (reader, writer):
+            count = fill(writer)
+            expect(fill_in_from(variables, stdin=reader), 3, errors=READ_FAILED)
+            expect_that(len(left_in(reader)) == count, f'input was read with the environment {variables}')
+        # Only the word `env` reads it.
+        for words in (['bytes', 'a=1'], ['text', 'a=1']):
+            expect(run('subst_filter', words, b'$a', env=variables), 0, b'1')
+        expect(run('subst_filter', ['env', 'a=1'], b'$a', env=variables), 2, errors=USAGE)
 
 
 def test_filter_prints_faults():
@@ -255,8 +341,24 @@ def test_filter_prints_faults():
         expect(fill_in(['b=1'], b'text $b ' + source), 1, errors=b'subst: ' + fault + b'\n')
 
 
-WRONG_WORDS = ([], [''], ['text'], ['env'], ['text', 'a=1'], ['bytes', 'name'], ['bytes', 'a=1', 'b'], ['bytes', ''],
-               ['Bytes'], ['a=1'], ['--help'])
+def test_filter_highlights_faults_of_texts():
+    wide = 60 * b'x' + b'$'
+    rows = [
+        (b'Hi $!', b'Missing variable name', b'  Hi $!\n     ^\n'),
+        (b'one\nHi $!\nthree\n', b'Missing variable name', b'  Hi $!\n     ^\n'),
+        (b'\xe6\x97\xa5 ${name}\r\n', b'No such variable: $name', b'  \xe6\x97\xa5 ${name}\n       ^^^^\n'),
+        (wide[1:], b'Missing variable name', b'  ' + wide[1:] + b'\n' + 61 * b' ' + b'^\n'),
+        (wide, b'Missing variable name', b''),
+    ]
+    for source, fault, highlighting in rows:
+        errors = b'subst: ' + fault + b'\n'
+        expect(fill_in([], source), 1, errors=errors)
+        expect(fill_text_in([], source), 1, errors=errors + highlighting)
+        expect(fill_in_from({}, source), 1, errors=errors + highlighting)
+
+
+WRONG_WORDS = ([], [''], ['bytes', 'name'], ['bytes', 'a=1', 'b'], ['bytes', ''], ['text', 'name'],
+               ['text', 'a=1', 'b'], ['env', 'a=1'], ['env', ''], ['env', 'env'], ['Bytes'], ['a=1'], ['--help'])
 
 
 def test_filter_prints_usage_at_wrong_words():
@@ -273,7 +375,9 @@ def test_filter_leaves_the_input_unread_at_wrong_words():
 
 
 def test_filter_fails_at_words_outside_utf8():
-    for words in ([b'\xff'], [b'bytes', b'\xff=1'], [b'bytes', b'a=\xe4'], [b'bytes', b'a=1', b'b=\xed\xa0\x80']):
+    rows = ([b'\xff'], [b'bytes', b'\xff=1'], [b'bytes', b'a=\xe4'], [b'bytes', b'a=1', b'b=\xed\xa0\x80'],
+            [b'text', b'a=\xe4'], [b'env', b'\xff'])
+    for words in rows:
         with pipe() as (reader, writer):
             count = fill(writer)
             expect(run('subst_filter', words, stdin=reader), 3, errors=READ_FAILED)
@@ -312,7 +416,11 @@ def test_filter_fails_where_a_write_fails():
     with open('/dev/full', 'wb') as full:
         for source in (b'a', b'a' * MIB):
             expect(fill_in([], source, stdout=full), 3, errors=WRITE_FAILED)
+            expect(fill_text_in([], source, stdout=full), 3, errors=WRITE_FAILED)
+            expect(fill_in_from({}, source, stdout=full), 3, errors=WRITE_FAILED)
     expect(fill_in([], b'a', **without(1)), 3, errors=WRITE_FAILED)
+    expect(fill_text_in([], b'a', **without(1)), 3, errors=WRITE_FAILED)
+    expect(fill_in_from({}, b'a', **without(1)), 3, errors=WRITE_FAILED)
 
 
 def test_filter_fails_where_a_pipe_is_closed():
@@ -369,16 +477,17 @@ def refusing(folder):
     return library
 
 
-def refuse_in_turn(program, words, source, output, errors, prefixes=(b'',)):
+def refuse_in_turn(program, words, source, output, errors, prefixes=(b'',), variables={}):
     """Runs a program again and again, each time with another of its requests for memory refused, until in a run none
-    is. It has to end as if none were, or to be out of memory, with one of these prefixes of its output."""
+    is. It has to end as if none were, or to be out of memory, with one of these prefixes of its output. The variables
+    are those of its environment."""
     times = 0
     with tempfile.TemporaryDirectory() as folder:
         library = refusing(folder)
         for request in range(1, 1000):
             report = os.path.join(folder, str(request))
             env = {'LD_PRELOAD': library, 'REFUSE_REQUEST': str(request), 'REFUSE_REPORT': report}
-            end = run(program, words, source, env=env)
+            end = run(program, words, source, env={**variables, **env})
             if not os.path.exists(report):
                 expect(end, 0, output)
                 expect_that(times >= 4, f'out of memory at {times} requests alone')
@@ -392,7 +501,10 @@ def refuse_in_turn(program, words, source, output, errors, prefixes=(b'',)):
 
 
 def test_filter_says_out_of_memory_at_each_request():
-    refuse_in_turn('subst_filter', ['bytes', 'name=world'], b'Hello ${who:$name}!', b'Hello world!', OUT_OF_MEMORY)
+    source, output = b'Hello ${who:$name}!', b'Hello world!'
+    for words in (['bytes', 'name=world'], ['text', 'name=world']):
+        refuse_in_turn('subst_filter', words, source, output, OUT_OF_MEMORY)
+    refuse_in_turn('subst_filter', ['env'], source, output, OUT_OF_MEMORY, variables={'name': 'world'})
 
 
 # Tests of subst_filter: large runs, which memory is enough for
@@ -454,7 +566,8 @@ def test_filter_reads_4_mib_with_many_variables():
 
 
 def test_answers_prints_an_answer_for_each_record():
-    fault = b'fault\tMissingVariableName\t1\t1\t-\t%b\n' % column(b'Missing variable name')
+    place = b'1..2\t%b\t%b' % (column(b'a$'), column(b'  a$\n   ^\n'))
+    fault = b'fault\tMissingVariableName\t1\t1\t-\t%b\t%b\n' % (column(b'Missing variable name'), place)
     source = record(b'') + b'# $\n' + record(b'a$') + record(b'$a', [(b'a', b'\x00')])
     expect(answer(source), 0, given(b'') + fault + given(b'\x00'))
     expect(answer(source[:-1]), 0, given(b'') + fault + given(b'\x00'))

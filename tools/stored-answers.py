@@ -3,8 +3,8 @@
 
 Writes crates/subst_answers/stdin, each record of the files as a record of the kind `bytes`, and after these each whose
 source and values are UTF-8 once more, of the kind `text`; and crates/subst_answers/stdout, the answer that the files
-have for each, up to the text of the error. With --check it writes nothing, and fails where one of the two isn't what it
-would write.
+have for each, with all its columns. With --check it writes nothing, and fails where one of the two isn't what it would
+write.
 """
 import itertools
 import pathlib
@@ -14,8 +14,10 @@ import sys
 TOP = pathlib.Path(__file__).resolve().parent.parent
 DATA = TOP / 'tests' / 'data'
 CRATE = pathlib.Path('crates', 'subst_answers')
-# The columns of an answer that are kept: `ok OUTPUT`, or `fault CASE POSITION DETAIL EXPECTED DISPLAY`.
-KEPT = {'ok': 2, 'fault': 6}
+# The columns of an answer: `ok OUTPUT`, or `fault CASE POSITION DETAIL EXPECTED DISPLAY RANGE LINE HIGHLIGHTING`.
+COLUMNS = {'ok': 2, 'fault': 9}
+# Those of a fault that say what was expected.
+EXPECTED, DISPLAY = 4, 5
 # What may come after a name in braces, as the Rust crate says it, and as it is with `${name?}`.
 AFTER_NAME = "a closing brace ('}') or colon (':')".encode().hex()
 AFTER_NAME_NOW = "a closing brace ('}'), colon (':') or question mark ('?')".encode().hex()
@@ -28,7 +30,8 @@ def with_optional_variables(rows):
     out, and of the others only the message differs that says what may come after a name in braces."""
     for source, pairs, answer in rows:
         if not OPTIONAL.search(bytes.fromhex(source.strip('-'))):
-            yield source, pairs, [column.replace(AFTER_NAME, AFTER_NAME_NOW) for column in answer]
+            yield source, pairs, [column.replace(AFTER_NAME, AFTER_NAME_NOW) if at in (EXPECTED, DISPLAY) else column
+                                  for at, column in enumerate(answer)]
 
 
 def records(name):
@@ -37,6 +40,8 @@ def records(name):
         for line in lines:
             if not line.startswith('#'):
                 source, pairs, *answer = line.rstrip('\n').split('\t')
+                if len(answer) != COLUMNS[answer[0]]:
+                    sys.exit(f'{name}: an answer with another number of columns: {line!r}')
                 yield source, pairs, answer
 
 
@@ -59,7 +64,7 @@ def stored_run(rows):
     """The text of each file of the stored run, by its name."""
     asked = [('bytes', *row) for row in rows] + [('text', *row) for row in rows if are_texts(*row[:2])]
     stdin = ['\t'.join((kind, source, pairs)) + '\n' for kind, source, pairs, _ in asked]
-    stdout = ['\t'.join(answer[:KEPT[answer[0]]]) + '\n' for _, _, _, answer in asked]
+    stdout = ['\t'.join(answer) + '\n' for _, _, _, answer in asked]
     return {'stdin': ''.join(stdin), 'stdout': ''.join(stdout)}
 
 

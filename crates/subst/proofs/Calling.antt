@@ -1,29 +1,35 @@
 -- The lemmas for proofs of callers; docs/CALLING.md says how to use each.
 -- a tree that passes the test, and whose value under the look-up is bytes: its text gives them
-pub use Rattle.subst_core.proofs.WorkedExamples.Forms.{gives}
+pub use Rattle.subst_language.proofs.WorkedExamples.Forms.{gives}
 -- a source has at most one answer under a look-up
-pub use Rattle.subst_core.proofs.Language.AnswerLemmas.{answer_unique}
+pub use Rattle.subst_language.proofs.Language.AnswerLemmas.{answer_unique}
 -- a source that gives the bytes x: the output of its substitution is x
-pub use Rattle.subst_core.proofs.CallingLemmas.{given}
+pub use Rattle.subst_language.proofs.CallingLemmas.{given}
 -- a source that gives bytes: an error of its substitution says that memory ran out
-pub use Rattle.subst_core.proofs.CallingLemmas.{memory_alone}
+pub use Rattle.subst_language.proofs.CallingLemmas.{memory_alone}
+-- an error of the substitution of a text: its range is in the text, as its line and its underline ask
+pub use Rattle.subst_language.proofs.CallingLemmas.{range_in_text}
+-- an error of any substitution: its range ends within the source
+pub use Rattle.subst_language.proofs.CallingLemmas.{range_in_source}
 -- values that are bytes already leave a look-up as it is
-pub use Rattle.subst_core.proofs.CallingLemmas.{same_look_up}
+pub use Rattle.subst_language.proofs.CallingLemmas.{same_look_up}
+-- an answer under values that are bytes already, read as they are, is one under what the map has
+pub use Rattle.subst_language.proofs.CallingLemmas.{answer_as_read}
 -- a source without dollars and backslashes gives itself, whatever the look-up
-pub use Rattle.subst_core.proofs.CallingLemmas.{plain_answer}
+pub use Rattle.subst_language.proofs.CallingLemmas.{plain_answer}
 -- a tree that passes the test and whose text the source is, is the source's tree
-pub use Rattle.subst_core.proofs.CallingLemmas.{spells}
+pub use Rattle.subst_language.proofs.CallingLemmas.{spells}
 -- a sentence has no fault: an error of its parsing says that memory ran out
-pub use Rattle.subst_core.proofs.CallingLemmas.{parsed_memory_alone}
+pub use Rattle.subst_language.proofs.CallingLemmas.{parsed_memory_alone}
 -- a tree whose value is the bytes x: the output of its expansion is x
-pub use Rattle.subst_core.proofs.CallingLemmas.{expanded}
+pub use Rattle.subst_language.proofs.CallingLemmas.{expanded}
 -- a tree whose value is bytes: an error of its expansion says that memory ran out
-pub use Rattle.subst_core.proofs.CallingLemmas.{expanded_memory_alone}
+pub use Rattle.subst_language.proofs.CallingLemmas.{expanded_memory_alone}
 -- a sentence has no fault
-pub use Rattle.subst_core.proofs.Language.FaultLemmas.{exclusive}
+pub use Rattle.subst_language.proofs.Language.FaultLemmas.{exclusive}
 -- a tree that passes the test is well-formed
-pub use Rattle.subst_core.proofs.WorkedExamples.Forms.{well_formed_from_test}
+pub use Rattle.subst_language.proofs.WorkedExamples.Forms.{well_formed_from_test}
 -- the test for well-formed trees
-pub use Rattle.subst_core.proofs.WorkedExamples.Forms.{is_well_formed}
+pub use Rattle.subst_language.proofs.WorkedExamples.Forms.{is_well_formed}
 -- how trees are written: bytes that are for themselves before a tree, such bytes alone, and an item alone
-pub use Rattle.subst_core.proofs.WorkedExamples.Words.{plain, only_plain, only}
+pub use Rattle.subst_language.proofs.WorkedExamples.Words.{plain, only_plain, only}

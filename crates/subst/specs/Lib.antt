@@ -1,9 +1,13 @@
 pub mod Errors
-pub use Rattle.subst_core.specs.Calls
-pub use Rattle.subst_core.specs.Earlier
-pub use Rattle.subst_core.specs.Language
+pub use Rattle.subst_language.specs.Calls
+pub use Rattle.subst_language.specs.Earlier
+pub use Rattle.subst_language.specs.Language
 pub use Rattle.subst_error.specs.Display
 pub use Rattle.subst_error.specs.ErrorFault
 pub use Rattle.subst_error.specs.Expected
 pub use Rattle.subst_error.specs.Fault
+pub use Rattle.subst_error.specs.Highlighting
+pub use Rattle.subst_error.specs.Line
+pub use Rattle.subst_error.specs.Position
+pub use Rattle.subst_error.specs.Range
 pub use Rattle.subst_error.specs.Writing

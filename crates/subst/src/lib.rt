@@ -17,13 +17,19 @@
 //! Functions that allocate take an allocator and return `OutOfMemory` when allocation fails. After an
 //! error, sources, maps and templates that were lent are as before.
 //!
-//! This crate hands on the public items of `subst_core` and `subst_error` under the names of the Rust crate
-//! `subst`, and has no code of its own.
+//! Variables come from a `BTreeMap`, a `HashMap` or an `IndexMap` with keys `String` or `&str`, from pairs by an
+//! [`Env`], from [`NoSubstitution`], which has none, or from any other [`VariableMap`].
+//!
+//! This crate hands on the public items of the crates below it under the names of the Rust crate `subst`, and
+//! has no code of its own.
 #![tactic(auto)]
 
 pub use subst_core::{
-    ByteTemplate, ByteTemplateBuf, Template, TemplateBuf, VariableMap, laws, steps, substitute,
-    substitute_bytes,
+    ByteTemplate, ByteTemplateBuf, Template, TemplateBuf, substitute, substitute_bytes,
 };
 pub use subst_error as error;
 pub use subst_error::Error;
+pub use subst_map::{Env, NeverValue, NoSubstitution, VariableMap};
+pub use subst_raw::steps;
+
+pub mod laws;

@@ -1,12 +1,16 @@
 -- Each source has one answer, so two true answers are the same.
-use Rattle.std.proofs.Common.{◌≡◌, List, ℕ, Option, Some, None, Result, Ok, Err, refl, sym, ap, subst}
+use Rattle.std.proofs.Common.{◌≡◌, List, ℕ, string_bytes, Option, Some, None, Result, Ok, Err, refl, sym, ap, subst}
 use Rattle.std.specs.Prelude.{IsSome, IsSomeAnd, IfSome, IfOk}
 use Rattle.std.specs.Option.{is_some}
 use Rattle.subst.specs.Language.Answer as spec
 use Rattle.subst.specs.Language.LookUp.{LookUp}
 use Rattle.subst.proofs.Calling.{answer_unique}
-use Rattle.subst_answers.specs.Agreement.{stated_by, IsTrueAnswer}
+use Rattle.subst_answers.specs.Agreement.{stated_by, values_of, IsAnswerOf, IsTrueAnswer}
+use Rattle.subst_answers.specs.Printing.{IsAnswerTo}
+use Rattle.subst_answers.specs.Record.{source_of}
 use Rattle.subst_answers.specs.declared.answer.Answer.{Answer}
+use Rattle.subst_answers.specs.declared.record.Record.{Record}
+use Rattle.subst_answers.specs.declared.record.Record.TheVariants as records
 
 module _ (s : List ℕ) (look : LookUp) where
   -- what states an answer of the source states the same as another such
@@ -31,3 +35,9 @@ module _ (s : List ℕ) (look : LookUp) where
   true_if_stated (Ok answer) (Some stated) is some holds = rw is holds
   true_if_stated (Ok answer) None is some holds = cc (ap is_some is)
   true_if_stated (Err e) o is some holds = tt
+
+-- the answer to a record is one of its source
+pub is_answer_of : (asked : Record) (answer : Answer) → IsAnswerTo asked answer
+    → IsAnswerOf (source_of asked) answer
+is_answer_of (records.Bytes asked) answer is = (values_of (λ v. v.items) asked.pairs, is)
+is_answer_of (records.Text asked) answer is = (values_of (λ v. string_bytes v) asked.pairs, is)

@@ -2,6 +2,7 @@ pub mod AgreementLemmas
 pub mod AnswerLineLemmas
 pub mod ColumnLemmas
 pub mod PairLemmas
+pub mod PlaceLemmas
 pub mod PrintingLemmas
 pub mod ReadPairsLemmas
 pub mod RecordLemmas

@@ -5,6 +5,7 @@ use Rattle.std.specs.Global.{Global}
 use Rattle.std.specs.Option.{option_map}
 use Rattle.subst.specs.Language.Answer as spec
 use Rattle.subst.specs.ErrorFault.{error_fault}
+use Rattle.subst.specs.Fault.{Fault}
 use Rattle.subst.specs.Calls.VariableMap.{look_up_of}
 use Rattle.subst.specs.Language.LookUp.{LookUp}
 use Rattle.subst_answers.specs.declared.answer.Answer.{Answer}
@@ -23,3 +24,11 @@ stated_by Differs = None
 -- the answer states the answer of the source under the look-up, so the ways to it don't differ
 abbrev pub IsTrueAnswer : List ℕ → LookUp → Answer → Type 0
 IsTrueAnswer source look answer = IsSomeAnd (stated_by answer) (spec.Answers source look)
+
+-- the answer states the answer of the source under some look-up
+abbrev pub IsAnswerOf : List ℕ → Answer → Type 0
+IsAnswerOf source answer = (look : LookUp) × IsTrueAnswer source look answer
+
+-- the source is refused for the fault, under some look-up
+abbrev pub IsRefusal : List ℕ → Option Fault → Type 0
+IsRefusal source f = (look : LookUp) × IsSomeAnd (option_map spec.Refuses f) (spec.Answers source look)

@@ -4,7 +4,7 @@ use Rattle.std.specs.Io.{StopsAt}
 use Rattle.std.specs.Io.BufRead.{drop_through, first_piece}
 use Rattle.std.specs.Io.KnownBytes.{Appends, Consumes}
 use Rattle.subst_answers.specs.AnswerLine.{IsLineOf}
-use Rattle.subst_answers.specs.Record.{IsMalformed, IsRecord}
+use Rattle.subst_answers.specs.Record.{source_of, IsMalformed, IsRecord}
 use Rattle.subst_answers.specs.Agreement.{IsTrueAnswer, values_of}
 use Rattle.subst_answers.specs.declared.answer.Answer.{Answer}
 use Rattle.subst_answers.specs.declared.failure.Failure.{Failure}
@@ -25,9 +25,9 @@ is_comment (b ∷ line) = b == 35
 -- the answer to a record, of either kind
 abbrev pub IsAnswerTo : Record → Answer → Type 0
 IsAnswerTo (records.Bytes asked) answer =
-    IsTrueAnswer asked.source.items (values_of (λ v. v.items) asked.pairs) answer
+    IsTrueAnswer (source_of (records.Bytes asked)) (values_of (λ v. v.items) asked.pairs) answer
 IsAnswerTo (records.Text asked) answer =
-    IsTrueAnswer (string_bytes asked.source) (values_of (λ v. string_bytes v) asked.pairs) answer
+    IsTrueAnswer (source_of (records.Text asked)) (values_of (λ v. string_bytes v) asked.pairs) answer
 
 -- the printed line is that of the answer to the line's record
 pub record IsAnswered (line printed : List ℕ) : Type 0 where
@@ -35,7 +35,7 @@ pub record IsAnswered (line printed : List ℕ) : Type 0 where
   pub is : IsRecord line asked
   pub answer : Answer
   pub answers : IsAnswerTo asked answer
-  pub shown : IsLineOf answer printed
+  pub shown : IsLineOf (source_of asked) answer printed
 
 -- What is printed for the lines of a text before those that are left: nothing for a comment, and for each
 -- other line its answer. These other lines are counted: they are the records.

@@ -139,6 +139,11 @@ pub record IsLineOfRecord (line : List ℕ) (k : Kind) (source : List ℕ) (valu
   pub spelled : line ≡ kind_name k ++ (tab ∷ after_kind)
   pub columns : AreColumnsOf k after_kind source values
 
+-- the bytes of the source of a record
+abbrev pub source_of : Record → List ℕ
+source_of (records.Bytes asked) = asked.source.items
+source_of (records.Text asked) = string_bytes asked.source
+
 -- the line is the record's: its kind, its source and its variables, each with its value
 abbrev pub IsRecord : List ℕ → Record → Type 0
 IsRecord line (records.Bytes asked) =

@@ -2,26 +2,31 @@
 
 ghost use Rattle.std.specs.Prelude.{◌≡◌, IfOk, IsSomeAnd, Some, string_bytes};
 ghost use Rattle.subst.specs.ErrorFault.{error_fault};
+ghost use Rattle.subst_answers.specs.Agreement.{IsRefusal};
 ghost use Rattle.subst_answers.specs.AnswerLine.{IsLineOfError};
 ghost use Rattle.subst_answers.specs.FaultColumns.{character_column, detail_of_escape, columns_text, ShowsFault};
 
 use crate::column::written;
+use crate::place::PlaceColumns;
 use std::alloc::{AllocError, Global};
 use std::fmt;
 use subst::Error;
 use subst::error::CharOrByte;
 
-/// The line that a fault is printed as, with the byte that ends it.
-pub fn fault_line(alloc: Global, fault: &Error) -> Result<String, AllocError>
-    ensures { IfOk result (λ line. IsLineOfError (error_fault fault.now) (string_bytes line)) }
+/// The line that a fault of `source` is printed as, with the byte that ends it.
+pub fn fault_line(alloc: Global, fault: &Error, source: &[u8]) -> Result<String, AllocError>
+    requires { IsRefusal source.now (error_fault fault.now) }
+    ensures { IfOk result
+        (λ line. IsLineOfError source.now (error_fault fault.now) (string_bytes line)) }
 {
     let columns = FaultColumns::of(alloc, fault)?;
     let shown = fault.to_string(alloc)?;
     let text = written(alloc, shown.as_bytes())?;
-    format!(in alloc; "fault\t{columns}\t{text}\n")
+    let place = PlaceColumns::of(alloc, fault, source)?;
+    format!(in alloc; "fault\t{columns}\t{text}\t{place}\n")
 }
 
-/// The columns of a fault, except its text.
+/// The columns of a fault, except its text and where it is.
 #[derive(Debug, Drop)]
 struct FaultColumns {
     case: &'static str,

@@ -9,8 +9,9 @@
 //!   hexadecimal. A name is UTF-8 and comes once. The values of a text are UTF-8.
 //!
 //! An answer is `ok` and the output, or `fault`, the case, its position, its detail, the words for what was
-//! expected (`-` if the case has none) and the text of the error, separated by tabs. The output, the words
-//! and the text are in hexadecimal. The detail of an invalid escape sequence is its character or `none`, of a
+//! expected (`-` if the case has none), the text of the error, its range as `start..end`, the line of the
+//! source that it is in, and that line with the fault underlined, separated by tabs. The output, the words,
+//! the text and the last two are in hexadecimal; the last two are `.` if the source isn't UTF-8. The detail of an invalid escape sequence is its character or `none`, of a
 //! missing variable name the length in decimal, of an unexpected character the character, of a missing
 //! closing brace `-`, and of an absent variable its name in hexadecimal. A character is `c` and its number in
 //! upper-case hexadecimal; a byte that begins no character is `b` and its two digits. If the other ways to an
@@ -34,6 +35,7 @@ mod bytes;
 mod column;
 mod failure;
 mod fault;
+mod place;
 mod record;
 mod run;
 #[cfg(test)]

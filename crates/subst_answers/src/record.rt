@@ -140,7 +140,17 @@ impl From<AllocError> for RecordError {
 }
 
 impl Record {
-    ghost use Rattle.subst_answers.specs.Record.{IsRecord, IsRefused};
+    ghost use Rattle.subst_answers.specs.Record.{source_of, IsRecord, IsRefused};
+
+    /// The bytes of the source.
+    pub fn source(&self) -> &[u8]
+        ensures { result.now ≡ source_of self.now }
+    {
+        match self {
+            Record::Bytes(asked) => asked.source.as_slice(),
+            Record::Text(asked) => asked.source.as_bytes(),
+        }
+    }
 
     /// The record of a line, without the byte that ends it.
     ///

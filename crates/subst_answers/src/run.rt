@@ -74,7 +74,7 @@ fn answer_line(alloc: Global, number: u64, line: &[u8]) -> Result<String, Failur
 {
     let asked = Record::read(alloc, line).map_err(|e| Failure::at_record(number, e))?;
     let answer = answer(alloc, &asked)?;
-    Ok(answer.line(alloc)?)
+    Ok(answer.line(alloc, asked.source())?)
 }
 
 fn answer(alloc: Global, asked: &Record) -> Result<Answer, AllocError>

@@ -45,15 +45,18 @@ fn each_record_gets_its_answer(rt: HostRuntime) -> Result<(), Fail> {
         (
             "text\t24\t-\nbytes\t24\t-\n",
             "fault\tMissingVariableName\t0\t1\t-\t\
-             4d697373696e67207661726961626c65206e616d65\n\
+             4d697373696e67207661726961626c65206e616d65\t\
+             0..1\t24\t2020240a20205e0a\n\
              fault\tMissingVariableName\t0\t1\t-\t\
-             4d697373696e67207661726961626c65206e616d65\n",
+             4d697373696e67207661726961626c65206e616d65\t\
+             0..1\t24\t2020240a20205e0a\n",
         ),
         (
             "bytes\t5c\t-\nbytes\t30\t-\n",
             "fault\tInvalidEscapeSequence\t0\tnone\t-\t\
              496e76616c6964206573636170652073657175656e63653a20\
-             6d697373696e672065736361706520636861726163746572\n\
+             6d697373696e672065736361706520636861726163746572\t\
+             0..1\t5c\t20205c0a20205e0a\n\
              ok\t30\n",
         ),
     ];

@@ -2,8 +2,8 @@
 //!
 //! `subst_bench WORK ROUNDS NAME=VALUE ..` reads a source from standard input, does the work as many times as
 //! `ROUNDS` says, and prints the length that the last round gave: of the output, of a parsed source, or of
-//! the text of an error. With no round it is 0. `WORK` is `parse`, `expand`, `both` or `none`, which does
-//! nothing; so rounds take what a run takes more than one of `none`.
+//! the text of an error. With no round it is 0. `WORK` is `parse`, `expand`, `text`, which expands the source as
+//! a text, `both` or `none`, which does nothing; so rounds take what a run takes more than one with fewer.
 #![tactic(auto)]
 
 use std::alloc::Global;
@@ -37,11 +37,11 @@ fn variables(alloc: Global, words: &[String]) -> io::Result<Variables> {
     for word in words {
         let (name, value) = word.as_str().split_once('=').ok_or_else(wrong_words)?;
         let name = String::from_str(alloc, name)?;
-        variables.insert(name, value.as_bytes().to_vec(alloc)?)?;
+        variables.insert(name, String::from_str(alloc, value)?)?;
     }
     Ok(variables)
 }
 
 fn wrong_words() -> io::Error {
-    io::Error::other("usage: subst_bench parse|expand|both|none ROUNDS [NAME=VALUE]...")
+    io::Error::other("usage: subst_bench parse|expand|text|both|none ROUNDS [NAME=VALUE]...")
 }

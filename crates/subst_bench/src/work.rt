@@ -4,10 +4,11 @@ ghost use Rattle.subst_bench.specs.Work.{IsNameOf};
 
 use std::alloc::Global;
 use std::collections::BTreeMap;
-use subst::{ByteTemplate, Error, substitute_bytes};
+use std::str;
+use subst::{ByteTemplate, Error, Template, substitute_bytes};
 
 /// The variables that a source is filled in from.
-pub type Variables = BTreeMap<String, Vec<u8>>;
+pub type Variables = BTreeMap<String, String>;
 
 /// What a round does.
 #[derive(Clone, Copy)]
@@ -16,6 +17,8 @@ pub enum Work {
     Parse,
     /// Expands a template that is made before the first round.
     Expand,
+    /// The same by a template over the source as a text; nothing if it isn't UTF-8.
+    ExpandText,
     /// Both, by `substitute_bytes`.
     Both,
     /// Nothing.
@@ -30,6 +33,7 @@ impl Work {
         match word {
             "parse" => Some(Work::Parse),
             "expand" => Some(Work::Expand),
+            "text" => Some(Work::ExpandText),
             "both" => Some(Work::Both),
             "none" => Some(Work::Nothing),
             _ => None,
@@ -50,6 +54,13 @@ impl Work {
             }),
             Work::Expand => {
                 let template = ByteTemplate::from_slice(alloc, source)?;
+                last(rounds, || Ok(template.expand(alloc, variables)?.len()))
+            }
+            Work::ExpandText => {
+                let Ok(text) = str::from_utf8(source) else {
+                    return Ok(0);
+                };
+                let template = Template::from_str(alloc, text)?;
                 last(rounds, || Ok(template.expand(alloc, variables)?.len()))
             }
             Work::Both => last(rounds, || {

@@ -1,23 +1,21 @@
-//! The template language over byte strings and texts: templates, maps of variables, substitution, and the
-//! laws of the language.
+//! Templates over byte strings and texts, and the two calls that parse and expand at once.
 //!
 //! `subst` hands on all public items of this crate, and describes the language.
 #![tactic(auto)]
 
-ghost use Rattle.std.specs.Prelude.{IfSome, string_bytes};
-ghost use Rattle.subst_core.specs.Language.Answer.{Answers};
-ghost use Rattle.subst_core.specs.Calls.VariableMap.{ByLookUp};
-ghost use Rattle.subst_core.specs.Calls.Outcome.{answer_of};
+ghost use Rattle.std.specs.Prelude.{IfErr, IfSome, string_bytes};
+ghost use Rattle.subst_error.specs.ErrorFault.{error_fault};
+ghost use Rattle.subst_error.specs.Range.{range_of, IsRangeIn};
+ghost use Rattle.subst_language.specs.Language.Answer.{Answers};
+ghost use Rattle.subst_language.specs.Calls.VariableMap.{ByLookUp};
+ghost use Rattle.subst_language.specs.Calls.Outcome.{answer_of};
 
-pub use map::VariableMap;
 use std::alloc::Global;
 use std::convert::{AsSlice, AsStr};
 use subst_error::Error;
+use subst_map::VariableMap;
 pub use template::{ByteTemplate, ByteTemplateBuf, Template, TemplateBuf};
 
-pub mod laws;
-mod map;
-pub mod steps;
 mod template;
 
 /// Returns the bytes of `source` with its variables filled in from `variables`.
@@ -72,9 +70,12 @@ where
     M::Value: AsStr + Drop,
 
     // The answer of the source under the map's look-up: there is one, and it is this.
-    ensures { ByLookUp M.Value.text M.see (M.look_up variables.now)
+    ensures answer { ByLookUp M.Value.text M.see (M.look_up variables.now)
         (λ look. IfSome (answer_of (λ output. string_bytes output) result)
         (Answers source.now look)) }
+
+    // Whatever the map, an error has its range in the source, as its line and its highlighting ask.
+    ensures range { IfErr result (λ e. IsRangeIn source.now (range_of (error_fault e))) }
 {
     Ok(Template::from_str(alloc, source)?.expand(alloc, variables)?)
 }

@@ -1,3 +1,4 @@
 pub mod CutLemmas
+pub mod LineLemmas
 pub mod QuotedLemmas
 pub mod WritingLemmas

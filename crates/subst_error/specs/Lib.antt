@@ -2,4 +2,8 @@ pub mod Display
 pub mod ErrorFault
 pub mod Expected
 pub mod Fault
+pub mod Highlighting
+pub mod Line
+pub mod Position
+pub mod Range
 pub mod Writing

@@ -2,11 +2,23 @@
 
 ghost use Rattle.std.specs.Prelude.{◌≡◌, ◌↔◌, IsTrue};
 ghost use Rattle.subst_error.specs.ErrorFault.{error_fault, expand_fault, parse_fault};
+ghost use Rattle.subst_error.specs.Expected.{expected_text};
+ghost use Rattle.subst_error.specs.declared.CharOrByte.{CharOrByte};
 ghost use Rattle.subst_error.specs.declared.Error.{Error};
+ghost use Rattle.subst_error.specs.declared.Error.TheVariants as stated;
 ghost use Rattle.subst_error.specs.declared.ExpandError.{ExpandError};
+ghost use Rattle.subst_error.specs.declared.ExpectedCharacter.{ExpectedCharacter};
+ghost use Rattle.subst_error.specs.declared.InvalidEscapeSequence.{InvalidEscapeSequence};
+ghost use Rattle.subst_error.specs.declared.MissingClosingBrace.{MissingClosingBrace};
+ghost use Rattle.subst_error.specs.declared.MissingVariableName.{MissingVariableName};
+ghost use Rattle.subst_error.specs.declared.NoSuchVariable.{NoSuchVariable};
 ghost use Rattle.subst_error.specs.declared.ParseError.{ParseError};
+ghost use Rattle.subst_error.specs.declared.UnexpectedCharacter.{UnexpectedCharacter};
 
-use crate::{Error, ExpandError, ParseError};
+use crate::{
+    CharOrByte, Error, ExpandError, ExpectedCharacter, InvalidEscapeSequence, MissingClosingBrace,
+    MissingVariableName, NoSuchVariable, ParseError, UnexpectedCharacter,
+};
 
 /// The law of clones. A clone of an error states the fault that the error states, or also out of memory.
 pub fn clones_state_equal_faults()
@@ -16,6 +28,8 @@ pub fn clones_state_equal_faults()
         → parse_fault copy ≡ parse_fault e }
     ensures expanding { (e copy : ExpandError) → ⟦<ExpandError as Clone>⟧.is_clone e copy
         → expand_fault copy ≡ expand_fault e }
+    ensures missing { (e copy : NoSuchVariable) → ⟦<NoSuchVariable as Clone>⟧.is_clone e copy
+        → error_fault (stated.NoSuchVariable copy) ≡ error_fault (stated.NoSuchVariable e) }
 {}
 
 /// The law of equality. Errors are equal exactly where they state equal faults, or both out of memory.
@@ -26,4 +40,31 @@ pub fn equal_errors_state_equal_faults()
         ↔ (parse_fault a ≡ parse_fault b) }
     ensures expanding { (a b : ExpandError) → IsTrue (⟦<ExpandError as PartialEq>⟧.eq a b)
         ↔ (expand_fault a ≡ expand_fault b) }
+{}
+
+/// The same law of what an error holds: two of these are equal exactly where errors that hold them state
+/// equal faults.
+pub fn equal_parts_state_equal_faults()
+    ensures escape { (a b : InvalidEscapeSequence)
+        → IsTrue (⟦<InvalidEscapeSequence as PartialEq>⟧.eq a b)
+        ↔ (error_fault (stated.InvalidEscapeSequence a)
+        ≡ error_fault (stated.InvalidEscapeSequence b)) }
+    ensures name { (a b : MissingVariableName)
+        → IsTrue (⟦<MissingVariableName as PartialEq>⟧.eq a b)
+        ↔ (error_fault (stated.MissingVariableName a)
+        ≡ error_fault (stated.MissingVariableName b)) }
+    ensures character { (a b : UnexpectedCharacter)
+        → IsTrue (⟦<UnexpectedCharacter as PartialEq>⟧.eq a b)
+        ↔ (error_fault (stated.UnexpectedCharacter a)
+        ≡ error_fault (stated.UnexpectedCharacter b)) }
+    ensures brace { (a b : MissingClosingBrace)
+        → IsTrue (⟦<MissingClosingBrace as PartialEq>⟧.eq a b)
+        ↔ (error_fault (stated.MissingClosingBrace a)
+        ≡ error_fault (stated.MissingClosingBrace b)) }
+    ensures variable { (a b : NoSuchVariable) → IsTrue (⟦<NoSuchVariable as PartialEq>⟧.eq a b)
+        ↔ (error_fault (stated.NoSuchVariable a)
+        ≡ error_fault (stated.NoSuchVariable b)) }
+    ensures expected { (a b : ExpectedCharacter)
+        → IsTrue (⟦<ExpectedCharacter as PartialEq>⟧.eq a b) ↔ (expected_text a ≡ expected_text b) }
+    ensures either { (a b : CharOrByte) → IsTrue (⟦<CharOrByte as PartialEq>⟧.eq a b) ↔ (a ≡ b) }
 {}

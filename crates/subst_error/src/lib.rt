@@ -15,8 +15,12 @@ use std::fmt::InlineText;
 
 mod conversions;
 mod display;
+mod highlighting;
 pub mod laws;
+mod line;
+mod position;
 mod quoted;
+mod range;
 
 /// The longest message, in bytes, that an [`ExpectedCharacter`] keeps whole.
 pub const MESSAGE_CAPACITY: usize = 64;

@@ -8,12 +8,13 @@ use Rattle.std.specs.Str.{IsUtf8}
 use Rattle.subst.specs.Language.Answer.{Answers, Gives, Refuses}
 use Rattle.subst.specs.ErrorFault.{error_fault}
 use Rattle.subst.specs.Fault.{Fault}
+use Rattle.subst.specs.Highlighting.{highlighting_of}
 use Rattle.subst.specs.Language.LookUp.{LookUp}
 use Rattle.subst.specs.Errors.{Error}
 use Rattle.subst_filter.proofs.DeviceLemmas.{holds_of_source}
 use Rattle.subst_filter.specs.Device.{AppendsPrefix, ReadsExactly}
 use Rattle.subst_filter.specs.FilterRun.{IsRefusedWith, RunAnswers, TellsText}
-use Rattle.subst_filter.specs.RunError.{IsWriteFault}
+use Rattle.subst_filter.specs.RunError.{HighlightsFault, IsWriteFault}
 use Rattle.subst_filter.specs.declared.run_error.RunError.{RunError}
 use Rattle.subst_filter.specs.declared.run_error.RunError.TheVariants.{Read, Write, NotUtf8, Subst, OutOfMemory}
 
@@ -102,3 +103,38 @@ module _ (left rest : Option (List ℕ)) (all : List ℕ) (read : ReadsExactly l
       → IfSome left (TellsText (Err fault))
   refused_text e shown fault is = holds_of_source (TellsText (Err fault)) left rest all read
       (tells_refused all e shown (error_fault e) fault utf8 is)
+
+-- a result of writing refuses nothing
+refuses_nothing : (source : List ℕ) (r : Result (Unit {0}) RunError) (failed : Bool)
+    → IfErr r (IsWriteFault failed) → IfErr r (HighlightsFault source)
+refuses_nothing source (Ok done) failed fault = tt
+refuses_nothing source (Err Write) failed fault = tt
+refuses_nothing source (Err Read) failed fault = absurd fault
+refuses_nothing source (Err NotUtf8) failed fault = absurd fault
+refuses_nothing source (Err (Subst e shown)) failed fault = absurd fault
+refuses_nothing source (Err OutOfMemory) failed fault = absurd fault
+
+-- an error of the substitution as a result, with the highlighting of its fault
+highlights_refused : (source : List ℕ) (e : Error) (shown : String Global) (f : Option Fault)
+    (fault : RunError) → string_bytes shown ≡ highlighting_of (error_fault e) source
+    → MatchOption f (fault ≡ OutOfMemory) (λ _. fault ≡ Subst e shown) → HighlightsFault source fault
+highlights_refused source e shown None fault is same = subst (HighlightsFault source) (sym same) tt
+highlights_refused source e shown (Some f) fault is same = subst (HighlightsFault source) (sym same) is
+
+module _ (left rest : Option (List ℕ)) (all : List ℕ) (read : ReadsExactly left rest all) where
+  -- a run over text that read its source and wrote
+  pub delivered_unhighlighted : (r : Result (Unit {0}) RunError) (failed : Bool)
+      → IfErr r (IsWriteFault failed) → IfSome left (λ source. IfErr r (HighlightsFault source))
+  delivered_unhighlighted r failed fault =
+      holds_of_source (λ source. IfErr r (HighlightsFault source)) left rest all read
+      (refuses_nothing all r failed fault)
+
+  -- a run over text that read its source, for which the substitution returned an error
+  pub refused_highlighted : (text : List ℕ) (e : Error) (shown : String Global) (fault : RunError)
+      → text ≡ all → string_bytes shown ≡ highlighting_of (error_fault e) text
+      → MatchOption (error_fault e) (fault ≡ OutOfMemory) (λ _. fault ≡ Subst e shown)
+      → IfSome left (λ source. HighlightsFault source fault)
+  refused_highlighted text e shown fault same is named =
+      holds_of_source (λ source. HighlightsFault source fault) left rest all read
+      (subst (λ (s : List ℕ). HighlightsFault s fault) same
+      (highlights_refused text e shown (error_fault e) fault is named))

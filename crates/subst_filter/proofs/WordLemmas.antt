@@ -1,10 +1,13 @@
 -- Lemmas on words, and on the look-up of the variables that they give.
-use Rattle.std.proofs.Common.{◌≡◌, ℕ, ◌<◌, Bool, true, false, List, [], ◌∷◌, length, Option, Some, None, MatchOption, IfSome, is_some, refl, sym, subst, ◌∙◌, arith}
+use Rattle.std.proofs.Common.{◌≡◌, ℕ, ◌+◌, ◌<◌, Bool, true, false, List, [], ◌∷◌, ◌++◌, if◌then◌else◌, get_or, length, take, Option, Some, None, MatchOption, IfSome, is_some, String, string_bytes, refl, sym, subst, arith}
 use Rattle.std.proofs.lemmas.Grind.{common_steps}
+use Rattle.std.proofs.lemmas.List.{take_more}
+use Rattle.std.specs.Global.{Global}
 use Rattle.std.specs.List.{list_any, position_or_len}
-use Rattle.subst.specs.Calls.VariableMap.{look_up_of}
+use Rattle.std.specs.Option.{option_or}
+use Rattle.std.specs.Str.{bytes_eq}
+use Rattle.subst.specs.Calls.Maps.{first_value}
 use Rattle.subst.specs.Language.LookUp.{LookUp}
-use Rattle.subst.proofs.Calling.{same_look_up}
 
 -- if the first byte that passes is before the end, some byte passes
 passes_before_end : (p : ℕ → Bool) (bytes : List ℕ) → position_or_len p bytes < length bytes
@@ -26,9 +29,29 @@ pub is_some_if_passes : {X : Type 0} (P Q : X → Type 0) (p : ℕ → Bool) (by
 is_some_if_passes P Q p bytes None h = sym (passes_none p bytes h)
 is_some_if_passes P Q p bytes (Some x) h = sym (passes_before_end p bytes h.0)
 
--- what holds by a look-up whose values are read as themselves holds by an equal look-up
+-- what holds by a look-up holds by an equal look-up
 pub holds_by : (P : List ℕ → LookUp → Type 0) (left : Option (List ℕ)) (look given : LookUp) → look ≡ given
-    → IfSome left (λ source. P source (look_up_of (λ bytes. bytes) look))
-    → IfSome left (λ source. P source given)
-holds_by P left look given same h =
-    subst (λ other. IfSome left (λ source. P source other)) (same_look_up look ∙ same) h
+    → IfSome left (λ source. P source look) → IfSome left (λ source. P source given)
+holds_by P left look given same h = subst (λ other. IfSome left (λ source. P source other)) same h
+
+-- the value that pairs give once a pair is added: that of the pair where none gave one
+first_value-append : (pairs : List (String Global × String Global)) (pair : String Global × String Global)
+    (name : List ℕ) → first_value (pairs ++ pair ∷ []) name ≡ option_or (first_value pairs name)
+    (if bytes_eq name (string_bytes pair.0) then Some (string_bytes pair.1) else None)
+first_value-append [] pair name = grind (arith, common_steps)
+first_value-append (first ∷ pairs) pair name =
+    grind (arith, common_steps, first_value-append pairs pair name)
+
+-- the value that one pair more gives, where as many as `at` gave it so far
+pub first_value-take : (pairs : List (String Global × String Global)) (at : ℕ)
+    (pair : String Global × String Global) (name : List ℕ) → at < length pairs → pair ≡ get_or pairs at pair
+    → first_value (take (at + 1) pairs) name ≡ option_or (first_value (take at pairs) name)
+    (if bytes_eq name (string_bytes pair.0) then Some (string_bytes pair.1) else None)
+first_value-take pairs at pair name below is =
+    let longer = subst (λ x. take (at + 1) pairs ≡ take at pairs ++ x ∷ []) (sym is)
+    (take_more pairs at pair below) in
+    rw longer (first_value-append (take at pairs) pair name)
+
+-- what holds of a value holds of an option that is this value
+pub holds_of_value : {X : Type 0} (P : X → Type 0) (o : Option X) (x : X) → Some x ≡ o → P x → IfSome o P
+holds_of_value P o x same h = subst (λ other. IfSome other P) same h

@@ -1,5 +1,5 @@
 -- How what a run writes is the answer of what it reads.
-use Rattle.std.specs.Prelude.{ℕ, ⊤, List, Option, IsSomeAnd, Result, Ok, Err}
+use Rattle.std.specs.Prelude.{ℕ, ⊤, ◌⊎◌, List, Option, IsSomeAnd, Result, Ok, Err}
 use Rattle.std.specs.Io.KnownBytes.{Appends}
 use Rattle.std.specs.Str.{IsUtf8}
 use Rattle.subst.specs.Language.Answer.{Answers, Gives, Refuses}
@@ -8,7 +8,9 @@ use Rattle.subst.specs.Fault.{Fault}
 use Rattle.subst.specs.Language.LookUp.{LookUp}
 use Rattle.subst.specs.Errors.{Error}
 use Rattle.subst_filter.specs.Device.{AppendsPrefix}
+use Rattle.subst_filter.specs.Task.{Takes}
 use Rattle.subst_filter.specs.declared.run_error.RunError.{RunError}
+use Rattle.subst_filter.specs.declared.task.Task.{Task}
 use Rattle.subst_filter.specs.declared.run_error.RunError.TheVariants.{Read, Write, NotUtf8, Subst, OutOfMemory}
 
 -- the bytes that the source gives were written, and nothing else
@@ -31,6 +33,10 @@ IsRefused source look = (f : Fault) × Answers source look (Refuses f)
 abbrev pub IsRefusedWith : List ℕ → LookUp → Error → Type 0
 IsRefusedWith source look e = IsSomeAnd (error_fault e) (λ f. Answers source look (Refuses f))
 
+-- the task doesn't take the source, or takes it and it is refused for some fault
+abbrev pub IsRefusedBy : Task → List ℕ → LookUp → Type 0
+IsRefusedBy task source look = ¬ (Takes task source) ⊎ (Takes task source × IsRefused source look)
+
 -- How the result of a run goes with the answer of its source. Done: the answer's bytes were written. Writing
 -- failed: a prefix of them was. Refused: the error states the fault.
 abbrev pub RunAnswers : List ℕ → LookUp → Result (Unit {0}) RunError → (old new : Option (List ℕ)) → Type 0
@@ -39,13 +45,17 @@ RunAnswers source look (Err Write) old new = WritesPrefix source look old new
 RunAnswers source look (Err (Subst e shown)) old new = IsRefusedWith source look e
 RunAnswers source look (Err _) old new = ⊤
 
--- A run over text tells a text from other bytes: it says NotUtf8 where its source is not UTF-8, and only
--- there, unless reading failed or memory ran out.
+-- A run tells whether P holds of its source: it says NotUtf8 where P doesn't hold, and only there, unless
+-- reading failed or memory ran out.
+abbrev pub Tells : Type 0 → Result (Unit {0}) RunError → Type 0
+Tells P (Err Read) = ⊤
+Tells P (Err OutOfMemory) = ⊤
+Tells P (Err NotUtf8) = ¬ P
+Tells P _ = P
+
+-- a run over text tells a text from other bytes
 abbrev pub TellsText : Result (Unit {0}) RunError → List ℕ → Type 0
-TellsText (Err Read) source = ⊤
-TellsText (Err OutOfMemory) source = ⊤
-TellsText (Err NotUtf8) source = ¬ (IsUtf8 source)
-TellsText _ source = IsUtf8 source
+TellsText result source = Tells (IsUtf8 source) result
 
 -- P holds of a run that must have read its source to the end: any, unless reading failed or memory ran out
 abbrev pub OnceRead : Result (Unit {0}) RunError → Type 0 → Type 0

@@ -2,6 +2,7 @@
 use Rattle.std.specs.Prelude.{◌≡◌, ℕ, Bool, true, ⊤, List, [], codes, string_bytes, Option, Some, IsSome}
 use Rattle.subst.specs.Display.{display_of_error}
 use Rattle.subst.specs.ErrorFault.{error_fault}
+use Rattle.subst.specs.Highlighting.{highlighting_of}
 use Rattle.subst_filter.specs.declared.run_error.RunError.{RunError}
 use Rattle.subst_filter.specs.declared.run_error.RunError.TheVariants.{Read, Write, NotUtf8, Subst, OutOfMemory}
 use Rattle.subst_filter.specs.declared.status.TheConstants.{REFUSED, DEVICE_FAILED, OUT_OF_MEMORY}
@@ -17,16 +18,21 @@ abbrev pub IsWriteFault : Bool → RunError → Type 0
 IsWriteFault failed Write = failed ≡ true
 IsWriteFault failed _ = ⊥
 
--- an error of a run over bytes: it is never NotUtf8, and a refusal states a fault and shows no position
+-- an error of a run over bytes: it is never NotUtf8, and a refusal states a fault and highlights none
 abbrev pub IsFaultOfBytes : RunError → Type 0
 IsFaultOfBytes NotUtf8 = ⊥
 IsFaultOfBytes (Subst e shown) = IsSome (error_fault e) × (string_bytes shown ≡ [])
 IsFaultOfBytes _ = ⊤
 
--- an error of a run over text: a refusal states a fault and shows no position
+-- an error of a run over text: a refusal states a fault
 abbrev pub IsFaultOfText : RunError → Type 0
-IsFaultOfText (Subst e shown) = IsSome (error_fault e) × (string_bytes shown ≡ [])
+IsFaultOfText (Subst e shown) = IsSome (error_fault e)
 IsFaultOfText _ = ⊤
+
+-- a refusal of the source has the highlighting of its fault over it
+abbrev pub HighlightsFault : List ℕ → RunError → Type 0
+HighlightsFault source (Subst e shown) = string_bytes shown ≡ highlighting_of (error_fault e) source
+HighlightsFault source _ = ⊤
 
 -- the status that the program ends with after this error
 abbrev pub status_of : RunError → ℕ

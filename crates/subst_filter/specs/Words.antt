@@ -1,11 +1,12 @@
--- The words of a command line, and the look-up of the variables that they give.
+-- The words of a command line, and the look-up of the variables that they give, also as a map.
 use denote.Ref.{Bor}
-use Rattle.std.specs.Prelude.{ℕ, ◌==◌, Bool, false, ◌&&◌, List, [], ◌∷◌, reverse, find, codes, String, string_bytes}
+use Rattle.std.specs.Prelude.{ℕ, ◌==◌, Bool, ◌&&◌, List, reverse, find, String, string_bytes}
 use Rattle.std.specs.Global.{Global}
-use Rattle.std.specs.HashMap.{HashMap, get_by}
+use Rattle.std.specs.HashMap.{HashMap}
 use Rattle.std.specs.List.{before_first, after_first, list_any, list_all}
 use Rattle.std.specs.Option.{option_map}
 use Rattle.std.specs.Str.{bytes_eq}
+use Rattle.subst.specs.Calls.Maps.{hash_get_by_lent_text}
 use Rattle.subst.specs.Language.LookUp.{LookUp}
 
 -- the byte `=`, which separates a name and its value
@@ -32,18 +33,16 @@ value_in word = after_first is_equals_sign word
 abbrev pub gives_value_to : List ℕ → List ℕ → Bool
 gives_value_to name word = is_pair word && bytes_eq name (name_in word)
 
+-- each word has the form NAME=VALUE
+abbrev pub are_pairs : List (String Global) → Bool
+are_pairs words = list_all (λ word. is_pair (string_bytes word)) words
+
 -- the value that these words give to each name: that of the last word that gives it one
-abbrev pub look_up_in : List (String Global) → LookUp
-look_up_in words name =
+abbrev pub last_value : List (String Global) → LookUp
+last_value words name =
     option_map (λ word. value_in (string_bytes word))
     (find (λ word. gives_value_to name (string_bytes word)) (reverse words))
 
--- the words say what to do: the first is `bytes`, and each other has the form NAME=VALUE
-abbrev pub are_right : List (String Global) → Bool
-are_right [] = false
-are_right (first ∷ pairs) =
-    bytes_eq (string_bytes first) (codes "bytes") && list_all (λ word. is_pair (string_bytes word)) pairs
-
--- the value that a map has under each name, where names and values are lent
+-- the bytes that a map of lent texts has under each name
 abbrev pub value_under : {S : Type 0} → HashMap (Bor (List ℕ)) (Bor (List ℕ)) S → LookUp
-value_under values name = option_map (λ value. value.now) (get_by (λ given. bytes_eq name given.now) values)
+value_under values name = option_map (λ value. value.now) (hash_get_by_lent_text values name)

@@ -62,7 +62,8 @@ fn is_plain(source: &[u8]) -> bool
     memchr2(b'$', b'\\', source).is_none()
 }
 
-/// The error of a run whose substitution returned `e`. `shown` shows the position of the fault.
+/// The error of a run whose substitution returned `e`. `shown` is the highlighting of the fault, if it is
+/// shown.
 fn refusal(e: Error, shown: String) -> RunError
     ensures { MatchOption (error_fault e) (result ≡ RunError.OutOfMemory)
         (λ _. result ≡ RunError.Subst e shown) }

@@ -33,6 +33,10 @@ const MISSING: &[u8] = b"Hi ${hi:$name and ${who:$absent}}!";
 /// The byte offset of that variable's name.
 const MISSING_POSITION: usize = 25;
 
+/// What is shown of it in a run over text.
+const MISSING_SHOWN: &str =
+    "  Hi ${hi:$name and ${who:$absent}}!\n                           ^^^^^^\n";
+
 /// A source with a bad escape in its inner default.
 const BAD_ESCAPE: &[u8] = b"Hi ${hi:$name and ${who:\\!}}!";
 
@@ -58,19 +62,6 @@ fn try_variables(alloc: Global) -> Result<BTreeMap<String, Vec<u8>>, AllocError>
 /// The variables. If an allocation fails, they are made again.
 fn variables(alloc: Global) -> Result<BTreeMap<String, Vec<u8>>, AllocError> {
     try_variables(alloc).or_else(|_| try_variables(alloc))
-}
-
-fn try_words(alloc: Global) -> Result<Vec<String>, AllocError> {
-    let mut words = Vec::new(alloc);
-    for word in ["bytes", "name=world"] {
-        words.push(String::from_str(alloc, word)?)?;
-    }
-    Ok(words)
-}
-
-/// The words. If an allocation fails, they are made again.
-fn words(alloc: Global) -> Result<Vec<String>, AllocError> {
-    try_words(alloc).or_else(|_| try_words(alloc))
 }
 
 /// A writer that allocates no more when it is written to. If its own allocation fails, it is made again.
@@ -246,11 +237,12 @@ fn run_text_over_a_plain_source(rt: HostRuntime) -> Result<(), Fail> {
 fn run_text_over_a_missing_variable(rt: HostRuntime) -> Result<(), Fail> {
     let mut drip = drip(rt.alloc())?;
     let result = run_over_text_again(rt.alloc(), &rt, MISSING, &mut drip);
-    let Err(RunError::Subst(Error::NoSuchVariable(missing), _)) = &result else {
+    let Err(RunError::Subst(Error::NoSuchVariable(missing), shown)) = &result else {
         return Err("another result".into());
     };
     assert_eq!(rt; missing.position, MISSING_POSITION);
     assert_eq!(rt; missing.name.as_str(), "absent");
+    assert_eq!(rt; shown.as_str(), MISSING_SHOWN);
     assert!(rt; drip.taken.is_empty());
     Ok(())
 }
@@ -264,34 +256,85 @@ fn run_text_over_no_text(rt: HostRuntime) -> Result<(), Fail> {
     Ok(())
 }
 
+fn try_words(alloc: Global, line: &str) -> Result<Vec<String>, AllocError> {
+    let mut words = Vec::new(alloc);
+    for word in line.split_whitespace() {
+        words.push(String::from_str(alloc, word)?)?;
+    }
+    Ok(words)
+}
+
+/// The words of a line. If an allocation fails, they are made again.
+fn words(alloc: Global, line: &str) -> Result<Vec<String>, AllocError> {
+    try_words(alloc, line).or_else(|_| try_words(alloc, line))
+}
+
+/// An environment with one pair, of `name`.
+fn try_pairs(alloc: Global) -> Result<Vec<(String, String)>, AllocError> {
+    let name = String::from_str(alloc, "name")?;
+    let value = String::from_str(alloc, "world")?;
+    let mut pairs = Vec::new(alloc);
+    pairs.push((name, value))?;
+    Ok(pairs)
+}
+
+/// Such an environment. If an allocation fails, it is made again.
+fn pairs(alloc: Global) -> Result<Vec<(String, String)>, AllocError> {
+    try_pairs(alloc).or_else(|_| try_pairs(alloc))
+}
+
 /// The program with these words over `Hello $name!`, which is read one byte per call.
-fn greet(alloc: Global, words: &[String], output: &mut Drip, errors: &mut Drip) -> u8 {
-    run_program(
+fn greet(
+    alloc: Global,
+    words: &[String],
+    output: &mut Drip,
+    errors: &mut Drip,
+) -> Result<u8, AllocError> {
+    let pairs = pairs(alloc)?;
+    Ok(run_program(
         alloc,
         words,
-        Vec::new(alloc),
+        pairs,
         &mut FromReader::new(Trickle::new(b"Hello $name!", NEVER)),
         &mut ToWriter::new(output),
         &mut ToWriter::new(errors),
-    )
+    ))
 }
 
-#[test]
-fn run_program_over_a_sentence(rt: HostRuntime) -> Result<(), Fail> {
-    let words = words(rt.alloc())?;
-    let mut output = drip(rt.alloc())?;
-    let mut errors = drip(rt.alloc())?;
-    let mut status = greet(rt.alloc(), &words, &mut output, &mut errors);
+/// The program with the words of this line, and once more if memory runs out in it. It has to write
+/// `Hello world!`.
+fn greet_again(rt: &(impl Print + Abort), alloc: Global, line: &str) -> Result<(), Fail> {
+    let words = words(alloc, line)?;
+    let mut output = drip(alloc)?;
+    let mut errors = drip(alloc)?;
+    let mut status = greet(alloc, &words, &mut output, &mut errors)?;
     if status == OUT_OF_MEMORY {
-        print_out_of_memory(&rt);
-        let printed = errors.taken.as_slice();
+        print_out_of_memory(rt);
         assert!(rt; output.taken.is_empty());
-        assert_eq!(rt; printed, b"subst: out of memory\n".as_slice());
-        errors = drip(rt.alloc())?;
-        status = greet(rt.alloc(), &words, &mut output, &mut errors);
+        assert_eq!(rt;
+            errors.taken.as_slice(),
+            b"subst: out of memory\n".as_slice()
+        );
+        errors = drip(alloc)?;
+        status = greet(alloc, &words, &mut output, &mut errors)?;
     }
     assert_eq!(rt; status, DONE);
     assert_eq!(rt; output.taken.as_slice(), b"Hello world!".as_slice());
     assert!(rt; errors.taken.is_empty());
     Ok(())
+}
+
+#[test]
+fn run_program_over_bytes(rt: HostRuntime) -> Result<(), Fail> {
+    greet_again(&rt, rt.alloc(), "bytes name=world")
+}
+
+#[test]
+fn run_program_over_text(rt: HostRuntime) -> Result<(), Fail> {
+    greet_again(&rt, rt.alloc(), "text name=world")
+}
+
+#[test]
+fn run_program_over_the_environment(rt: HostRuntime) -> Result<(), Fail> {
+    greet_again(&rt, rt.alloc(), "env")
 }

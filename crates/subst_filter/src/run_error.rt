@@ -16,8 +16,9 @@ pub enum RunError {
     Write,
     /// The source isn't UTF-8, in a run over text.
     NotUtf8,
-    /// The source is refused with this error. The text shows the position of the fault; in a run over bytes
-    /// it is empty.
+    /// The source is refused with this error. The text is the highlighting of the fault over the source: the
+    /// line that it is in and carets below, or nothing where that line is too wide. In a run over bytes it
+    /// is empty.
     Subst(Error, String),
     /// Memory ran out.
     OutOfMemory,
@@ -39,7 +40,7 @@ impl RunError {
     }
 }
 
-/// One line without its end. Of a refused source it is the text of the error alone.
+/// One line without its end. Of a refused source it is the text of the error, without the highlighting.
 impl fmt::Display for RunError {
     ghost use Rattle.subst_filter.specs.RunError.{display_of_run};
 

@@ -1,3 +1,4 @@
 pub mod Colours
 pub mod CommandLine
 pub mod Letter
+pub mod Report

@@ -2,15 +2,13 @@
 
 ghost use Rattle.std.specs.Prelude.{◌≡◌, ◌+◌, ◌*◌, ◌≤◌, length, IfOk, IfErr, OnOk};
 ghost use Rattle.subst_error.specs.ErrorFault.{parse_fault};
-ghost use Rattle.subst_core.specs.Language.Sentence.{IsSentence, ByTree};
-ghost use Rattle.subst_core.specs.Language.BadItem.{HasFault};
-ghost use Rattle.subst_core.specs.Language.Value.{value};
-ghost use Rattle.subst_core.specs.Language.Counts.{visited_count};
-ghost use Rattle.subst_core.specs.Calls.VariableMap.{ByLookUp};
-ghost use Rattle.subst_core.specs.Calls.Outcome.{OnFault, Expands};
+ghost use Rattle.subst_language.specs.Language.Sentence.{IsSentence, ByTree};
+ghost use Rattle.subst_language.specs.Language.BadItem.{HasFault};
+ghost use Rattle.subst_language.specs.Language.Value.{value};
+ghost use Rattle.subst_language.specs.Language.Counts.{visited_count};
+ghost use Rattle.subst_language.specs.Calls.VariableMap.{ByLookUp};
+ghost use Rattle.subst_language.specs.Calls.Outcome.{OnFault, Expands};
 
-use crate::map::VariableMap;
-use crate::steps::{Reads, Turns};
 use crate::template::byte_string::ByteString;
 use crate::template::raw;
 use crate::template::raw::{CowParts, SliceBytes};
@@ -19,6 +17,8 @@ use std::convert::AsSlice;
 use std::fmt;
 use std::marker::Model;
 use subst_error::{ExpandError, ParseError};
+use subst_map::VariableMap;
+use subst_raw::steps::{Reads, Turns};
 
 /// A template over a byte source that it borrows. Contracts see it as its source.
 #[derive(Drop)]
@@ -29,7 +29,7 @@ pub struct ByteTemplate<'a> {
 
 impl<'a> Model for ByteTemplate<'a> {
     ghost use Rattle.std.specs.Prelude.{ℕ, List};
-    ghost use Rattle.subst_core.specs.Raw.Parts.{IsTemplateOf};
+    ghost use Rattle.subst_raw.specs.Parts.{IsTemplateOf};
 
     ghost Value = { List ℕ };
 

@@ -2,14 +2,12 @@
 
 ghost use Rattle.std.specs.Prelude.{◌≡◌, IfOk};
 ghost use Rattle.subst_error.specs.ErrorFault.{parse_fault};
-ghost use Rattle.subst_core.specs.Language.Sentence.{IsSentence, ByTree};
-ghost use Rattle.subst_core.specs.Language.BadItem.{HasFault};
-ghost use Rattle.subst_core.specs.Language.Value.{value};
-ghost use Rattle.subst_core.specs.Calls.VariableMap.{ByLookUp};
-ghost use Rattle.subst_core.specs.Calls.Outcome.{OnFault, Expands};
+ghost use Rattle.subst_language.specs.Language.Sentence.{IsSentence, ByTree};
+ghost use Rattle.subst_language.specs.Language.BadItem.{HasFault};
+ghost use Rattle.subst_language.specs.Language.Value.{value};
+ghost use Rattle.subst_language.specs.Calls.VariableMap.{ByLookUp};
+ghost use Rattle.subst_language.specs.Calls.Outcome.{OnFault, Expands};
 
-use crate::map::VariableMap;
-use crate::steps::Reads;
 use crate::template::byte_string::ByteString;
 use crate::template::byte_template::ByteTemplate;
 use crate::template::raw;
@@ -19,6 +17,8 @@ use std::convert::AsSlice;
 use std::fmt;
 use std::marker::Model;
 use subst_error::{ExpandError, ParseError};
+use subst_map::VariableMap;
+use subst_raw::steps::Reads;
 
 /// A template that owns its byte source. Contracts see it as its source.
 #[derive(Drop)]
@@ -29,7 +29,7 @@ pub struct ByteTemplateBuf {
 
 impl Model for ByteTemplateBuf {
     ghost use Rattle.std.specs.Prelude.{ℕ, List};
-    ghost use Rattle.subst_core.specs.Raw.Parts.{IsTemplateOf};
+    ghost use Rattle.subst_raw.specs.Parts.{IsTemplateOf};
 
     ghost Value = { List ℕ };
 

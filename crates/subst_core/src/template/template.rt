@@ -1,15 +1,14 @@
 //! Templates over texts that they borrow.
 
-ghost use Rattle.std.specs.Prelude.{◌≡◌, IfOk, string_bytes};
-ghost use Rattle.subst_error.specs.ErrorFault.{parse_fault};
-ghost use Rattle.subst_core.specs.Language.Sentence.{IsSentence, ByTree};
-ghost use Rattle.subst_core.specs.Language.BadItem.{HasFault};
-ghost use Rattle.subst_core.specs.Language.Value.{value};
-ghost use Rattle.subst_core.specs.Calls.VariableMap.{ByLookUp};
-ghost use Rattle.subst_core.specs.Calls.Outcome.{OnFault, Expands};
+ghost use Rattle.std.specs.Prelude.{◌≡◌, IfErr, IfOk, string_bytes};
+ghost use Rattle.subst_error.specs.ErrorFault.{expand_fault, parse_fault};
+ghost use Rattle.subst_error.specs.Range.{range_of, IsRangeIn};
+ghost use Rattle.subst_language.specs.Language.Sentence.{IsSentence, ByTree};
+ghost use Rattle.subst_language.specs.Language.BadItem.{HasFault};
+ghost use Rattle.subst_language.specs.Language.Value.{value};
+ghost use Rattle.subst_language.specs.Calls.VariableMap.{ByLookUp};
+ghost use Rattle.subst_language.specs.Calls.Outcome.{OnFault, Expands};
 
-use crate::map::VariableMap;
-use crate::steps::Reads;
 use crate::template::raw;
 use crate::template::raw::CowParts;
 use std::alloc::{AllocError, Global};
@@ -17,6 +16,8 @@ use std::convert::AsStr;
 use std::fmt;
 use std::marker::Model;
 use subst_error::{ExpandError, ParseError};
+use subst_map::VariableMap;
+use subst_raw::steps::Reads;
 
 /// A template over a text that it borrows. Contracts see it as the bytes of its source.
 #[derive(Drop)]
@@ -27,7 +28,7 @@ pub struct Template<'a> {
 
 impl<'a> Model for Template<'a> {
     ghost use Rattle.std.specs.Prelude.{ℕ, List};
-    ghost use Rattle.subst_core.specs.Raw.Parts.{IsTemplateOf};
+    ghost use Rattle.subst_raw.specs.Parts.{IsTemplateOf};
 
     ghost Value = { List ℕ };
 
@@ -48,6 +49,9 @@ impl<'a> Template<'a> {
         // Only a sentence has a template, which is that of the source.
         ensures ok { IfOk result (λ template. IsSentence source.now × (template ≡ source.now)) }
         ensures err { OnFault parse_fault result (HasFault 0 source.now) }
+
+        // The fault is in the source, between two of its characters.
+        ensures range { IfErr result (λ e. IsRangeIn source.now (range_of (parse_fault e))) }
     {
         let parts = raw::parse(alloc, source.as_bytes(), &mut Reads::new())?;
         let parts = CowParts::from(parts);
@@ -75,9 +79,12 @@ impl<'a> Template<'a> {
     ) -> Result<String, ExpandError>
     where
         M::Value: AsStr + Drop,
-        ensures { ByLookUp M.Value.text M.see (M.look_up variables.now)
+        ensures value { ByLookUp M.Value.text M.see (M.look_up variables.now)
             (λ look. ByTree self.now
             (λ t. Expands (λ output. string_bytes output) result (value 0 t look))) }
+
+        // Whatever the map, the name that is missing is in the source.
+        ensures range { IfErr result (λ e. IsRangeIn self.now (range_of (expand_fault e))) }
     {
         raw::expand_text(alloc, self.source, &self.parts, variables)
     }

@@ -1,15 +1,14 @@
 //! Templates that own their texts.
 
-ghost use Rattle.std.specs.Prelude.{◌≡◌, IfOk, string_bytes};
-ghost use Rattle.subst_error.specs.ErrorFault.{parse_fault};
-ghost use Rattle.subst_core.specs.Language.Sentence.{IsSentence, ByTree};
-ghost use Rattle.subst_core.specs.Language.BadItem.{HasFault};
-ghost use Rattle.subst_core.specs.Language.Value.{value};
-ghost use Rattle.subst_core.specs.Calls.VariableMap.{ByLookUp};
-ghost use Rattle.subst_core.specs.Calls.Outcome.{OnFault, Expands};
+ghost use Rattle.std.specs.Prelude.{◌≡◌, IfErr, IfOk, string_bytes};
+ghost use Rattle.subst_error.specs.ErrorFault.{expand_fault, parse_fault};
+ghost use Rattle.subst_error.specs.Range.{range_of, IsRangeIn};
+ghost use Rattle.subst_language.specs.Language.Sentence.{IsSentence, ByTree};
+ghost use Rattle.subst_language.specs.Language.BadItem.{HasFault};
+ghost use Rattle.subst_language.specs.Language.Value.{value};
+ghost use Rattle.subst_language.specs.Calls.VariableMap.{ByLookUp};
+ghost use Rattle.subst_language.specs.Calls.Outcome.{OnFault, Expands};
 
-use crate::map::VariableMap;
-use crate::steps::Reads;
 use crate::template::raw;
 use crate::template::raw::{CowParts, PartVec};
 use crate::template::template::Template;
@@ -18,6 +17,8 @@ use std::convert::AsStr;
 use std::fmt;
 use std::marker::Model;
 use subst_error::{ExpandError, ParseError};
+use subst_map::VariableMap;
+use subst_raw::steps::Reads;
 
 /// A template that owns its text. Contracts see it as the bytes of its source.
 #[derive(Drop)]
@@ -28,7 +29,7 @@ pub struct TemplateBuf {
 
 impl Model for TemplateBuf {
     ghost use Rattle.std.specs.Prelude.{ℕ, List, string_bytes};
-    ghost use Rattle.subst_core.specs.Raw.Parts.{IsTemplateOf};
+    ghost use Rattle.subst_raw.specs.Parts.{IsTemplateOf};
 
     ghost Value = { List ℕ };
 
@@ -118,9 +119,12 @@ impl TemplateBuf {
     ) -> Result<String, ExpandError>
     where
         M::Value: AsStr + Drop,
-        ensures { ByLookUp M.Value.text M.see (M.look_up variables.now)
+        ensures value { ByLookUp M.Value.text M.see (M.look_up variables.now)
             (λ look. ByTree self.now
             (λ t. Expands (λ output. string_bytes output) result (value 0 t look))) }
+
+        // Whatever the map, the name that is missing is in the source.
+        ensures range { IfErr result (λ e. IsRangeIn self.now (range_of (expand_fault e))) }
     {
         self.as_template().expand(alloc, variables)
     }

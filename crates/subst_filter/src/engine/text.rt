@@ -3,19 +3,17 @@
 ghost use Rattle.std.specs.Prelude.{◌≡◌, ℕ, List, true, OnOk, IfErr, IfSome, IsErrOf, MatchOption, string_bytes};
 ghost use Rattle.std.specs.Io.KnownBytes.{Keeps};
 ghost use Rattle.std.specs.Str.{IsUtf8};
-ghost use Rattle.subst.specs.Calls.Outcome.{answer_of};
 ghost use Rattle.subst.specs.Calls.VariableMap.{ByLookUp};
-ghost use Rattle.subst.specs.Language.Answer.{Answers};
 ghost use Rattle.subst_filter.specs.Device.{ReadsAll};
 ghost use Rattle.subst_filter.specs.FilterRun.{RunAnswers, TellsText, OnceRead, UnlessReadFails, UnlessWriteFails, UnlessWriting};
-ghost use Rattle.subst_filter.specs.RunError.{IsFaultOfText};
+ghost use Rattle.subst_filter.specs.RunError.{HighlightsFault, IsFaultOfText};
 
 use super::{deliver, is_plain, read_all, refusal};
 use crate::device::{ByteInput, ByteOutput};
 use crate::run_error::RunError;
 use std::alloc::Global;
 use std::convert::AsStr;
-use subst::{Error, VariableMap, substitute};
+use subst::{VariableMap, substitute};
 
 #[cfg(test)]
 mod tests;
@@ -28,10 +26,10 @@ mod tests;
 ///
 /// - [`RunError::Read`] if the input fails.
 /// - [`RunError::NotUtf8`] if the source isn't UTF-8.
-/// - [`RunError::Subst`], with an empty text, if the source is refused.
+/// - [`RunError::Subst`], with the highlighting of the fault over the source, if the source is refused.
 /// - [`RunError::Write`] if the output fails. Then a prefix of the resulting text's bytes was written.
-/// - [`RunError::OutOfMemory`] if memory runs out.
-#[tactic(auto, using(crate::proofs::FilterRunLemmas::delivered, crate::proofs::FilterRunLemmas::refused, crate::proofs::FilterRunLemmas::delivered_text, crate::proofs::FilterRunLemmas::refused_text))]
+/// - [`RunError::OutOfMemory`] if memory runs out, also where there is none for the highlighting.
+#[tactic(auto, using(crate::proofs::FilterRunLemmas::delivered, crate::proofs::FilterRunLemmas::delivered_text, crate::proofs::FilterRunLemmas::delivered_unhighlighted, crate::proofs::FilterRunLemmas::refused_highlighted))]
 pub fn run_text<'a, I: ByteInput, O: ByteOutput, M: VariableMap<'a>>(
     alloc: Global,
     input: &mut I,
@@ -63,6 +61,10 @@ where
     ensures write_fault { IsErrOf result RunError.Write → O.has_failed output.new ≡ true }
     ensures faults { IfErr result IsFaultOfText }
 
+    // A refusal has the highlighting of its fault over the source.
+    ensures highlighted { IfSome (I.left input.old)
+        (λ source. IfErr result (HighlightsFault source)) }
+
     // A failure isn't forgotten: unless the result blames a device, that device has not failed meanwhile.
     ensures input_unfailed { UnlessReadFails result
         (I.has_failed input.new ≡ I.has_failed input.old) }
@@ -72,9 +74,16 @@ where
     let Some(source) = text_of(read_all(alloc, input)?) else {
         return Err(RunError::NotUtf8);
     };
-    match fill_in(alloc, source, variables) {
+    let source = source.as_str();
+    if is_plain(source.as_bytes()) {
+        return deliver(output, source.as_bytes());
+    }
+    match substitute(alloc, source, variables) {
         Ok(text) => deliver(output, text.as_bytes()),
-        Err(e) => Err(refusal(e, String::new(alloc))),
+        Err(e) => {
+            let shown = e.source_highlighting(alloc, source)?;
+            Err(refusal(e, shown))
+        }
     }
 }
 
@@ -87,23 +96,4 @@ fn text_of(bytes: Vec<u8>) -> Option<String>
         Ok(text) => Some(text),
         Err(_) => None,
     }
-}
-
-/// Fills the variables of the source in. A plain source is returned as it is, without a copy.
-#[tactic(auto, using(subst::proofs::Calling::plain_answer))]
-fn fill_in<'a, M: VariableMap<'a>>(
-    alloc: Global,
-    source: String,
-    variables: &'a M,
-) -> Result<String, Error>
-where
-    M::Value: AsStr + Drop,
-    ensures { ByLookUp M.Value.text M.see (M.look_up variables.now)
-        (λ look. IfSome (answer_of (λ output. string_bytes output) result)
-        (Answers (string_bytes source) look)) }
-{
-    if is_plain(source.as_bytes()) {
-        return Ok(source);
-    }
-    substitute(alloc, &source, variables)
 }

@@ -16,18 +16,24 @@ struct End {
     errors: Vec<u8>,
 }
 
-/// Runs the program with the words of `line` over `source`. The read number `fault` fails.
+/// Runs the program with the words of `line` over `source`, and with the pairs `A=1`, `A=2` and `B=` as its
+/// environment. The read number `fault` fails.
 fn run(alloc: Global, line: &str, source: &[u8], fault: usize) -> Result<End, AllocError> {
     let mut words = Vec::new(alloc);
     for word in line.split_whitespace() {
         words.push(String::from_str(alloc, word)?)?;
+    }
+    let mut pairs = Vec::new(alloc);
+    for (name, value) in [("A", "1"), ("A", "2"), ("B", "")] {
+        let name = String::from_str(alloc, name)?;
+        pairs.push((name, String::from_str(alloc, value)?))?;
     }
     let mut output = Vec::new(alloc);
     let mut errors = Vec::new(alloc);
     let status = run_program(
         alloc,
         &words,
-        Vec::new(alloc),
+        pairs,
         &mut FromReader::new(Trickle::new(source, fault)),
         &mut ToWriter::new(&mut output),
         &mut ToWriter::new(&mut errors),
@@ -41,7 +47,7 @@ fn run(alloc: Global, line: &str, source: &[u8], fault: usize) -> Result<End, Al
 
 #[test]
 fn wrong_words_print_the_usage_line(rt: HostRuntime) -> Result<(), Fail> {
-    let lines: &[&str] = &["", "text", "env", "text a=1", "bytes name"];
+    let lines: &[&str] = &["", "text name", "env A=1", "env env", "bytes name"];
     for &line in lines {
         let end = run(rt.alloc(), line, b"a", NEVER)?;
         assert_eq!(rt; end.status, 2, "at {line}");
@@ -53,10 +59,12 @@ fn wrong_words_print_the_usage_line(rt: HostRuntime) -> Result<(), Fail> {
 
 #[test]
 fn failed_read_is_printed(rt: HostRuntime) -> Result<(), Fail> {
-    let end = run(rt.alloc(), "bytes", b"a", 1)?;
-    assert_eq!(rt; end.status, 3);
-    assert!(rt; end.output.is_empty());
-    assert_eq!(rt; end.errors.as_slice(), b"subst: read failed\n".as_slice());
+    for line in ["bytes", "text", "env"] {
+        let end = run(rt.alloc(), line, b"a", 1)?;
+        assert_eq!(rt; end.status, 3, "at {line}");
+        assert!(rt; end.output.is_empty(), "at {line}");
+        assert_eq!(rt; end.errors.as_slice(), b"subst: read failed\n".as_slice());
+    }
     Ok(())
 }
 
@@ -66,6 +74,11 @@ fn variables_of_the_words_are_filled_in(rt: HostRuntime) -> Result<(), Fail> {
         ("bytes name=world", "Hello $name!", "Hello world!"),
         ("bytes A=1 A=2", "$A", "2"),
         ("bytes =x a=b=c", "$a", "b=c"),
+        ("text A=1 A=2", "$A", "2"),
+        ("text =x a=b=c", "$a", "b=c"),
+        ("text", "é", "é"),
+        ("env", "a", "a"),
+        ("env", "$A<$B>${C?}", "1<>"),
         ("bytes", "", ""),
         ("bytes a=1", "a}:{?", "a}:{?"),
     ];
@@ -80,13 +93,29 @@ fn variables_of_the_words_are_filled_in(rt: HostRuntime) -> Result<(), Fail> {
 
 #[test]
 fn refusal_of_a_source_is_printed(rt: HostRuntime) -> Result<(), Fail> {
-    let end = run(rt.alloc(), "bytes", b"$", NEVER)?;
-    assert_eq!(rt; end.status, 1);
-    assert!(rt; end.output.is_empty());
-    assert_eq!(rt;
-        end.errors.as_slice(),
-        b"subst: Missing variable name\n".as_slice()
-    );
+    let rows: &[(&str, &[u8], &str)] = &[
+        ("bytes", b"$", "subst: Missing variable name\n"),
+        ("bytes", b"$A", "subst: No such variable: $A\n"),
+        (
+            "text",
+            b"Hi $!",
+            "subst: Missing variable name\n  Hi $!\n     ^\n",
+        ),
+        ("text", b"$A", "subst: No such variable: $A\n  $A\n   ^\n"),
+        (
+            "env",
+            b"${A}\n$C",
+            "subst: No such variable: $C\n  $C\n   ^\n",
+        ),
+        ("text", b"\xFF", "subst: input is not UTF-8\n"),
+        ("env", b"\xFF", "subst: input is not UTF-8\n"),
+    ];
+    for &(line, source, errors) in rows {
+        let end = run(rt.alloc(), line, source, NEVER)?;
+        assert_eq!(rt; end.status, 1, "at {line}: {errors}");
+        assert!(rt; end.output.is_empty(), "at {line}: {errors}");
+        assert_eq!(rt; end.errors.as_slice(), errors.as_bytes(), "at {line}");
+    }
     Ok(())
 }
 

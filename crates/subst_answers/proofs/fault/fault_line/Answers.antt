@@ -7,8 +7,8 @@ use Rattle.subst_answers.proofs.fault.fault_line.Goals as goal
 
 pub returns : goal.returns
 returns c =
-    line_if_written (error_fault c.args.fault.now) c.in_ok-columns.columns
-    (string_bytes c.in_ok-shown.shown) (string_bytes c.in_ok-text.text) c.format.result
-    c.format.ensures.ok c.in_ok-columns.ensures c.in_ok-shown.ensures.ok
+    line_if_written c.args.source.now (error_fault c.args.fault.now) c.in_ok-columns.columns
+    c.in_ok-place.place (string_bytes c.in_ok-shown.shown) (string_bytes c.in_ok-text.text) c.format.result
+    c.format.ensures.ok c.in_ok-columns.ensures c.in_ok-place.ensures c.in_ok-shown.ensures.ok
     (IsUtf8-string_bytes c.in_ok-shown.shown)
     (c.in_ok-text.ensures ∙ ap column_of c.as_bytes.ensures.value)

@@ -8,4 +8,4 @@ pub returns : goal.returns
 returns c =
     true_if_stated c.args.source.now (values_of (λ v. string_bytes v) c.args.pairs.now) c.of_text.result
     (answer_of (λ output. string_bytes output) c.substitute.result) c.of_text.ensures.stated
-    c.of_text.ensures.some (c.substitute.ensures (λ v. string_bytes v) (λ v. refl))
+    c.of_text.ensures.some (c.substitute.ensures.answer (λ v. string_bytes v) (λ v. refl))

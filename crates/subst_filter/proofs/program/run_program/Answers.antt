@@ -1,37 +1,36 @@
--- What a run over the variables of the words says, at each status.
-use Rattle.std.proofs.Common.{ℕ, List, Err, refl, sym, ◌∙◌}
-use Rattle.subst.specs.Language.LookUp.{LookUp}
-use Rattle.subst_filter.specs.FilterRun.{RunAnswers, WritesAnswer}
+-- What a run of the task says, at each status.
+use Rattle.std.proofs.Common.{List, Err, IfSome, String, inl, inr, ⊎_elim, subst, sym, ◌∙◌}
+use Rattle.std.specs.Global.{Global}
+use Rattle.subst_filter.specs.FilterRun.{RunAnswers}
+use Rattle.subst_filter.specs.Task.{variables_of}
 use Rattle.subst_filter.proofs.StatusLemmas.{refused_at_status, read_at_status, prefix_at_status}
-use Rattle.subst_filter.proofs.WordLemmas.{holds_by}
+use Rattle.subst_filter.proofs.WordLemmas.{holds_of_value}
 use Rattle.subst_filter.proofs.program.run_program.Goals as goal
-
-pub returns-in-Ok-run_bytes-clause-done : goal.returns-in-Ok-run_bytes-clause-done
-returns-in-Ok-run_bytes-clause-done g c is =
-    let written = g.O.ByteOutput.written in
-    let Done = λ (source : List ℕ) (look : LookUp).
-    WritesAnswer source look (written c.args.output.now) (written c.run_bytes.new.output) in
-    let run = c.in-Ok-run_bytes.ensures.answer (λ v. v) (λ v. refl) in
-    (c.in-Ok-run_bytes.ensures.whole, holds_by Done _ _ _ (rw c.in-Some.is at c.in-Ok.ensures.pairs) run)
 
 pub returns-clause-refused : goal.returns-clause-refused
 returns-clause-refused g c is =
     let e = c.in-Err.e in
+    let run = c.in-Err.ensures in
     let written = g.O.ByteOutput.written in
-    let Ended = λ (source : List ℕ) (look : LookUp).
-    RunAnswers source look (Err e) (written c.args.output.now) (written c.run_bytes.new.output) in
-    let same = rw c.in-Some.is at c.in-Ok.ensures.pairs in
-    let run = holds_by Ended _ _ _ same (c.in-Err.ensures.answer (λ v. v) (λ v. refl)) in
-    let status = sym c.end_with-in-Err.ensures ∙ is in
-    let refused = refused_at_status e _ _ _ _ status c.in-Err.ensures.faults run in
-    (read_at_status e status c.in-Err.ensures.whole, refused)
+    let Ended = λ (pairs : List (String Global × String Global)).
+    IfSome (g.I.ByteInput.left c.args.input.now) (λ source.
+    RunAnswers source (variables_of c.in-Some.task c.args.words.now pairs) (Err e)
+    (written c.args.output.now) (written c.run_task.new.output)) in
+    let answer = subst Ended c.deref.ensures.value run.answer in
+    let status = sym c.end_with.ensures ∙ is in
+    let refused = refused_at_status e _ _ _ _ _ status run.source answer in
+    (read_at_status e status run.whole, holds_of_value _ _ _ c.in-Some.ensures refused)
 
 pub returns-clause-prefix : goal.returns-clause-prefix
 returns-clause-prefix g c is =
     let e = c.in-Err.e in
+    let run = c.in-Err.ensures in
     let written = g.O.ByteOutput.written in
-    let Ended = λ (source : List ℕ) (look : LookUp).
-    RunAnswers source look (Err e) (written c.args.output.now) (written c.run_bytes.new.output) in
-    let same = rw c.in-Some.is at c.in-Ok.ensures.pairs in
-    let run = holds_by Ended _ _ _ same (c.in-Err.ensures.answer (λ v. v) (λ v. refl)) in
-    prefix_at_status e _ _ _ _ (sym c.end_with-in-Err.ensures ∙ is) c.in-Err.ensures.unwritten run
+    let Ended = λ (pairs : List (String Global × String Global)).
+    IfSome (g.I.ByteInput.left c.args.input.now) (λ source.
+    RunAnswers source (variables_of c.in-Some.task c.args.words.now pairs) (Err e)
+    (written c.args.output.now) (written c.run_task.new.output)) in
+    let answer = subst Ended c.deref.ensures.value run.answer in
+    let status = sym c.end_with.ensures ∙ is in
+    ⊎_elim inl (λ prefix. inr (holds_of_value _ _ _ c.in-Some.ensures prefix))
+    (prefix_at_status e _ _ _ _ _ status run.source run.unwritten answer)

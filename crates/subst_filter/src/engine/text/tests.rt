@@ -54,9 +54,32 @@ fn bytes_that_are_no_text_are_refused_and_nothing_is_written(rt: HostRuntime) {
 fn refused_text_is_returned_and_nothing_is_written(rt: HostRuntime) {
     let mut drip = Drip::new(Vec::new(rt.alloc()), NEVER);
     let result = run(rt.alloc(), "$b é $".as_bytes(), &mut drip);
-    let Err(RunError::Subst(Error::MissingVariableName(fault), _)) = &result else {
+    let Err(RunError::Subst(Error::MissingVariableName(fault), shown)) = &result else {
         panic!(rt; "another result");
     };
     assert_eq!(rt; fault.position, 6);
+    assert_eq!(rt; shown.as_str(), "  $b é $\n       ^\n");
     assert!(rt; drip.taken.is_empty());
+}
+
+#[test]
+fn faults_are_highlighted_in_their_line(rt: HostRuntime) {
+    let rows: &[(&str, &str)] = &[
+        ("Hi $!", "  Hi $!\n     ^\n"),
+        ("one\nHi $!", "  Hi $!\n     ^\n"),
+        ("${a:\n$z}", "  $z}\n   ^\n"),
+        ("日本 ${", "  日本 ${\n       ^^\n"),
+        (
+            "xxxxxxxxxxxxxxxxxxxxxxxxxxxxxxxxxxxxxxxxxxxxxxxxxxxxxxxxxxxx$",
+            "",
+        ),
+    ];
+    for &(source, highlighting) in rows {
+        let mut drip = Drip::new(Vec::new(rt.alloc()), NEVER);
+        let result = run(rt.alloc(), source.as_bytes(), &mut drip);
+        let Err(RunError::Subst(_, shown)) = &result else {
+            panic!(rt; "another result");
+        };
+        assert_eq!(rt; shown.as_str(), highlighting, "of {source}");
+    }
 }

@@ -2,10 +2,10 @@
 -- parts are visited.
 use Rattle.std.proofs.Common.{◌≡◌, ◌≤◌, ◌+◌, sym, subst}
 use Rattle.std.specs.Prelude.{OnOk}
-use Rattle.subst_core.specs.Language.Sentence.{Spells}
-use Rattle.subst_core.specs.Calls.Outcome.{Expands}
-use Rattle.subst_core.specs.Calls.VariableMap.{look_up_of}
-use Rattle.subst_core.proofs.Raw.TemplateOfLemmas.{template_value, template_count}
+use Rattle.subst_language.specs.Language.Sentence.{Spells}
+use Rattle.subst_language.specs.Calls.Outcome.{Expands}
+use Rattle.subst_language.specs.Calls.VariableMap.{look_up_of}
+use Rattle.subst_raw.proofs.TemplateOfLemmas.{template_value, template_count}
 use Rattle.subst_core.proofs.template.byte_template.ByteTemplate.expand_counted.Goals as goal
 
 pub returns-clause-value : goal.returns-clause-value

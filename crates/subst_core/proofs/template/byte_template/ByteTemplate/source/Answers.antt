@@ -1,6 +1,6 @@
 -- A template's parts are those of its source's tree, by its invariant.
 use Rattle.std.proofs.Common.{subst}
-use Rattle.subst_core.specs.Language.Sentence.{IsSentence}
+use Rattle.subst_language.specs.Language.Sentence.{IsSentence}
 use Rattle.subst_core.proofs.template.byte_template.ByteTemplate.source.Goals as goal
 
 pub returns-clause-sentence : goal.returns-clause-sentence

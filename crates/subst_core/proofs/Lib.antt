@@ -1,5 +1,0 @@
-pub mod CallingLemmas
-pub mod Earlier
-pub mod Language
-pub mod Raw
-pub mod WorkedExamples

@@ -1,6 +1,0 @@
-use Rattle.subst_core.proofs.Language.ReadingLemmas.{one_reading}
-use Rattle.subst_core.proofs.laws.law_1.Goals as goal
-
--- each text has one reading
-pub returns : goal.returns
-returns c = one_reading

@@ -1,6 +1,0 @@
-use Rattle.subst_core.proofs.Earlier.ExtensionLemmas.{keeps_reading}
-use Rattle.subst_core.proofs.laws.law_9.Goals as goal
-
--- each text keeps its earlier reading
-pub returns : goal.returns
-returns c = keeps_reading

@@ -1,3 +1,0 @@
--- What callers see beside the language: maps as look-ups, and results as answers.
-pub mod Outcome
-pub mod VariableMap

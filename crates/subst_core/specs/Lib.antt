@@ -1,4 +1,0 @@
-pub mod Calls
-pub mod Earlier
-pub mod Language
-pub mod Raw

@@ -1,0 +1,21 @@
+-- The line of its source that a fault is in.
+use Rattle.std.specs.Prelude.{ℕ, ◌==◌, Bool, ◌||◌, List, ◌++◌, take, drop, Option}
+use Rattle.std.specs.List.{before_first, after_last}
+use Rattle.subst_error.specs.Fault.{Fault}
+use Rattle.subst_error.specs.Range.{range_of}
+
+-- a line feed or a carriage return
+abbrev pub is_line_end : ℕ → Bool
+is_line_end b = b == 10 || b == 13
+
+-- of the line around a byte offset, what is before the offset
+abbrev pub line_before : ℕ → List ℕ → List ℕ
+line_before offset s = after_last is_line_end (take offset s)
+
+-- of the line around a byte offset, what is at the offset and after it
+abbrev pub line_from : ℕ → List ℕ → List ℕ
+line_from offset s = before_first is_line_end (drop offset s)
+
+-- the line around the start of an error's range, without what ends it
+abbrev pub line_of : Option Fault → List ℕ → List ℕ
+line_of e s = let start = (range_of e).start in line_before start s ++ line_from start s

@@ -1,0 +1,24 @@
+-- The line and the column of a fault, as people count them.
+use Rattle.std.specs.Prelude.{ℕ, ◌+◌, ◌==◌, Bool, not, ◌&&◌, ◌||◌, if◌then◌else◌, nat_eq, List, [], ◌∷◌, take, Option}
+use Rattle.std.specs.List.{starts_with}
+use Rattle.subst_error.specs.Fault.{Fault}
+use Rattle.subst_error.specs.Highlighting.{columns}
+use Rattle.subst_error.specs.Line.{line_before}
+use Rattle.subst_error.specs.Range.{range_of}
+
+-- A byte, with what follows it, ends a line: a line feed, or a carriage return without one after it. So the
+-- two together end one line.
+abbrev pub ends_line : ℕ → List ℕ → Bool
+ends_line b rest = b == 10 || (b == 13 && not (starts_with nat_eq rest (10 ∷ [])))
+
+-- how many lines end in a text
+abbrev pub line_end_count : List ℕ → ℕ
+line_end_count [] = 0
+line_end_count (b ∷ rest) = (if ends_line b rest then 1 else 0) + line_end_count rest
+
+-- The line and the column at which an error's range begins, both from 1: one more than the lines that end
+-- before it, and one more than the columns of what is before it in its line.
+abbrev pub position_of : Option Fault → List ℕ → ℕ × ℕ
+position_of e s =
+    let start = (range_of e).start in
+    (1 + line_end_count (take start s), 1 + columns (line_before start s))

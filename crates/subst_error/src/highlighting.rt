@@ -1,0 +1,115 @@
+//! The line of its source that an error is in, with the error underlined.
+
+ghost use Rattle.std.specs.Prelude.{◌≡◌, [], Some, IfOk, OnOk, MatchOption, string_bytes};
+ghost use Rattle.std.specs.Fmt.{WritesText};
+ghost use Rattle.subst_error.specs.ErrorFault.{error_fault};
+ghost use Rattle.subst_error.specs.Highlighting.{highlighting_of, underlined};
+ghost use Rattle.subst_error.specs.Range.{range_of, IsRangeIn};
+
+use crate::Error;
+use crate::line::MarkedLine;
+use std::alloc::{AllocError, Global};
+use std::fmt;
+use std::fmt::Write;
+use unicode_width::UnicodeWidthStr;
+
+/// The columns of the widest line that is highlighted.
+const WIDEST: usize = 60;
+
+/// A line with a part of it underlined. It displays as two indented lines.
+#[derive(Clone, Copy)]
+struct Underlined<'a> {
+    /// The line.
+    line: &'a str,
+    /// The columns of what is before that part.
+    spaces: usize,
+    /// The columns of that part.
+    carets: usize,
+}
+
+impl fmt::Display for Underlined<'_> {
+    ghost output = { λ u. Some (underlined u.line.now u.spaces u.carets) };
+
+    fn fmt<W: fmt::Write>(&self, f: &mut fmt::Formatter<W>) -> fmt::Result {
+        f.write_str("  ")?;
+        f.write_str(self.line)?;
+        f.write_str("\n  ")?;
+        f.write_repeated(" ", self.spaces)?;
+        f.write_repeated("^", self.carets)?;
+        f.write_str("\n")
+    }
+}
+
+impl Error {
+    /// Writes the line of `source` that the error is in, with the error's range underlined by carets:
+    ///
+    /// ```text
+    ///   Hello $name!
+    ///          ^^^^
+    /// ```
+    ///
+    /// Both lines end in a line feed and are indented by two spaces. A range that goes on after the line's
+    /// end is cut there. Nothing is written for `OutOfMemory`, and where the line is wider than 60 columns.
+    /// Columns are those of a terminal, as `unicode_width` counts them.
+    ///
+    /// Both ends of the range have to be character boundaries of `source`, as they are for an error that a
+    /// substitution of `source` returned.
+    ///
+    /// # Errors
+    ///
+    /// That of the writer, where it fails; a part may have been written then.
+    pub fn write_source_highlighting<W: fmt::Write>(&self, f: &mut W, source: &str) -> fmt::Result
+        requires { IsRangeIn source.now (range_of (error_fault self.now)) }
+        ensures { OnOk result (WritesText W.write_str_gives f.old
+            (Some (highlighting_of (error_fault self.now) source.now)) f.new) }
+    {
+        match self.underlined(source) {
+            Some(underlined) => f.write(underlined),
+            None => Ok(()),
+        }
+    }
+
+    /// Returns what [`Error::write_source_highlighting`] writes.
+    ///
+    /// Both ends of the error's range have to be character boundaries of `source`, as they are for an error
+    /// that a substitution of `source` returned.
+    ///
+    /// # Errors
+    ///
+    /// When allocation fails.
+    pub fn source_highlighting(&self, alloc: Global, source: &str) -> Result<String, AllocError>
+        requires { IsRangeIn source.now (range_of (error_fault self.now)) }
+        ensures { IfOk result (λ text.
+            string_bytes text ≡ highlighting_of (error_fault self.now) source.now) }
+    {
+        match self.underlined(source) {
+            Some(underlined) => format!(in alloc; "{underlined}"),
+            None => Ok(String::new(alloc)),
+        }
+    }
+
+    /// Returns the line of `source` that the error is in, underlined, or nothing where that isn't shown.
+    fn underlined<'a>(&self, source: &'a str) -> Option<Underlined<'a>>
+        requires { IsRangeIn source.now (range_of (error_fault self.now)) }
+        ensures { MatchOption result (highlighting_of (error_fault self.now) source.now ≡ [])
+            (λ u. highlighting_of (error_fault self.now) source.now
+            ≡ underlined u.line.now u.spaces u.carets) }
+    {
+        if let Error::OutOfMemory(_) = self {
+            return None;
+        }
+        let MarkedLine {
+            text,
+            before,
+            marked,
+        } = self.marked_line(source);
+        if text.width() > WIDEST {
+            return None;
+        }
+        Some(Underlined {
+            line: text,
+            spaces: before.width(),
+            carets: marked.width(),
+        })
+    }
+}

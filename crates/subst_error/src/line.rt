@@ -1,0 +1,90 @@
+//! The line of its source that an error is in.
+
+ghost use Rattle.std.specs.Prelude.{◌≡◌, ◌-◌, ◌≤◌, take, slice_range};
+ghost use Rattle.std.specs.Str.{IsCharBoundary};
+ghost use Rattle.subst_error.specs.ErrorFault.{error_fault};
+ghost use Rattle.subst_error.specs.Line.{is_line_end, line_before, line_from, line_of};
+ghost use Rattle.subst_error.specs.Range.{range_of, IsRangeIn};
+
+use crate::Error;
+
+impl Error {
+    /// Returns the line of `source` that the error's range begins in, without what ends it. A line ends at a
+    /// line feed or a carriage return. For `OutOfMemory` it is the first line.
+    ///
+    /// Both ends of the range have to be character boundaries of `source`, as they are for an error that a
+    /// substitution of `source` returned.
+    pub fn source_line<'a>(&self, source: &'a str) -> &'a str
+        requires { IsRangeIn source.now (range_of (error_fault self.now)) }
+        ensures { result.now ≡ line_of (error_fault self.now) source.now }
+    {
+        self.marked_line(source).text
+    }
+
+    /// Returns the line of `source` that the error's range begins in, with what of it is marked.
+    pub(crate) fn marked_line<'a>(&self, source: &'a str) -> MarkedLine<'a>
+        requires { IsRangeIn source.now (range_of (error_fault self.now)) }
+        ensures text { result.text.now ≡ line_of (error_fault self.now) source.now }
+        ensures before { let range = range_of (error_fault self.now) in
+            result.before.now ≡ line_before range.start source.now }
+        ensures marked { let range = range_of (error_fault self.now) in
+            result.marked.now ≡ take (range.end - range.start) (line_from range.start source.now) }
+    {
+        let range = self.source_range();
+        let start = line_start(source, range.start);
+        let end = line_end(source, range.start);
+        MarkedLine {
+            text: &source[start..end],
+            before: &source[start..range.start],
+            marked: &source[range.start..range.end.min(end)],
+        }
+    }
+}
+
+/// A line of a source, with the range of it that an error is about.
+#[derive(Clone, Copy)]
+pub(crate) struct MarkedLine<'a> {
+    /// The whole line, without what ends it.
+    pub(crate) text: &'a str,
+    /// What is before the range.
+    pub(crate) before: &'a str,
+    /// What is within the range, up to the line's end.
+    pub(crate) marked: &'a str,
+}
+
+/// Returns the byte offset at which the line around the byte offset `offset` begins.
+fn line_start(source: &str, offset: usize) -> usize
+    requires { IsCharBoundary source.now offset }
+    ensures before { slice_range source.now result offset ≡ line_before offset source.now }
+    ensures within { result ≤ offset }
+    ensures boundary { IsCharBoundary source.now result }
+{
+    let bytes = source.as_bytes();
+    let mut start = offset;
+    while start > 0 && !is_end(bytes[start - 1]) {
+        start -= 1;
+    }
+    start
+}
+
+/// Returns the byte offset at which the line around the byte offset `offset` ends.
+fn line_end(source: &str, offset: usize) -> usize
+    requires { IsCharBoundary source.now offset }
+    ensures from { slice_range source.now offset result ≡ line_from offset source.now }
+    ensures within { offset ≤ result }
+    ensures boundary { IsCharBoundary source.now result }
+{
+    let bytes = source.as_bytes();
+    let mut end = offset;
+    while end < bytes.len() && !is_end(bytes[end]) {
+        end += 1;
+    }
+    end
+}
+
+/// Whether a byte ends a line.
+fn is_end(b: u8) -> bool
+    ensures { result ≡ is_line_end b }
+{
+    b == b'\n' || b == b'\r'
+}

@@ -1,0 +1,45 @@
+//! Where in its source an error is.
+
+ghost use Rattle.std.specs.Prelude.{◌≡◌, ◌^◌, ◌<◌};
+ghost use Rattle.subst_error.specs.ErrorFault.{error_fault};
+ghost use Rattle.subst_error.specs.Range as range;
+
+use crate::{CharOrByte, Error};
+use std::ops::Range;
+
+impl CharOrByte {
+    /// Returns how many bytes the character takes in a source: the length of its UTF-8 encoding, and 1 for a
+    /// byte that no character begins with.
+    pub fn source_len(&self) -> usize
+        ensures { result ≡ range.source_len self.now }
+    {
+        match self {
+            CharOrByte::Char(c) => c.len_utf8(),
+            CharOrByte::Byte(_) => 1,
+        }
+    }
+}
+
+impl Error {
+    /// Returns the range of the source that the error is about, in byte offsets: an escape with its
+    /// character, the beginning of a placeholder, a character, an opening brace, or a name. For
+    /// `OutOfMemory` it is `0..0`.
+    ///
+    /// The range has to end within a `usize`, as that of each error that a substitution returns does.
+    pub fn source_range(&self) -> Range<usize>
+        requires { (range.range_of (error_fault self.now)).end < 2 ^ 64 }
+        ensures { result ≡ range.range_of (error_fault self.now) }
+    {
+        let (start, len) = match self {
+            Error::InvalidEscapeSequence(e) => {
+                (e.position, 1 + e.character.map_or(0, |c| c.source_len()))
+            }
+            Error::MissingVariableName(e) => (e.position, e.len),
+            Error::UnexpectedCharacter(e) => (e.position, e.character.source_len()),
+            Error::MissingClosingBrace(e) => (e.position, 1),
+            Error::NoSuchVariable(e) => (e.position, e.name.len()),
+            Error::OutOfMemory(_) => (0, 0),
+        };
+        start..start + len
+    }
+}

@@ -1,0 +1,113 @@
+-- What callers need beside the contracts of the calls: known answers, which memory alone can prevent.
+use Rattle.std.proofs.Common.{◌≡◌, ◌≤◌, ℕ, suc, List, [], ◌∷◌, length, Option, Some, None, Result, Ok, Err, IfOk, IfSome, IsTrue, refl, subst, sym, arith}
+use Rattle.std.proofs.Math.Path.{fun_ext}
+use Rattle.std.proofs.lemmas.Iterator.Adapters.{option_map_id}
+use Rattle.std.specs.List.{All, AllByRecursion}
+use Rattle.std.specs.Option.{option_map}
+use Rattle.std.specs.Str.{IsUtf8}
+use Rattle.subst_error.specs.Fault.{Fault}
+use Rattle.subst_error.specs.ErrorFault.{error_fault, expand_fault, parse_fault}
+use Rattle.subst_error.specs.Range.{range_of, IsRangeIn}
+use Rattle.subst_error.specs.declared.Error.{Error}
+use Rattle.subst_error.specs.declared.ExpandError.{ExpandError}
+use Rattle.subst_error.specs.declared.ParseError.{ParseError}
+use Rattle.subst_language.specs.Language.Bytes.{IsPlain}
+use Rattle.subst_language.specs.Language.Tree.{Tree, text}
+use Rattle.subst_language.specs.Language.Sentence.{Spells}
+use Rattle.subst_language.specs.Language.LookUp.{LookUp}
+use Rattle.subst_language.specs.Language.Value.{Value, Bytes}
+use Rattle.subst_language.specs.Language.BadItem.{HasFault}
+use Rattle.subst_language.specs.Language.Answer.{Answer, Answers, Gives, Refuses, IsMissing}
+use Rattle.subst_language.specs.Calls.VariableMap.{look_up_of}
+use Rattle.subst_language.specs.Calls.Outcome.{Expands, answer_of}
+use Rattle.subst_language.proofs.Language.FaultLemmas.{exclusive}
+use Rattle.subst_language.proofs.Language.PlainLemmas.{plains, text-plains, value-plains, well_formed_plains}
+use Rattle.subst_language.proofs.WorkedExamples.Forms.{is_well_formed, well_formed_from_test}
+use Rattle.subst_language.proofs.Language.AnswerLemmas.{answer_unique}
+use Rattle.subst_language.proofs.Language.RangeLemmas.{error_in_text}
+use Rattle.subst_language.proofs.Language.RangeWithinLemmas.{refusal_within}
+
+-- a tree that passes the test and whose text the source is, is the source's tree
+pub spells : (s : List ℕ) (t : Tree) → IsTrue (is_well_formed t) → s ≡ text t → Spells t s
+spells s t w e = record { well_formed = well_formed_from_test t w; spelled = e }
+
+-- a source that gives the bytes x: the output of its substitution is x
+pub given : {T : Type 0} (bytes_of : T → List ℕ) (s x : List ℕ) (look : LookUp) (result : Result T Error)
+    → Answers s look (Gives x) → IfSome (answer_of bytes_of result) (Answers s look)
+    → IfOk result (λ output. bytes_of output ≡ x)
+given bytes_of s x look (Ok output) known h =
+    let e = answer_unique s look (Gives (bytes_of output)) (Gives x) h known in cc
+given bytes_of s x look (Err e) known h = tt
+
+-- a source that gives bytes: an error of its substitution states no fault, so it says that memory ran out
+pub memory_alone : (s x : List ℕ) (look : LookUp) (e : Error) → Answers s look (Gives x)
+    → IfSome (option_map Refuses (error_fault e)) (Answers s look) → error_fault e ≡ None
+memory_alone s x look e known = no_refusal (error_fault e)
+  where
+    no_refusal : (o : Option Fault) → IfSome (option_map Refuses o) (Answers s look) → o ≡ None
+    no_refusal None h = refl
+    no_refusal (Some f) h = let same = answer_unique s look (Refuses f) (Gives x) h known in absurd cc
+
+-- an error of the substitution of a text has a range in the text; where memory ran out it is the empty one at
+-- the text's start
+pub range_in_text : (s : List ℕ) (look : LookUp) (e : Error) → IsUtf8 s
+    → IfSome (option_map Refuses (error_fault e)) (Answers s look) → IsRangeIn s (range_of (error_fault e))
+range_in_text s look e is = of (error_fault e)
+  where
+    of : (o : Option Fault) → IfSome (option_map Refuses o) (Answers s look) → IsRangeIn s (range_of o)
+    of None h = error_in_text s look None is tt
+    of (Some f) h = error_in_text s look (Some f) is h
+
+-- an error of a substitution has a range that ends within the source, also where that is no text
+pub range_in_source : (s : List ℕ) (look : LookUp) (e : Error)
+    → IfSome (option_map Refuses (error_fault e)) (Answers s look) → (range_of (error_fault e)).end ≤ length s
+range_in_source s look e = of (error_fault e)
+  where
+    of : (o : Option Fault) → IfSome (option_map Refuses o) (Answers s look) → (range_of o).end ≤ length s
+    of None h = omega arith
+    of (Some f) h = refusal_within s look f h
+
+-- a sentence has no fault: an error of its parsing says that memory ran out
+pub parsed_memory_alone : (s : List ℕ) (t : Tree) (e : ParseError) → Spells t s
+    → IfSome (parse_fault e) (HasFault 0 s) → parse_fault e ≡ None
+parsed_memory_alone s t e known = no_fault (parse_fault e)
+  where
+    no_fault : (o : Option Fault) → IfSome o (HasFault 0 s) → o ≡ None
+    no_fault None h = refl
+    no_fault (Some f) h = absurd (exclusive s t 0 f known h)
+
+-- a tree whose value is the bytes x: the output of its expansion is x
+pub expanded : {T : Type 0} (bytes_of : T → List ℕ) (x : List ℕ) (v : Value) (result : Result T ExpandError)
+    → v ≡ Bytes x → Expands bytes_of result v → IfOk result (λ output. bytes_of output ≡ x)
+expanded bytes_of x v (Ok output) known h = cc
+expanded bytes_of x v (Err e) known h = tt
+
+-- a tree whose value is bytes: an error of its expansion says that memory ran out
+pub expanded_memory_alone : (x : List ℕ) (v : Value) (e : ExpandError) → v ≡ Bytes x
+    → IfSome (expand_fault e) (IsMissing v) → expand_fault e ≡ None
+expanded_memory_alone x v e known = nothing_missing (expand_fault e)
+  where
+    nothing_missing : (o : Option Fault) → IfSome o (IsMissing v) → o ≡ None
+    nothing_missing None h = refl
+    nothing_missing (Some f) (position, name, missing, is) = absurd cc
+
+-- values that are bytes already leave a look-up as it is
+pub same_look_up : (look : LookUp) → look_up_of (λ bytes. bytes) look ≡ look
+same_look_up look = fun_ext (λ name. option_map_id (look name))
+
+-- an answer under a look-up whose values are bytes already, read as they are, is one under the look-up
+pub answer_as_read : (s : List ℕ) (look : LookUp) (found : Option Answer)
+    → IfSome found (Answers s (look_up_of (λ bytes. bytes) look)) → IfSome found (Answers s look)
+answer_as_read s look found h = subst (λ l. IfSome found (Answers s l)) (same_look_up look) h
+
+-- what holds of each byte holds of each byte by recursion
+by_recursion : (P : ℕ → Type 0) (x : List ℕ) → All P x → AllByRecursion P x
+by_recursion P [] each = tt
+by_recursion P (b ∷ x) each =
+    (each 0 b (omega arith), by_recursion P x (λ k d h. each (suc k) d (omega arith)))
+
+-- a source without dollars and backslashes gives itself, whatever the look-up
+pub plain_answer : (s : List ℕ) (look : LookUp) → All IsPlain s → Answers s look (Gives s)
+plain_answer s look each =
+    let well_formed = well_formed_plains s (by_recursion IsPlain s each) in
+    (plains s, record { well_formed = well_formed; spelled = sym (text-plains s) }, value-plains 0 s look)

@@ -1,0 +1,93 @@
+-- How many parts trees have: of trees concatenated, of runs of plain bytes, and how they are bounded.
+use Rattle.std.proofs.Common.{◌≡◌, ℕ, ◌+◌, ◌<◌, ◌≤◌, Bool, true, false, Option, Some, None, List, [], ◌∷◌, ◌++◌, length, refl, length-append, arith}
+use Rattle.subst_language.specs.Language.Tree.{Item, Plain, Escaped, Short, Braced, Optional, Default, Tree, Empty, Then, item_text, text}
+use Rattle.subst_language.specs.Language.LookUp.{LookUp}
+use Rattle.subst_language.specs.Language.Counts.{is_plain, if_missing, item_part_count, part_count_after, item_visited_count, visited_count_after, visited_count}
+use Rattle.subst_language.specs.Lemmas.PlainEnds.{ends_plain, HasNoPlainEnds}
+use Rattle.subst_language.specs.Language.Bytes.{closing_brace, colon}
+use Rattle.subst_language.proofs.Language.PlainLemmas.{plains}
+use Rattle.subst_language.proofs.Language.TreeLemmas.{join}
+
+-- of two trees concatenated an expansion visits the parts of the first, and after it those of the second
+pub visited_count_after-join : (after : Bool) (t u : Tree) (look : LookUp)
+    → visited_count_after after (join t u) look ≡ visited_count_after after t look + visited_count_after (ends_plain after t) u look
+visited_count_after-join after Empty u look = omega arith
+visited_count_after-join after (Then item rest) u look = omega (arith, visited_count_after-join (is_plain item) rest u look)
+
+-- two trees concatenated end as the second does after the first
+pub ends_plain-join : (after : Bool) (t u : Tree)
+    → ends_plain after (join t u) ≡ ends_plain (ends_plain after t) u
+ends_plain-join after Empty u = refl
+ends_plain-join after (Then item rest) u = ends_plain-join (is_plain item) rest u
+
+-- after a plain byte, a run of plain bytes is no part
+visited_count_after-plains : (x : List ℕ) (look : LookUp) → visited_count_after true (plains x) look ≡ 0
+visited_count_after-plains [] look = refl
+visited_count_after-plains (b ∷ x) look = omega (arith, visited_count_after-plains x look)
+
+-- a run of plain bytes is one part
+pub visited_count-plains : (x : List ℕ) (look : LookUp) → 0 < length x → visited_count (plains x) look ≡ 1
+visited_count-plains [] look some = absurd (omega arith)
+visited_count-plains (b ∷ x) look some = omega (arith, visited_count_after-plains x look)
+
+-- an item that isn't plain has no plain ends
+pub no_plain_ends : (item : Item) → is_plain item ≡ false → HasNoPlainEnds (Then item Empty)
+no_plain_ends item not_plain = (not_plain, not_plain)
+
+-- a tree with no plain ends ends with no plain item
+pub ends_plain-apart : (after : Bool) (t : Tree) → HasNoPlainEnds t → ends_plain after t ≡ false
+ends_plain-apart after Empty ends = absurd ends
+ends_plain-apart after (Then item rest) ends = ends.1
+
+-- its parts are counted alike, whatever it comes after
+pub visited_count_after-apart : (after : Bool) (t : Tree) (look : LookUp) → HasNoPlainEnds t
+    → visited_count_after after t look ≡ visited_count t look
+visited_count_after-apart after Empty look ends = absurd ends
+visited_count_after-apart after (Then (Plain b) rest) look ends = let plain = ends.0 in absurd cc
+visited_count_after-apart after (Then (Escaped b) rest) look ends = refl
+visited_count_after-apart after (Then (Short n) rest) look ends = refl
+visited_count_after-apart after (Then (Braced n) rest) look ends = refl
+visited_count_after-apart after (Then (Optional n) rest) look ends = refl
+visited_count_after-apart after (Then (Default n t) rest) look ends = refl
+
+-- what counts only where nothing was found is no more than itself
+missing_at_most : (found : Option (List ℕ)) (n m : ℕ) → n ≤ m → if_missing found n ≤ m
+missing_at_most (Some x) n m le = omega arith
+missing_at_most None n m le = le
+
+mutual
+  -- an expansion visits no more parts of an item than it has
+  item_visited_count_at_most : (after : Bool) (item : Item) (look : LookUp)
+      → item_visited_count after item look ≤ item_part_count after item
+  item_visited_count_at_most after (Plain b) look = omega arith
+  item_visited_count_at_most after (Escaped b) look = omega arith
+  item_visited_count_at_most after (Short n) look = omega arith
+  item_visited_count_at_most after (Braced n) look = omega arith
+  item_visited_count_at_most after (Optional n) look = omega arith
+  item_visited_count_at_most after (Default n t) look =
+      omega (arith, missing_at_most (look n) (visited_count_after false t look) (part_count_after false t) (visited_count_after_at_most false t look))
+
+  -- nor of a tree
+  pub visited_count_after_at_most : (after : Bool) (t : Tree) (look : LookUp)
+      → visited_count_after after t look ≤ part_count_after after t
+  visited_count_after_at_most after Empty look = omega arith
+  visited_count_after_at_most after (Then item rest) look =
+      omega (arith, item_visited_count_at_most after item look, visited_count_after_at_most (is_plain item) rest look)
+
+mutual
+  -- an item has no more parts than bytes
+  item_part_count_at_most : (after : Bool) (item : Item) → item_part_count after item ≤ length (item_text item)
+  item_part_count_at_most true (Plain b) = omega arith
+  item_part_count_at_most false (Plain b) = omega arith
+  item_part_count_at_most after (Escaped b) = omega arith
+  item_part_count_at_most after (Short n) = omega arith
+  item_part_count_at_most after (Braced n) = omega arith
+  item_part_count_at_most after (Optional n) = omega arith
+  item_part_count_at_most after (Default n t) =
+      omega (arith, part_count_after_at_most false t, length-append n (colon ∷ text t ++ closing_brace ∷ []), length-append (text t) (closing_brace ∷ []))
+
+  -- nor has a tree
+  pub part_count_after_at_most : (after : Bool) (t : Tree) → part_count_after after t ≤ length (text t)
+  part_count_after_at_most after Empty = omega arith
+  part_count_after_at_most after (Then item rest) =
+      omega (arith, item_part_count_at_most after item, part_count_after_at_most (is_plain item) rest, length-append (item_text item) (text rest))

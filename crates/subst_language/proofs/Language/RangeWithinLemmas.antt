@@ -1,0 +1,98 @@
+-- Where a source that is refused is at fault: the range ends within the source, also where that is no text.
+use Rattle.std.proofs.Common.{◌≡◌, ℕ, ◌+◌, ◌≤◌, Some, List, [], ◌∷◌, ◌++◌, length, ap, subst, sym, length-append, encode_utf8, inl, inr, arith}
+use Rattle.subst_error.specs.Fault.{Fault}
+use Rattle.subst_error.specs.Range.{source_len, range_of}
+use Rattle.subst_error.specs.declared.CharOrByte.{CharOrByte}
+use Rattle.subst_error.specs.declared.CharOrByte.TheVariants.{Char, Byte}
+use Rattle.subst_language.specs.Language.Bytes.{colon, question_mark, closing_brace}
+use Rattle.subst_language.specs.Language.Character.{IsFrontCharacter}
+use Rattle.subst_language.specs.Language.Tree.{Item, Plain, Escaped, Short, Braced, Optional, Default, Tree, Empty, Then, item_text, text}
+use Rattle.subst_language.specs.Language.LookUp.{LookUp}
+use Rattle.subst_language.specs.Language.Value.{Bytes, Missing, item_value, value}
+use Rattle.subst_language.specs.Language.BadItem.{IsBad, HasFault}
+use Rattle.subst_language.specs.Language.BadItem.IsBad.{escape_at_end, escape, dollar_at_end, dollar_alone, brace_at_end, brace_alone, name_at_end, name_alone, optional_at_end, optional_alone, unclosed, inside}
+use Rattle.subst_language.specs.Language.BadItem.HasFault.{fault_after}
+use Rattle.subst_language.specs.Language.Answer.{Answers, Refuses}
+use Rattle.subst_language.proofs.Language.RangeLemmas.{found_missing, joined_missing}
+
+-- the character at the front of bytes takes at most as many as there are
+front_fits : (bytes : List ℕ) (c : CharOrByte) → IsFrontCharacter bytes c → source_len c ≤ length bytes
+front_fits bytes (Char c) (scalar, (rest, e)) =
+    omega (arith, ap length e, length-append (encode_utf8 c) rest)
+front_fits bytes (Byte b) (none, (rest, e)) = omega (arith, ap length e)
+
+mutual
+  -- the range of a bad item ends within the text that begins with it
+  bad_within : {p : ℕ} {r : List ℕ} {f : Fault} → IsBad p r f → (range_of (Some f)).end ≤ p + length r
+  bad_within escape_at_end = omega arith
+  bad_within (escape {b = b} {x = x} {c = c} special front) = omega (arith, front_fits (b ∷ x) c front)
+  bad_within dollar_at_end = omega arith
+  bad_within (dollar_alone brace name) = omega arith
+  bad_within brace_at_end = omega arith
+  bad_within (brace_alone name) = omega arith
+  bad_within (name_at_end n named) = omega arith
+  bad_within (name_alone {b = b} {c = c} n x named name closing separator mark front) =
+      omega (arith, front_fits (b ∷ x) c front, length-append n (b ∷ x))
+  bad_within (optional_at_end n named) = omega arith
+  bad_within (optional_alone {b = b} {c = c} n x named closing front) =
+      omega (arith, front_fits (b ∷ x) c front, length-append n (question_mark ∷ b ∷ x))
+  bad_within (unclosed n w named none) = omega arith
+  bad_within (inside n w v named balanced fault) =
+      omega (
+        arith,
+        fault_within fault,
+        length-append n (colon ∷ w ++ closing_brace ∷ v),
+        length-append w (closing_brace ∷ v),
+      )
+
+  -- the range of a fault ends within its source
+  fault_within : {p : ℕ} {s : List ℕ} {f : Fault} → HasFault p s f → (range_of (Some f)).end ≤ p + length s
+  fault_within (fault_after {r = r} t formed bad) = omega (arith, bad_within bad, length-append (text t) r)
+
+mutual
+  -- the name of the variable that an item is missing ends within the item
+  item_within : (item : Item) (q : ℕ) (look : LookUp) (position : ℕ) (name : List ℕ)
+      → item_value q item look ≡ Missing position name → position + length name ≤ q + length (item_text item)
+  item_within (Plain b) q look position name e = absurd cc
+  item_within (Escaped b) q look position name e = absurd cc
+  item_within (Short n) q look position name e =
+      let missing = found_missing (look n) (Missing (q + 1) n) position name e in
+      let here : q + 1 ≡ position = cc in
+      let same : n ≡ name = cc in
+      omega (arith, here, ap length same)
+  item_within (Braced n) q look position name e =
+      let missing = found_missing (look n) (Missing (q + 2) n) position name e in
+      let here : q + 2 ≡ position = cc in
+      let same : n ≡ name = cc in
+      omega (arith, here, ap length same, length-append n (closing_brace ∷ []))
+  item_within (Optional n) q look position name e =
+      let missing = found_missing (look n) (Bytes []) position name e in absurd cc
+  item_within (Default n t) q look position name e =
+      let missing = found_missing (look n) (value (q + 3 + length n) t look) position name e in
+      let of_default = tree_within t (q + 3 + length n) look position name missing in
+      omega (
+        arith,
+        of_default,
+        length-append n (colon ∷ text t ++ closing_brace ∷ []),
+        length-append (text t) (closing_brace ∷ []),
+      )
+
+  -- and of that which a tree is missing, within the tree's text
+  tree_within : (t : Tree) (p : ℕ) (look : LookUp) (position : ℕ) (name : List ℕ)
+      → value p t look ≡ Missing position name → position + length name ≤ p + length (text t)
+  tree_within Empty p look position name e = absurd cc
+  tree_within (Then item rest) p look position name e =
+      let next = p + length (item_text item) in
+      let long = length-append (item_text item) (text rest) in
+      elim (joined_missing (item_value p item look) (value next rest look) position name e) [
+        | inl here ↦ omega (arith, item_within item p look position name here, long)
+        | inr there ↦ omega (arith, tree_within rest next look position name there, long)
+      ]
+
+-- each refusal of a source has a range that ends within the source
+pub refusal_within : (s : List ℕ) (look : LookUp) (f : Fault) → Answers s look (Refuses f)
+    → (range_of (Some f)).end ≤ length s
+refusal_within s look f (inl fault) = omega (arith, fault_within fault)
+refusal_within s look f (inr (t, spells, (position, name, missing, same))) =
+    subst (λ (g : Fault). (range_of (Some g)).end ≤ length s) (sym same)
+    (omega (arith, tree_within t 0 look position name missing, ap length spells.spelled))

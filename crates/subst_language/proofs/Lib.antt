@@ -1,0 +1,4 @@
+pub mod CallingLemmas
+pub mod Earlier
+pub mod Language
+pub mod WorkedExamples

@@ -1,0 +1,6 @@
+use Rattle.subst_language.proofs.Language.RangeLemmas.{refusal_in_text}
+use Rattle.subst_language.proofs.laws.law_7.Goals as goal
+
+-- each refusal has its range in the text
+pub returns : goal.returns
+returns c = refusal_in_text

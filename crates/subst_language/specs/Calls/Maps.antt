@@ -1,0 +1,23 @@
+-- What the maps of the library have under each name.
+use denote.Ref.{Bor}
+use Rattle.std.specs.Prelude.{ℕ, List, Option, String, string_bytes, find}
+use Rattle.std.specs.BTreeMap.{BTreeMap, get_by as btree_get_by}
+use Rattle.std.specs.Cmp.Lexicographic.{slice_cmp}
+use Rattle.std.specs.HashMap.{HashMap, get_by as hash_get_by}
+use Rattle.std.specs.Option.{option_map}
+use Rattle.std.specs.Ordering.{nat_cmp}
+use Rattle.std.specs.Str.{bytes_eq}
+use Rattle.subst_language.specs.Language.LookUp.{LookUp}
+
+-- the value of the first pair with this name
+abbrev pub first_value : {X : Type 0} → List (String X × String X) → LookUp
+first_value pairs name =
+    option_map (λ pair. string_bytes pair.1) (find (λ pair. bytes_eq name (string_bytes pair.0)) pairs)
+
+-- the value of a `BTreeMap` under the key, a lent text, whose bytes are the name
+abbrev pub btree_get_by_lent_text : {V : Type 0} → BTreeMap (Bor (List ℕ)) V → List ℕ → Option V
+btree_get_by_lent_text map name = btree_get_by (λ key. slice_cmp nat_cmp name key.now) map
+
+-- the value of a `HashMap`, or an `IndexMap`, under the key, a lent text, whose bytes are the name
+abbrev pub hash_get_by_lent_text : {V S : Type 0} → HashMap (Bor (List ℕ)) V S → List ℕ → Option V
+hash_get_by_lent_text map name = hash_get_by (λ key. bytes_eq name key.now) map

@@ -1,0 +1,18 @@
+-- How a map of variables is a look-up of bytes.
+use Rattle.std.specs.Prelude.{◌≡◌, ℕ, List, Option}
+use Rattle.std.specs.Option.{option_map}
+use Rattle.subst_language.specs.Language.LookUp.{LookUp}
+
+-- The bytes that a value gives, `items`, are the `bytes` of what the value is identified with.
+abbrev pub ReadsAs : {Value Seen : Type 0} → (Value → List ℕ) → (Value → Seen) → (Seen → List ℕ) → Type 0
+ReadsAs {Value} items see bytes = (v : Value) → items v ≡ bytes (see v)
+
+-- the bytes of what the map has for each name
+abbrev pub look_up_of : {Seen : Type 0} → (Seen → List ℕ) → (List ℕ → Option Seen) → LookUp
+look_up_of bytes look_up name = option_map bytes (look_up name)
+
+-- P holds of the map's look-up of bytes, in whatever way `bytes` the bytes of its values are read
+abbrev pub ByLookUp : {Value Seen : Type 0} → (Value → List ℕ) → (Value → Seen) → (List ℕ → Option Seen)
+    → (LookUp → Type 0) → Type 0
+ByLookUp {Value} {Seen} items see look_up P =
+    (bytes : Seen → List ℕ) → ReadsAs items see bytes → P (look_up_of bytes look_up)

@@ -1,0 +1,25 @@
+-- Well-formed trees of the earlier language.
+use Rattle.subst_language.specs.Language.Bytes.{IsPlain, IsSpecial}
+use Rattle.subst_language.specs.Language.Name.{IsName, IsNameByte}
+use Rattle.subst_language.specs.Earlier.Tree.{Item, Plain, Escaped, Short, Braced, Default, Tree, Empty, Then, text}
+use Rattle.subst_language.specs.Language.Balanced.{IsBalanced}
+
+-- the tree doesn't begin with a plain name byte, so a name before it ends there
+abbrev pub EndsName : Tree → Type 0
+EndsName (Then (Plain b) rest) = ¬ (IsNameByte b)
+EndsName _ = Unit {0}
+
+abbrev mutual
+  -- An item, and the items that follow it: a plain byte is no dollar and no backslash; an escaped byte is a
+  -- special one; each name is a name, and one without braces is the longest there; a default is well-formed
+  -- and its braces match.
+  pub IsItem : Item → Tree → Type 0
+  IsItem (Plain b) next = IsPlain b
+  IsItem (Escaped b) next = IsSpecial b
+  IsItem (Short n) next = IsName n × EndsName next
+  IsItem (Braced n) next = IsName n
+  IsItem (Default n t) next = IsName n × IsWellFormed t × IsBalanced (text t)
+
+  pub IsWellFormed : Tree → Type 0
+  IsWellFormed Empty = Unit {0}
+  IsWellFormed (Then item rest) = IsItem item rest × IsWellFormed rest

@@ -1,0 +1,4 @@
+pub mod Calls
+pub mod Earlier
+pub mod Language
+pub mod Lemmas

@@ -1,0 +1,40 @@
+//! `BTreeMap` as a map of variables.
+
+ghost use Rattle.std.specs.Prelude.{◌≡◌};
+
+use crate::VariableMap;
+use std::collections::BTreeMap;
+
+/// The value under the key.
+impl<'a, V: 'a> VariableMap<'a> for BTreeMap<String, V> {
+    ghost use Rattle.std.specs.BTreeMap.{get_by_text};
+
+    type Value = &'a V;
+
+    ghost Seen = { V };
+
+    ghost see = { λ v. v.now };
+
+    ghost look_up = { get_by_text };
+
+    fn get(&'a self, key: &str) -> Option<&'a V> {
+        self.get(key)
+    }
+}
+
+/// The value under the key, where keys are lent.
+impl<'a, 'k, V: 'a> VariableMap<'a> for BTreeMap<&'k str, V> {
+    ghost use Rattle.subst_language.specs.Calls.Maps.{btree_get_by_lent_text};
+
+    type Value = &'a V;
+
+    ghost Seen = { V };
+
+    ghost see = { λ v. v.now };
+
+    ghost look_up = { btree_get_by_lent_text };
+
+    fn get(&'a self, name: &str) -> Option<&'a V> {
+        self.get(name)
+    }
+}

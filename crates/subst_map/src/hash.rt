@@ -1,0 +1,41 @@
+//! `HashMap` as a map of variables.
+
+ghost use Rattle.std.specs.Prelude.{◌≡◌};
+
+use crate::VariableMap;
+use std::collections::HashMap;
+use std::hash::BuildHasher;
+
+/// The value under the key.
+impl<'a, V: 'a, S: BuildHasher> VariableMap<'a> for HashMap<String, V, S> {
+    ghost use Rattle.std.specs.HashMap.{get_by_text};
+
+    type Value = &'a V;
+
+    ghost Seen = { V };
+
+    ghost see = { λ v. v.now };
+
+    ghost look_up = { get_by_text };
+
+    fn get(&'a self, key: &str) -> Option<&'a V> {
+        self.get(key)
+    }
+}
+
+/// The value under the key, where keys are lent.
+impl<'a, 'k, V: 'a, S: BuildHasher> VariableMap<'a> for HashMap<&'k str, V, S> {
+    ghost use Rattle.subst_language.specs.Calls.Maps.{hash_get_by_lent_text};
+
+    type Value = &'a V;
+
+    ghost Seen = { V };
+
+    ghost see = { λ v. v.now };
+
+    ghost look_up = { hash_get_by_lent_text };
+
+    fn get(&'a self, name: &str) -> Option<&'a V> {
+        self.get(name)
+    }
+}

@@ -1,0 +1,40 @@
+//! Maps from names of variables to their values.
+#![tactic(auto)]
+
+ghost use Rattle.std.specs.Prelude.{◌≡◌, ℕ, List, Option};
+ghost use Rattle.std.specs.Option.{option_map};
+
+pub use env::Env;
+pub use never::{NeverValue, NoSubstitution};
+
+mod btree;
+mod env;
+mod hash;
+mod index;
+pub mod laws;
+mod never;
+
+/// A map from names of variables to their values.
+///
+/// Contracts see a map as a look-up: a function, which need not be finite, from each name, as its bytes, to
+/// nothing or to what the value is identified with. An implementation gives three ghost members:
+///
+/// - `Seen`: what values are identified with. A reference is identified with the value that it points to,
+///   since no contract says which address it has. The bytes of a value have to follow from this, or the
+///   contracts of the calls say nothing of the map.
+/// - `see`: what a value is identified with.
+/// - `look_up`: what the map has for each name.
+pub trait VariableMap<'a> {
+    /// The type of the values that [`get`](VariableMap::get) returns.
+    type Value;
+
+    ghost Seen: { Type 0 };
+
+    ghost see: { Self.Value → Seen };
+
+    ghost look_up: { Self → List ℕ → Option Seen };
+
+    /// Returns the value of the variable with this name, or nothing where the map has none.
+    fn get(&'a self, key: &str) -> Option<Self::Value>
+        ensures { option_map see result ≡ look_up self.now key.now };
+}

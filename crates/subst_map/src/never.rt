@@ -1,0 +1,53 @@
+//! The map that has no value for any name.
+
+ghost use Rattle.std.specs.Prelude.{◌≡◌};
+
+use crate::VariableMap;
+use std::convert::{AsSlice, AsStr};
+
+/// The map without variables: every name is missing, so each default is used.
+#[derive(Clone, Copy, Debug)]
+pub struct NoSubstitution;
+
+/// The type of the values of [`NoSubstitution`]. There are none: its field is private, and nothing makes one.
+#[derive(Debug, Drop)]
+pub struct NeverValue {
+    never_made: (),
+}
+
+impl AsStr for NeverValue {
+    ghost use Rattle.std.specs.Prelude.{[]};
+
+    ghost text = { λ _. [] };
+
+    fn as_str(&self) -> &str {
+        ""
+    }
+}
+
+impl AsSlice<u8> for NeverValue {
+    ghost use Rattle.std.specs.Prelude.{[]};
+
+    ghost items = { λ _. [] };
+
+    fn as_slice(&self) -> &[u8] {
+        &[]
+    }
+}
+
+/// Nothing, whatever the name.
+impl<'a> VariableMap<'a> for NoSubstitution {
+    ghost use Rattle.std.specs.Prelude.{ℕ, List, [], None};
+
+    type Value = NeverValue;
+
+    ghost Seen = { List ℕ };
+
+    ghost see = { λ _. [] };
+
+    ghost look_up = { λ _ _. None };
+
+    fn get(&'a self, _key: &str) -> Option<NeverValue> {
+        None
+    }
+}

@@ -1,0 +1,238 @@
+-- Each part is read at its index, and the output grows by what it gives.
+use Rattle.std.proofs.Common.{arith, refl, ◌∙◌}
+use Rattle.subst_raw.proofs.ExpandLemmas.{part_here, none_here, fits_there, starts, ends, goes_on_after, goes_on_there, goes_on_inside, one_turn, turns_within, all_turns, after_literal, after_escaped, after_variable, after_value, after_none, missing_variable, has_value, has_none, states_missing}
+use Rattle.subst_raw.proofs.FilledLemmas.{has_mark, has_no_mark, marks_start, marks_end, marks_literal, marks_escaped, marks_variable, marks_value, marks_none}
+use Rattle.subst_raw.proofs.expand.expand_list.Goals as goal
+
+pub loop-part-init : goal.loop-part-init
+loop-part-init g c = record {
+  same = refl;
+  within = omega arith;
+  so_far = λ bytes reads. starts _ _ _ _ c.in_ok-output.ensures.items;
+  grown = omega arith;
+  counted = λ bytes reads. record { together = refl };
+  marks = marks_start _ _ _ _ _ c.in_ok-output.ensures.items;
+}
+
+pub bytes_at-requires : goal.bytes_at-requires
+bytes_at-requires g c =
+    let here = part_here c.in-Some.ensures.part c.loop-part.invariant.same c.in-Literal.is in
+    fits_there _ _ c.requires here
+
+pub loop-part-preserved-in-Literal : goal.loop-part-preserved-in-Literal
+loop-part-preserved-in-Literal g c =
+    let here = part_here c.in-Some.ensures.part c.loop-part.invariant.same c.in-Literal.is in
+    record {
+      same = c.in-Some.ensures.same ∙ c.loop-part.invariant.same;
+      within = omega (arith, here.below);
+      so_far = λ bytes reads.
+          after_literal (c.loop-part.invariant.so_far bytes reads) here
+          c.bytes_at.ensures c.in_ok-extend_from_slice-in-Literal.ensures.items;
+      grown = omega (arith, c.loop-part.invariant.grown, c.in-Some.ensures.counted);
+      counted = λ bytes reads.
+          one_turn (c.loop-part.invariant.counted bytes reads) (goes_on_after here refl)
+          c.in-Some.ensures.counted;
+      marks =
+          marks_literal c.loop-part.invariant.marks here c.bytes_at.ensures
+          c.in_ok-extend_from_slice-in-Literal.ensures.items;
+    }
+
+pub returns-in_err-extend_from_slice-in-Literal-clause-at_most :
+    goal.returns-in_err-extend_from_slice-in-Literal-clause-at_most
+returns-in_err-extend_from_slice-in-Literal-clause-at_most g c = λ bytes reads.
+    let here = part_here c.in-Some.ensures.part c.loop-part.invariant.same c.in-Literal.is in
+    turns_within (c.loop-part.invariant.counted bytes reads) here c.in-Some.ensures.counted
+
+pub loop-part-smaller-in-Literal : goal.loop-part-smaller-in-Literal
+loop-part-smaller-in-Literal g c =
+    let here = part_here c.in-Some.ensures.part c.loop-part.invariant.same c.in-Literal.is in
+    omega (arith, here.below)
+
+pub loop-part-preserved-in-Escaped : goal.loop-part-preserved-in-Escaped
+loop-part-preserved-in-Escaped g c =
+    let here = part_here c.in-Some.ensures.part c.loop-part.invariant.same c.in-Escaped.is in
+    record {
+      same = c.in-Some.ensures.same ∙ c.loop-part.invariant.same;
+      within = omega (arith, here.below);
+      so_far = λ bytes reads.
+          after_escaped {grown = c.push.new.self.items} (c.loop-part.invariant.so_far bytes reads) here
+          c.in_ok-push-in-Escaped.ensures.items;
+      grown = omega (arith, c.loop-part.invariant.grown, c.in-Some.ensures.counted);
+      counted = λ bytes reads.
+          one_turn (c.loop-part.invariant.counted bytes reads) (goes_on_after here refl)
+          c.in-Some.ensures.counted;
+      marks =
+          marks_escaped {grown = c.push.new.self.items} c.loop-part.invariant.marks here
+          c.in_ok-push-in-Escaped.ensures.items;
+    }
+
+pub returns-in_err-push-in-Escaped-clause-at_most : goal.returns-in_err-push-in-Escaped-clause-at_most
+returns-in_err-push-in-Escaped-clause-at_most g c = λ bytes reads.
+    let here = part_here c.in-Some.ensures.part c.loop-part.invariant.same c.in-Escaped.is in
+    turns_within (c.loop-part.invariant.counted bytes reads) here c.in-Some.ensures.counted
+
+pub loop-part-smaller-in-Escaped : goal.loop-part-smaller-in-Escaped
+loop-part-smaller-in-Escaped g c =
+    let here = part_here c.in-Some.ensures.part c.loop-part.invariant.same c.in-Escaped.is in
+    omega (arith, here.below)
+
+pub name_at-requires-clause-inside : goal.name_at-requires-clause-inside
+name_at-requires-clause-inside g c =
+    let here = part_here c.in-Some.ensures.part c.loop-part.invariant.same c.in-Variable.is in
+    (fits_there _ _ c.requires here).0
+
+pub name_at-requires-clause-name : goal.name_at-requires-clause-name
+name_at-requires-clause-name g c =
+    let here = part_here c.in-Some.ensures.part c.loop-part.invariant.same c.in-Variable.is in
+    (fits_there _ _ c.requires here).1
+
+pub no_such_variable-requires-clause-inside : goal.no_such_variable-requires-clause-inside
+no_such_variable-requires-clause-inside g c =
+    let here = part_here c.in-Some.ensures.part c.loop-part.invariant.same c.in-Variable.is in
+    (fits_there _ _ c.requires here).0
+
+pub no_such_variable-requires-clause-name : goal.no_such_variable-requires-clause-name
+no_such_variable-requires-clause-name g c =
+    let here = part_here c.in-Some.ensures.part c.loop-part.invariant.same c.in-Variable.is in
+    (fits_there _ _ c.requires here).1
+
+pub returns-in_default-get-clause-value : goal.returns-in_default-get-clause-value
+returns-in_default-get-clause-value g c = λ bytes reads.
+    let here = part_here c.in-Some.ensures.part c.loop-part.invariant.same c.in-Variable.is in
+    let missing = has_none bytes (g.M.VariableMap.look_up c.args.variables.now) c.in_default-get.ensures in
+    let is = missing_variable (c.loop-part.invariant.so_far bytes reads) here c.name_at.ensures missing in
+    states_missing _ is c.no_such_variable.ensures
+
+pub returns-in_default-get-clause-missing : goal.returns-in_default-get-clause-missing
+returns-in_default-get-clause-missing g c =
+    let here = part_here c.in-Some.ensures.part c.loop-part.invariant.same c.in-Variable.is in
+    let missing = has_no_mark (g.M.VariableMap.look_up c.args.variables.now) c.in_default-get.ensures in
+    let is = missing_variable c.loop-part.invariant.marks.so_far here c.name_at.ensures missing in
+    states_missing _ is c.no_such_variable.ensures
+
+pub loop-part-preserved-in-Variable : goal.loop-part-preserved-in-Variable
+loop-part-preserved-in-Variable g c =
+    let here = part_here c.in-Some.ensures.part c.loop-part.invariant.same c.in-Variable.is in
+    record {
+      same = c.in-Some.ensures.same ∙ c.loop-part.invariant.same;
+      within = omega (arith, here.below);
+      so_far = λ bytes reads.
+          let look_up = g.M.VariableMap.look_up c.args.variables.now in
+          let found = has_value g.R.ReadValue.read g.M.VariableMap.see bytes look_up c.in-Some-get.value reads
+          c.in-Some-get.ensures c.bytes_of.ensures.bytes in
+          after_variable (c.loop-part.invariant.so_far bytes reads) here c.name_at.ensures found
+          c.in_ok-extend_from_slice-in-Variable.ensures.items;
+      grown = omega (arith, c.loop-part.invariant.grown, c.in-Some.ensures.counted);
+      counted = λ bytes reads.
+          one_turn (c.loop-part.invariant.counted bytes reads) (goes_on_after here refl)
+          c.in-Some.ensures.counted;
+      marks =
+          marks_variable c.loop-part.invariant.marks here c.name_at.ensures
+          (has_mark (g.M.VariableMap.look_up c.args.variables.now) c.in-Some-get.ensures)
+          c.bytes_of.ensures.property
+          c.in_ok-extend_from_slice-in-Variable.ensures.items;
+    }
+
+pub returns-in_default-get-clause-at_most : goal.returns-in_default-get-clause-at_most
+returns-in_default-get-clause-at_most g c = λ bytes reads.
+    let here = part_here c.in-Some.ensures.part c.loop-part.invariant.same c.in-Variable.is in
+    turns_within (c.loop-part.invariant.counted bytes reads) here c.in-Some.ensures.counted
+
+pub returns-in_err-extend_from_slice-in-Variable-clause-at_most :
+    goal.returns-in_err-extend_from_slice-in-Variable-clause-at_most
+returns-in_err-extend_from_slice-in-Variable-clause-at_most g c = λ bytes reads.
+    let here = part_here c.in-Some.ensures.part c.loop-part.invariant.same c.in-Variable.is in
+    turns_within (c.loop-part.invariant.counted bytes reads) here c.in-Some.ensures.counted
+
+pub loop-part-smaller-in-Variable : goal.loop-part-smaller-in-Variable
+loop-part-smaller-in-Variable g c =
+    let here = part_here c.in-Some.ensures.part c.loop-part.invariant.same c.in-Variable.is in
+    omega (arith, here.below)
+
+pub name_at-requires-in-Default-clause-inside : goal.name_at-requires-in-Default-clause-inside
+name_at-requires-in-Default-clause-inside g c =
+    let here = part_here c.in-Some.ensures.part c.loop-part.invariant.same c.in-Default.is in
+    (fits_there _ _ c.requires here).0
+
+pub name_at-requires-in-Default-clause-name : goal.name_at-requires-in-Default-clause-name
+name_at-requires-in-Default-clause-name g c =
+    let here = part_here c.in-Some.ensures.part c.loop-part.invariant.same c.in-Default.is in
+    (fits_there _ _ c.requires here).1
+
+pub loop-part-smaller-in-Some-get-2 : goal.loop-part-smaller-in-Some-get-2
+loop-part-smaller-in-Some-get-2 g c =
+    let here = part_here c.in-Some.ensures.part c.loop-part.invariant.same c.in-Default.is in
+    let fits = fits_there _ _ c.requires here in
+    omega (arith, fits.2, fits.3)
+
+pub loop-part-preserved-in-Some-get-2 : goal.loop-part-preserved-in-Some-get-2
+loop-part-preserved-in-Some-get-2 g c =
+    let here = part_here c.in-Some.ensures.part c.loop-part.invariant.same c.in-Default.is in
+    let fits = fits_there _ _ c.requires here in
+    record {
+      same = c.in-Some.ensures.same ∙ c.loop-part.invariant.same;
+      within = fits.3;
+      so_far = λ bytes reads.
+          let look_up = g.M.VariableMap.look_up c.args.variables.now in
+          let found = has_value g.R.ReadValue.read g.M.VariableMap.see bytes look_up c.in-Some-get-2.value
+          reads c.in-Some-get-2.ensures c.bytes_of-in-Some-get-2.ensures.bytes in
+          after_value (c.loop-part.invariant.so_far bytes reads) here fits.2
+          c.name_at-in-Default.ensures found c.in_ok-extend_from_slice-in-Some-get-2.ensures.items;
+      grown = omega (arith, c.loop-part.invariant.grown, c.in-Some.ensures.counted);
+      counted = λ bytes reads.
+          let look_up = g.M.VariableMap.look_up c.args.variables.now in
+          let found = has_value g.R.ReadValue.read g.M.VariableMap.see bytes look_up c.in-Some-get-2.value
+          reads c.in-Some-get-2.ensures c.bytes_of-in-Some-get-2.ensures.bytes in
+          one_turn (c.loop-part.invariant.counted bytes reads)
+          (goes_on_there here fits.2 c.name_at-in-Default.ensures found) c.in-Some.ensures.counted;
+      marks =
+          marks_value c.loop-part.invariant.marks here fits.2 c.name_at-in-Default.ensures
+          (has_mark (g.M.VariableMap.look_up c.args.variables.now) c.in-Some-get-2.ensures)
+          c.bytes_of-in-Some-get-2.ensures.property
+          c.in_ok-extend_from_slice-in-Some-get-2.ensures.items;
+    }
+
+pub returns-in_err-extend_from_slice-in-Some-get-2-clause-at_most :
+    goal.returns-in_err-extend_from_slice-in-Some-get-2-clause-at_most
+returns-in_err-extend_from_slice-in-Some-get-2-clause-at_most g c = λ bytes reads.
+    let here = part_here c.in-Some.ensures.part c.loop-part.invariant.same c.in-Default.is in
+    turns_within (c.loop-part.invariant.counted bytes reads) here c.in-Some.ensures.counted
+
+pub loop-part-preserved : goal.loop-part-preserved
+loop-part-preserved g c =
+    let here = part_here c.in-Some.ensures.part c.loop-part.invariant.same c.in-Default.is in
+    record {
+      same = c.in-Some.ensures.same ∙ c.loop-part.invariant.same;
+      within = omega (arith, here.below);
+      so_far = λ bytes reads.
+          let missing = has_none bytes (g.M.VariableMap.look_up c.args.variables.now) c.in-None.ensures in
+          after_none (c.loop-part.invariant.so_far bytes reads) here c.name_at-in-Default.ensures missing;
+      grown = omega (arith, c.loop-part.invariant.grown, c.in-Some.ensures.counted);
+      counted = λ bytes reads.
+          let missing = has_none bytes (g.M.VariableMap.look_up c.args.variables.now) c.in-None.ensures in
+          one_turn (c.loop-part.invariant.counted bytes reads)
+          (goes_on_inside here c.name_at-in-Default.ensures missing) c.in-Some.ensures.counted;
+      marks =
+          marks_none c.loop-part.invariant.marks here c.name_at-in-Default.ensures
+          (has_no_mark (g.M.VariableMap.look_up c.args.variables.now) c.in-None.ensures);
+    }
+
+pub loop-part-smaller : goal.loop-part-smaller
+loop-part-smaller g c =
+    let here = part_here c.in-Some.ensures.part c.loop-part.invariant.same c.in-Default.is in
+    omega (arith, here.below)
+
+pub returns-clause-value : goal.returns-clause-value
+returns-clause-value g c = λ bytes reads.
+    let past = none_here c.in_default.ensures.part c.loop-part.invariant.same in
+    ends (c.loop-part.invariant.so_far bytes reads) past
+
+pub returns-clause-counted : goal.returns-clause-counted
+returns-clause-counted g c = λ bytes reads.
+    let past = none_here c.in_default.ensures.part c.loop-part.invariant.same in
+    c.in_default.ensures.counted ∙ all_turns (c.loop-part.invariant.counted bytes reads) past
+
+pub returns-clause-filled : goal.returns-clause-filled
+returns-clause-filled g c =
+    let past = none_here c.in_default.ensures.part c.loop-part.invariant.same in
+    marks_end c.loop-part.invariant.marks past

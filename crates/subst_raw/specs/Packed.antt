@@ -1,0 +1,29 @@
+-- Parts as lists keep them.
+use Rattle.std.specs.Prelude.{ℕ, ◌<◌, List, map}
+use Rattle.subst_raw.specs.declared.Part.{Part}
+use Rattle.subst_raw.specs.declared.Part.TheVariants.{Literal, Escaped, Variable, Default}
+use Rattle.subst_raw.specs.declared.packed_part.PackedPart.{PackedPart}
+use Rattle.subst_raw.specs.declared.packed_part.PackedPart.TheVariants as packed
+
+-- the part that is kept, where value says which number each of its fields is
+abbrev pub unpacked : {O : Type 0} → (O → ℕ) → PackedPart O → Part
+unpacked value (packed.Literal start end) = Literal (record { start = value start; end = value end })
+unpacked value (packed.Escaped b) = Escaped b
+unpacked value (packed.Variable start end) = Variable (record { start = value start; end = value end })
+unpacked value (packed.Default start end next) =
+    Default (record { start = value start; end = value end }) (value next)
+
+-- the same of each part of a list
+abbrev pub unpacked_parts : {O : Type 0} → (O → ℕ) → List (PackedPart O) → List Part
+unpacked_parts value parts = map (unpacked value) parts
+
+-- which number a field is whose type is one of numbers
+abbrev pub same_number : ℕ → ℕ
+same_number n = n
+
+-- each number of the part is below a limit
+abbrev pub FitsBelow : ℕ → Part → Type 0
+FitsBelow limit (Literal span) = (span.start < limit) × (span.end < limit)
+FitsBelow limit (Escaped b) = Unit {0}
+FitsBelow limit (Variable name) = (name.start < limit) × (name.end < limit)
+FitsBelow limit (Default name next) = (name.start < limit) × (name.end < limit) × (next < limit)

@@ -1,0 +1,103 @@
+-- How far the parser has read a source, and what its parts and its open defaults stand for.
+use Rattle.std.specs.Prelude.{◌≡◌, ℕ, suc, ◌+◌, ◌^◌, ◌<◌, ◌≤◌, List, [], ◌∷◌, ◌++◌, length, drop, reverse, Bool, true, false, IsTrue, Result, Ok, Err, IfSome}
+use Rattle.subst_language.specs.Language.Bytes.{colon, IsPlain}
+use Rattle.subst_language.specs.Language.Tree.{Tree, text}
+use Rattle.subst_language.specs.Language.WellFormed.{IsWellFormed}
+use Rattle.subst_language.specs.Language.Followed.{IsFollowed}
+use Rattle.subst_language.specs.Language.Balanced.{IsBalanced}
+use Rattle.subst_language.specs.Language.BadItem.{HasFault}
+use Rattle.subst_raw.specs.ByteRun.{IsRun}
+use Rattle.subst_language.specs.Lemmas.Closing.{ChangesDepth}
+use Rattle.subst_raw.specs.Halt.{halt_fault}
+use Rattle.subst_raw.specs.Placeholder.{IsInBraces}
+use Rattle.subst_language.specs.Lemmas.PlainEnds.{ends_plain, HasNoPlainEnds}
+use Rattle.subst_raw.specs.Parts.{PartsMean}
+use Rattle.subst_raw.specs.declared.Span.{Span}
+use Rattle.subst_raw.specs.declared.Part.{Part}
+use Rattle.subst_raw.specs.declared.Part.TheVariants.{Default}
+use Rattle.subst_raw.specs.declared.halt.Halt.{Halt}
+use Rattle.subst_raw.specs.declared.parse.OpenDefault.{OpenDefault}
+use Rattle.subst_raw.specs.declared.parse.Parser.{Parser}
+
+-- the source has the text of a well-formed tree from one position up to another, and what comes next may
+-- follow it
+pub record IsTreeAt (s : List ℕ) (from to : ℕ) (t : Tree) : Type 0 where
+  pub well_formed : IsWellFormed t
+  pub followed : IsFollowed t (drop to s)
+  pub spelled : drop from s ≡ text t ++ drop to s
+  pub ends : to ≡ from + length (text t)
+
+-- the source is parsed from start to at: such a tree, and the parts that mean it, the first of which has
+-- index i
+pub record IsParsed (s : List ℕ) (start at i : ℕ) (parts : List Part) : Type 0 where
+  pub tree : Tree
+  pub read : IsTreeAt s start at tree
+  pub mean : PartsMean s i parts start tree
+
+-- The same up to literal_start; from there to at come plain bytes that have no part yet. Where they may be
+-- pending, the tree doesn't end in a plain item, so that they are a run of their own.
+pub record IsParsedWithTail (pending : Bool) (s : List ℕ) (start literal_start at i : ℕ) (parts : List Part)
+    : Type 0 where
+  pub level : IsParsed s start literal_start i parts
+  pub run : IsRun IsPlain s literal_start at
+  pub begins : IsTrue pending → ends_plain false level.tree ≡ false
+
+-- A default is open: before its part are the parts of what is around it, after it those of its own text so
+-- far, in which bare braces are open too.
+pub record IsOpenDefault (pending : Bool) (s : List ℕ) (default : OpenDefault) (depth : ℕ) (parts : List Part)
+    (literal_start at : ℕ) (Around : List Part → ℕ → Type 0) : Type 0 where
+  pub before : List Part
+  pub own : List Part
+  pub name : Span
+  pub next : ℕ
+  pub splits : parts ≡ before ++ Default name next ∷ own
+  pub part : default.part ≡ length before
+  pub position : ℕ
+  pub head : IsInBraces s position name colon
+  pub current : IsParsedWithTail pending s (name.end + 1) literal_start at (length before + 1) own
+  pub bare : ℕ
+  pub braces : depth ≡ suc (default.depth + bare)
+  pub read : List ℕ
+  pub spelled : drop (name.end + 1) s ≡ read ++ drop at s
+  pub change : ChangesDepth read 0 bare
+  pub around : Around before position
+
+-- The source has been read up to at. These defaults are open, the innermost first, and depth braces in all.
+-- Plain bytes of the innermost text may be pending.
+abbrev pub StackHolds : Bool → List ℕ → List OpenDefault → ℕ → List Part → ℕ → ℕ → Type 0
+StackHolds pending s [] depth parts literal_start at =
+    (depth ≡ 0) × IsParsedWithTail pending s 0 literal_start at 0 parts
+StackHolds pending s (default ∷ defaults) depth parts literal_start at =
+    IsOpenDefault pending s default depth parts literal_start at
+    (λ before position. StackHolds false s defaults default.depth before position position)
+
+-- the same, where no plain bytes are pending
+abbrev pub StackHoldsFlushed : List ℕ → List OpenDefault → ℕ → List Part → ℕ → ℕ → Type 0
+StackHoldsFlushed s defaults depth parts literal_start at =
+    StackHolds false s defaults depth parts literal_start at
+
+-- What the parser keeps from one item to the next, where offsets and indexes in parts are below a limit. As
+-- each part is of at least one byte, the number of parts is one that a part can hold.
+pub record IsReading {O : Type 0} (limit : ℕ) (parser : Parser O) : Type 0 where
+  pub fits : length parser.tape.source.now < limit
+  pub few : length parser.parts ≤ parser.literal_start
+  pub small : length parser.tape.source.now < 2 ^ 64
+  pub within : parser.at ≤ length parser.tape.source.now
+  pub shallow : parser.depth ≤ parser.at
+  pub nested : StackHolds true parser.tape.source.now (reverse parser.defaults.items) parser.depth
+      parser.parts parser.literal_start parser.at
+
+-- the part, which has index i, means a tree that is at this range of the source, and that leaves all braces
+-- as they are
+pub record IsPart (s : List ℕ) (from to i : ℕ) (part : Part) : Type 0 where
+  pub tree : Tree
+  pub at : IsTreeAt s from to tree
+  pub balanced : IsBalanced (text tree)
+  pub ends : HasNoPlainEnds tree
+  pub mean : PartsMean s i (part ∷ []) from tree
+
+-- one step of the parser: it goes on, or returns the fault of the source, or memory ran out
+abbrev pub StepsOrFails : {O : Type 0} → ℕ → Parser O → Result (Unit {0}) Halt → Parser O → Type 0
+StepsOrFails limit old (Ok _) new =
+    IsReading limit new × (new.tape.source ≡ old.tape.source) × (old.at < new.at)
+StepsOrFails limit old (Err e) new = IfSome (halt_fault e) (HasFault 0 old.tape.source.now)

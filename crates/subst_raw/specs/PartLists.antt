@@ -1,0 +1,18 @@
+-- Which parts the lists of packed parts keep.
+use Rattle.std.specs.Prelude.{List}
+use Rattle.subst_raw.specs.Packed.{unpacked_parts, same_number}
+use Rattle.subst_raw.specs.declared.Part.{Part}
+use Rattle.subst_raw.specs.declared.part_slice.PartSlice.{PartSlice}
+use Rattle.subst_raw.specs.declared.part_slice.PartSlice.TheVariants as slice
+use Rattle.subst_raw.specs.declared.part_vec.EitherVec.{EitherVec}
+use Rattle.subst_raw.specs.declared.part_vec.EitherVec.TheVariants as vec
+
+-- the parts of a list that is lent
+abbrev pub slice_parts : PartSlice → List Part
+slice_parts (slice.Narrow parts) = unpacked_parts same_number parts.now
+slice_parts (slice.Wide parts) = unpacked_parts same_number parts.now
+
+-- the parts of a list that is owned
+abbrev pub vec_parts : EitherVec → List Part
+vec_parts (vec.Narrow parts) = parts
+vec_parts (vec.Wide parts) = parts

@@ -1,0 +1,76 @@
+-- What a list of parts means over a source.
+use Rattle.std.specs.Prelude.{◌≡◌, ℕ, ◌+◌, ◌<◌, ◌≤◌, List, [], ◌∷◌, length, Option, Some, None, nat_lt, if◌then◌else◌}
+use Rattle.subst_language.specs.Language.Name.{IsName}
+use Rattle.subst_language.specs.Language.Tree.{Tree}
+use Rattle.subst_language.specs.Language.Sentence.{Spells}
+use Rattle.subst_language.specs.Language.LookUp.{LookUp}
+use Rattle.subst_language.specs.Language.Value.{Value, Bytes, Missing, joined, found_or, value}
+use Rattle.subst_language.specs.Language.Counts.{visited_count}
+use Rattle.subst_raw.specs.Span.{IsSpan, span_bytes}
+use Rattle.std.specs.List.{slice_get}
+use Rattle.subst_raw.specs.declared.Span.{Span}
+use Rattle.subst_raw.specs.declared.Part.{Part}
+use Rattle.subst_raw.specs.declared.Part.TheVariants.{Literal, Escaped, Variable, Default}
+
+-- a part at index i of a list: its range lies in the source, its name is one, and its jump goes forward, to
+-- end at most
+abbrev pub FitsAt : ℕ → ℕ → List ℕ → Part → Type 0
+FitsAt i end s (Literal span) = IsSpan s span
+FitsAt i end s (Escaped b) = b < 256
+FitsAt i end s (Variable name) = IsSpan s name × IsName (span_bytes name s)
+FitsAt i end s (Default name next) = IsSpan s name × IsName (span_bytes name s) × (i < next) × (next ≤ end)
+
+-- the same of each part, where the first has index i
+abbrev pub AllFit : ℕ → ℕ → List ℕ → List Part → Type 0
+AllFit i end s [] = Unit {0}
+AllFit i end s (part ∷ rest) = FitsAt i end s part × AllFit (i + 1) end s rest
+
+-- what a part gives by itself
+abbrev pub part_value : Part → List ℕ → LookUp → Value
+part_value (Literal span) s look = Bytes (span_bytes span s)
+part_value (Escaped b) s look = Bytes (b ∷ [])
+part_value (Variable name) s look =
+    found_or (look (span_bytes name s)) (Missing name.start (span_bytes name s))
+part_value (Default name next) s look = found_or (look (span_bytes name s)) (Bytes [])
+
+-- next where something was found, else 0
+abbrev pub if_found : Option (List ℕ) → ℕ → ℕ
+if_found (Some x) next = next
+if_found None next = 0
+
+-- the part at index i is that of a variable with a default, which has this name
+abbrev pub HasName : List Part → ℕ → Span → Type 0
+HasName parts i name = (next : ℕ) × (slice_get parts i ≡ Some (Default name next))
+
+-- the index before which the parts after this one are jumped over
+abbrev pub resume_index : Part → List ℕ → LookUp → ℕ
+resume_index (Default name next) s look = if_found (look (span_bytes name s)) next
+resume_index _ s look = 0
+
+-- of the parts, the first of which has index i, those that an expansion visits that resumes at index from
+abbrev pub visited_parts : List Part → ℕ → ℕ → List ℕ → LookUp → List Part
+visited_parts [] i from s look = []
+visited_parts (part ∷ rest) i from s look =
+    if nat_lt i from then visited_parts rest (i + 1) from s look
+    else part ∷ visited_parts rest (i + 1) (resume_index part s look) s look
+
+-- the values of parts, joined
+abbrev pub joined_value : List Part → List ℕ → LookUp → Value
+joined_value [] s look = Bytes []
+joined_value (part ∷ rest) s look = joined (part_value part s look) (joined_value rest s look)
+
+-- what a list of parts gives: the values of those that an expansion visits, joined
+abbrev pub parts_value : List Part → List ℕ → LookUp → Value
+parts_value parts s look = joined_value (visited_parts parts 0 0 s look) s look
+
+-- the parts, the first of which has index i, mean the tree, whose text is at position p of the source
+pub record PartsMean (s : List ℕ) (i : ℕ) (parts : List Part) (p : ℕ) (t : Tree) : Type 0 where
+  pub fit : AllFit i (i + length parts) s parts
+  pub same_value : (look : LookUp) → joined_value (visited_parts parts i 0 s look) s look ≡ value p t look
+  pub same_count : (look : LookUp) → length (visited_parts parts i 0 s look) ≡ visited_count t look
+
+-- the parts mean the tree of the source
+pub record IsTemplateOf (s : List ℕ) (parts : List Part) : Type 0 where
+  pub tree : Tree
+  pub spells : Spells tree s
+  pub mean : PartsMean s 0 parts 0 tree

@@ -1,0 +1,429 @@
+//! Reading a source once, from the left, into a list of parts.
+
+ghost use Rattle.std.specs.Prelude.{◌≡◌, ◌+◌, ◌-◌, ◌*◌, ◌<◌, ◌≤◌, ℕ, List, [], ◌∷◌, length, drop, reverse, slice_get, vec_len, IfOk, IfErr, OnOk, IfSome, IsTrue, ◌↔◌};
+ghost use Rattle.subst_error.specs.ErrorFault.{parse_fault};
+ghost use Rattle.subst_error.specs.Fault.{MissingClosingBrace};
+ghost use Rattle.subst_language.specs.Language.Bytes.{dollar, colon, backslash, closing_brace};
+ghost use Rattle.subst_language.specs.Language.BadItem.{HasFault};
+ghost use Rattle.subst_language.specs.Calls.Outcome.{OnFault};
+ghost use Rattle.subst_raw.specs.Cost.{GrowsBetween, StepReads, StepReadsAfterFirst};
+ghost use Rattle.subst_raw.specs.Halt.{halt_fault};
+ghost use Rattle.subst_raw.specs.Packed.{FitsBelow};
+ghost use Rattle.subst_raw.specs.Parts.{HasName, IsTemplateOf};
+ghost use Rattle.subst_raw.specs.Placeholder.{IsInBraces, IsOptional, StatesBadItem};
+
+use crate::halt::Halt;
+use crate::item::{Placeholder, escape_at, placeholder_at};
+use crate::packed_part::Offset;
+use crate::packed_vec::PackedVec;
+use crate::part_vec::PartVec;
+use crate::scan::closes_all;
+use crate::steps::Reads;
+use crate::tape::Tape;
+use crate::{Part, Span};
+use std::alloc::{AllocError, Global};
+use std::mem;
+use subst_error::ParseError;
+
+/// For how many parts there is room at first, so that the lists of most templates are allocated once.
+const FIRST_PARTS: usize = 16;
+
+/// A default whose closing brace hasn't been read yet.
+#[derive(Clone, Copy)]
+pub(crate) struct OpenDefault {
+    /// The index of its part.
+    pub part: usize,
+    /// How many braces are open around it.
+    pub depth: usize,
+}
+
+/// How far a source has been read.
+#[derive(Drop)]
+pub(crate) struct Parser<'s, O: Offset> {
+    tape: Tape<'s>,
+    parts: PackedVec<O>,
+    /// The defaults that are open, the outermost first.
+    defaults: Vec<OpenDefault>,
+    /// How many braces are open: those of the defaults, and bare ones inside defaults.
+    depth: usize,
+    /// From here to `at` come literal bytes that have no part yet.
+    literal_start: usize,
+    /// The offset up to which the source has been read.
+    at: usize,
+}
+
+/// Returns the parts of a source, and counts the reads.
+///
+/// # Errors
+///
+/// The fault of the source where it is no sentence, or out of memory.
+pub fn parse(alloc: Global, source: &[u8], reads: &mut Reads) -> Result<PartVec, ParseError>
+    ensures ok { IfOk result (λ parts. IsTemplateOf source.now parts) }
+    ensures err { OnFault parse_fault result (HasFault 0 source.now) }
+    ensures bound { reads.new ≤ reads.old + 3 * length source.now + 8 }
+    ensures grows { reads.old ≤ reads.new }
+    ensures whole { OnOk result (reads.old + length source.now ≤ reads.new) }
+    ensures refused { IfErr result (λ e. reads.old + 1 ≤ reads.new) }
+{
+    // No offset and no index of a part is past the end of the source.
+    if source.len() <= u32::MAX as usize {
+        Ok(parse_packed::<u32>(alloc, source, reads)?.into())
+    } else {
+        Ok(parse_packed::<usize>(alloc, source, reads)?.into())
+    }
+}
+
+/// Returns the parts of a source, as `parse`, packed with offsets and indexes of type `O`.
+fn parse_packed<O: Offset>(
+    alloc: Global,
+    source: &[u8],
+    reads: &mut Reads,
+) -> Result<PackedVec<O>, ParseError>
+    requires fits { length source.now < O.limit }
+    ensures ok { IfOk result (λ parts. IsTemplateOf source.now parts) }
+    ensures err { OnFault parse_fault result (HasFault 0 source.now) }
+    ensures bound { reads.new ≤ reads.old + 3 * length source.now + 8 }
+    ensures grows { reads.old ≤ reads.new }
+    ensures whole { OnOk result (reads.old + length source.now ≤ reads.new) }
+    ensures refused { IfErr result (λ e. reads.old + 1 ≤ reads.new) }
+{
+    let counter = mem::replace(reads, Reads::new());
+    let mut parser = Parser::<O>::new(alloc, Tape::new(source, counter));
+    let outcome = parser.read_to_end();
+    let Parser { tape, parts, .. } = parser;
+    *reads = tape.into_reads();
+    match outcome {
+        Ok(()) => Ok(parts),
+        Err(halt) => Err(halt.into()),
+    }
+}
+
+impl<'s, O: Offset> Parser<'s, O> {
+    ghost use Rattle.subst_raw.specs.Parsing.{IsReading, IsPart, StepsOrFails, StackHoldsFlushed};
+
+    fn new(alloc: Global, tape: Tape<'s>) -> Self
+        requires fits { length tape.source.now < O.limit }
+        ensures reading { IsReading O.limit result }
+        ensures source { result.tape ≡ tape.entry }
+        ensures start { result.at ≡ 0 }
+    {
+        let parts = empty_list(alloc, tape.has(0));
+        Parser {
+            tape,
+            parts,
+            defaults: Vec::new(alloc),
+            depth: 0,
+            literal_start: 0,
+            at: 0,
+        }
+    }
+
+    /// Reads the source to its end, or to its first bad item.
+    fn read_to_end(&mut self) -> Result<(), Halt>
+        requires reading { IsReading O.limit self.old }
+        requires start { self.old.at ≡ 0 }
+        ensures ok { OnOk result (IsTemplateOf self.old.tape.source.now self.new.parts) }
+        ensures err { OnFault halt_fault result (HasFault 0 self.old.tape.source.now) }
+        ensures bound { self.new.tape.reads
+            ≤ self.old.tape.reads + 3 * length self.old.tape.source.now + 8 }
+        ensures grows { self.old.tape.reads ≤ self.new.tape.reads }
+        ensures whole { OnOk result
+            (self.old.tape.reads + length self.old.tape.source.now ≤ self.new.tape.reads) }
+        ensures refused { IfErr result (λ e. self.old.tape.reads + 1 ≤ self.new.tape.reads) }
+    {
+        while self.tape.has(self.at) {
+            self.read_item()?;
+        }
+        self.finish()
+    }
+
+    /// Reads up to and including the next special byte or item.
+    #[inline(always)]
+    fn read_item(&mut self) -> Result<(), Halt>
+        requires reading { IsReading O.limit self.old }
+        requires more { self.old.at < length self.old.tape.source.now }
+        ensures answer { StepsOrFails O.limit self.old result self.new }
+        ensures cost { StepReads self.old result self.new }
+    {
+        if self.is_at_top() {
+            self.read_at_top()
+        } else {
+            self.read_in_default()
+        }
+    }
+
+    /// Returns whether no brace is open.
+    #[inline(always)]
+    fn is_at_top(&self) -> bool
+        ensures { IsTrue result ↔ (self.now.depth ≡ 0) }
+    {
+        self.depth == 0
+    }
+
+    /// Reads, where no brace is open, plain bytes and the escape or placeholder after them.
+    #[inline(always)]
+    fn read_at_top(&mut self) -> Result<(), Halt>
+        requires reading { IsReading O.limit self.old }
+        requires more { self.old.at < length self.old.tape.source.now }
+        requires top { self.old.depth ≡ 0 }
+        ensures answer { StepsOrFails O.limit self.old result self.new }
+        ensures cost { StepReads self.old result self.new }
+    {
+        self.at = self.tape.plain_end(self.at);
+        match self.tape.byte_at(self.at) {
+            None => Ok(()),
+            Some(b'\\') => self.read_escape(),
+            Some(_) => self.read_placeholder(),
+        }
+    }
+
+    /// Reads, inside a default, plain bytes and the brace, escape or placeholder after them.
+    #[inline(always)]
+    fn read_in_default(&mut self) -> Result<(), Halt>
+        requires reading { IsReading O.limit self.old }
+        requires more { self.old.at < length self.old.tape.source.now }
+        requires inside { 0 < self.old.depth }
+        ensures answer { StepsOrFails O.limit self.old result self.new }
+        ensures cost { StepReads self.old result self.new }
+    {
+        self.at = self.tape.inner_end(self.at);
+        match self.tape.byte_at(self.at) {
+            None => Ok(()),
+            Some(b'\\') => self.read_escape(),
+            Some(b'$') => self.read_placeholder(),
+            Some(b'{') => {
+                self.depth += 1;
+                self.at += 1;
+                Ok(())
+            }
+            Some(_) => self.close_brace(),
+        }
+    }
+
+    /// Reads the escape at `at`.
+    #[inline(always)]
+    fn read_escape(&mut self) -> Result<(), Halt>
+        requires reading { IsReading O.limit self.old }
+        requires spelled { (rest : List ℕ)
+            × (drop self.old.at self.old.tape.source.now ≡ backslash ∷ rest) }
+        ensures answer { StepsOrFails O.limit self.old result self.new }
+        ensures cost { StepReadsAfterFirst self.old result self.new }
+    {
+        match escape_at(&mut self.tape, self.at) {
+            Ok(byte) => self.add_part(Part::Escaped(byte), self.at + 2),
+            Err(halt) => Err(self.fault_of_source(halt)),
+        }
+    }
+
+    /// Reads the placeholder at `at`, of one with a default the part up to the colon.
+    #[inline(always)]
+    fn read_placeholder(&mut self) -> Result<(), Halt>
+        requires reading { IsReading O.limit self.old }
+        requires spelled { (rest : List ℕ)
+            × (drop self.old.at self.old.tape.source.now ≡ dollar ∷ rest) }
+        ensures answer { StepsOrFails O.limit self.old result self.new }
+        ensures cost { StepReadsAfterFirst self.old result self.new }
+    {
+        match placeholder_at(&mut self.tape, self.at) {
+            Ok(Placeholder::Short(name)) => self.add_part(Part::Variable(name), name.end),
+            Ok(Placeholder::Braced(name)) => self.add_part(Part::Variable(name), name.end + 1),
+            Ok(Placeholder::Optional(name)) => self.add_optional(name),
+            Ok(Placeholder::Default(name)) => self.open_default(name),
+            Err(halt) => Err(self.fault_of_source(halt)),
+        }
+    }
+
+    /// Flushes the pending literal bytes into a `Literal` part.
+    #[inline(always)]
+    fn flush_literal(&mut self) -> Result<(), AllocError>
+        requires { IsReading O.limit self.old }
+        ensures kept { OnOk result
+            (self.new ≡ record self.old { parts = self.new.parts; literal_start = self.old.at }) }
+        ensures nested { OnOk result (StackHoldsFlushed self.old.tape.source.now
+            (reverse self.old.defaults.items) self.old.depth self.new.parts
+            self.old.at self.old.at) }
+        ensures few { OnOk result (length self.new.parts ≤ self.old.at) }
+        ensures same { self.new.tape ≡ self.old.tape }
+        ensures some { IfErr result (λ e. 0 < self.old.at) }
+    {
+        if self.literal_start < self.at {
+            self.parts.push(Part::Literal(Span {
+                start: self.literal_start,
+                end: self.at,
+            }))?;
+        }
+        self.literal_start = self.at;
+        Ok(())
+    }
+
+    /// Adds the part of the bytes from `at` up to `end`.
+    #[inline(always)]
+    fn add_part(&mut self, part: Part, end: usize) -> Result<(), Halt>
+        requires reading { IsReading O.limit self.old }
+        requires fits { FitsBelow O.limit part }
+        requires part { (i : ℕ) → IsPart self.old.tape.source.now self.old.at end i part }
+        requires within { end ≤ length self.old.tape.source.now }
+        requires forward { self.old.at < end }
+        ensures answer { StepsOrFails O.limit self.old result self.new }
+        ensures position { OnOk result (self.new.at ≡ end) }
+        ensures same { self.new.tape ≡ self.old.tape }
+    {
+        self.flush_literal()?;
+        self.parts.push(part)?;
+        self.at = end;
+        self.literal_start = end;
+        Ok(())
+    }
+
+    /// Adds the part of the placeholder `${name?}` at `at`: a default without parts, whose jump leads to the
+    /// part right after it.
+    #[inline(always)]
+    fn add_optional(&mut self, name: Span) -> Result<(), Halt>
+        requires reading { IsReading O.limit self.old }
+        requires optional { IsOptional self.old.tape.source.now self.old.at name }
+        ensures answer { StepsOrFails O.limit self.old result self.new }
+        ensures position { OnOk result (self.new.at ≡ name.end + 2) }
+        ensures same { self.new.tape ≡ self.old.tape }
+    {
+        self.flush_literal()?;
+        let next = self.parts.len() + 1;
+        self.parts.push(Part::Default { name, next })?;
+        self.at = name.end + 2;
+        self.literal_start = self.at;
+        Ok(())
+    }
+
+    /// Opens the default of the placeholder at `at`. Its part gets its jump when the default closes.
+    #[inline(always)]
+    fn open_default(&mut self, name: Span) -> Result<(), Halt>
+        requires reading { IsReading O.limit self.old }
+        requires head { IsInBraces self.old.tape.source.now self.old.at name colon }
+        ensures answer { StepsOrFails O.limit self.old result self.new }
+        ensures position { OnOk result (self.new.at ≡ name.end + 1) }
+        ensures same { self.new.tape ≡ self.old.tape }
+    {
+        self.flush_literal()?;
+        self.defaults.push(OpenDefault {
+            part: self.parts.len(),
+            depth: self.depth,
+        })?;
+        self.parts.push(Part::Default { name, next: 0 })?;
+        self.depth += 1;
+        self.at = name.end + 1;
+        self.literal_start = self.at;
+        Ok(())
+    }
+
+    /// Reads a closing brace inside a default: that of the default, or of a bare brace in it.
+    fn close_brace(&mut self) -> Result<(), Halt>
+        requires reading { IsReading O.limit self.old }
+        requires inside { 0 < self.old.depth }
+        requires spelled { drop self.old.at self.old.tape.source.now
+            ≡ closing_brace ∷ drop (self.old.at + 1) self.old.tape.source.now }
+        ensures answer { StepsOrFails O.limit self.old result self.new }
+        ensures position { OnOk result (self.new.at ≡ self.old.at + 1) }
+        ensures same { self.new.tape ≡ self.old.tape }
+    {
+        match self.defaults.last().copied() {
+            Some(innermost) if innermost.depth + 1 == self.depth => self.close_default(innermost),
+            _ => {
+                self.depth -= 1;
+                self.at += 1;
+                Ok(())
+            }
+        }
+    }
+
+    /// Closes the innermost default.
+    fn close_default(&mut self, innermost: OpenDefault) -> Result<(), Halt>
+        requires reading { IsReading O.limit self.old }
+        requires innermost { slice_get self.old.defaults.items
+            (length self.old.defaults.items - 1) ≡ Some innermost }
+        requires closes { innermost.depth + 1 ≡ self.old.depth }
+        requires spelled { drop self.old.at self.old.tape.source.now
+            ≡ closing_brace ∷ drop (self.old.at + 1) self.old.tape.source.now }
+        ensures answer { StepsOrFails O.limit self.old result self.new }
+        ensures position { OnOk result (self.new.at ≡ self.old.at + 1) }
+        ensures same { self.new.tape ≡ self.old.tape }
+    {
+        self.flush_literal()?;
+        let _ = self.defaults.pop();
+        let name = self.name_of(innermost);
+        let next = self.parts.len();
+        self.parts.set(innermost.part, Part::Default { name, next });
+        self.depth = innermost.depth;
+        self.at += 1;
+        self.literal_start = self.at;
+        Ok(())
+    }
+
+    /// Returns the name of an open default, which its part has.
+    fn name_of(&self, default: OpenDefault) -> Span
+        requires { (name : Span) × HasName self.now.parts default.part name }
+        ensures { HasName self.now.parts default.part result }
+    {
+        match self.parts.get(default.part) {
+            Some(Part::Default { name, .. }) => name,
+            _ => unreachable!(),
+        }
+    }
+
+    /// Returns the fault of the source, where a bad item is at `at`: a default that is never closed comes
+    /// before what is wrong inside it.
+    #[cold]
+    #[inline(never)]
+    fn fault_of_source(&mut self, halt: Halt) -> Halt
+        requires reading { IsReading O.limit self.old }
+        requires bad { StatesBadItem halt self.old.tape.source.now self.old.at }
+        ensures answer { IfSome (halt_fault result) (HasFault 0 self.old.tape.source.now) }
+        ensures cost { GrowsBetween 0 (length self.old.tape.source.now - self.old.at + 1)
+            self.old.tape.reads self.new.tape.reads }
+    {
+        let Some(outermost) = self.defaults.first().copied() else {
+            return halt;
+        };
+        if closes_all(&mut self.tape, self.at, self.depth) {
+            halt
+        } else {
+            unclosed(self.name_of(outermost))
+        }
+    }
+
+    /// Flushes the last literal bytes, at the end of the source.
+    fn finish(&mut self) -> Result<(), Halt>
+        requires reading { IsReading O.limit self.old }
+        requires end { length self.old.tape.source.now ≤ self.old.at }
+        ensures ok { OnOk result (IsTemplateOf self.old.tape.source.now self.new.parts) }
+        ensures err { OnFault halt_fault result (HasFault 0 self.old.tape.source.now) }
+        ensures same { self.new.tape ≡ self.old.tape }
+        ensures some { IfErr result (λ e. 0 < self.old.at) }
+    {
+        if let Some(outermost) = self.defaults.first().copied() {
+            return Err(unclosed(self.name_of(outermost)));
+        }
+        self.flush_literal()?;
+        Ok(())
+    }
+}
+
+/// Returns an empty list of parts, with room for a few where some are to come.
+fn empty_list<O: Offset>(alloc: Global, some: bool) -> PackedVec<O>
+    ensures { result ≡ [] }
+{
+    let mut parts = PackedVec::new(alloc);
+    if some {
+        // Where there is no memory for it, a push will say so.
+        let _ = parts.reserve(FIRST_PARTS);
+    }
+    parts
+}
+
+/// Returns the fault of a default that is never closed, by its name.
+fn unclosed(name: Span) -> Halt
+    requires { 0 < name.start }
+    ensures { halt_fault result ≡ Some (MissingClosingBrace (name.start - 1)) }
+{
+    Halt::Unclosed {
+        position: name.start - 1,
+    }
+}

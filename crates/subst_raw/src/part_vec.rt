@@ -1,0 +1,92 @@
+//! Lists of parts that are owned.
+
+ghost use Rattle.std.specs.Prelude.{◌≡◌, IfOk};
+
+use crate::packed_vec::PackedVec;
+use crate::part_slice::PartSlice;
+use std::alloc::{AllocError, Global};
+use std::marker::Model;
+
+/// A list of parts. Contracts see it as the list of its parts.
+///
+/// A part is kept in 16 bytes where offsets and indexes of 32 bits are enough, as they are for a source of
+/// less than 4 GiB, and else in 32 bytes.
+#[derive(Drop)]
+pub struct PartVec {
+    list: EitherVec,
+}
+
+/// The parts, with offsets and indexes of 32 bits or of 64.
+#[derive(Drop)]
+enum EitherVec {
+    Narrow(PackedVec<u32>),
+    Wide(PackedVec<usize>),
+}
+
+impl Model for PartVec {
+    ghost use Rattle.std.specs.Prelude.{List};
+    ghost use Rattle.subst_raw.specs.declared.Part.{Part};
+
+    ghost Value = { List Part };
+
+    ghost use Rattle.subst_raw.specs.PartLists.{vec_parts};
+
+    ghost view = { λ parts. vec_parts parts.list };
+}
+
+impl PartVec {
+    ghost use Rattle.subst_raw.specs.PartLists.{slice_parts};
+
+    /// Returns a list of the same parts.
+    pub(crate) fn from_slice(alloc: Global, parts: PartSlice<'_>) -> Result<Self, AllocError>
+        ensures { IfOk result (λ list. list ≡ slice_parts parts.entry) }
+    {
+        let list = match parts {
+            PartSlice::Narrow(list) => EitherVec::Narrow(PackedVec::from_slice(alloc, list)?),
+            PartSlice::Wide(list) => EitherVec::Wide(PackedVec::from_slice(alloc, list)?),
+        };
+        Ok(PartVec { list })
+    }
+
+    /// Returns the parts, lent.
+    pub(crate) fn as_slice(&self) -> PartSlice<'_>
+        ensures { slice_parts result ≡ self.now }
+    {
+        match &self.list {
+            EitherVec::Narrow(list) => PartSlice::Narrow(list.as_slice()),
+            EitherVec::Wide(list) => PartSlice::Wide(list.as_slice()),
+        }
+    }
+}
+
+impl From<PackedVec<u32>> for PartVec {
+    ghost from_gives = { λ packed parts. parts ≡ packed };
+
+    fn from(packed: PackedVec<u32>) -> PartVec {
+        PartVec {
+            list: EitherVec::Narrow(packed),
+        }
+    }
+}
+
+impl From<PackedVec<usize>> for PartVec {
+    ghost from_gives = { λ packed parts. parts ≡ packed };
+
+    fn from(packed: PackedVec<usize>) -> PartVec {
+        PartVec {
+            list: EitherVec::Wide(packed),
+        }
+    }
+}
+
+impl Clone for PartVec {
+    ghost is_clone = { λ parts copy. copy ≡ parts };
+
+    fn clone(&self) -> Result<PartVec, AllocError> {
+        let list = match &self.list {
+            EitherVec::Narrow(list) => EitherVec::Narrow(list.clone()?),
+            EitherVec::Wide(list) => EitherVec::Wide(list.clone()?),
+        };
+        Ok(PartVec { list })
+    }
+}

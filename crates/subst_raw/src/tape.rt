@@ -1,0 +1,218 @@
+//! The source as the parser reads it.
+
+ghost use Rattle.std.specs.Prelude.{◌≡◌, ◌+◌, ◌-◌, ◌<◌, ◌≤◌, [], ◌∷◌, length, drop, min, IsSome, IsTrue, ◌↔◌, MatchOption};
+ghost use Rattle.subst_language.specs.Language.Bytes.{IsPlain};
+ghost use Rattle.subst_language.specs.Language.Name.{IsNameByte, BeginsWithNo};
+ghost use Rattle.subst_language.specs.Language.Character.{IsFrontCharacter};
+ghost use Rattle.subst_raw.specs.ByteRun.{IsRun};
+ghost use Rattle.subst_raw.specs.Inner.{IsInner};
+
+use crate::byte_class::{ByteClass, InnerBytes, NameBytes, PlainBytes};
+use crate::character::front_character;
+use crate::steps::Reads;
+use memchr::memchr2;
+use subst_error::CharOrByte;
+
+/// A source that is read one byte at a time, or searched, with the counter of its reads. The parser has no
+/// other way to the source and no other counter, so each byte that it looks at is counted.
+#[derive(Drop)]
+pub(crate) struct Tape<'s> {
+    source: &'s [u8],
+    reads: Reads,
+}
+
+impl<'s> Tape<'s> {
+    pub fn new(source: &'s [u8], reads: Reads) -> Self
+        ensures source { result.source.now ≡ source.now }
+        ensures reads { result.reads ≡ reads }
+    {
+        Tape { source, reads }
+    }
+
+    /// Returns the counter.
+    pub fn into_reads(self) -> Reads
+        ensures { result ≡ self.entry.reads }
+    {
+        let Tape { reads, .. } = self;
+        reads
+    }
+
+    /// Returns whether there is a byte at an offset. Reads nothing.
+    #[inline(always)]
+    pub fn has(&self, at: usize) -> bool
+        ensures { IsTrue result ↔ (at < length self.now.source.now) }
+    {
+        at < self.source.len()
+    }
+
+    /// Returns the byte at an offset, or nothing after the last byte.
+    #[inline(always)]
+    pub fn byte_at(&mut self, at: usize) -> Option<u8>
+        ensures byte { MatchOption result (drop at self.old.source.now ≡ [])
+            (λ b. drop at self.old.source.now ≡ b ∷ drop (at + 1) self.old.source.now) }
+        ensures within { IsSome result → at < length self.old.source.now }
+        ensures same { self.new.source ≡ self.old.source }
+        ensures cost { self.new.reads ≡ self.old.reads + 1 }
+    {
+        self.reads.add(1);
+        self.source.get(at).copied()
+    }
+
+    /// Returns the first offset from `from` on of a dollar or a backslash, or the end of the source. After an
+    /// escape or a placeholder it often is one of the first two, so a search begins only after these.
+    #[inline(always)]
+    pub fn plain_end(&mut self, from: usize) -> usize
+        requires { from < length self.old.source.now }
+        ensures run { IsRun IsPlain self.old.source.now from result }
+        ensures end { BeginsWithNo IsPlain (drop result self.old.source.now) }
+        ensures within { result ≤ length self.old.source.now }
+        ensures same { self.new.source ≡ self.old.source }
+        ensures cost { self.new.reads + from
+            ≡ self.old.reads + min (result + 1) (length self.old.source.now) }
+    {
+        if !self.is_at::<PlainBytes>(from) {
+            return from;
+        }
+        let next = from + 1;
+        if !self.has(next) || !self.is_at::<PlainBytes>(next) {
+            return next;
+        }
+        self.search_plain_end(next + 1)
+    }
+
+    /// Returns, by a search, the first offset from `from` on of a dollar or a backslash, or the end of the
+    /// source.
+    #[inline(never)]
+    fn search_plain_end(&mut self, from: usize) -> usize
+        requires { from ≤ length self.old.source.now }
+        ensures run { IsRun IsPlain self.old.source.now from result }
+        ensures end { BeginsWithNo IsPlain (drop result self.old.source.now) }
+        ensures within { result ≤ length self.old.source.now }
+        ensures same { self.new.source ≡ self.old.source }
+        ensures cost { self.new.reads + from
+            ≡ self.old.reads + min (result + 1) (length self.old.source.now) }
+    {
+        match memchr2(b'$', b'\\', self.rest(from)) {
+            Some(found) => {
+                self.reads.add(found + 1);
+                from + found
+            }
+            None => {
+                self.reads.add(self.source.len() - from);
+                self.source.len()
+            }
+        }
+    }
+
+    /// Returns the first offset from `from` on of a byte that is no name byte, or the end of the source.
+    #[inline(always)]
+    pub fn name_end(&mut self, from: usize) -> usize
+        requires { from ≤ length self.old.source.now }
+        ensures run { IsRun IsNameByte self.old.source.now from result }
+        ensures end { BeginsWithNo IsNameByte (drop result self.old.source.now) }
+        ensures within { result ≤ length self.old.source.now }
+        ensures same { self.new.source ≡ self.old.source }
+        ensures cost { self.new.reads + from
+            ≡ self.old.reads + min (result + 1) (length self.old.source.now) }
+    {
+        self.end_of_run::<NameBytes>(from)
+    }
+
+    /// Returns the first offset from `from` on of a backslash, a dollar or a brace, or the end of the source.
+    #[inline(always)]
+    pub fn inner_end(&mut self, from: usize) -> usize
+        requires { from < length self.old.source.now }
+        ensures run { IsRun IsInner self.old.source.now from result }
+        ensures end { BeginsWithNo IsInner (drop result self.old.source.now) }
+        ensures within { result ≤ length self.old.source.now }
+        ensures same { self.new.source ≡ self.old.source }
+        ensures cost { self.new.reads + from
+            ≡ self.old.reads + min (result + 1) (length self.old.source.now) }
+    {
+        if self.is_at::<InnerBytes>(from) {
+            self.search_inner_end(from + 1)
+        } else {
+            from
+        }
+    }
+
+    /// Returns, by a search, the first offset from `from` on of a backslash, a dollar or a brace, or the end
+    /// of the source.
+    #[inline(never)]
+    fn search_inner_end(&mut self, from: usize) -> usize
+        requires { from ≤ length self.old.source.now }
+        ensures run { IsRun IsInner self.old.source.now from result }
+        ensures end { BeginsWithNo IsInner (drop result self.old.source.now) }
+        ensures within { result ≤ length self.old.source.now }
+        ensures same { self.new.source ≡ self.old.source }
+        ensures cost { self.new.reads + from
+            ≡ self.old.reads + min (result + 1) (length self.old.source.now) }
+    {
+        self.end_of_run::<InnerBytes>(from)
+    }
+
+    /// Returns the first offset from `from` on of a byte that isn't in a class, or the end of the source.
+    /// Each turn looks at two bytes, so that fewer instructions go to the loop.
+    #[inline(always)]
+    fn end_of_run<C: ByteClass>(&mut self, from: usize) -> usize
+        requires { from ≤ length self.old.source.now }
+        ensures run { IsRun C.is_in self.old.source.now from result }
+        ensures end { BeginsWithNo C.is_in (drop result self.old.source.now) }
+        ensures within { result ≤ length self.old.source.now }
+        ensures same { self.new.source ≡ self.old.source }
+        ensures cost { self.new.reads + from
+            ≡ self.old.reads + min (result + 1) (length self.old.source.now) }
+    {
+        let mut at = from;
+        while self.has(at + 1) {
+            if !self.is_at::<C>(at) {
+                return at;
+            }
+            if !self.is_at::<C>(at + 1) {
+                return at + 1;
+            }
+            at += 2;
+        }
+        if self.has(at) && self.is_at::<C>(at) {
+            at += 1;
+        }
+        at
+    }
+
+    /// Returns whether the byte at an offset is in a class.
+    #[inline(always)]
+    fn is_at<C: ByteClass>(&mut self, at: usize) -> bool
+        requires { at < length self.old.source.now }
+        ensures run { IsTrue result → IsRun C.is_in self.old.source.now at (at + 1) }
+        ensures end { ¬ (IsTrue result) → BeginsWithNo C.is_in (drop at self.old.source.now) }
+        ensures same { self.new.source ≡ self.old.source }
+        ensures cost { self.new.reads ≡ self.old.reads + 1 }
+    {
+        self.reads.add(1);
+        C::has(self.source[at])
+    }
+
+    /// Returns the character at an offset, or the byte there where no character begins. Looks at up to four
+    /// bytes.
+    #[cold]
+    #[inline(never)]
+    pub fn character_at(&mut self, at: usize) -> CharOrByte
+        requires { at < length self.old.source.now }
+        ensures answer { IsFrontCharacter (drop at self.old.source.now) result }
+        ensures same { self.new.source ≡ self.old.source }
+        ensures cost { self.new.reads ≡ self.old.reads + min 4 (length self.old.source.now - at) }
+    {
+        let rest = self.rest(at);
+        self.reads.add(rest.len().min(4));
+        front_character(rest)
+    }
+
+    /// Returns the bytes from an offset on.
+    #[inline(always)]
+    fn rest(&self, at: usize) -> &'s [u8]
+        requires { at ≤ length self.now.source.now }
+        ensures { result.now ≡ drop at self.now.source.now }
+    {
+        &self.source[at..]
+    }
+}

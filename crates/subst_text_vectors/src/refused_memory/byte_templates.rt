@@ -1,0 +1,246 @@
+//! Out of memory in templates of bytes that own their sources, and in copies.
+
+use super::say_out_of_memory;
+use crate::byte_calls as calls;
+use crate::byte_calls::Bytes;
+use std::alloc::{AllocError, Global};
+use std::io::Print;
+use std::test::Fail;
+use subst::error::{ExpandError, ParseError};
+use subst::{ByteTemplate, ByteTemplateBuf};
+
+/// A default in a default, escapes, and a variable.
+const SENTENCE: &[u8] = b"Hi ${hi:\\{${who:you}\\}} and $name!";
+
+/// What it gives.
+const GIVEN: &[u8] = b"Hi {you} and the whole round world with all that is in it!";
+
+/// A source with a bad escape in its inner default.
+const REFUSED: &[u8] = b"Hi ${hi:$name and ${who:\\!}}!";
+
+/// The byte offset of that escape.
+const BAD_ESCAPE: usize = 24;
+
+/// The value of `name`, longer than each source.
+const VALUE: &[u8] = b"the whole round world with all that is in it";
+
+/// The variables, from a second request where the first is refused.
+fn variables(alloc: Global) -> Result<Bytes, AllocError> {
+    match calls::one_variable(alloc, "name", VALUE) {
+        Err(_) => calls::one_variable(alloc, "name", VALUE),
+        variables => variables,
+    }
+}
+
+/// Whether the variables are those that were asked for.
+fn are_as_before(variables: &Bytes) -> bool {
+    match variables.get("name") {
+        Some(value) => variables.len() == 1 && value.as_slice() == VALUE,
+        None => false,
+    }
+}
+
+/// Returns the template of a source, from a second call where memory ran out.
+fn parsed<'a>(
+    alloc: Global,
+    rt: &impl Print,
+    source: &'a [u8],
+) -> Result<ByteTemplate<'a>, ParseError> {
+    match calls::parse(alloc, source) {
+        Err(ParseError::OutOfMemory(_)) => {
+            say_out_of_memory(rt);
+            calls::parse(alloc, source)
+        }
+        answer => answer,
+    }
+}
+
+/// Returns a template that owns a copy of a source, from a second call where memory ran out.
+fn owned(alloc: Global, rt: &impl Print, source: &[u8]) -> Result<ByteTemplateBuf, ParseError> {
+    match calls::own(alloc, source) {
+        Err(ParseError::OutOfMemory(_)) => {
+            say_out_of_memory(rt);
+            calls::own(alloc, source)
+        }
+        answer => answer,
+    }
+}
+
+/// Returns what a template gives, from a second call where memory ran out.
+fn expanded(
+    alloc: Global,
+    rt: &impl Print,
+    template: &ByteTemplate<'_>,
+    variables: &Bytes,
+) -> Result<Vec<u8>, ExpandError> {
+    match calls::expand(alloc, template, variables) {
+        Err(ExpandError::OutOfMemory(_)) => {
+            say_out_of_memory(rt);
+            calls::expand(alloc, template, variables)
+        }
+        answer => answer,
+    }
+}
+
+/// The same by a template that owns its source.
+fn expanded_by_owner(
+    alloc: Global,
+    rt: &impl Print,
+    template: &ByteTemplateBuf,
+    variables: &Bytes,
+) -> Result<Vec<u8>, ExpandError> {
+    match calls::expand_owner(alloc, template, variables) {
+        Err(ExpandError::OutOfMemory(_)) => {
+            say_out_of_memory(rt);
+            calls::expand_owner(alloc, template, variables)
+        }
+        answer => answer,
+    }
+}
+
+/// Returns a clone of a template, from a second call where memory ran out.
+fn cloned<'a>(
+    rt: &impl Print,
+    template: &ByteTemplate<'a>,
+) -> Result<ByteTemplate<'a>, AllocError> {
+    match calls::clone(template) {
+        Err(_) => {
+            say_out_of_memory(rt);
+            calls::clone(template)
+        }
+        answer => answer,
+    }
+}
+
+/// The same of a template that owns its source.
+fn cloned_owner(
+    rt: &impl Print,
+    template: &ByteTemplateBuf,
+) -> Result<ByteTemplateBuf, AllocError> {
+    match calls::clone_owner(template) {
+        Err(_) => {
+            say_out_of_memory(rt);
+            calls::clone_owner(template)
+        }
+        answer => answer,
+    }
+}
+
+/// Returns an owned copy of a template, from a second call where memory ran out.
+fn copied(
+    alloc: Global,
+    rt: &impl Print,
+    template: &ByteTemplate<'_>,
+) -> Result<ByteTemplateBuf, AllocError> {
+    match calls::from_template(alloc, template) {
+        Err(_) => {
+            say_out_of_memory(rt);
+            calls::from_template(alloc, template)
+        }
+        answer => answer,
+    }
+}
+
+/// Returns an owned copy of what a template lends, from a second call where memory ran out.
+fn copied_of_lent(
+    alloc: Global,
+    rt: &impl Print,
+    lender: &ByteTemplateBuf,
+) -> Result<ByteTemplateBuf, AllocError> {
+    match calls::of_template(alloc, calls::lend(lender)) {
+        Err(_) => {
+            say_out_of_memory(rt);
+            calls::of_template(alloc, calls::lend(lender))
+        }
+        answer => answer,
+    }
+}
+
+/// Whether a template has the source [`SENTENCE`] and gives [`GIVEN`].
+fn is_whole(alloc: Global, rt: &impl Print, template: &ByteTemplate<'_>) -> Result<bool, Fail> {
+    let variables = variables(alloc)?;
+    let output = expanded(alloc, rt, template, &variables)?;
+    Ok(template.source() == SENTENCE && output.as_slice() == GIVEN && are_as_before(&variables))
+}
+
+/// The same of its clone.
+fn is_clone_whole(
+    alloc: Global,
+    rt: &impl Print,
+    template: &ByteTemplate<'_>,
+) -> Result<bool, Fail> {
+    let copy = cloned(rt, template)?;
+    is_whole(alloc, rt, &copy)
+}
+
+/// The same of a template that owns its source, which it gives back at last.
+fn is_whole_owner(alloc: Global, rt: &impl Print, template: ByteTemplateBuf) -> Result<bool, Fail> {
+    let variables = variables(alloc)?;
+    let output = expanded_by_owner(alloc, rt, &template, &variables)?;
+    let gives = output.as_slice() == GIVEN && are_as_before(&variables);
+    Ok(gives && calls::take_apart(template).as_slice() == SENTENCE)
+}
+
+/// The same of an owned copy of a template.
+fn is_copy_whole(
+    alloc: Global,
+    rt: &impl Print,
+    template: &ByteTemplate<'_>,
+) -> Result<bool, Fail> {
+    let copy = copied(alloc, rt, template)?;
+    is_whole_owner(alloc, rt, copy)
+}
+
+fn is_refused(parsed: &Result<ByteTemplateBuf, ParseError>) -> bool {
+    match parsed {
+        Err(ParseError::InvalidEscapeSequence(e)) => e.position == BAD_ESCAPE,
+        _ => false,
+    }
+}
+
+#[test]
+fn clone_of_a_template(rt: HostRuntime) -> Result<(), Fail> {
+    let template = parsed(rt.alloc(), &rt, SENTENCE)?;
+    assert!(rt; is_clone_whole(rt.alloc(), &rt, &template)?);
+    assert!(rt; is_whole(rt.alloc(), &rt, &template)?);
+    Ok(())
+}
+
+#[test]
+fn from_vec_and_expand(rt: HostRuntime) -> Result<(), Fail> {
+    let owner = owned(rt.alloc(), &rt, SENTENCE)?;
+    assert!(rt; is_whole_owner(rt.alloc(), &rt, owner)?);
+    Ok(())
+}
+
+#[test]
+fn from_vec_of_a_refused_source(rt: HostRuntime) -> Result<(), Fail> {
+    assert!(rt; is_refused(&owned(rt.alloc(), &rt, REFUSED)));
+    Ok(())
+}
+
+#[test]
+fn clone_of_an_owner(rt: HostRuntime) -> Result<(), Fail> {
+    let owner = owned(rt.alloc(), &rt, SENTENCE)?;
+    let copy = cloned_owner(&rt, &owner)?;
+    assert!(rt; is_whole_owner(rt.alloc(), &rt, owner)?);
+    assert!(rt; is_whole_owner(rt.alloc(), &rt, copy)?);
+    Ok(())
+}
+
+#[test]
+fn from_template(rt: HostRuntime) -> Result<(), Fail> {
+    let template = parsed(rt.alloc(), &rt, SENTENCE)?;
+    assert!(rt; is_copy_whole(rt.alloc(), &rt, &template)?);
+    assert!(rt; is_whole(rt.alloc(), &rt, &template)?);
+    Ok(())
+}
+
+#[test]
+fn of_template(rt: HostRuntime) -> Result<(), Fail> {
+    let lender = owned(rt.alloc(), &rt, SENTENCE)?;
+    let copy = copied_of_lent(rt.alloc(), &rt, &lender)?;
+    assert!(rt; is_whole_owner(rt.alloc(), &rt, lender)?);
+    assert!(rt; is_whole_owner(rt.alloc(), &rt, copy)?);
+    Ok(())
+}

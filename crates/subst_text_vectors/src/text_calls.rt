@@ -1,0 +1,78 @@
+//! The calls over texts, each without a contract.
+
+use std::alloc::{AllocError, Global};
+use std::collections::BTreeMap;
+use subst::error::{ExpandError, ParseError};
+use subst::{Error, Template, TemplateBuf, substitute};
+
+/// Variables whose values are texts.
+pub type Texts = BTreeMap<String, String>;
+
+/// The variables of pairs as `a=1,b=2`.
+pub fn texts(alloc: Global, pairs: &str) -> Result<Texts, AllocError> {
+    let mut variables = BTreeMap::new(alloc);
+    for pair in pairs.split(',') {
+        if let Some((name, value)) = pair.split_once('=') {
+            let value = String::from_str(alloc, value)?;
+            let _ = variables.insert(String::from_str(alloc, name)?, value)?;
+        }
+    }
+    Ok(variables)
+}
+
+pub fn fill_in(alloc: Global, source: &str, variables: &Texts) -> Result<String, Error> {
+    substitute(alloc, source, variables)
+}
+
+pub fn parse(alloc: Global, source: &str) -> Result<Template<'_>, ParseError> {
+    Template::from_str(alloc, source)
+}
+
+pub fn expand(
+    alloc: Global,
+    template: &Template<'_>,
+    variables: &Texts,
+) -> Result<String, ExpandError> {
+    template.expand(alloc, variables)
+}
+
+pub fn clone<'a>(template: &Template<'a>) -> Result<Template<'a>, AllocError> {
+    template.clone()
+}
+
+/// The template that owns a copy of a text.
+pub fn own(alloc: Global, source: &str) -> Result<TemplateBuf, ParseError> {
+    TemplateBuf::from_string(String::from_str(alloc, source)?)
+}
+
+pub fn expand_owner(
+    alloc: Global,
+    template: &TemplateBuf,
+    variables: &Texts,
+) -> Result<String, ExpandError> {
+    template.expand(alloc, variables)
+}
+
+pub fn clone_owner(template: &TemplateBuf) -> Result<TemplateBuf, AllocError> {
+    template.clone()
+}
+
+pub fn from_template(alloc: Global, template: &Template<'_>) -> Result<TemplateBuf, AllocError> {
+    TemplateBuf::from_template(alloc, template)
+}
+
+pub fn of_template(alloc: Global, template: Template<'_>) -> Result<TemplateBuf, AllocError> {
+    TemplateBuf::of_template(alloc, template)
+}
+
+pub fn lend(template: &TemplateBuf) -> Template<'_> {
+    template.as_template()
+}
+
+pub fn lend_by_from(template: &TemplateBuf) -> Template<'_> {
+    Template::from(template)
+}
+
+pub fn take_apart(template: TemplateBuf) -> String {
+    template.into_source()
+}

@@ -1,0 +1,45 @@
+//! The ways from a text to what it gives.
+
+use crate::text_calls::{Texts, expand, expand_owner, fill_in, own, parse};
+use std::alloc::Global;
+use subst::Error;
+
+type Filled = Result<String, Error>;
+
+fn by_lender(alloc: Global, source: &str, variables: &Texts) -> Filled {
+    let template = parse(alloc, source)?;
+    Ok(expand(alloc, &template, variables)?)
+}
+
+fn by_owner(alloc: Global, source: &str, variables: &Texts) -> Filled {
+    let template = own(alloc, source)?;
+    Ok(expand_owner(alloc, &template, variables)?)
+}
+
+fn is_output(filled: &Filled, want: &str) -> bool {
+    match filled {
+        Ok(output) => output.as_str() == want,
+        Err(_) => false,
+    }
+}
+
+/// Whether a text gives `want`, by each way.
+pub fn all_give(alloc: Global, source: &str, variables: &Texts, want: &str) -> bool {
+    is_output(&fill_in(alloc, source, variables), want)
+        && is_output(&by_lender(alloc, source, variables), want)
+        && is_output(&by_owner(alloc, source, variables), want)
+}
+
+fn is_fault(filled: &Filled, want: &Error) -> bool {
+    match filled {
+        Ok(_) => false,
+        Err(fault) => fault == want,
+    }
+}
+
+/// Whether a text is refused with the fault `want`, by each way.
+pub fn all_refuse(alloc: Global, source: &str, variables: &Texts, want: &Error) -> bool {
+    is_fault(&fill_in(alloc, source, variables), want)
+        && is_fault(&by_lender(alloc, source, variables), want)
+        && is_fault(&by_owner(alloc, source, variables), want)
+}

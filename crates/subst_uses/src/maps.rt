@@ -1,0 +1,6 @@
+//! Callers at each kind of map.
+
+pub mod bytes;
+#[cfg(test)]
+mod tests;
+pub mod texts;

@@ -1,0 +1,95 @@
+//! Bytes filled in from each kind of map: what each has under a name. `filled` has a `BTreeMap` that owns its
+//! keys.
+
+ghost use Rattle.std.specs.Prelude.{IfSome};
+ghost use Rattle.std.specs.Option.{option_map};
+ghost use Rattle.std.specs.HashMap.{get_by_text as hash_get_by_text};
+ghost use Rattle.subst.specs.Language.Answer.{Answers};
+ghost use Rattle.subst.specs.Calls.Maps.{first_value, btree_get_by_lent_text, hash_get_by_lent_text};
+ghost use Rattle.subst.specs.Calls.Outcome.{answer_of};
+
+use indexmap::IndexMap;
+use std::alloc::Global;
+use std::collections::{BTreeMap, HashMap};
+use std::convert::AsSlice;
+use std::hash::BuildHasher;
+use subst::{Env, Error, NoSubstitution, substitute_bytes};
+
+/// Returns bytes filled in from a `BTreeMap` whose keys are lent.
+pub fn btree_map_of_lent<V: AsSlice<u8>>(
+    alloc: Global,
+    source: &[u8],
+    variables: &BTreeMap<&str, V>,
+) -> Result<Vec<u8>, Error>
+    ensures { IfSome (answer_of (λ output. output.items) result)
+        (Answers source.now
+        (λ name. option_map V.items (btree_get_by_lent_text variables.now name))) }
+{
+    substitute_bytes(alloc, source, variables)
+}
+
+/// Returns bytes filled in from a `HashMap`.
+pub fn hash_map<V: AsSlice<u8>, S: BuildHasher>(
+    alloc: Global,
+    source: &[u8],
+    variables: &HashMap<String, V, S>,
+) -> Result<Vec<u8>, Error>
+    ensures { IfSome (answer_of (λ output. output.items) result)
+        (Answers source.now (λ name. option_map V.items (hash_get_by_text variables.now name))) }
+{
+    substitute_bytes(alloc, source, variables)
+}
+
+/// Returns bytes filled in from a `HashMap` whose keys are lent.
+pub fn hash_map_of_lent<V: AsSlice<u8>, S: BuildHasher>(
+    alloc: Global,
+    source: &[u8],
+    variables: &HashMap<&str, V, S>,
+) -> Result<Vec<u8>, Error>
+    ensures { IfSome (answer_of (λ output. output.items) result)
+        (Answers source.now
+        (λ name. option_map V.items (hash_get_by_lent_text variables.now name))) }
+{
+    substitute_bytes(alloc, source, variables)
+}
+
+/// Returns bytes filled in from an `IndexMap`.
+pub fn index_map<V: AsSlice<u8>, S: BuildHasher>(
+    alloc: Global,
+    source: &[u8],
+    variables: &IndexMap<String, V, S>,
+) -> Result<Vec<u8>, Error>
+    ensures { IfSome (answer_of (λ output. output.items) result)
+        (Answers source.now (λ name. option_map V.items (hash_get_by_text variables.now name))) }
+{
+    substitute_bytes(alloc, source, variables)
+}
+
+/// Returns bytes filled in from an `IndexMap` whose keys are lent.
+pub fn index_map_of_lent<V: AsSlice<u8>, S: BuildHasher>(
+    alloc: Global,
+    source: &[u8],
+    variables: &IndexMap<&str, V, S>,
+) -> Result<Vec<u8>, Error>
+    ensures { IfSome (answer_of (λ output. output.items) result)
+        (Answers source.now
+        (λ name. option_map V.items (hash_get_by_lent_text variables.now name))) }
+{
+    substitute_bytes(alloc, source, variables)
+}
+
+/// Returns bytes filled in without variables, so that each default is used.
+pub fn no_substitution(alloc: Global, source: &[u8]) -> Result<Vec<u8>, Error>
+    ensures { IfSome (answer_of (λ output. output.items) result)
+        (Answers source.now (λ _. None)) }
+{
+    substitute_bytes(alloc, source, &NoSubstitution)
+}
+
+/// Returns bytes filled in from the pairs of an `Env`.
+pub fn env(alloc: Global, source: &[u8], variables: &Env) -> Result<Vec<u8>, Error>
+    ensures { IfSome (answer_of (λ output. output.items) result)
+        (Answers source.now (first_value variables.now)) }
+{
+    substitute_bytes(alloc, source, variables)
+}

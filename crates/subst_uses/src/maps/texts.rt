@@ -1,0 +1,107 @@
+//! Texts filled in from each kind of map: what each has under a name.
+
+ghost use Rattle.std.specs.Prelude.{IfSome, string_bytes};
+ghost use Rattle.std.specs.Option.{option_map};
+ghost use Rattle.std.specs.BTreeMap.{get_by_text as btree_get_by_text};
+ghost use Rattle.std.specs.HashMap.{get_by_text as hash_get_by_text};
+ghost use Rattle.subst.specs.Language.Answer.{Answers};
+ghost use Rattle.subst.specs.Calls.Maps.{first_value, btree_get_by_lent_text, hash_get_by_lent_text};
+ghost use Rattle.subst.specs.Calls.Outcome.{answer_of};
+
+use indexmap::IndexMap;
+use std::alloc::Global;
+use std::collections::{BTreeMap, HashMap};
+use std::convert::AsStr;
+use std::hash::BuildHasher;
+use subst::{Env, Error, NoSubstitution, substitute};
+
+/// Returns a text filled in from a `BTreeMap`.
+pub fn btree_map<V: AsStr>(
+    alloc: Global,
+    source: &str,
+    variables: &BTreeMap<String, V>,
+) -> Result<String, Error>
+    ensures { IfSome (answer_of (λ output. string_bytes output) result)
+        (Answers source.now (λ name. option_map V.text (btree_get_by_text variables.now name))) }
+{
+    substitute(alloc, source, variables)
+}
+
+/// Returns a text filled in from a `BTreeMap` whose keys are lent.
+pub fn btree_map_of_lent<V: AsStr>(
+    alloc: Global,
+    source: &str,
+    variables: &BTreeMap<&str, V>,
+) -> Result<String, Error>
+    ensures { IfSome (answer_of (λ output. string_bytes output) result)
+        (Answers source.now
+        (λ name. option_map V.text (btree_get_by_lent_text variables.now name))) }
+{
+    substitute(alloc, source, variables)
+}
+
+/// Returns a text filled in from a `HashMap`.
+pub fn hash_map<V: AsStr, S: BuildHasher>(
+    alloc: Global,
+    source: &str,
+    variables: &HashMap<String, V, S>,
+) -> Result<String, Error>
+    ensures { IfSome (answer_of (λ output. string_bytes output) result)
+        (Answers source.now (λ name. option_map V.text (hash_get_by_text variables.now name))) }
+{
+    substitute(alloc, source, variables)
+}
+
+/// Returns a text filled in from a `HashMap` whose keys are lent.
+pub fn hash_map_of_lent<V: AsStr, S: BuildHasher>(
+    alloc: Global,
+    source: &str,
+    variables: &HashMap<&str, V, S>,
+) -> Result<String, Error>
+    ensures { IfSome (answer_of (λ output. string_bytes output) result)
+        (Answers source.now
+        (λ name. option_map V.text (hash_get_by_lent_text variables.now name))) }
+{
+    substitute(alloc, source, variables)
+}
+
+/// Returns a text filled in from an `IndexMap`.
+pub fn index_map<V: AsStr, S: BuildHasher>(
+    alloc: Global,
+    source: &str,
+    variables: &IndexMap<String, V, S>,
+) -> Result<String, Error>
+    ensures { IfSome (answer_of (λ output. string_bytes output) result)
+        (Answers source.now (λ name. option_map V.text (hash_get_by_text variables.now name))) }
+{
+    substitute(alloc, source, variables)
+}
+
+/// Returns a text filled in from an `IndexMap` whose keys are lent.
+pub fn index_map_of_lent<V: AsStr, S: BuildHasher>(
+    alloc: Global,
+    source: &str,
+    variables: &IndexMap<&str, V, S>,
+) -> Result<String, Error>
+    ensures { IfSome (answer_of (λ output. string_bytes output) result)
+        (Answers source.now
+        (λ name. option_map V.text (hash_get_by_lent_text variables.now name))) }
+{
+    substitute(alloc, source, variables)
+}
+
+/// Returns a text filled in without variables, so that each default is used.
+pub fn no_substitution(alloc: Global, source: &str) -> Result<String, Error>
+    ensures { IfSome (answer_of (λ output. string_bytes output) result)
+        (Answers source.now (λ _. None)) }
+{
+    substitute(alloc, source, &NoSubstitution)
+}
+
+/// Returns a text filled in from the pairs of an `Env`.
+pub fn env(alloc: Global, source: &str, variables: &Env) -> Result<String, Error>
+    ensures { IfSome (answer_of (λ output. string_bytes output) result)
+        (Answers source.now (first_value variables.now)) }
+{
+    substitute(alloc, source, variables)
+}

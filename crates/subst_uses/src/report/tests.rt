@@ -1,0 +1,27 @@
+use super::*;
+use std::test::Fail;
+
+#[test]
+fn reports_a_fault(rt: HostRuntime) -> Result<(), Fail> {
+    let alloc = rt.alloc();
+    let mut variables = BTreeMap::new(alloc);
+    variables.insert(
+        String::from_str(alloc, "name")?,
+        String::from_str(alloc, "world")?,
+    )?;
+    let rows = &[
+        ("Hello $name!", "Hello world!"),
+        (
+            "[web]\r\nport = ${port}\n",
+            "web.conf:2:10: No such variable: $port\n  port = ${port}\n           ^^^^\n",
+        ),
+    ];
+    for &(source, want) in rows {
+        let text = match filled(alloc, "web.conf", source, &variables)? {
+            Outcome::Output(output) => output,
+            Outcome::Report(report) => report,
+        };
+        assert_eq!(rt; text.as_str(), want);
+    }
+    Ok(())
+}
