@@ -5,10 +5,11 @@ use Rattle.std.specs.Option.{is_some}
 use Rattle.subst.specs.Language.Answer as spec
 use Rattle.subst.specs.Language.LookUp.{LookUp}
 use Rattle.subst.proofs.Calling.{answer_unique}
-use Rattle.subst_answers.specs.Agreement.{stated_by, values_of, IsAnswerOf, IsTrueAnswer}
+use Rattle.subst_answers.specs.Agreement.{stated_by, values_of, IsOwnRefusal, IsTrueAnswer}
 use Rattle.subst_answers.specs.Printing.{IsAnswerTo}
 use Rattle.subst_answers.specs.Record.{source_of}
 use Rattle.subst_answers.specs.declared.answer.Answer.{Answer}
+use Rattle.subst_answers.specs.declared.answer.Answer.TheVariants as answers
 use Rattle.subst_answers.specs.declared.record.Record.{Record}
 use Rattle.subst_answers.specs.declared.record.Record.TheVariants as records
 
@@ -36,8 +37,14 @@ module _ (s : List ℕ) (look : LookUp) where
   true_if_stated (Ok answer) None is some holds = cc (ap is_some is)
   true_if_stated (Err e) o is some holds = tt
 
--- the answer to a record is one of its source
-pub is_answer_of : (asked : Record) (answer : Answer) → IsAnswerTo asked answer
-    → IsAnswerOf (source_of asked) answer
-is_answer_of (records.Bytes asked) answer is = (values_of (λ v. v.items) asked.pairs, is)
-is_answer_of (records.Text asked) answer is = (values_of (λ v. string_bytes v) asked.pairs, is)
+-- a true answer that is a refusal is one of the source
+own_refusal : (s : List ℕ) (look : LookUp) (answer : Answer) → IsTrueAnswer s look answer → IsOwnRefusal s answer
+own_refusal s look (answers.Gives bytes) is = tt
+own_refusal s look (answers.Refuses e) is = (look, is)
+own_refusal s look answers.Differs is = tt
+
+-- the answer to a record, where it is a refusal, is one of the record's source
+pub refusal_of_record : (asked : Record) (answer : Answer) → IsAnswerTo asked answer
+    → IsOwnRefusal (source_of asked) answer
+refusal_of_record (records.Bytes asked) answer is = own_refusal _ (values_of (λ v. v.items) asked.pairs) answer is
+refusal_of_record (records.Text asked) answer is = own_refusal _ (values_of (λ v. string_bytes v) asked.pairs) answer is

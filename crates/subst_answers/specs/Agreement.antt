@@ -1,5 +1,5 @@
 -- What answers state, and whether they agree with the definition.
-use Rattle.std.specs.Prelude.{ℕ, List, Option, Some, None, IsSomeAnd, String}
+use Rattle.std.specs.Prelude.{ℕ, List, Option, Some, None, IsSomeAnd, String, ⊤}
 use Rattle.std.specs.BTreeMap.{BTreeMap, get_by_text}
 use Rattle.std.specs.Global.{Global}
 use Rattle.std.specs.Option.{option_map}
@@ -25,10 +25,12 @@ stated_by Differs = None
 abbrev pub IsTrueAnswer : List ℕ → LookUp → Answer → Type 0
 IsTrueAnswer source look answer = IsSomeAnd (stated_by answer) (spec.Answers source look)
 
--- the answer states the answer of the source under some look-up
-abbrev pub IsAnswerOf : List ℕ → Answer → Type 0
-IsAnswerOf source answer = (look : LookUp) × IsTrueAnswer source look answer
-
 -- the source is refused for the fault, under some look-up
 abbrev pub IsRefusal : List ℕ → Option Fault → Type 0
 IsRefusal source f = (look : LookUp) × IsSomeAnd (option_map spec.Refuses f) (spec.Answers source look)
+
+-- an answer that is a refusal is one of the source
+abbrev pub IsOwnRefusal : List ℕ → Answer → Type 0
+IsOwnRefusal source (Gives bytes) = ⊤
+IsOwnRefusal source (Refuses e) = IsRefusal source (error_fault e)
+IsOwnRefusal source Differs = ⊤

@@ -2,7 +2,7 @@
 
 ghost use Rattle.std.specs.Prelude.{◌≡◌, ◌≢◌, IfOk, OnErr, IsSome, None, string_bytes};
 ghost use Rattle.subst.specs.Calls.Outcome.{answer_of};
-ghost use Rattle.subst_answers.specs.Agreement.{stated_by, IsAnswerOf};
+ghost use Rattle.subst_answers.specs.Agreement.{stated_by, IsOwnRefusal};
 ghost use Rattle.subst_answers.specs.AnswerLine.{IsLineOf};
 
 use crate::column::written;
@@ -64,7 +64,7 @@ impl Answer {
 
     /// The line that the answer of `source` is printed as, with the byte that ends it.
     pub fn line(&self, alloc: Global, source: &[u8]) -> Result<String, AllocError>
-        requires { IsAnswerOf source.now self.now }
+        requires { IsOwnRefusal source.now self.now }
         ensures { IfOk result (λ line. IsLineOf source.now self.now (string_bytes line)) }
     {
         match self {

@@ -1,9 +1,9 @@
 use Rattle.std.proofs.Common.{ℕ, List, string_bytes, subst, sym}
-use Rattle.subst_answers.specs.Agreement.{IsAnswerOf}
+use Rattle.subst_answers.specs.Agreement.{IsOwnRefusal}
 use Rattle.subst_answers.specs.AnswerLine.{IsLineOf}
 use Rattle.subst_answers.specs.Record.{IsRecord}
 use Rattle.subst_answers.specs.declared.failure.Failure.{Failure}
-use Rattle.subst_answers.proofs.AgreementLemmas.{is_answer_of}
+use Rattle.subst_answers.proofs.AgreementLemmas.{refusal_of_record}
 use Rattle.subst_answers.proofs.PrintingLemmas.{ok_before}
 use Rattle.subst_answers.proofs.run.answer_line.Goals as goal
 
@@ -20,5 +20,5 @@ returns-clause-ok c = record {
 
 pub line-requires : goal.line-requires
 line-requires c =
-    subst (λ (s : List ℕ). IsAnswerOf s c.in_ok-answer.answer) (sym c.source.ensures)
-    (is_answer_of c.in_ok-asked.asked c.in_ok-answer.answer c.in_ok-answer.ensures)
+    subst (λ (s : List ℕ). IsOwnRefusal s c.in_ok-answer.answer) (sym c.source.ensures)
+    (refusal_of_record c.in_ok-asked.asked c.in_ok-answer.answer c.in_ok-answer.ensures)
