@@ -1,24 +1,14 @@
 //! Each public call once.
 
-use std::alloc::Global;
-use std::collections::BTreeMap;
+use crate::rows::{expanded, map_of};
 use std::test::Fail;
 use subst::steps::{Reads, Turns};
 use subst::{ByteTemplate, substitute_bytes};
 
-fn one_variable(alloc: Global) -> Result<BTreeMap<String, Vec<u8>>, Fail> {
-    let mut variables = BTreeMap::new(alloc);
-    variables.insert(
-        String::from_str(alloc, "name")?,
-        Vec::from_slice(alloc, b"world")?,
-    )?;
-    Ok(variables)
-}
-
 #[test]
 fn fills_in_a_source(rt: HostRuntime) -> Result<(), Fail> {
     let alloc = rt.alloc();
-    let variables = one_variable(alloc)?;
+    let variables = map_of(alloc, "name=world")?;
     let output = substitute_bytes(alloc, b"Hello $name!", &variables)?;
     assert_eq!(rt; output.as_slice(), b"Hello world!".as_slice());
     Ok(())
@@ -27,11 +17,10 @@ fn fills_in_a_source(rt: HostRuntime) -> Result<(), Fail> {
 #[test]
 fn expands_a_template_twice(rt: HostRuntime) -> Result<(), Fail> {
     let alloc = rt.alloc();
-    let variables = one_variable(alloc)?;
     let template = ByteTemplate::from_slice(alloc, b"${greeting:Hello} ${name}!")?;
     assert_eq!(rt; template.source(), b"${greeting:Hello} ${name}!".as_slice());
     for _ in 0..2 {
-        let output = template.expand(alloc, &variables)?;
+        let output = expanded(alloc, &template, "name=world")?;
         assert_eq!(rt; output.as_slice(), b"Hello world!".as_slice());
     }
     Ok(())
@@ -40,7 +29,7 @@ fn expands_a_template_twice(rt: HostRuntime) -> Result<(), Fail> {
 #[test]
 fn expands_a_template_with_its_turns_counted(rt: HostRuntime) -> Result<(), Fail> {
     let alloc = rt.alloc();
-    let variables = one_variable(alloc)?;
+    let variables = map_of(alloc, "name=world")?;
     let template = ByteTemplate::from_slice(alloc, b"Hello ${name:$nobody}${greeting:!}")?;
     let mut turns = Turns::new();
     let output = template.expand_counted(alloc, &variables, &mut turns)?;
@@ -51,14 +40,13 @@ fn expands_a_template_with_its_turns_counted(rt: HostRuntime) -> Result<(), Fail
 #[test]
 fn parses_a_template_with_its_reads_counted(rt: HostRuntime) -> Result<(), Fail> {
     let alloc = rt.alloc();
-    let variables = one_variable(alloc)?;
     let mut reads = Reads::new();
     let template = ByteTemplate::from_slice_counted(
         alloc,
         b"${greeting:Hello} $name!",
         &mut reads,
     )?;
-    let output = template.expand(alloc, &variables)?;
+    let output = expanded(alloc, &template, "name=world")?;
     assert_eq!(rt; output.as_slice(), b"Hello world!".as_slice());
     Ok(())
 }

@@ -56,6 +56,26 @@ fn copy_of(e: &Error) -> Result<Error, AllocError>
     e.clone()
 }
 
+// What was shown is this text.
+fn expect_shown(
+    rt: &impl Abort,
+    shown: Result<String, AllocError>,
+    text: &str,
+) -> Result<(), Fail> {
+    assert_eq!(rt; shown?.as_str(), text);
+    Ok(())
+}
+
+// The value is shown as this text.
+fn expect_display<D: Display>(
+    rt: &impl Abort,
+    alloc: Global,
+    value: &D,
+    text: &str,
+) -> Result<(), Fail> {
+    expect_shown(rt, format!(in alloc; "{value}"), text)
+}
+
 #[test]
 fn shows_characters(rt: HostRuntime) -> Result<(), Fail> {
     let rows: &[(CharOrByte, &str)] = &[
@@ -160,25 +180,26 @@ fn describes_each_fault(rt: HostRuntime) -> Result<(), Fail> {
         (ParseError::OutOfMemory(AllocError), "out of memory"),
     ];
     for &(fault, text) in rows {
-        assert_eq!(rt; format!(in rt.alloc(); "{fault}")?.as_str(), text);
-        let error = Error::from(fault);
-        assert_eq!(rt; format!(in rt.alloc(); "{error}")?.as_str(), text);
+        expect_display(&rt, rt.alloc(), &fault, text)?;
+        expect_display(&rt, rt.alloc(), &Error::from(fault), text)?;
     }
-    let missing = no_variable(&rt, 8, "name")?;
-    assert_eq!(rt;
-        format!(in rt.alloc(); "{missing}")?.as_str(),
-        "No such variable: $name"
-    );
-    let error = Error::from(missing);
-    assert_eq!(rt;
-        format!(in rt.alloc(); "{error}")?.as_str(),
-        "No such variable: $name"
-    );
+    Ok(())
+}
+
+#[test]
+fn describes_a_missing_variable(rt: HostRuntime) -> Result<(), Fail> {
+    let text = "No such variable: $name";
+    expect_display(&rt, rt.alloc(), &no_variable(&rt, 8, "name")?, text)?;
+    let error = Error::from(no_variable(&rt, 8, "name")?);
+    expect_display(&rt, rt.alloc(), &error, text)
+}
+
+#[test]
+fn refused_pushes_are_out_of_memory(rt: HostRuntime) -> Result<(), Fail> {
     assert!(rt; ParseError::from(AllocFailed { value: 7u8 }) == ParseError::from(AllocError));
     assert!(rt; Error::from(AllocFailed { value: 7u8 }) == Error::from(AllocError));
     let full = ExpandError::from(AllocFailed { value: 7u8 });
-    assert_eq!(rt; format!(in rt.alloc(); "{full}")?.as_str(), "out of memory");
-    Ok(())
+    expect_display(&rt, rt.alloc(), &full, "out of memory")
 }
 
 // The text of a value is this, whatever options it is formatted with.
@@ -188,12 +209,11 @@ fn expect_text<D: Display>(
     value: &D,
     text: &str,
 ) -> Result<(), Fail> {
-    assert_eq!(rt; format!(in alloc; "{value:>90}")?.as_str(), text);
-    assert_eq!(rt; format!(in alloc; "{value:<90}")?.as_str(), text);
-    assert_eq!(rt; format!(in alloc; "{value:*^90}")?.as_str(), text);
-    assert_eq!(rt; format!(in alloc; "{value:.2}")?.as_str(), text);
-    assert_eq!(rt; format!(in alloc; "{value:+#090.2}")?.as_str(), text);
-    Ok(())
+    expect_shown(rt, format!(in alloc; "{value:>90}"), text)?;
+    expect_shown(rt, format!(in alloc; "{value:<90}"), text)?;
+    expect_shown(rt, format!(in alloc; "{value:*^90}"), text)?;
+    expect_shown(rt, format!(in alloc; "{value:.2}"), text)?;
+    expect_shown(rt, format!(in alloc; "{value:+#090.2}"), text)
 }
 
 #[test]

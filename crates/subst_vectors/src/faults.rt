@@ -2,6 +2,7 @@
 
 use crate::rows::Answer::{self, BadEscape, NoName, Unclosed, Unexpected};
 use crate::rows::{Map, expect_fault, fault_text, map_of};
+use std::alloc::Global;
 use std::collections::BTreeMap;
 use std::test::Fail;
 use subst::error::CharOrByte::Char;
@@ -91,14 +92,19 @@ fn parse_error_is_described(rt: HostRuntime) -> Result<(), Fail> {
     Ok(())
 }
 
+// The text of the error of an expansion without variables.
+fn expand_error_text(alloc: Global, template: &ByteTemplate<'_>) -> Result<String, Fail> {
+    let map: Map = BTreeMap::new(alloc);
+    match template.expand(alloc, &map) {
+        Ok(_) => Ok(String::from_str(alloc, "no fault")?),
+        Err(fault) => Ok(format!(in alloc; "{fault}")?),
+    }
+}
+
 #[test]
 fn expand_error_is_described(rt: HostRuntime) -> Result<(), Fail> {
     let template = ByteTemplate::from_slice(rt.alloc(), b"Hello ${name}!")?;
-    let map: Map = BTreeMap::new(rt.alloc());
-    let text = match template.expand(rt.alloc(), &map) {
-        Ok(_) => String::from_str(rt.alloc(), "no fault")?,
-        Err(fault) => format!(in rt.alloc(); "{fault}")?,
-    };
+    let text = expand_error_text(rt.alloc(), &template)?;
     assert_eq!(rt; text.as_str(), "No such variable: $name");
     Ok(())
 }

@@ -1,7 +1,7 @@
 //! Variables with no default, and their values.
 
 use crate::rows::Answer::{Absent, Gives};
-use crate::rows::{answer_of, by_template, expect, map_of};
+use crate::rows::{answer_of, by_template, expanded, expect, insert};
 use std::collections::BTreeMap;
 use std::test::Fail;
 use subst::{ByteTemplate, substitute_bytes};
@@ -50,8 +50,7 @@ fn values_are_not_read_as_templates(rt: HostRuntime) -> Result<(), Fail> {
 #[test]
 fn values_need_not_be_utf8(rt: HostRuntime) -> Result<(), Fail> {
     let mut map = BTreeMap::new(rt.alloc());
-    let value = Vec::from_slice(rt.alloc(), b"\xFF$")?;
-    let _ = map.insert(String::from_str(rt.alloc(), "a")?, value)?;
+    insert(&mut map, rt.alloc(), "a", b"\xFF$")?;
     let whole = substitute_bytes(rt.alloc(), b"${a}$a", &map);
     assert_eq!(rt; answer_of(&whole), Gives(b"\xFF$\xFF$"));
     let parsed = by_template(rt.alloc(), b"${a}$a", &map);
@@ -82,7 +81,7 @@ fn one_template_serves_two_maps(rt: HostRuntime) -> Result<(), Fail> {
         ("name=Coco", b"Welcome to our hair salon, Coco!"),
     ];
     for &(pairs, want) in rows {
-        let output = template.expand(rt.alloc(), &map_of(rt.alloc(), pairs)?)?;
+        let output = expanded(rt.alloc(), &template, pairs)?;
         assert_eq!(rt; output.as_slice(), want);
     }
     Ok(())

@@ -41,11 +41,23 @@ pub fn map_of(alloc: Global, pairs: &str) -> Result<Map, Fail> {
     let mut map = BTreeMap::new(alloc);
     for pair in pairs.split(',') {
         if let Some((name, value)) = pair.split_once('=') {
-            let value = Vec::from_slice(alloc, value.as_bytes())?;
-            let _ = map.insert(String::from_str(alloc, name)?, value)?;
+            insert(&mut map, alloc, name, value.as_bytes())?;
         }
     }
     Ok(map)
+}
+
+/// Puts a value under its name.
+pub fn insert(map: &mut Map, alloc: Global, name: &str, value: &[u8]) -> Result<(), Fail> {
+    let value = Vec::from_slice(alloc, value)?;
+    map.insert(String::from_str(alloc, name)?, value)?;
+    Ok(())
+}
+
+/// What the template expands to with the variables of pairs.
+pub fn expanded(alloc: Global, template: &ByteTemplate<'_>, pairs: &str) -> Result<Vec<u8>, Fail> {
+    let map = map_of(alloc, pairs)?;
+    Ok(template.expand(alloc, &map)?)
 }
 
 /// The result of parsing a template and then expanding it.
@@ -69,13 +81,38 @@ pub fn expect(
     want: &Answer<'_>,
 ) -> Result<(), Fail> {
     let map = map_of(alloc, pairs)?;
-    let whole = substitute_bytes(alloc, source, &map);
-    assert_eq!(rt; &answer_of(&whole), want, "{source:?} at once");
-    let parsed = by_template(alloc, source, &map);
-    assert_eq!(rt; &answer_of(&parsed), want, "{source:?} by a template");
-    let counted = by_counted_calls(alloc, source, &map);
-    assert_eq!(rt; &answer_of(&counted), want, "{source:?} by counted calls");
+    expect_answer(
+        rt,
+        &substitute_bytes(alloc, source, &map),
+        want,
+        source,
+        "at once",
+    );
+    expect_answer(
+        rt,
+        &by_template(alloc, source, &map),
+        want,
+        source,
+        "by a template",
+    );
+    expect_answer(
+        rt,
+        &by_counted_calls(alloc, source, &map),
+        want,
+        source,
+        "by counted calls",
+    );
     Ok(())
+}
+
+fn expect_answer(
+    rt: &impl Abort,
+    filled: &Result<Vec<u8>, Error>,
+    want: &Answer<'_>,
+    source: &[u8],
+    way: &str,
+) {
+    assert_eq!(rt; &answer_of(filled), want, "{source:?} {way}");
 }
 
 /// Each way returns `want`, with some variables and with none.
