@@ -4,6 +4,8 @@
 #![tactic(auto)]
 
 pub mod any_template;
+#[cfg(test)]
+mod expected;
 pub mod filled;
 pub mod launcher;
 pub mod letter;

@@ -1,27 +1,43 @@
 use super::*;
+use crate::expected::{expect_bytes, one_variable};
 use std::test::Fail;
 
-fn one_variable<V: Drop>(alloc: Global, value: V) -> Result<BTreeMap<String, V>, Fail> {
-    let mut variables = BTreeMap::new(alloc);
-    variables.insert(String::from_str(alloc, "name")?, value)?;
-    Ok(variables)
+const SOURCE: &[u8] = b"Hello $name!";
+
+const GIVEN: &[u8] = b"Hello world!";
+
+#[test]
+fn fills_in_vectors(rt: HostRuntime) -> Result<(), Fail> {
+    let alloc = rt.alloc();
+    let variables = one_variable(alloc, "name", Vec::from_slice(alloc, b"world")?)?;
+    expect_bytes(&rt, by_vectors(alloc, SOURCE, &variables), GIVEN)?;
+    expect_bytes(&rt, by_values(alloc, SOURCE, &variables), GIVEN)
 }
 
 #[test]
-fn fills_in_values_of_each_type(rt: HostRuntime) -> Result<(), Fail> {
+fn fills_in_slices(rt: HostRuntime) -> Result<(), Fail> {
     let alloc = rt.alloc();
-    let source = b"Hello $name!".as_slice();
-    let want = b"Hello world!".as_slice();
-    let vectors = one_variable(alloc, Vec::from_slice(alloc, b"world")?)?;
-    assert_eq!(rt; by_vectors(alloc, source, &vectors)?.as_slice(), want);
-    assert_eq!(rt; by_values(alloc, source, &vectors)?.as_slice(), want);
-    let slices = one_variable(alloc, b"world".as_slice())?;
-    assert_eq!(rt; by_slices(alloc, source, &slices)?.as_slice(), want);
-    let strings = one_variable(alloc, String::from_str(alloc, "world")?)?;
-    assert_eq!(rt; by_strings(alloc, source, &strings)?.as_slice(), want);
-    let texts = one_variable(alloc, "world")?;
-    assert_eq!(rt; by_texts(alloc, source, &texts)?.as_slice(), want);
-    let arrays = one_variable(alloc, *b"world")?;
-    assert_eq!(rt; by_arrays(alloc, source, &arrays)?.as_slice(), want);
-    Ok(())
+    let variables = one_variable(alloc, "name", b"world".as_slice())?;
+    expect_bytes(&rt, by_slices(alloc, SOURCE, &variables), GIVEN)
+}
+
+#[test]
+fn fills_in_strings(rt: HostRuntime) -> Result<(), Fail> {
+    let alloc = rt.alloc();
+    let variables = one_variable(alloc, "name", String::from_str(alloc, "world")?)?;
+    expect_bytes(&rt, by_strings(alloc, SOURCE, &variables), GIVEN)
+}
+
+#[test]
+fn fills_in_texts(rt: HostRuntime) -> Result<(), Fail> {
+    let alloc = rt.alloc();
+    let variables = one_variable(alloc, "name", "world")?;
+    expect_bytes(&rt, by_texts(alloc, SOURCE, &variables), GIVEN)
+}
+
+#[test]
+fn fills_in_arrays(rt: HostRuntime) -> Result<(), Fail> {
+    let alloc = rt.alloc();
+    let variables = one_variable(alloc, "name", *b"world")?;
+    expect_bytes(&rt, by_arrays(alloc, SOURCE, &variables), GIVEN)
 }

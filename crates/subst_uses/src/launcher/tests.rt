@@ -1,20 +1,16 @@
 use super::*;
+use crate::expected::one_variable;
 use std::test::Fail;
 
-fn one_variable(alloc: Global) -> Result<BTreeMap<String, String>, Fail> {
-    let mut variables = BTreeMap::new(alloc);
-    variables.insert(
-        String::from_str(alloc, "file")?,
-        String::from_str(alloc, "a b.txt")?,
-    )?;
-    Ok(variables)
+fn variables(alloc: Global) -> Result<BTreeMap<String, String>, Fail> {
+    one_variable(alloc, "file", String::from_str(alloc, "a b.txt")?)
 }
 
 #[test]
 fn fills_in_each_word(rt: HostRuntime) -> Result<(), Fail> {
     let alloc = rt.alloc();
     let words = ["${editor:vi}", "+${line:1}", "$file"];
-    let variables = one_variable(alloc)?;
+    let variables = variables(alloc)?;
     let line = command_line(alloc, &words, &variables)?;
     assert_eq!(rt; line.len(), 3);
     assert_eq!(rt; line[0].as_slice(), b"vi".as_slice());
@@ -27,7 +23,7 @@ fn fills_in_each_word(rt: HostRuntime) -> Result<(), Fail> {
 fn returns_the_first_fault(rt: HostRuntime) -> Result<(), Fail> {
     let alloc = rt.alloc();
     let words = ["vi", "$line", "$"];
-    let variables = one_variable(alloc)?;
+    let variables = variables(alloc)?;
     match command_line(alloc, &words, &variables) {
         Ok(_line) => assert!(rt; false),
         Err(e) => assert_eq!(rt;

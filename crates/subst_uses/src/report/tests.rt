@@ -1,14 +1,11 @@
 use super::*;
+use crate::expected::one_variable;
 use std::test::Fail;
 
 #[test]
 fn reports_a_fault(rt: HostRuntime) -> Result<(), Fail> {
     let alloc = rt.alloc();
-    let mut variables = BTreeMap::new(alloc);
-    variables.insert(
-        String::from_str(alloc, "name")?,
-        String::from_str(alloc, "world")?,
-    )?;
+    let variables = one_variable(alloc, "name", String::from_str(alloc, "world")?)?;
     let rows = &[
         ("Hello $name!", "Hello world!"),
         (
