@@ -1,5 +1,6 @@
 -- How what was read, what was substituted and what was written make the answer of a run.
-use Rattle.std.proofs.Common.{◌≡◌, ℕ, Bool, List, Option, Some, None, IfSome, IsSomeAnd, MatchOption, Result, Ok, Err, OnOk, IfErr, String, string_bytes, refl, sym, subst}
+use Rattle.std.proofs.Common.{◌≡◌, ◌⊎◌, ℕ, Bool, List, Option, Some, None, IfSome, IsSomeAnd, MatchOption, Result, Ok, Err, OnOk, IfErr, IsSome, String, string_bytes, arith, inl, inr, refl, sym, subst}
+use Rattle.std.proofs.lemmas.Grind.{common_steps}
 use Rattle.std.proofs.lemmas.Str.{IsUtf8-string_bytes}
 use Rattle.std.specs.Global.{Global}
 use Rattle.std.specs.Io.KnownBytes.{Appends}
@@ -8,13 +9,12 @@ use Rattle.std.specs.Str.{IsUtf8}
 use Rattle.subst.specs.Language.Answer.{Answers, Gives, Refuses}
 use Rattle.subst.specs.ErrorFault.{error_fault}
 use Rattle.subst.specs.Fault.{Fault}
-use Rattle.subst.specs.Highlighting.{highlighting_of}
 use Rattle.subst.specs.Language.LookUp.{LookUp}
 use Rattle.subst.specs.Errors.{Error}
 use Rattle.subst_program.proofs.DeviceLemmas.{holds_of_source}
 use Rattle.subst_program.specs.Device.{AppendsPrefix, ReadsExactly}
 use Rattle.subst_program.specs.FilterRun.{IsRefusedWith, RunAnswers, TellsText}
-use Rattle.subst_program.specs.RunError.{HighlightsFault, IsWriteFault}
+use Rattle.subst_program.specs.RunError.{HighlightsFault, IsRefusalOf, IsWriteFault}
 use Rattle.subst_program.specs.declared.run_error.RunError.{RunError}
 use Rattle.subst_program.specs.declared.run_error.RunError.TheVariants.{Read, Write, NotUtf8, Subst, OutOfMemory}
 
@@ -45,6 +45,31 @@ answered_by_refusal source look e shown (Some f) fault old new states refused is
     subst (λ o. IsSomeAnd o (λ x. Answers source look (Refuses x))) (sym states) refused in
     subst (λ x. RunAnswers source look (Err x) old new) (sym is) stated
 
+-- a fault that is there is refused, where it is refused if it is there
+refused_with : (source : List ℕ) (look : LookUp) (f : Option Fault) → IsSome f
+    → IfSome (option_map Refuses f) (Answers source look)
+    → IsSomeAnd f (λ x. Answers source look (Refuses x))
+refused_with source look None there refused = grind (arith, common_steps)
+refused_with source look (Some f) there refused = refused
+
+-- the refusal of an error is the error of a run whose substitution returned it
+pub is_refusal_of : (e : Error) (shown : String Global) (f : Option Fault) (fault : RunError)
+    → MatchOption f (fault ≡ OutOfMemory) (λ _. fault ≡ Subst e shown)
+    → (fault ≡ OutOfMemory) ⊎ (IsSome f × (text : String Global) × (fault ≡ Subst e text))
+is_refusal_of e shown None fault is = inl is
+is_refusal_of e shown (Some f) fault is = inr (refl, shown, is)
+
+-- the error of a run whose substitution returned an error: it states the refusal of the source, or that memory
+-- ran out
+answered_by_refusal_of : (source : List ℕ) (look : LookUp) (e : Error) (fault : RunError)
+    (old new : Option (List ℕ)) → IfSome (option_map Refuses (error_fault e)) (Answers source look)
+    → IsRefusalOf e fault → RunAnswers source look (Err fault) old new
+answered_by_refusal_of source look e fault old new refused (inl is) =
+    subst (λ x. RunAnswers source look (Err x) old new) (sym is) tt
+answered_by_refusal_of source look e fault old new refused (inr h) =
+    subst (λ x. RunAnswers source look (Err x) old new) (sym h.2)
+    (refused_with source look (error_fault e) h.0 refused)
+
 module _ (left rest : Option (List ℕ)) (all text : List ℕ) (look : LookUp) (old new : Option (List ℕ))
     (read : ReadsExactly left rest all) (same : text ≡ all) where
   -- a run that read its source and wrote the bytes that the source gives
@@ -68,6 +93,16 @@ module _ (left rest : Option (List ℕ)) (all text : List ℕ) (look : LookUp) (
       holds_of_source (λ source. RunAnswers source look (Err fault) old new) left rest all read
       (answered_by_refusal all look e shown (error_fault e) fault old new refl refuses is)
 
+  -- a run over text that read its source, for which the substitution returned an error
+  pub refused_source : (e : Error) (fault : RunError)
+      → IfSome (option_map Refuses (error_fault e)) (Answers text look) → IsRefusalOf e fault
+      → IfSome left (λ source. RunAnswers source look (Err fault) old new)
+  refused_source e fault given is =
+      let refuses : IfSome (option_map Refuses (error_fault e)) (Answers all look) =
+      subst (λ s. IfSome (option_map Refuses (error_fault e)) (Answers s look)) same given in
+      holds_of_source (λ source. RunAnswers source look (Err fault) old new) left rest all read
+      (answered_by_refusal_of all look e fault old new refuses is)
+
 -- bytes that a text has are UTF-8
 pub is_utf8 : (text : String Global) (bytes : List ℕ) → string_bytes text ≡ bytes → IsUtf8 bytes
 is_utf8 text bytes same = subst IsUtf8 same (IsUtf8-string_bytes text)
@@ -82,12 +117,11 @@ tells_written source (Err NotUtf8) failed utf8 fault = absurd fault
 tells_written source (Err (Subst e shown)) failed utf8 fault = absurd fault
 tells_written source (Err OutOfMemory) failed utf8 fault = absurd fault
 
--- an error of the substitution as a result, for a source that is UTF-8
-tells_refused : (source : List ℕ) (e : Error) (shown : String Global) (f : Option Fault) (fault : RunError)
-    → IsUtf8 source → MatchOption f (fault ≡ OutOfMemory) (λ _. fault ≡ Subst e shown)
+-- the error of a run whose substitution returned an error, for a source that is UTF-8
+tells_refused : (source : List ℕ) (e : Error) (fault : RunError) → IsUtf8 source → IsRefusalOf e fault
     → TellsText (Err fault) source
-tells_refused source e shown None fault utf8 is = subst (λ x. TellsText (Err x) source) (sym is) tt
-tells_refused source e shown (Some f) fault utf8 is = subst (λ x. TellsText (Err x) source) (sym is) utf8
+tells_refused source e fault utf8 (inl is) = subst (λ x. TellsText (Err x) source) (sym is) tt
+tells_refused source e fault utf8 (inr h) = subst (λ x. TellsText (Err x) source) (sym h.2) utf8
 
 module _ (left rest : Option (List ℕ)) (all : List ℕ) (read : ReadsExactly left rest all)
     (utf8 : IsUtf8 all) where
@@ -98,11 +132,9 @@ module _ (left rest : Option (List ℕ)) (all : List ℕ) (read : ReadsExactly l
       holds_of_source (TellsText r) left rest all read (tells_written all r failed utf8 fault)
 
   -- a run over text that read its source, for which the substitution returned an error
-  pub refused_text : (e : Error) (shown : String Global) (fault : RunError)
-      → MatchOption (error_fault e) (fault ≡ OutOfMemory) (λ _. fault ≡ Subst e shown)
-      → IfSome left (TellsText (Err fault))
-  refused_text e shown fault is = holds_of_source (TellsText (Err fault)) left rest all read
-      (tells_refused all e shown (error_fault e) fault utf8 is)
+  pub refused_text : (e : Error) (fault : RunError) → IsRefusalOf e fault → IfSome left (TellsText (Err fault))
+  refused_text e fault is =
+      holds_of_source (TellsText (Err fault)) left rest all read (tells_refused all e fault utf8 is)
 
 -- a result of writing refuses nothing
 refuses_nothing : (source : List ℕ) (r : Result (Unit {0}) RunError) (failed : Bool)
@@ -114,13 +146,6 @@ refuses_nothing source (Err NotUtf8) failed fault = absurd fault
 refuses_nothing source (Err (Subst e shown)) failed fault = absurd fault
 refuses_nothing source (Err OutOfMemory) failed fault = absurd fault
 
--- an error of the substitution as a result, with the highlighting of its fault
-highlights_refused : (source : List ℕ) (e : Error) (shown : String Global) (f : Option Fault)
-    (fault : RunError) → string_bytes shown ≡ highlighting_of (error_fault e) source
-    → MatchOption f (fault ≡ OutOfMemory) (λ _. fault ≡ Subst e shown) → HighlightsFault source fault
-highlights_refused source e shown None fault is same = subst (HighlightsFault source) (sym same) tt
-highlights_refused source e shown (Some f) fault is same = subst (HighlightsFault source) (sym same) is
-
 module _ (left rest : Option (List ℕ)) (all : List ℕ) (read : ReadsExactly left rest all) where
   -- a run over text that read its source and wrote
   pub delivered_unhighlighted : (r : Result (Unit {0}) RunError) (failed : Bool)
@@ -130,11 +155,8 @@ module _ (left rest : Option (List ℕ)) (all : List ℕ) (read : ReadsExactly l
       (refuses_nothing all r failed fault)
 
   -- a run over text that read its source, for which the substitution returned an error
-  pub refused_highlighted : (text : List ℕ) (e : Error) (shown : String Global) (fault : RunError)
-      → text ≡ all → string_bytes shown ≡ highlighting_of (error_fault e) text
-      → MatchOption (error_fault e) (fault ≡ OutOfMemory) (λ _. fault ≡ Subst e shown)
+  pub refused_highlighted : (text : List ℕ) (fault : RunError) → text ≡ all → HighlightsFault text fault
       → IfSome left (λ source. HighlightsFault source fault)
-  refused_highlighted text e shown fault same is named =
+  refused_highlighted text fault same is =
       holds_of_source (λ source. HighlightsFault source fault) left rest all read
-      (subst (λ (s : List ℕ). HighlightsFault s fault) same
-      (highlights_refused text e shown (error_fault e) fault is named))
+      (subst (λ (s : List ℕ). HighlightsFault s fault) same is)

@@ -1,7 +1,9 @@
 -- What the errors of a run say, and the statuses that the program ends with.
-use Rattle.std.specs.Prelude.{◌≡◌, ℕ, Bool, true, ⊤, List, [], codes, string_bytes, Option, Some, IsSome}
+use Rattle.std.specs.Global.{Global}
+use Rattle.std.specs.Prelude.{◌≡◌, ◌⊎◌, ℕ, Bool, true, ⊤, List, [], codes, String, string_bytes, Option, Some, IsSome}
 use Rattle.subst.specs.Display.{display_of_error}
 use Rattle.subst.specs.ErrorFault.{error_fault}
+use Rattle.subst.specs.Errors.{Error}
 use Rattle.subst.specs.Highlighting.{highlighting_of}
 use Rattle.subst_program.specs.declared.run_error.RunError.{RunError}
 use Rattle.subst_program.specs.declared.run_error.RunError.TheVariants.{Read, Write, NotUtf8, Subst, OutOfMemory}
@@ -28,6 +30,11 @@ IsFaultOfBytes _ = ⊤
 abbrev pub IsFaultOfText : RunError → Type 0
 IsFaultOfText (Subst e shown) = IsSome (error_fault e)
 IsFaultOfText _ = ⊤
+
+-- the error of a run whose substitution returned this error: its refusal, with some text, or out of memory
+abbrev pub IsRefusalOf : Error → RunError → Type 0
+IsRefusalOf e fault =
+    (fault ≡ OutOfMemory) ⊎ (IsSome (error_fault e) × (shown : String Global) × (fault ≡ Subst e shown))
 
 -- a refusal of the source has the highlighting of its fault over it
 abbrev pub HighlightsFault : List ℕ → RunError → Type 0

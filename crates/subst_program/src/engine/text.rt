@@ -4,16 +4,18 @@ ghost use Rattle.std.specs.Prelude.{◌≡◌, ℕ, List, true, OnOk, IfErr, IfS
 ghost use Rattle.std.specs.Io.KnownBytes.{Keeps};
 ghost use Rattle.std.specs.Str.{IsUtf8};
 ghost use Rattle.subst.specs.Calls.VariableMap.{ByLookUp};
+ghost use Rattle.subst.specs.ErrorFault.{error_fault};
+ghost use Rattle.subst.specs.Range.{IsRangeIn, range_of};
 ghost use Rattle.subst_program.specs.Device.{ReadsAll};
 ghost use Rattle.subst_program.specs.FilterRun.{RunAnswers, TellsText, OnceRead, UnlessReadFails, UnlessWriteFails, UnlessWriting};
-ghost use Rattle.subst_program.specs.RunError.{HighlightsFault, IsFaultOfText};
+ghost use Rattle.subst_program.specs.RunError.{HighlightsFault, IsFaultOfText, IsRefusalOf};
 
 use super::{deliver, is_plain, read_all, refusal};
 use crate::device::{ByteInput, ByteOutput};
 use crate::run_error::RunError;
 use std::alloc::Global;
 use std::convert::AsStr;
-use subst::{VariableMap, substitute};
+use subst::{Error, VariableMap, substitute};
 
 /// Reads the source from `input` to its end, fills its variables in from `variables`, whose values are texts,
 /// writes the resulting text to `output` and flushes it. Nothing is written before the whole source is read
@@ -77,10 +79,20 @@ where
     }
     match substitute(alloc, source, variables) {
         Ok(text) => deliver(output, text.as_bytes()),
-        Err(e) => {
-            let shown = e.source_highlighting(alloc, source)?;
-            Err(refusal(e, shown))
-        }
+        Err(e) => Err(highlighted_refusal(alloc, e, source)),
+    }
+}
+
+/// The error of a run whose substitution over `source` returned `e`, with the highlighting of its fault. If
+/// there is no memory for that, it is [`RunError::OutOfMemory`].
+fn highlighted_refusal(alloc: Global, e: Error, source: &str) -> RunError
+    requires { IsRangeIn source.now (range_of (error_fault e)) }
+    ensures refusal { IsRefusalOf e result }
+    ensures highlighted { HighlightsFault source.now result }
+{
+    match e.source_highlighting(alloc, source) {
+        Ok(shown) => refusal(e, shown),
+        Err(_) => RunError::OutOfMemory,
     }
 }
 

@@ -4,7 +4,7 @@ use Rattle.std.specs.List.{All}
 use Rattle.subst.specs.Calls.VariableMap.{look_up_of}
 use Rattle.subst.specs.Language.Bytes.{IsPlain}
 use Rattle.subst.proofs.Calling.{plain_answer}
-use Rattle.subst_program.proofs.FilterRunLemmas.{delivered, refused, refused_text}
+use Rattle.subst_program.proofs.FilterRunLemmas.{delivered, refused_source, refused_text}
 use Rattle.subst_program.proofs.engine.text.run_text.Goals as goal
 
 pub returns-then-is_plain-clause-answer : goal.returns-then-is_plain-clause-answer
@@ -24,14 +24,14 @@ returns-then-is_plain-clause-answer g c bytes reads =
 pub returns-clause-answer : goal.returns-clause-answer
 returns-clause-answer g c bytes reads =
     let written = g.O.ByteOutput.written c.args.output.now in
-    refused (g.I.ByteInput.left c.args.input.now) (g.I.ByteInput.left c.read_all.new.input)
+    refused_source (g.I.ByteInput.left c.args.input.now) (g.I.ByteInput.left c.read_all.new.input)
     c.in_ok-read_all.field-0.items c.as_str-source.result.now
     (look_up_of bytes (g.M.VariableMap.look_up c.args.variables.now)) written written
     c.in_ok-read_all.ensures.ok (c.as_str-source.ensures.value ∙ c.in-Some.ensures.0) c.in-Err.e
-    c.in_ok-shown-in-Err.shown c.refusal.result (c.in-Err.ensures.answer bytes reads) c.refusal.ensures
+    c.highlighted_refusal.result (c.in-Err.ensures.answer bytes reads) c.highlighted_refusal.ensures.refusal
 
 pub returns-clause-text : goal.returns-clause-text
 returns-clause-text g c =
     refused_text (g.I.ByteInput.left c.args.input.now) (g.I.ByteInput.left c.read_all.new.input)
     c.in_ok-read_all.field-0.items c.in_ok-read_all.ensures.ok c.in-Some.ensures.1 c.in-Err.e
-    c.in_ok-shown-in-Err.shown c.refusal.result c.refusal.ensures
+    c.highlighted_refusal.result c.highlighted_refusal.ensures.refusal
