@@ -24,26 +24,27 @@ fn flush<W: Write>(output: &mut ToWriter<W>) -> Result<(), Failed> {
 #[test]
 fn reader_that_fails_is_marked_as_failed(rt: HostRuntime) {
     let mut input = FromReader::new(Trickle::new(b"ab", 1));
-    assert_eq!(rt; read(&mut input), (Ok(1), b'a'));
-    assert!(rt; !input.failed());
-    assert_eq!(rt; read(&mut input).0, Err(Failed));
-    assert!(rt; input.failed());
+    assert_eq!(rt; (read(&mut input), input.failed()), ((Ok(1), b'a'), false));
+    assert_eq!(rt; (read(&mut input).0, input.failed()), (Err(Failed), true));
 }
 
 #[test]
 fn read_at_the_end_returns_zero(rt: HostRuntime) {
     let mut input = FromReader::new(Trickle::new(b"", NEVER));
-    assert_eq!(rt; read(&mut input).0, Ok(0));
-    assert!(rt; !input.failed());
+    assert_eq!(rt; (read(&mut input).0, input.failed()), (Ok(0), false));
 }
 
 /// Writes through an output whose second call fails.
 fn write_twice(rt: &impl Abort, drip: &mut Drip) {
     let mut output = ToWriter::new(drip);
-    assert_eq!(rt; write(&mut output, b"ab"), Ok(1));
-    assert!(rt; !output.failed());
-    assert_eq!(rt; write(&mut output, b"b"), Err(Failed));
-    assert!(rt; output.failed());
+    assert_eq!(rt;
+        (write(&mut output, b"ab"), output.failed()),
+        (Ok(1), false)
+    );
+    assert_eq!(rt;
+        (write(&mut output, b"b"), output.failed()),
+        (Err(Failed), true)
+    );
 }
 
 #[test]
@@ -57,15 +58,15 @@ fn failed_write_writes_nothing(rt: HostRuntime) {
 fn failed_flush_is_an_error(rt: HostRuntime) {
     let mut drip = Drip::empty(rt.alloc(), 0);
     let mut output = ToWriter::new(&mut drip);
-    assert_eq!(rt; flush(&mut output), Err(Failed));
-    assert!(rt; output.failed());
+    assert_eq!(rt; (flush(&mut output), output.failed()), (Err(Failed), true));
 }
 
 #[test]
 fn writer_that_takes_no_byte_has_failed(rt: HostRuntime) {
     let mut output = ToWriter::new(Full);
-    assert_eq!(rt; write(&mut output, b""), Ok(0));
-    assert!(rt; !output.failed());
-    assert_eq!(rt; write(&mut output, b"a"), Err(Failed));
-    assert!(rt; output.failed());
+    assert_eq!(rt; (write(&mut output, b""), output.failed()), (Ok(0), false));
+    assert_eq!(rt;
+        (write(&mut output, b"a"), output.failed()),
+        (Err(Failed), true)
+    );
 }

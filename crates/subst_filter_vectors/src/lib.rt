@@ -11,13 +11,13 @@ mod byte_runs;
 #[cfg(test)]
 mod devices;
 #[cfg(test)]
-mod ended;
-#[cfg(test)]
 mod fakes;
 #[cfg(test)]
 mod programs;
 #[cfg(test)]
 mod refused_memory;
+#[cfg(test)]
+mod runs;
 #[cfg(test)]
 mod tasks;
 #[cfg(test)]

@@ -1,10 +1,9 @@
 //! The program over its words, its pairs and its streams.
 
 use crate::fakes::{Drip, NEVER, Trickle};
-use crate::words::{pairs, words_of_line};
+use crate::words::{pairs, words};
 use std::alloc::{AllocError, Global};
 use std::process::Abort;
-use std::test::Fail;
 use subst::error::{Error, MissingVariableName};
 use subst_program::device::standard::{FromReader, ToWriter};
 use subst_program::program::{end_with, run_program};
@@ -15,16 +14,16 @@ const USAGE_LINE: &[u8] = b"usage: subst_filter bytes|text|env [NAME=VALUE]...\n
 
 /// How the program ended, and what it wrote.
 #[derive(Drop)]
-struct End {
-    status: u8,
-    output: Vec<u8>,
-    errors: Vec<u8>,
+pub struct End {
+    pub status: u8,
+    pub output: Vec<u8>,
+    pub errors: Vec<u8>,
 }
 
-/// Runs the program with the words of `line` over `source`, and with the pairs `A=1`, `A=2` and `B=` as its
-/// environment. The read number `fault` fails.
-fn run(alloc: Global, line: &str, source: &[u8], fault: usize) -> Result<End, AllocError> {
-    let words = words_of_line(alloc, line)?;
+/// Runs the program with these words over `source`, and with the pairs `A=1`, `A=2` and `B=` as its environment.
+/// The read number `fault` fails.
+fn run(alloc: Global, line: &[&str], source: &[u8], fault: usize) -> Result<End, AllocError> {
+    let words = words(alloc, line)?;
     let pairs = pairs(alloc, &[("A", "1"), ("A", "2"), ("B", "")])?;
     Ok(run_with(alloc, &words, pairs, source, fault))
 }
@@ -53,55 +52,101 @@ fn run_with(
     }
 }
 
-/// The program ended with this status, wrote this output, and printed these errors.
-fn expect(rt: &impl Abort, end: &End, status: u8, output: &[u8], errors: &[u8], line: &str) {
-    assert_eq!(rt; end.errors.as_slice(), errors, "at {line}");
-    assert_eq!(rt; end.output.as_slice(), output, "at {line}");
-    assert_eq!(rt; end.status, status, "at {line}");
+/// In this row the program ended as wanted.
+pub fn expect(rt: &impl Abort, row: usize, end: &End, want: Want<'_>) {
+    let found = (
+        row,
+        end.status,
+        end.output.as_slice(),
+        end.errors.as_slice(),
+    );
+    assert_eq!(rt; found, (row, want.status, want.output, want.errors));
 }
 
-#[test]
-fn wrong_words_print_the_usage_line(rt: HostRuntime) -> Result<(), Fail> {
-    let lines: &[&str] = &["", "text name", "env A=1", "env env", "bytes name"];
-    for &line in lines {
-        let end = run(rt.alloc(), line, b"a", NEVER)?;
-        expect(&rt, &end, 2, b"", USAGE_LINE, line);
-    }
+/// What a run of the program is to end with.
+#[derive(Clone, Copy)]
+pub struct Want<'a> {
+    pub status: u8,
+    pub output: &'a [u8],
+    pub errors: &'a [u8],
+}
+
+/// The program with these words over `source`, the run of this row, ends as wanted.
+fn expect_run(
+    rt: &impl Abort,
+    alloc: Global,
+    row: usize,
+    line: &[&str],
+    source: &[u8],
+    fault: usize,
+    want: Want<'_>,
+) -> Result<(), AllocError> {
+    let end = run(alloc, line, source, fault)?;
+    expect(rt, row, &end, want);
     Ok(())
 }
 
 #[test]
-fn failed_read_is_printed(rt: HostRuntime) -> Result<(), Fail> {
-    for line in ["bytes", "text", "env"] {
-        let end = run(rt.alloc(), line, b"a", 1)?;
-        expect(&rt, &end, 3, b"", b"subst: read failed\n", line);
-    }
-    Ok(())
-}
-
-#[test]
-fn variables_of_the_words_are_filled_in(rt: HostRuntime) -> Result<(), Fail> {
-    let rows: &[(&str, &str, &str)] = &[
-        ("bytes name=world", "Hello $name!", "Hello world!"),
-        ("bytes A=1 A=2", "$A", "2"),
-        ("bytes =x a=b=c", "$a", "b=c"),
-        ("text A=1 A=2", "$A", "2"),
-        ("text =x a=b=c", "$a", "b=c"),
-        ("text", "é", "é"),
-        ("env", "a", "a"),
-        ("env", "$A<$B>${C?}", "1<>"),
-        ("bytes", "", ""),
-        ("bytes a=1", "a}:{?", "a}:{?"),
+fn wrong_words_print_the_usage_line(rt: HostRuntime) -> Result<(), AllocError> {
+    let lines: &[&[&str]] = &[
+        &[],
+        &["text", "name"],
+        &["env", "A=1"],
+        &["env", "env"],
+        &["bytes", "name"],
     ];
-    for &(line, source, output) in rows {
-        let end = run(rt.alloc(), line, source.as_bytes(), NEVER)?;
-        expect(&rt, &end, 0, output.as_bytes(), b"", line);
+    let want = Want {
+        status: 2,
+        output: b"",
+        errors: USAGE_LINE,
+    };
+    for (row, &line) in lines.iter().enumerate() {
+        expect_run(&rt, rt.alloc(), row, line, b"a", NEVER, want)?;
     }
     Ok(())
 }
 
 #[test]
-fn refusal_of_a_source_is_printed(rt: HostRuntime) -> Result<(), Fail> {
+fn failed_read_is_printed(rt: HostRuntime) -> Result<(), AllocError> {
+    let words: &[&str] = &["bytes", "text", "env"];
+    let want = Want {
+        status: 3,
+        output: b"",
+        errors: b"subst: read failed\n",
+    };
+    for (row, &word) in words.iter().enumerate() {
+        expect_run(&rt, rt.alloc(), row, &[word], b"a", 1, want)?;
+    }
+    Ok(())
+}
+
+#[test]
+fn variables_of_the_words_are_filled_in(rt: HostRuntime) -> Result<(), AllocError> {
+    let rows: &[(&[&str], &str, &str)] = &[
+        (&["bytes", "name=world"], "Hello $name!", "Hello world!"),
+        (&["bytes", "A=1", "A=2"], "$A", "2"),
+        (&["bytes", "=x", "a=b=c"], "$a", "b=c"),
+        (&["text", "A=1", "A=2"], "$A", "2"),
+        (&["text", "=x", "a=b=c"], "$a", "b=c"),
+        (&["text"], "é", "é"),
+        (&["env"], "a", "a"),
+        (&["env"], "$A<$B>${C?}", "1<>"),
+        (&["bytes"], "", ""),
+        (&["bytes", "a=1"], "a}:{?", "a}:{?"),
+    ];
+    for (row, &(line, source, output)) in rows.iter().enumerate() {
+        let want = Want {
+            status: 0,
+            output: output.as_bytes(),
+            errors: b"",
+        };
+        expect_run(&rt, rt.alloc(), row, line, source.as_bytes(), NEVER, want)?;
+    }
+    Ok(())
+}
+
+#[test]
+fn refusal_of_a_source_is_printed(rt: HostRuntime) -> Result<(), AllocError> {
     let rows: &[(&str, &[u8], &str)] = &[
         ("bytes", b"$", "subst: Missing variable name\n"),
         ("bytes", b"$A", "subst: No such variable: $A\n"),
@@ -119,9 +164,13 @@ fn refusal_of_a_source_is_printed(rt: HostRuntime) -> Result<(), Fail> {
         ("text", b"\xFF", "subst: input is not UTF-8\n"),
         ("env", b"\xFF", "subst: input is not UTF-8\n"),
     ];
-    for &(line, source, errors) in rows {
-        let end = run(rt.alloc(), line, source, NEVER)?;
-        expect(&rt, &end, 1, b"", errors.as_bytes(), line);
+    for (row, &(word, source, errors)) in rows.iter().enumerate() {
+        let want = Want {
+            status: 1,
+            output: b"",
+            errors: errors.as_bytes(),
+        };
+        expect_run(&rt, rt.alloc(), row, &[word], source, NEVER, want)?;
     }
     Ok(())
 }
@@ -133,8 +182,8 @@ fn print_error(error: &RunError, drip: &mut Drip) -> u8 {
 
 fn expect_printed(rt: &impl Abort, alloc: Global, error: &RunError, status: u8, text: &str) {
     let mut drip = Drip::empty(alloc, NEVER);
-    assert_eq!(rt; print_error(error, &mut drip), status, "at {text}");
-    assert_eq!(rt; drip.taken.as_slice(), text.as_bytes(), "at {text}");
+    let ended = print_error(error, &mut drip);
+    assert_eq!(rt; (ended, drip.taken.as_slice()), (status, text.as_bytes()));
 }
 
 #[test]
@@ -151,7 +200,7 @@ fn each_error_has_its_text_and_status(rt: HostRuntime) {
 }
 
 #[test]
-fn refusal_has_its_text_its_highlighting_and_its_status(rt: HostRuntime) -> Result<(), Fail> {
+fn refusal_has_its_text_its_highlighting_and_its_status(rt: HostRuntime) -> Result<(), AllocError> {
     let missing = Error::MissingVariableName(MissingVariableName {
         position: 0,
         len: 1,
@@ -165,6 +214,6 @@ fn refusal_has_its_text_its_highlighting_and_its_status(rt: HostRuntime) -> Resu
 #[test]
 fn status_stays_the_same_if_printing_the_error_fails(rt: HostRuntime) {
     let mut drip = Drip::empty(rt.alloc(), 3);
-    assert_eq!(rt; print_error(&RunError::OutOfMemory, &mut drip), 4);
-    assert_eq!(rt; drip.taken.as_slice(), b"sub".as_slice());
+    let ended = print_error(&RunError::OutOfMemory, &mut drip);
+    assert_eq!(rt; (ended, drip.taken.as_slice()), (4, b"sub".as_slice()));
 }

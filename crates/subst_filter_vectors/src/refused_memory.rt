@@ -5,16 +5,18 @@
 //! under test returns out of memory, the test prints a line, checks that nothing was written, and calls again
 //! over the same source. If no allocation fails, it prints nothing.
 
-use crate::ended::{Ended, Run, bad_escape_at, end_of, missing_variable, shown};
 use crate::fakes::{Drip, NEVER, Trickle};
-use crate::words::{pairs, words_of_line};
+use crate::programs;
+use crate::programs::End;
+use crate::runs::{
+    Ended, Run, Seen, Texts, Variables, Want, bytes_run, expect, shown, text_run, unwritten,
+    variable, written,
+};
+use crate::words::{pairs, words};
 use std::alloc::{AllocError, Global};
-use std::collections::BTreeMap;
 use std::io::Print;
 use std::process::Abort;
-use std::test::Fail;
 use subst_program::device::standard::{FromReader, ToWriter};
-use subst_program::engine::{run_bytes, run_text};
 use subst_program::program::run_program;
 use subst_program::run_error::RunError;
 use subst_program::status::{DONE, OUT_OF_MEMORY};
@@ -53,36 +55,29 @@ const TEXT_VALUE: &str = "❤ and the whole round world with all that is in it";
 /// How many bytes a writer has room for: more than any test writes.
 const ROOM: usize = 128;
 
-type Variables = BTreeMap<String, Vec<u8>>;
-
-type Texts = BTreeMap<String, String>;
-
 /// Prints the line that `tools/refuse-memory.sh` looks for.
 fn print_out_of_memory(rt: &impl Print) {
     let _ = rt.println("out of memory");
 }
 
-fn try_room(alloc: Global) -> Result<Vec<u8>, AllocError> {
+fn room(alloc: Global) -> Result<Vec<u8>, AllocError> {
     Vec::with_capacity(alloc, ROOM)
 }
 
 /// A writer that allocates no more when it is written to. If its own allocation fails, it is made again.
 fn drip(alloc: Global) -> Result<Drip, AllocError> {
-    let room = match try_room(alloc) {
-        Err(_) => try_room(alloc),
+    let room = match room(alloc) {
+        Err(_) => room(alloc),
         room => room,
     };
     Ok(Drip::new(room?, NEVER))
 }
 
 fn try_variables(alloc: Global) -> Result<Variables, AllocError> {
-    let mut variables = BTreeMap::new(alloc);
-    let name = String::from_str(alloc, "name")?;
-    variables.insert(name, Vec::from_slice(alloc, VALUE)?)?;
-    Ok(variables)
+    variable(alloc, "name", Vec::from_slice(alloc, VALUE)?)
 }
 
-/// The variables. If an allocation fails, they are made again.
+/// The variable `name`. If an allocation fails, it is made again.
 fn variables(alloc: Global) -> Result<Variables, AllocError> {
     match try_variables(alloc) {
         Err(_) => try_variables(alloc),
@@ -90,38 +85,31 @@ fn variables(alloc: Global) -> Result<Variables, AllocError> {
     }
 }
 
-/// The variables are still those of `try_variables`.
+/// The variables are still those that were made.
 fn expect_variables(rt: &impl Abort, variables: &Variables) {
-    assert!(rt; variables.len() == 1);
-    match variables.get("name") {
-        Some(value) => assert_eq!(rt; value.as_slice(), VALUE),
-        None => panic!(rt; "no variable"),
-    }
+    let value = match variables.get("name") {
+        Some(value) => value.as_slice(),
+        None => b"no variable",
+    };
+    assert_eq!(rt; (variables.len(), value), (1, VALUE));
 }
 
-/// A run over a source that is read one byte per call.
-fn run(alloc: Global, source: &[u8], drip: &mut Drip, variables: &Variables) -> Run {
-    let mut input = FromReader::new(Trickle::new(source, NEVER));
-    let mut output = ToWriter::new(drip);
-    run_bytes(alloc, &mut input, &mut output, variables)
-}
-
-/// Such a run, and another one if memory runs out in it.
-fn run_again(
+/// A run over bytes, and another one if memory runs out in it.
+fn bytes_run_again(
     alloc: Global,
     rt: &(impl Print + Abort),
     source: &[u8],
     drip: &mut Drip,
     variables: &Variables,
 ) -> Run {
-    match run(alloc, source, drip, variables) {
+    match bytes_run(alloc, source, NEVER, &mut *drip, variables) {
         Err(RunError::OutOfMemory) => {
             print_out_of_memory(rt);
             expect_variables(rt, variables);
             assert!(rt; drip.taken.is_empty());
-            run(alloc, source, drip, variables)
+            bytes_run(alloc, source, NEVER, drip, variables)
         }
-        result => result,
+        ran => ran,
     }
 }
 
@@ -130,71 +118,53 @@ fn run_over_bytes(
     alloc: Global,
     rt: &(impl Print + Abort),
     source: &[u8],
-    drip: &mut Drip,
-) -> Result<Run, AllocError> {
+) -> Result<Seen, AllocError> {
     let variables = variables(alloc)?;
-    let result = run_again(alloc, rt, source, drip, &variables);
+    let mut drip = drip(alloc)?;
+    let ran = bytes_run_again(alloc, rt, source, &mut drip, &variables);
     expect_variables(rt, &variables);
-    Ok(result)
+    Ok(Seen { ran, drip })
 }
 
-fn expect_written(rt: &impl Abort, ran: &Run, drip: &Drip, bytes: &[u8]) {
-    assert_eq!(rt; end_of(ran), Ended::Done);
-    assert_eq!(rt; drip.taken.as_slice(), bytes);
-    assert_eq!(rt; drip.passed_on, bytes.len());
-}
-
-#[test]
-fn run_bytes_over_a_sentence(rt: HostRuntime) -> Result<(), Fail> {
-    let mut drip = drip(rt.alloc())?;
-    let result = run_over_bytes(rt.alloc(), &rt, SENTENCE, &mut drip)?;
-    expect_written(&rt, &result, &drip, GIVEN);
+/// Such a run ends as wanted.
+fn expect_bytes_run(
+    rt: &(impl Print + Abort),
+    alloc: Global,
+    source: &[u8],
+    want: Want<'_>,
+) -> Result<(), AllocError> {
+    let seen = run_over_bytes(alloc, rt, source)?;
+    expect(rt, 0, &seen, want);
     Ok(())
 }
 
 #[test]
-fn run_bytes_over_a_plain_source(rt: HostRuntime) -> Result<(), Fail> {
-    let mut drip = drip(rt.alloc())?;
-    let result = run_over_bytes(rt.alloc(), &rt, PLAIN, &mut drip)?;
-    expect_written(&rt, &result, &drip, PLAIN);
-    Ok(())
-}
-
-fn expect_missing(rt: &impl Abort, ran: &Run, drip: &Drip) {
-    assert_eq!(rt; missing_variable(ran), Some((MISSING_POSITION, "absent")));
-    assert!(rt; drip.taken.is_empty());
+fn run_bytes_over_a_sentence(rt: HostRuntime) -> Result<(), AllocError> {
+    expect_bytes_run(&rt, rt.alloc(), SENTENCE, written(GIVEN))
 }
 
 #[test]
-fn run_bytes_over_a_missing_variable(rt: HostRuntime) -> Result<(), Fail> {
-    let mut drip = drip(rt.alloc())?;
-    let result = run_over_bytes(rt.alloc(), &rt, MISSING, &mut drip)?;
-    expect_missing(&rt, &result, &drip);
-    Ok(())
-}
-
-fn expect_bad_escape(rt: &impl Abort, ran: &Run, drip: &Drip) {
-    assert_eq!(rt; bad_escape_at(ran), Some(BAD_ESCAPE_POSITION));
-    assert!(rt; drip.taken.is_empty());
+fn run_bytes_over_a_plain_source(rt: HostRuntime) -> Result<(), AllocError> {
+    expect_bytes_run(&rt, rt.alloc(), PLAIN, written(PLAIN))
 }
 
 #[test]
-fn run_bytes_over_a_bad_escape(rt: HostRuntime) -> Result<(), Fail> {
-    let mut drip = drip(rt.alloc())?;
-    let result = run_over_bytes(rt.alloc(), &rt, BAD_ESCAPE, &mut drip)?;
-    expect_bad_escape(&rt, &result, &drip);
-    Ok(())
+fn run_bytes_over_a_missing_variable(rt: HostRuntime) -> Result<(), AllocError> {
+    let want = unwritten(Ended::Missing(MISSING_POSITION, "absent"));
+    expect_bytes_run(&rt, rt.alloc(), MISSING, want)
 }
 
-/// Variables whose values are texts.
+#[test]
+fn run_bytes_over_a_bad_escape(rt: HostRuntime) -> Result<(), AllocError> {
+    let want = unwritten(Ended::BadEscape(BAD_ESCAPE_POSITION));
+    expect_bytes_run(&rt, rt.alloc(), BAD_ESCAPE, want)
+}
+
 fn try_texts(alloc: Global) -> Result<Texts, AllocError> {
-    let mut texts = BTreeMap::new(alloc);
-    let name = String::from_str(alloc, "name")?;
-    texts.insert(name, String::from_str(alloc, TEXT_VALUE)?)?;
-    Ok(texts)
+    variable(alloc, "name", String::from_str(alloc, TEXT_VALUE)?)
 }
 
-/// Such variables. If an allocation fails, they are made again.
+/// The variable `name`, whose value is a text. If an allocation fails, it is made again.
 fn texts(alloc: Global) -> Result<Texts, AllocError> {
     match try_texts(alloc) {
         Err(_) => try_texts(alloc),
@@ -202,23 +172,16 @@ fn texts(alloc: Global) -> Result<Texts, AllocError> {
     }
 }
 
-/// The variables are still those of `try_texts`.
+/// The variables are still those that were made.
 fn expect_texts(rt: &impl Abort, texts: &Texts) {
-    assert!(rt; texts.len() == 1);
-    match texts.get("name") {
-        Some(text) => assert_eq!(rt; text.as_str(), TEXT_VALUE),
-        None => panic!(rt; "no variable"),
-    }
+    let value = match texts.get("name") {
+        Some(value) => value.as_str(),
+        None => "no variable",
+    };
+    assert_eq!(rt; (texts.len(), value), (1, TEXT_VALUE));
 }
 
-/// A run over text that is read one byte per call.
-fn text_run(alloc: Global, source: &[u8], drip: &mut Drip, texts: &Texts) -> Run {
-    let mut input = FromReader::new(Trickle::new(source, NEVER));
-    let mut output = ToWriter::new(drip);
-    run_text(alloc, &mut input, &mut output, texts)
-}
-
-/// Such a run, and another one if memory runs out in it.
+/// A run over text, and another one if memory runs out in it.
 fn text_run_again(
     alloc: Global,
     rt: &(impl Print + Abort),
@@ -233,7 +196,7 @@ fn text_run_again(
             assert!(rt; drip.taken.is_empty());
             text_run(alloc, source, drip, texts)
         }
-        result => result,
+        ran => ran,
     }
 }
 
@@ -242,67 +205,64 @@ fn run_over_text(
     alloc: Global,
     rt: &(impl Print + Abort),
     source: &[u8],
-    drip: &mut Drip,
-) -> Result<Run, AllocError> {
+) -> Result<Seen, AllocError> {
     let texts = texts(alloc)?;
-    let result = text_run_again(alloc, rt, source, drip, &texts);
+    let mut drip = drip(alloc)?;
+    let ran = text_run_again(alloc, rt, source, &mut drip, &texts);
     expect_texts(rt, &texts);
-    Ok(result)
+    Ok(Seen { ran, drip })
+}
+
+/// Such a run ends as wanted, and shows this of a fault.
+fn expect_text_run(
+    rt: &(impl Print + Abort),
+    alloc: Global,
+    source: &[u8],
+    want: Want<'_>,
+    highlighting: Option<&str>,
+) -> Result<(), AllocError> {
+    let seen = run_over_text(alloc, rt, source)?;
+    expect(rt, 0, &seen, want);
+    assert_eq!(rt; shown(&seen.ran), highlighting);
+    Ok(())
 }
 
 #[test]
-fn run_text_over_a_sentence(rt: HostRuntime) -> Result<(), Fail> {
-    let mut drip = drip(rt.alloc())?;
+fn run_text_over_a_sentence(rt: HostRuntime) -> Result<(), AllocError> {
     let source = "${a:é}: ${b:\\{$name\\}}".as_bytes();
-    let result = run_over_text(rt.alloc(), &rt, source, &mut drip)?;
     let given = "é: {❤ and the whole round world with all that is in it}".as_bytes();
-    expect_written(&rt, &result, &drip, given);
-    Ok(())
+    expect_text_run(&rt, rt.alloc(), source, written(given), None)
 }
 
 #[test]
-fn run_text_over_a_plain_source(rt: HostRuntime) -> Result<(), Fail> {
-    let mut drip = drip(rt.alloc())?;
-    let result = run_over_text(rt.alloc(), &rt, PLAIN, &mut drip)?;
-    expect_written(&rt, &result, &drip, PLAIN);
-    Ok(())
+fn run_text_over_a_plain_source(rt: HostRuntime) -> Result<(), AllocError> {
+    expect_text_run(&rt, rt.alloc(), PLAIN, written(PLAIN), None)
 }
 
 #[test]
-fn run_text_over_a_missing_variable(rt: HostRuntime) -> Result<(), Fail> {
-    let mut drip = drip(rt.alloc())?;
-    let result = run_over_text(rt.alloc(), &rt, MISSING, &mut drip)?;
-    expect_missing(&rt, &result, &drip);
-    assert_eq!(rt; shown(&result), Some(MISSING_SHOWN));
-    Ok(())
-}
-
-fn expect_no_text(rt: &impl Abort, ran: &Run, drip: &Drip) {
-    assert_eq!(rt; end_of(ran), Ended::NotUtf8);
-    assert!(rt; drip.taken.is_empty());
+fn run_text_over_a_missing_variable(rt: HostRuntime) -> Result<(), AllocError> {
+    let want = unwritten(Ended::Missing(MISSING_POSITION, "absent"));
+    expect_text_run(&rt, rt.alloc(), MISSING, want, Some(MISSING_SHOWN))
 }
 
 #[test]
-fn run_text_over_no_text(rt: HostRuntime) -> Result<(), Fail> {
-    let mut drip = drip(rt.alloc())?;
-    let result = run_over_text(rt.alloc(), &rt, b"$name\xFF", &mut drip)?;
-    expect_no_text(&rt, &result, &drip);
-    Ok(())
+fn run_text_over_no_text(rt: HostRuntime) -> Result<(), AllocError> {
+    let want = unwritten(Ended::NotUtf8);
+    expect_text_run(&rt, rt.alloc(), b"$name\xFF", want, None)
 }
 
-/// The words of a line. If an allocation fails, they are made again.
-fn words(alloc: Global, line: &str) -> Result<Vec<String>, AllocError> {
-    match words_of_line(alloc, line) {
-        Err(_) => words_of_line(alloc, line),
+/// These words. If an allocation fails, they are made again.
+fn given_words(alloc: Global, line: &[&str]) -> Result<Vec<String>, AllocError> {
+    match words(alloc, line) {
+        Err(_) => words(alloc, line),
         words => words,
     }
 }
 
 /// An environment with one pair, of `name`. If an allocation fails, it is made again.
 fn environment(alloc: Global) -> Result<Vec<(String, String)>, AllocError> {
-    let texts = [("name", "world")];
-    match pairs(alloc, &texts) {
-        Err(_) => pairs(alloc, &texts),
+    match pairs(alloc, &[("name", "world")]) {
+        Err(_) => pairs(alloc, &[("name", "world")]),
         pairs => pairs,
     }
 }
@@ -325,34 +285,40 @@ fn greet(
     ))
 }
 
-/// Returns whether memory ran out. Then nothing was written, and otherwise `Hello world!` was.
-fn expect_greeting(rt: &impl Abort, status: u8, output: &Drip, errors: &Drip) -> bool {
-    if status == OUT_OF_MEMORY {
-        assert!(rt; output.taken.is_empty());
-        assert_eq!(rt;
-            errors.taken.as_slice(),
-            b"subst: out of memory\n".as_slice()
-        );
-        return true;
-    }
-    assert_eq!(rt; status, DONE);
-    assert_eq!(rt; output.taken.as_slice(), b"Hello world!".as_slice());
-    assert!(rt; errors.taken.is_empty());
-    false
-}
-
-/// Greets once, and returns whether memory ran out.
+/// Greets once, and returns whether memory ran out. Then nothing was written, and otherwise `Hello world!` was.
 fn greet_once(rt: &impl Abort, alloc: Global, words: &[String]) -> Result<bool, AllocError> {
     let mut output = drip(alloc)?;
     let mut errors = drip(alloc)?;
     let status = greet(alloc, words, &mut output, &mut errors)?;
-    Ok(expect_greeting(rt, status, &output, &errors))
+    let end = End {
+        status,
+        output: output.taken,
+        errors: errors.taken,
+    };
+    let is_out_of_memory = status == OUT_OF_MEMORY;
+    programs::expect(rt, 0, &end, wanted(is_out_of_memory));
+    Ok(is_out_of_memory)
 }
 
-/// The program with the words of this line, and once more if memory runs out in it. It has to write
-/// `Hello world!`.
-fn greet_again(rt: &(impl Print + Abort), alloc: Global, line: &str) -> Result<(), AllocError> {
-    let words = words(alloc, line)?;
+fn wanted(is_out_of_memory: bool) -> programs::Want<'static> {
+    if is_out_of_memory {
+        programs::Want {
+            status: OUT_OF_MEMORY,
+            output: b"",
+            errors: b"subst: out of memory\n",
+        }
+    } else {
+        programs::Want {
+            status: DONE,
+            output: b"Hello world!",
+            errors: b"",
+        }
+    }
+}
+
+/// The program with these words, and once more if memory runs out in it. It has to write `Hello world!`.
+fn greet_again(rt: &(impl Print + Abort), alloc: Global, line: &[&str]) -> Result<(), AllocError> {
+    let words = given_words(alloc, line)?;
     if greet_once(rt, alloc, &words)? {
         print_out_of_memory(rt);
         assert!(rt; !greet_once(rt, alloc, &words)?);
@@ -362,15 +328,15 @@ fn greet_again(rt: &(impl Print + Abort), alloc: Global, line: &str) -> Result<(
 
 #[test]
 fn run_program_over_bytes(rt: HostRuntime) -> Result<(), AllocError> {
-    greet_again(&rt, rt.alloc(), "bytes name=world")
+    greet_again(&rt, rt.alloc(), &["bytes", "name=world"])
 }
 
 #[test]
 fn run_program_over_text(rt: HostRuntime) -> Result<(), AllocError> {
-    greet_again(&rt, rt.alloc(), "text name=world")
+    greet_again(&rt, rt.alloc(), &["text", "name=world"])
 }
 
 #[test]
 fn run_program_over_the_environment(rt: HostRuntime) -> Result<(), AllocError> {
-    greet_again(&rt, rt.alloc(), "env")
+    greet_again(&rt, rt.alloc(), &["env"])
 }

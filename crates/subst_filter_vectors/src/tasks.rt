@@ -2,7 +2,6 @@
 
 use crate::words::words;
 use std::alloc::{AllocError, Global};
-use std::test::Fail;
 use subst_program::task::Task;
 
 fn task(alloc: Global, line: &[&str]) -> Result<Option<Task>, AllocError> {
@@ -11,7 +10,7 @@ fn task(alloc: Global, line: &[&str]) -> Result<Option<Task>, AllocError> {
 }
 
 #[test]
-fn first_word_names_the_task(rt: HostRuntime) -> Result<(), Fail> {
+fn first_word_names_the_task(rt: HostRuntime) -> Result<(), AllocError> {
     let rows: &[(&[&str], Task)] = &[
         (&["bytes"], Task::Bytes),
         (&["bytes", "a=1", "=", "b=c=d"], Task::Bytes),
@@ -20,13 +19,13 @@ fn first_word_names_the_task(rt: HostRuntime) -> Result<(), Fail> {
         (&["env"], Task::Environment),
     ];
     for (row, &(line, wanted)) in rows.iter().enumerate() {
-        assert_eq!(rt; task(rt.alloc(), line)?, Some(wanted), "at row {row}");
+        assert_eq!(rt; (row, task(rt.alloc(), line)?), (row, Some(wanted)));
     }
     Ok(())
 }
 
 #[test]
-fn wrong_words_name_no_task(rt: HostRuntime) -> Result<(), Fail> {
+fn wrong_words_name_no_task(rt: HostRuntime) -> Result<(), AllocError> {
     let rows: &[&[&str]] = &[
         &[],
         &[""],
@@ -38,7 +37,7 @@ fn wrong_words_name_no_task(rt: HostRuntime) -> Result<(), Fail> {
         &["env", "env"],
     ];
     for (row, &line) in rows.iter().enumerate() {
-        assert_eq!(rt; task(rt.alloc(), line)?, None, "at row {row}");
+        assert_eq!(rt; (row, task(rt.alloc(), line)?), (row, None));
     }
     Ok(())
 }

@@ -1,98 +1,77 @@
 //! Runs over texts.
 
-use crate::ended::{Ended, Run, end_of, missing_name_at, shown};
-use crate::fakes::{Drip, NEVER, Trickle};
+use crate::fakes::{Drip, NEVER};
+use crate::runs::{Ended, Seen, Want, expect, shown, text_run, unwritten, variable, written};
 use std::alloc::{AllocError, Global};
-use std::collections::BTreeMap;
 use std::process::Abort;
-use std::test::Fail;
-use subst_program::device::standard::{FromReader, ToWriter};
-use subst_program::engine::run_text;
 
-type Texts = BTreeMap<String, String>;
-
-/// One variable, `b`, whose value is a heart.
-fn texts(alloc: Global) -> Result<Texts, AllocError> {
-    let mut texts = BTreeMap::new(alloc);
-    let name = String::from_str(alloc, "b")?;
-    texts.insert(name, String::from_str(alloc, "❤")?)?;
-    Ok(texts)
+/// A run over `source` with one variable, `b`, whose value is a heart.
+fn run(alloc: Global, source: &[u8]) -> Result<Seen, AllocError> {
+    let texts = variable(alloc, "b", String::from_str(alloc, "❤")?)?;
+    let mut drip = Drip::empty(alloc, NEVER);
+    let ran = text_run(alloc, source, &mut drip, &texts);
+    Ok(Seen { ran, drip })
 }
 
-/// A run over `source` with these variables. The source is read one byte per call.
-fn run_with(alloc: Global, source: &[u8], drip: &mut Drip, texts: &Texts) -> Run {
-    let mut input = FromReader::new(Trickle::new(source, NEVER));
-    let mut output = ToWriter::new(drip);
-    run_text(alloc, &mut input, &mut output, texts)
+/// Such a run ends as wanted.
+fn expect_run(
+    rt: &impl Abort,
+    alloc: Global,
+    row: usize,
+    source: &[u8],
+    want: Want<'_>,
+) -> Result<(), AllocError> {
+    let seen = run(alloc, source)?;
+    expect(rt, row, &seen, want);
+    Ok(())
 }
 
-/// The same with one variable, `b`, whose value is a heart.
-fn run(alloc: Global, source: &[u8], drip: &mut Drip) -> Result<Run, AllocError> {
-    let texts = texts(alloc)?;
-    Ok(run_with(alloc, source, drip, &texts))
-}
-
-fn expect_written(rt: &impl Abort, ran: &Run, drip: &Drip, text: &str) {
-    assert_eq!(rt; end_of(ran), Ended::Done);
-    assert_eq!(rt; drip.taken.as_slice(), text.as_bytes());
-    assert_eq!(rt; drip.passed_on, text.len());
-}
-
-#[test]
-fn characters_past_ascii_are_filled_in(rt: HostRuntime) -> Result<(), Fail> {
-    let mut drip = Drip::empty(rt.alloc(), NEVER);
-    let result = run(rt.alloc(), "${a:é}$b".as_bytes(), &mut drip)?;
-    expect_written(&rt, &result, &drip, "é❤");
+/// Such a run over a source that is refused has this highlighting of the fault.
+fn expect_shown(
+    rt: &impl Abort,
+    alloc: Global,
+    source: &str,
+    highlighting: &str,
+) -> Result<(), AllocError> {
+    let seen = run(alloc, source.as_bytes())?;
+    assert_eq!(rt; (source, shown(&seen.ran)), (source, Some(highlighting)));
     Ok(())
 }
 
 #[test]
-fn plain_texts_are_written_as_they_are(rt: HostRuntime) -> Result<(), Fail> {
-    for source in ["", "é: {❤}"] {
-        let mut drip = Drip::empty(rt.alloc(), NEVER);
-        let result = run(rt.alloc(), source.as_bytes(), &mut drip)?;
-        expect_written(&rt, &result, &drip, source);
-    }
-    Ok(())
-}
-
-fn expect_no_text(rt: &impl Abort, ran: &Run, drip: &Drip) {
-    assert_eq!(rt; end_of(ran), Ended::NotUtf8);
-    assert!(rt; drip.taken.is_empty());
+fn characters_past_ascii_are_filled_in(rt: HostRuntime) -> Result<(), AllocError> {
+    let want = written("é❤".as_bytes());
+    expect_run(&rt, rt.alloc(), 0, "${a:é}$b".as_bytes(), want)
 }
 
 #[test]
-fn bytes_that_are_no_text_are_refused_and_nothing_is_written(rt: HostRuntime) -> Result<(), Fail> {
+fn plain_texts_are_written_as_they_are(rt: HostRuntime) -> Result<(), AllocError> {
+    expect_run(&rt, rt.alloc(), 0, b"", written(b""))?;
+    let source = "é: {❤}".as_bytes();
+    expect_run(&rt, rt.alloc(), 1, source, written(source))
+}
+
+#[test]
+fn bytes_that_are_no_text_are_refused_and_nothing_is_written(
+    rt: HostRuntime,
+) -> Result<(), AllocError> {
     // A byte that UTF-8 never has, a character cut short after a variable, and one before a fault.
     let sources: &[&[u8]] = &[b"\xFF", b"$b\xC3", b"\xC3$"];
-    for source in sources {
-        let mut drip = Drip::empty(rt.alloc(), NEVER);
-        let result = run(rt.alloc(), source, &mut drip)?;
-        expect_no_text(&rt, &result, &drip);
+    for (row, &source) in sources.iter().enumerate() {
+        expect_run(&rt, rt.alloc(), row, source, unwritten(Ended::NotUtf8))?;
     }
     Ok(())
 }
 
-fn expect_missing_name(rt: &impl Abort, ran: &Run, drip: &Drip) {
-    assert_eq!(rt; missing_name_at(ran), Some(6));
-    assert_eq!(rt; shown(ran), Some("  $b é $\n       ^\n"));
-    assert!(rt; drip.taken.is_empty());
+#[test]
+fn refused_text_is_returned_and_nothing_is_written(rt: HostRuntime) -> Result<(), AllocError> {
+    let want = unwritten(Ended::NoName(6));
+    expect_run(&rt, rt.alloc(), 0, "$b é $".as_bytes(), want)?;
+    expect_shown(&rt, rt.alloc(), "$b é $", "  $b é $\n       ^\n")
 }
 
 #[test]
-fn refused_text_is_returned_and_nothing_is_written(rt: HostRuntime) -> Result<(), Fail> {
-    let mut drip = Drip::empty(rt.alloc(), NEVER);
-    let result = run(rt.alloc(), "$b é $".as_bytes(), &mut drip)?;
-    expect_missing_name(&rt, &result, &drip);
-    Ok(())
-}
-
-fn expect_shown(rt: &impl Abort, ran: &Run, highlighting: &str, source: &str) {
-    assert_eq!(rt; shown(ran), Some(highlighting), "of {source}");
-}
-
-#[test]
-fn faults_are_highlighted_in_their_line(rt: HostRuntime) -> Result<(), Fail> {
+fn faults_are_highlighted_in_their_line(rt: HostRuntime) -> Result<(), AllocError> {
     let rows: &[(&str, &str)] = &[
         ("Hi $!", "  Hi $!\n     ^\n"),
         ("one\nHi $!", "  Hi $!\n     ^\n"),
@@ -104,9 +83,7 @@ fn faults_are_highlighted_in_their_line(rt: HostRuntime) -> Result<(), Fail> {
         ),
     ];
     for &(source, highlighting) in rows {
-        let mut drip = Drip::empty(rt.alloc(), NEVER);
-        let result = run(rt.alloc(), source.as_bytes(), &mut drip)?;
-        expect_shown(&rt, &result, highlighting, source);
+        expect_shown(&rt, rt.alloc(), source, highlighting)?;
     }
     Ok(())
 }
