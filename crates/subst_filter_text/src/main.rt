@@ -1,4 +1,6 @@
-//! The program `subst_filter` once more, for a stored run of the word `text`. All of it is in `subst_program`.
+//! The program `subst_filter` once more, for a stored run of the word `text`.
+//!
+//! All of it is in `subst_program`.
 #![tactic(auto)]
 
 use std::process::ExitCode;

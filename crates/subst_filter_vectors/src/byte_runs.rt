@@ -7,8 +7,8 @@ use crate::runs::{
 use std::alloc::{AllocError, Global};
 use std::process::Abort;
 
-/// A run over `source` with one variable, `name`, whose value is `world`. The read number `read_fault` fails, and
-/// the call number `write_fault` of the writer.
+/// A run over `source` with one variable, `name`, whose value is `world`. The read number `read_fault` fails,
+/// and the call number `write_fault` of the writer.
 fn run(
     alloc: Global,
     source: &[u8],

@@ -20,8 +20,8 @@ pub struct End {
     pub errors: Vec<u8>,
 }
 
-/// Runs the program with these words over `source`, and with the pairs `A=1`, `A=2` and `B=` as its environment.
-/// The read number `fault` fails.
+/// Runs the program with these words over `source`, and with the pairs `A=1`, `A=2` and `B=` as its
+/// environment. The read number `fault` fails.
 fn run(alloc: Global, line: &[&str], source: &[u8], fault: usize) -> Result<End, AllocError> {
     let words = words(alloc, line)?;
     let pairs = pairs(alloc, &[("A", "1"), ("A", "2"), ("B", "")])?;

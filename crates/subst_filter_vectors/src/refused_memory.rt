@@ -285,7 +285,8 @@ fn greet(
     ))
 }
 
-/// Greets once, and returns whether memory ran out. Then nothing was written, and otherwise `Hello world!` was.
+/// Greets once, and returns whether memory ran out. Then nothing was written, and otherwise `Hello world!`
+/// was.
 fn greet_once(rt: &impl Abort, alloc: Global, words: &[String]) -> Result<bool, AllocError> {
     let mut output = drip(alloc)?;
     let mut errors = drip(alloc)?;

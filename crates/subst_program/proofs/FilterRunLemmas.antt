@@ -59,8 +59,7 @@ pub is_refusal_of : (e : Error) (shown : String Global) (f : Option Fault) (faul
 is_refusal_of e shown None fault is = inl is
 is_refusal_of e shown (Some f) fault is = inr (refl, shown, is)
 
--- the error of a run whose substitution returned an error: it states the refusal of the source, or that memory
--- ran out
+-- the error of a run whose substitution returned an error states the refusal of the source, or out of memory
 answered_by_refusal_of : (source : List ℕ) (look : LookUp) (e : Error) (fault : RunError)
     (old new : Option (List ℕ)) → IfSome (option_map Refuses (error_fault e)) (Answers source look)
     → IsRefusalOf e fault → RunAnswers source look (Err fault) old new
@@ -132,7 +131,8 @@ module _ (left rest : Option (List ℕ)) (all : List ℕ) (read : ReadsExactly l
       holds_of_source (TellsText r) left rest all read (tells_written all r failed utf8 fault)
 
   -- a run over text that read its source, for which the substitution returned an error
-  pub refused_text : (e : Error) (fault : RunError) → IsRefusalOf e fault → IfSome left (TellsText (Err fault))
+  pub refused_text : (e : Error) (fault : RunError) → IsRefusalOf e fault
+      → IfSome left (TellsText (Err fault))
   refused_text e fault is =
       holds_of_source (TellsText (Err fault)) left rest all read (tells_refused all e fault utf8 is)
 
