@@ -1,13 +1,15 @@
 //! The program in its process: its words, its environment and its three standard streams.
 
-ghost use Rattle.std.specs.Prelude.{◌≡◌, ◌≢◌, Some, [], IsOkAnd};
+ghost use Rattle.std.specs.Prelude.{◌≡◌, ◌≢◌, ◌≤◌, Some, [], IsOkAnd};
 ghost use Rattle.std.specs.IoError.{error_kind};
+ghost use Rattle.std.specs.Process.{exit_status};
 ghost use Rattle.std.specs.declared.env.VarError.TheVariants as reading;
 ghost use Rattle.subst_program.specs.Task.{task_of};
 
 use crate::device::standard::{FromReader, ToWriter};
 use crate::program::{end_with, run_program};
 use crate::run_error::RunError;
+use crate::status::OUT_OF_MEMORY;
 use crate::task::Task;
 use std::env::VarError;
 use std::io::ErrorKind;
@@ -17,7 +19,9 @@ use std::{env, io};
 /// Runs the program over the words of its command line, its environment, which is read for the word `env`
 /// alone, and its standard streams, and returns the status to end with. It is one of the module
 /// [`crate::status`], as `run_program` has it; also if the words or the environment can't be read.
-pub fn run(rt: &HostRuntime) -> ExitCode {
+pub fn run(rt: &HostRuntime) -> ExitCode
+    ensures statuses { exit_status result ≤ OUT_OF_MEMORY }
+{
     let mut input = FromReader::new(rt.stdin());
     let mut output = ToWriter::new(rt.stdout());
     let mut errors = ToWriter::new(rt.stderr());
