@@ -1,0 +1,54 @@
+//! Filling in the texts of a tree: what the walks over trees of each format share.
+//!
+//! `subst` doesn't hand on this crate.
+#![tactic(auto)]
+
+ghost use Rattle.std.specs.Prelude.{◌≡◌, IfOk, ℕ, List, string_bytes};
+ghost use Rattle.subst_error.specs.ErrorFault.{error_fault};
+ghost use Rattle.subst_language.specs.Language.Answer.{Answers, Gives, Refuses};
+ghost use Rattle.subst_language.specs.Language.LookUp.{LookUp};
+ghost use Rattle.subst_language.specs.Calls.Outcome.{OnFault};
+
+use std::alloc::Global;
+use std::convert::AsStr;
+use subst_core::substitute;
+use subst_error::Error;
+use subst_map::VariableMap;
+
+/// A way to fill in texts.
+///
+/// A walk over a tree calls itself, and the toolchain has no proof of a function that does so under a bound
+/// that names a lifetime, as `VariableMap<'a>`. So a walk is generic in this trait.
+pub trait Fill {
+    // Whether texts are filled in by this look-up.
+    ghost is_look_up: { Self → LookUp → Type 0 };
+
+    /// Returns `source` with its variables filled in.
+    fn fill(&self, alloc: Global, source: &str) -> Result<String, Error>
+        ensures ok { (look : LookUp) → is_look_up self.now look
+            → IfOk result (λ text. Answers source.now look (Gives (string_bytes text))) }
+        ensures err { (look : LookUp) → is_look_up self.now look
+            → OnFault error_fault result (λ f. Answers source.now look (Refuses f)) };
+}
+
+/// Fills in texts from a map of variables.
+#[derive(Clone, Copy)]
+pub struct Filler<'a, M> {
+    /// The map.
+    pub variables: &'a M,
+}
+
+impl<'a, M: VariableMap<'a>> Fill for Filler<'a, M>
+where
+    M::Value: AsStr + Drop,
+{
+    ghost use Rattle.subst_language.specs.Calls.VariableMap.{look_up_of, ReadsAs};
+
+    // It is the map's look-up, in some way to read the bytes of its values.
+    ghost is_look_up = { λ filler look. (bytes : M.Seen → List ℕ) × ReadsAs M.Value.text M.see bytes
+        × (look ≡ look_up_of bytes (M.look_up filler.variables.now)) };
+
+    fn fill(&self, alloc: Global, source: &str) -> Result<String, Error> {
+        substitute(alloc, source, self.variables)
+    }
+}
