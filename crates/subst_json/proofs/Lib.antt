@@ -1,0 +1,3 @@
+pub mod MappedLemmas
+pub mod TreeLemmas
+pub mod ReadingLemmas

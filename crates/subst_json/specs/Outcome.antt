@@ -1,0 +1,30 @@
+-- What a call returned that reads a tree and fills it in.
+use Rattle.std.specs.Prelude.{◌≡◌, ⊤, ℕ, List, Some, Result, IfErr, IfSome}
+use Rattle.serde_json.specs.Data.{Data}
+use Rattle.serde_json.specs.Read.{read}
+use Rattle.subst_error.specs.Fault.{Fault}
+use Rattle.subst_error.specs.ErrorFault.{error_fault}
+use Rattle.subst_json.specs.declared.error.Error.{Error}
+use Rattle.subst_json.specs.declared.error.Error.TheVariants.{Json, Subst, OutOfMemory}
+
+-- the reader reads the text as a tree, of which P holds
+abbrev pub ReadsAsTree : List ℕ → (Data → Type 0) → Type 0
+ReadsAsTree text P = (d : Data) × (read text ≡ Some d) × P d
+
+-- P holds where the error is the reader's
+abbrev if_json : Error → Type 0 → Type 0
+if_json (Json e) P = P
+if_json (Subst e) P = ⊤
+if_json (OutOfMemory e) P = ⊤
+
+abbrev pub OnJson : {T : Type 0} → Result T Error → Type 0 → Type 0
+OnJson result P = IfErr result (λ e. if_json e P)
+
+-- P holds of the fault of a string, if that is the error
+abbrev if_subst : Error → (Fault → Type 0) → Type 0
+if_subst (Json e) P = ⊤
+if_subst (Subst e) P = IfSome (error_fault e) P
+if_subst (OutOfMemory e) P = ⊤
+
+abbrev pub OnSubst : {T : Type 0} → Result T Error → (Fault → Type 0) → Type 0
+OnSubst result P = IfErr result (λ e. if_subst e P)

@@ -1,0 +1,72 @@
+//! Why a text isn't read and filled in.
+
+use std::alloc::{AllocError, AllocFailed};
+use std::fmt;
+
+/// Why a text isn't read and filled in.
+#[derive(Debug, Drop)]
+pub enum Error {
+    /// The text isn't JSON; or, of the calls that return a type of the caller's, its tree is none of that
+    /// type.
+    Json(serde_json::Error),
+    /// A string of the tree is refused. Positions are byte offsets in that string. It is never
+    /// `OutOfMemory`.
+    Subst(subst_error::Error),
+    /// An allocation failed.
+    OutOfMemory(AllocError),
+}
+
+impl From<serde_json::Error> for Error {
+    ghost use Rattle.subst_json.specs.Errors.{IsOfReader};
+
+    ghost from_gives = { IsOfReader };
+
+    fn from(e: serde_json::Error) -> Error {
+        if e.is_memory() {
+            Error::OutOfMemory(AllocError)
+        } else {
+            Error::Json(e)
+        }
+    }
+}
+
+impl From<subst_error::Error> for Error {
+    ghost use Rattle.subst_json.specs.Errors.{IsOfSubstitution};
+
+    ghost from_gives = { IsOfSubstitution };
+
+    fn from(e: subst_error::Error) -> Error {
+        match e {
+            subst_error::Error::OutOfMemory(e) => Error::OutOfMemory(e),
+            e => Error::Subst(e),
+        }
+    }
+}
+
+impl From<AllocError> for Error {
+    ghost use Rattle.std.specs.Prelude.{◌≡◌};
+    ghost use Rattle.subst_json.specs.declared.error.Error.TheVariants.{OutOfMemory};
+
+    ghost from_gives = { λ e error. error ≡ OutOfMemory e };
+
+    fn from(e: AllocError) -> Error {
+        Error::OutOfMemory(e)
+    }
+}
+
+/// The text of the error inside, or `out of memory`.
+impl fmt::Display for Error {
+    ghost use Rattle.subst_json.specs.Errors.{display_of_json};
+
+    ghost output = { display_of_json };
+
+    fn fmt<W: fmt::Write>(&self, f: &mut fmt::Formatter<W>) -> fmt::Result {
+        match self {
+            Error::Json(e) => e.fmt(f),
+            Error::Subst(e) => e.fmt(f),
+            Error::OutOfMemory(_) => f.write_str("out of memory"),
+        }
+    }
+}
+
+impl std::error::Error for Error {}

@@ -1,0 +1,190 @@
+//! JSON whose strings are filled in after it was read, so no value can break out of its string.
+//!
+//! Each string of the tree becomes what `substitute` of `subst` gives for it. Keys stay as they are, and so
+//! do numbers, booleans, nulls and the shape of the tree. Arrays are walked by index, and objects in the byte
+//! order of their keys; where strings are refused, the error is that of the first one.
+//!
+//! [`substitute_string_values`] fills in a tree in place, [`value_from_str`] and [`value_from_slice`] read a
+//! tree first, and [`from_str`] and [`from_slice`] go on to read a type of the caller's from it, by `serde`.
+//!
+//! The walk calls itself for each array and object that is inside another one. The reader refuses what is
+//! nested more than 127 deep; a deeper tree, which a caller has built, takes as much more of the stack.
+#![tactic(auto)]
+
+ghost use Rattle.std.specs.Prelude.{◌≡◌, IfErr, IfOk, IsUtf8, None, OnErr, OnOk};
+ghost use Rattle.serde_json.specs.Data.{Data};
+ghost use Rattle.serde_json.specs.Read.{read};
+ghost use Rattle.serde_json.specs.View.{view};
+ghost use Rattle.subst_error.specs.ErrorFault.{error_fault};
+ghost use Rattle.subst_language.specs.Calls.Outcome.{OnFault};
+ghost use Rattle.subst_language.specs.Calls.VariableMap.{ByLookUp};
+ghost use Rattle.subst_tree.specs.Texts.{IsFirstRefusal};
+ghost use Rattle.subst_json.specs.Mapped.{strings, IsMapped};
+ghost use Rattle.subst_json.specs.Errors.{HasOwnMemory};
+ghost use Rattle.subst_json.specs.Outcome.{ReadsAsTree, OnJson, OnSubst};
+
+pub use error::Error;
+use serde::DeserializeOwned;
+use serde_json::Value;
+use std::alloc::Global;
+use std::convert::AsStr;
+use subst_map::VariableMap;
+use subst_tree::Filler;
+
+mod error;
+mod walk;
+
+/// Fills in the strings of a tree from `variables`, whose values are texts.
+///
+/// # Errors
+///
+/// The fault of the first string that is refused, as `substitute` of `subst` returns it: positions are byte
+/// offsets in that string. `OutOfMemory` when allocation fails. After an error the tree is as it was.
+pub fn substitute_string_values<'a, M: VariableMap<'a>>(
+    alloc: Global,
+    value: &mut Value,
+    variables: &'a M,
+) -> Result<(), subst_error::Error>
+where
+    M::Value: AsStr + Drop,
+
+    // Each string is replaced by what it gives under the map's look-up, and all else is as it was.
+    ensures ok { ByLookUp M.Value.text M.see (M.look_up variables.now)
+        (λ look. OnOk result (IsMapped look (view value.old) (view value.new))) }
+    ensures err { ByLookUp M.Value.text M.see (M.look_up variables.now)
+        (λ look. OnFault error_fault result (IsFirstRefusal look (strings (view value.old)))) }
+    ensures unchanged { OnErr result (value.new ≡ value.old) }
+{
+    let filled = walk::filled(alloc, value, &Filler { variables })?;
+    *value = filled;
+    Ok(())
+}
+
+/// Reads JSON, and returns its tree with its strings filled in from `variables`, whose values are texts.
+///
+/// ```text
+/// let tree = value_from_str(alloc, r#"{"$home": "${home}/.config"}"#, &variables)?;
+/// // {"$home": "/home/user/.config"}
+/// ```
+///
+/// # Errors
+///
+/// `Json` where the source isn't JSON, whatever its strings are: `serde_json` decides, and its error tells the
+/// line. Otherwise `Subst` with the fault of the first string that is refused; positions are byte offsets in
+/// that string. `OutOfMemory` when allocation fails.
+pub fn value_from_str<'a, M: VariableMap<'a>>(
+    alloc: Global,
+    source: &str,
+    variables: &'a M,
+) -> Result<Value, Error>
+where
+    M::Value: AsStr + Drop,
+
+    // It is the tree that the source is read as, with its strings filled in.
+    ensures ok { ByLookUp M.Value.text M.see (M.look_up variables.now)
+        (λ look. IfOk result (λ tree. ReadsAsTree source.now (λ d. IsMapped look d (view tree)))) }
+    ensures json { OnJson result (read source.now ≡ None) }
+    ensures subst { ByLookUp M.Value.text M.see (M.look_up variables.now)
+        (λ look. OnSubst result
+        (λ f. ReadsAsTree source.now (λ d. IsFirstRefusal look (strings d) f))) }
+
+    // Neither `Json` nor `Subst` says that memory ran out.
+    ensures memory { IfErr result HasOwnMemory }
+{
+    let value = Value::from_str(alloc, source)?;
+    fill_tree(alloc, &value, variables)
+}
+
+/// The same of bytes.
+///
+/// # Errors
+///
+/// As [`value_from_str`]; it is `Json` too where the bytes aren't UTF-8.
+pub fn value_from_slice<'a, M: VariableMap<'a>>(
+    alloc: Global,
+    source: &[u8],
+    variables: &'a M,
+) -> Result<Value, Error>
+where
+    M::Value: AsStr + Drop,
+    ensures ok { ByLookUp M.Value.text M.see (M.look_up variables.now)
+        (λ look. IfOk result (λ tree. ReadsAsTree source.now (λ d. IsMapped look d (view tree)))) }
+    ensures utf8 { OnOk result (IsUtf8 source.now) }
+    ensures json { OnJson result (IsUtf8 source.now → read source.now ≡ None) }
+    ensures subst { ByLookUp M.Value.text M.see (M.look_up variables.now)
+        (λ look. OnSubst result
+        (λ f. ReadsAsTree source.now (λ d. IsFirstRefusal look (strings d) f))) }
+    ensures memory { IfErr result HasOwnMemory }
+{
+    let value = Value::from_slice(alloc, source)?;
+    fill_tree(alloc, &value, variables)
+}
+
+/// Reads JSON, fills in its strings from `variables`, whose values are texts, and reads a `T` from the tree.
+///
+/// A string stays a string when it is filled in, so no variable gives a `T` its number.
+///
+/// # Errors
+///
+/// As [`value_from_str`]. It is `Json` too where the tree with its strings filled in is no `T`.
+pub fn from_str<'a, T: DeserializeOwned, M: VariableMap<'a>>(
+    alloc: Global,
+    source: &str,
+    variables: &'a M,
+) -> Result<T, Error>
+where
+    M::Value: AsStr + Drop,
+
+    // It is returned only where there is such a tree. Which `T` is read from it, no clause says.
+    ensures ok { ByLookUp M.Value.text M.see (M.look_up variables.now)
+        (λ look. OnOk result (ReadsAsTree source.now (λ d. (e : Data) × IsMapped look d e))) }
+    ensures subst { ByLookUp M.Value.text M.see (M.look_up variables.now)
+        (λ look. OnSubst result
+        (λ f. ReadsAsTree source.now (λ d. IsFirstRefusal look (strings d) f))) }
+    ensures memory { IfErr result HasOwnMemory }
+{
+    let value = value_from_str(alloc, source, variables)?;
+    Ok(serde_json::from_value(alloc, value)?)
+}
+
+/// The same of bytes.
+///
+/// # Errors
+///
+/// As [`value_from_slice`]. It is `Json` too where the tree with its strings filled in is no `T`.
+pub fn from_slice<'a, T: DeserializeOwned, M: VariableMap<'a>>(
+    alloc: Global,
+    source: &[u8],
+    variables: &'a M,
+) -> Result<T, Error>
+where
+    M::Value: AsStr + Drop,
+    ensures ok { ByLookUp M.Value.text M.see (M.look_up variables.now)
+        (λ look. OnOk result (ReadsAsTree source.now (λ d. (e : Data) × IsMapped look d e))) }
+    ensures utf8 { OnOk result (IsUtf8 source.now) }
+    ensures subst { ByLookUp M.Value.text M.see (M.look_up variables.now)
+        (λ look. OnSubst result
+        (λ f. ReadsAsTree source.now (λ d. IsFirstRefusal look (strings d) f))) }
+    ensures memory { IfErr result HasOwnMemory }
+{
+    let value = value_from_slice(alloc, source, variables)?;
+    Ok(serde_json::from_value(alloc, value)?)
+}
+
+/// Returns a tree that was read, with its strings filled in.
+fn fill_tree<'a, M: VariableMap<'a>>(
+    alloc: Global,
+    value: &Value,
+    variables: &'a M,
+) -> Result<Value, Error>
+where
+    M::Value: AsStr + Drop,
+    ensures ok { ByLookUp M.Value.text M.see (M.look_up variables.now)
+        (λ look. IfOk result (λ tree. IsMapped look (view value.now) (view tree))) }
+    ensures json { OnJson result ⊥ }
+    ensures subst { ByLookUp M.Value.text M.see (M.look_up variables.now)
+        (λ look. OnSubst result (IsFirstRefusal look (strings (view value.now)))) }
+    ensures memory { IfErr result HasOwnMemory }
+{
+    Ok(walk::filled(alloc, value, &Filler { variables })?)
+}

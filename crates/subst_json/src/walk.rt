@@ -1,0 +1,69 @@
+//! The walk over a tree: it builds a new one, and leaves the old one as it is.
+
+ghost use Rattle.std.specs.Prelude.{IfOk};
+ghost use Rattle.serde_json.specs.View.{view, items_view, members_view};
+ghost use Rattle.subst_error.specs.ErrorFault.{error_fault};
+ghost use Rattle.subst_language.specs.Language.LookUp.{LookUp};
+ghost use Rattle.subst_language.specs.Calls.Outcome.{OnFault};
+ghost use Rattle.subst_tree.specs.Texts.{IsFirstRefusal};
+ghost use Rattle.subst_json.specs.Mapped.{strings, strings_of_items, strings_of_members, IsMapped, AreMapped, HasMappedMembers};
+
+use serde_json::{Map, Value};
+use std::alloc::Global;
+use subst_error::Error;
+use subst_tree::Fill;
+
+/// Returns the tree with its strings filled in.
+#[cycle(walk)]
+pub(crate) fn filled<F: Fill>(alloc: Global, value: &Value, filler: &F) -> Result<Value, Error>
+    ensures ok { (look : LookUp) → F.is_look_up filler.now look
+        → IfOk result (λ tree. IsMapped look (view value.now) (view tree)) }
+    ensures err { (look : LookUp) → F.is_look_up filler.now look
+        → OnFault error_fault result (IsFirstRefusal look (strings (view value.now))) }
+{
+    match value {
+        Value::Null => Ok(Value::Null),
+        Value::Bool(b) => Ok(Value::Bool(*b)),
+        Value::Number(number) => Ok(Value::Number(*number)),
+        Value::String(text) => Ok(Value::String(filler.fill(alloc, text)?)),
+        Value::Array(items) => Ok(Value::Array(filled_items(alloc, items, filler)?)),
+        Value::Object(members) => Ok(Value::Object(filled_members(alloc, members, filler)?)),
+    }
+}
+
+/// Returns the items of an array, in their order.
+#[cycle(walk)]
+fn filled_items<F: Fill>(alloc: Global, items: &Vec<Value>, filler: &F) -> Result<Vec<Value>, Error>
+    ensures ok { (look : LookUp) → F.is_look_up filler.now look
+        → IfOk result (λ trees. AreMapped look (items_view items.now.items) (items_view trees.items)) }
+    ensures err { (look : LookUp) → F.is_look_up filler.now look → OnFault error_fault result
+        (IsFirstRefusal look (strings_of_items (items_view items.now.items))) }
+{
+    let mut trees = Vec::with_capacity(alloc, items.len())?;
+    for item in items {
+        trees.push(filled(alloc, item, filler)?)?;
+    }
+    Ok(trees)
+}
+
+/// Returns the members of an object, in the byte order of their keys.
+#[cycle(walk)]
+fn filled_members<F: Fill>(
+    alloc: Global,
+    members: &Map<String, Value>,
+    filler: &F,
+) -> Result<Map<String, Value>, Error>
+    ensures ok { (look : LookUp) → F.is_look_up filler.now look → IfOk result
+        (λ trees. HasMappedMembers look (members_view members.now.entries)
+        (members_view trees.entries)) }
+    ensures err { (look : LookUp) → F.is_look_up filler.now look → OnFault error_fault result
+        (IsFirstRefusal look (strings_of_members (members_view members.now.entries))) }
+{
+    let mut trees = Map::new(alloc);
+    for (key, member) in members.iter() {
+        let name = key.clone()?;
+        let tree = filled(alloc, member, filler)?;
+        drop(trees.insert(name, tree)?);
+    }
+    Ok(trees)
+}
