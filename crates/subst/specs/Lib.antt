@@ -1,4 +1,5 @@
 pub mod Errors
+pub mod Json
 pub use Rattle.subst_language.specs.Calls
 pub use Rattle.subst_language.specs.Earlier
 pub use Rattle.subst_language.specs.Language

@@ -20,8 +20,10 @@
 //! Variables come from a `BTreeMap`, a `HashMap` or an `IndexMap` with keys `String` or `&str`, from pairs by an
 //! [`Env`], from [`NoSubstitution`], which has none, or from any other [`VariableMap`].
 //!
-//! This crate hands on the public items of the crates below it under the names of the Rust crate `subst`, and
-//! has no code of its own.
+//! [`json`] reads a tree first and then fills in its strings, so no value can break out of its string.
+//!
+//! This crate hands on public items of the crates below it under the names of the Rust crate `subst`, and has
+//! no code of its own.
 #![tactic(auto)]
 
 pub use subst_core::{
@@ -32,4 +34,5 @@ pub use subst_error::Error;
 pub use subst_map::{Env, NeverValue, NoSubstitution, VariableMap};
 pub use subst_raw::steps;
 
+pub mod json;
 pub mod laws;

@@ -1,0 +1,7 @@
+-- What contracts of the module `json` cite, and the type of its errors.
+pub use Rattle.subst_json.specs.declared.error.Error.{Error}
+pub use Rattle.subst_json.specs.declared.error.Error.TheVariants as error
+pub use Rattle.subst_json.specs.Errors
+pub use Rattle.subst_json.specs.Mapped
+pub use Rattle.subst_json.specs.Outcome
+pub use Rattle.subst_tree.specs.Texts
