@@ -1,5 +1,5 @@
 -- At each step of the walk: what was mapped, with the string, item or member that comes next.
-use Rattle.std.proofs.Common.{◌≡◌, [], ◌∷◌, ◌++◌, sym, ap, ◌∙◌, subst, append_assoc, rules}
+use Rattle.std.proofs.Common.{◌≡◌, [], ◌∷◌, ◌++◌, string_bytes, sym, ap, ◌∙◌, subst, append_assoc, rules}
 use Rattle.std.proofs.lemmas.Result.{err_from_is_err_and}
 use Rattle.std.specs.List.Sorted.{IsStrictlySortedBy}
 use Rattle.std.specs.Map.{keys_of}
@@ -66,6 +66,6 @@ filled_members-loop-key-preserved g t c =
       done ++ m ∷ [],
       all ∙ sym (append_assoc done (m ∷ []) left),
       λ look is. member_mapped look done left m l.trees.entries c.insert.new.self.entries
-          c.in_ok-name.name c.in_ok-tree.tree c.in_ok-name.ensures.cases sorted
+          c.in_ok-name.name c.in_ok-tree.tree named sorted
           c.in_ok-insert.ensures.entries (l.invariant.2 look is) (c.in_ok-tree.ensures.ok look is),
     )
