@@ -62,7 +62,8 @@ filled_members-loop-key-preserved g t c =
     let all : c.args.members.now.entries ≡ done ++ m ∷ left =
     l.invariant.1 ∙ ap (λ es. done ++ es) c.in-Some.ensures.steps in
     let sorted = subst (λ es. IsStrictlySortedBy string_cmp (keys_of es)) all
-    c.iter-key-items.ensures.ordered in (
+    c.iter-key-items.ensures.ordered in
+    let named : string_bytes c.in_ok-name.name ≡ string_bytes m.0 = search rules in (
       done ++ m ∷ [],
       all ∙ sym (append_assoc done (m ∷ []) left),
       λ look is. member_mapped look done left m l.trees.entries c.insert.new.self.entries
