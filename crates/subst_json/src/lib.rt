@@ -70,8 +70,8 @@ where
 /// # Errors
 ///
 /// `Json` where the source isn't JSON, as `serde_json` decides, whatever its strings are; that error tells
-/// the line. Otherwise `Subst` with the fault of the first string that is refused; positions are byte offsets in
-/// that string. `OutOfMemory` when allocation fails.
+/// the line. Otherwise `Subst` with the fault of the first string that is refused; positions are byte
+/// offsets in that string. `OutOfMemory` when allocation fails.
 pub fn value_from_str<'a, M: VariableMap<'a>>(
     alloc: Global,
     source: &str,
