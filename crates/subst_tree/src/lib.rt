@@ -3,12 +3,15 @@
 //! `subst` doesn't hand on this crate.
 #![tactic(auto)]
 
-ghost use Rattle.std.specs.Prelude.{◌≡◌, IfOk, ℕ, List, string_bytes};
+ghost use Rattle.std.specs.Prelude.{◌≡◌, ◌↔◌, IfOk, IsTrue, ℕ, List, string_bytes};
+ghost use Rattle.std.specs.List.{All};
+ghost use Rattle.subst_language.specs.Language.Bytes.{IsPlain};
 ghost use Rattle.subst_error.specs.ErrorFault.{error_fault};
 ghost use Rattle.subst_language.specs.Language.Answer.{Answers, Gives, Refuses};
 ghost use Rattle.subst_language.specs.Language.LookUp.{LookUp};
 ghost use Rattle.subst_language.specs.Calls.Outcome.{OnFault};
 
+use memchr::memchr2;
 use std::alloc::Global;
 use std::convert::AsStr;
 use subst_core::substitute;
@@ -49,6 +52,16 @@ where
         × (look ≡ look_up_of bytes (M.look_up filler.variables.now)) };
 
     fn fill(&self, alloc: Global, source: &str) -> Result<String, Error> {
+        if is_plain(source.as_bytes()) {
+            return Ok(String::from_str(alloc, source)?);
+        }
         substitute(alloc, source, self.variables)
     }
+}
+
+/// Whether a source has no dollar and no backslash, and so gives itself.
+fn is_plain(source: &[u8]) -> bool
+    ensures { IsTrue result ↔ All IsPlain source.now }
+{
+    memchr2(b'$', b'\\', source).is_none()
 }
