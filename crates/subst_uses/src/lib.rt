@@ -4,6 +4,7 @@
 #![tactic(auto)]
 
 pub mod any_template;
+pub mod config;
 #[cfg(test)]
 mod expected;
 pub mod filled;
