@@ -33,3 +33,5 @@ pub use Rattle.subst_language.proofs.WorkedExamples.Forms.{well_formed_from_test
 pub use Rattle.subst_language.proofs.WorkedExamples.Forms.{is_well_formed}
 -- how trees are written: bytes that are for themselves before a tree, such bytes alone, and an item alone
 pub use Rattle.subst_language.proofs.WorkedExamples.Words.{plain, only_plain, only}
+-- a JSON tree is filled in as one tree, or refused for one fault, and never both
+pub use Rattle.subst_json.proofs.OneOutcomeLemmas.{one_outcome}

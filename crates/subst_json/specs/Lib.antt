@@ -1,3 +1,4 @@
+pub mod Errors
+pub mod Laws
 pub mod Mapped
 pub mod Outcome
-pub mod Errors

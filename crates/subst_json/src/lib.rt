@@ -32,6 +32,7 @@ use subst_map::VariableMap;
 use subst_tree::Filler;
 
 mod error;
+pub mod laws;
 mod walk;
 
 /// Fills in the strings of a tree from `variables`, whose values are texts.
