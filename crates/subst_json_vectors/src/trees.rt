@@ -1,13 +1,14 @@
 //! What trees give, and which refusal is theirs.
 
-use crate::calls::{is_text, read_without_variables, texts};
+use crate::calls::{is_text, read, read_without_variables, texts};
 use crate::ways::{all_give, all_refuse};
+use serde_json::Value;
 use std::alloc::{AllocError, Global};
 use std::test::Fail;
-use subst::Error;
 use subst::error::{
     CharOrByte, InvalidEscapeSequence, MissingClosingBrace, MissingVariableName, NoSuchVariable,
 };
+use subst::{Error, json};
 
 #[test]
 fn strings_are_filled_in_and_nothing_else(rt: HostRuntime) -> Result<(), Fail> {
@@ -111,16 +112,28 @@ fn the_first_string_that_is_refused_gives_the_error(rt: HostRuntime) -> Result<(
     Ok(())
 }
 
+fn is_refused_for(read: &Result<Value, json::Error>, want: &Error) -> bool {
+    match read {
+        Err(json::Error::Subst(fault)) => fault == want,
+        _ => false,
+    }
+}
+
 #[test]
 fn keys_are_walked_in_byte_order(rt: HostRuntime) -> Result<(), Fail> {
     let variables = texts(rt.alloc(), "a=1")?;
-    let source = "{\"b\":\"$\",\"a\":\"$x\"}";
     let want = absent(rt.alloc(), 1, "x")?;
-    let Err(subst::json::Error::Subst(fault)) = crate::calls::read(rt.alloc(), source, &variables)
-    else {
-        return Err(Fail::from("refused"));
-    };
-    assert!(rt; fault == want);
+    let rows: &[&str] = &[
+        "{\"b\":\"$\",\"a\":\"$x\"}",
+        "{\"k\":{\"b\":\"$y\",\"a\":[\"$x\"]}}",
+        "{\"é\":\"$y\",\"z\":\"$x\"}",
+    ];
+    for &source in rows {
+        assert!(rt;
+            is_refused_for(&read(rt.alloc(), source, &variables), &want),
+            "{source}"
+        );
+    }
     Ok(())
 }
 
