@@ -54,6 +54,18 @@ impl From<AllocError> for Error {
     }
 }
 
+impl<T: Drop> From<AllocFailed<T>> for Error {
+    ghost use Rattle.std.specs.Prelude.{◌≡◌};
+    ghost use Rattle.std.specs.declared.alloc.AllocError.{AllocError};
+    ghost use Rattle.subst_json.specs.declared.error.Error.TheVariants.{OutOfMemory};
+
+    ghost from_gives = { λ _ error. (e : AllocError) × (error ≡ OutOfMemory e) };
+
+    fn from(e: AllocFailed<T>) -> Error {
+        Error::OutOfMemory(e.into())
+    }
+}
+
 /// The text of the error inside, or `out of memory`.
 impl fmt::Display for Error {
     ghost use Rattle.subst_json.specs.Errors.{display_of_json};
