@@ -34,8 +34,8 @@ pub(crate) fn filled<F: Fill>(alloc: Global, value: &Value, filler: &F) -> Resul
 /// Returns the items of an array, in their order.
 #[cycle(walk)]
 fn filled_items<F: Fill>(alloc: Global, items: &Vec<Value>, filler: &F) -> Result<Vec<Value>, Error>
-    ensures ok { (look : LookUp) → F.is_look_up filler.now look
-        → IfOk result (λ trees. AreMapped look (items_view items.now.items) (items_view trees.items)) }
+    ensures ok { (look : LookUp) → F.is_look_up filler.now look → IfOk result
+        (λ trees. AreMapped look (items_view items.now.items) (items_view trees.items)) }
     ensures err { (look : LookUp) → F.is_look_up filler.now look → OnFault error_fault result
         (IsFirstRefusal look (strings_of_items (items_view items.now.items))) }
 {
