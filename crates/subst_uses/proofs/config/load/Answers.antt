@@ -1,5 +1,5 @@
 -- A value is read as its bytes, and an error `Subst` states a fault.
-use Rattle.std.proofs.Common.{◌≡◌, ◌⊎◌, Option, Some, None, IfSome, IsSome, inr, refl, string_bytes}
+use Rattle.std.proofs.Common.{Option, Some, None, IfSome, IsSome, inr, refl, string_bytes}
 use Rattle.subst.specs.ErrorFault.{error_fault}
 use Rattle.subst.specs.Fault.{Fault}
 use Rattle.subst_uses.proofs.config.load.Goals as goal
