@@ -17,8 +17,8 @@
 //! Functions that allocate take an allocator and return `OutOfMemory` when allocation fails. After an
 //! error, sources, maps and templates that were lent are as before.
 //!
-//! Variables come from a `BTreeMap`, a `HashMap` or an `IndexMap` with keys `String` or `&str`, from pairs by an
-//! [`Env`], from [`NoSubstitution`], which has none, or from any other [`VariableMap`].
+//! Variables come from a `BTreeMap`, a `HashMap` or an `IndexMap` with keys `String` or `&str`, from pairs by
+//! an [`Env`], from [`NoSubstitution`], which has none, or from any other [`VariableMap`].
 //!
 //! [`json`] reads a tree first and then fills in its strings, so no value can break out of its string.
 //!

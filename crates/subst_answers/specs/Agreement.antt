@@ -29,7 +29,7 @@ IsTrueAnswer source look answer = IsSomeAnd (stated_by answer) (spec.Answers sou
 abbrev pub IsRefusal : List ℕ → Option Fault → Type 0
 IsRefusal source f = (look : LookUp) × IsSomeAnd (option_map spec.Refuses f) (spec.Answers source look)
 
--- an answer that is a refusal is one of the source
+-- if the answer is a refusal, it is one of the source
 abbrev pub IsOwnRefusal : List ℕ → Answer → Type 0
 IsOwnRefusal source (Gives bytes) = ⊤
 IsOwnRefusal source (Refuses e) = IsRefusal source (error_fault e)

@@ -19,8 +19,8 @@ fault_line source f text = codes "fault\t" ++ (case_of f ++ (codes "\t" ++ (deci
     ++ (codes "\t" ++ (line_column source f ++ (codes "\t" ++ (highlighting_column source f
     ++ codes "\n")))))))))))))))
 
--- The line is that of the fault of the source, with its text. Of a text that quotes a character past ASCII it is claimed
--- that it is some UTF-8.
+-- The line is that of the fault of the source, with its text. Of a text that quotes a character past ASCII it
+-- is claimed that it is some UTF-8.
 pub record IsFaultLine (source : List ℕ) (f : Fault) (line : List ℕ) : Type 0 where
   pub text : List ℕ
   pub spelled : line ≡ fault_line source f text

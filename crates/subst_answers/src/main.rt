@@ -11,11 +11,13 @@
 //! An answer is `ok` and the output, or `fault`, the case, its position, its detail, the words for what was
 //! expected (`-` if the case has none), the text of the error, its range as `start..end`, the line of the
 //! source that it is in, and that line with the fault underlined, separated by tabs. The output, the words,
-//! the text and the last two are in hexadecimal; the last two are `.` if the source isn't UTF-8. The detail of
-//! an invalid escape sequence is its character or `none`, of a missing variable name the length in decimal, of
-//! an unexpected character the character, of a missing closing brace `-`, and of an absent variable its name in
-//! hexadecimal. A character is `c` and its number in upper-case hexadecimal; a byte that begins no character is
-//! `b` and its two digits. If the other ways to an answer don't give the same, `differs` is printed.
+//! the text and the last two are in hexadecimal; the last two are `.` if the source isn't UTF-8.
+//!
+//! The detail of an invalid escape sequence is its character or `none`, of a missing variable name the length
+//! in decimal, of an unexpected character the character, of a missing closing brace `-`, and of an absent
+//! variable its name in hexadecimal. A character is `c` and its number in upper-case hexadecimal; a byte that
+//! begins no character is `b` and its two digits. If the other ways to an answer don't give the same,
+//! `differs` is printed.
 //!
 //! A line that begins with `#` is a comment: it gets no answer and isn't counted. An empty line isn't a
 //! record.

@@ -2,8 +2,8 @@
 //!
 //! `subst_bench WORK ROUNDS NAME=VALUE ..` reads a source from standard input, does the work as many times as
 //! `ROUNDS` says, and prints the length that the last round gave: of the output, of a parsed source, or of
-//! the text of an error. With no round it is 0. `WORK` is `parse`, `expand`, `text`, which expands the source as
-//! a text, `both` or `none`, which does nothing; so rounds take what a run takes more than one with fewer.
+//! the text of an error. With no round it is 0. `WORK` is `parse`, `expand`, `text`, which expands the source
+//! as a text, `both` or `none`, which does nothing; so rounds take what a run takes more than one with fewer.
 #![tactic(auto)]
 
 use std::alloc::Global;

@@ -8,8 +8,8 @@ use Rattle.subst_program.specs.Words.{are_pairs, last_value}
 use Rattle.subst_program.specs.declared.task.Task.{Task}
 use Rattle.subst_program.specs.declared.task.Task.TheVariants.{Bytes, Text, Environment}
 
--- What the words say to do, if they are right. After `bytes` and `text` each word has the form NAME=VALUE, and
--- after `env` there is none.
+-- What the words say to do, if they are right. After `bytes` and `text` each word has the form NAME=VALUE,
+-- and after `env` there is none.
 abbrev pub task_of : List (String Global) → Option Task
 task_of [] = None
 task_of (first ∷ rest) =

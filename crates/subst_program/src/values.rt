@@ -32,8 +32,8 @@ pub fn values_of_words(alloc: Global, words: &[String]) -> Result<Values<'_>, Al
     Ok(values)
 }
 
-/// The values of pairs under their names, as `Env` of these pairs has them: where pairs have the same name, the
-/// first one gives its value.
+/// The values of pairs under their names, as `Env` of these pairs has them: where pairs have the same name,
+/// the first one gives its value.
 ///
 /// # Errors
 ///

@@ -5,8 +5,8 @@ use std::test::Fail;
 
 #[test]
 fn lines_end_at_line_feeds_and_carriage_returns(rt: HostRuntime) -> Result<(), Fail> {
-    // A source whose error is a missing name of one byte, where it is, its line, the line underlined, and line
-    // and column.
+    // A source whose error is a missing name of one byte, where it is, its line, the line underlined, and
+    // line and column.
     let rows: &[(&str, usize, &str, &str, (usize, usize))] = &[
         ("one\nHi $!", 7, "Hi $!", "  Hi $!\n     ^\n", (2, 4)),
         ("$\n", 0, "$", "  $\n  ^\n", (1, 1)),

@@ -10,8 +10,8 @@ use Rattle.subst.specs.Language.LookUp.{LookUp}
 use Rattle.subst_uses.specs.declared.config.Loaded.{Loaded}
 use Rattle.subst_uses.specs.declared.config.Loaded.TheVariants.{Tree, Report}
 
--- a tree is the one that the source is read as, with its strings filled in; there is a report where the source
--- isn't JSON, or where a string of its tree is refused
+-- a tree is the one that the source is read as, with its strings filled in; there is a report where the
+-- source isn't JSON, or where a string of its tree is refused
 abbrev pub IsLoaded : LookUp → List ℕ → Loaded → Type 0
 IsLoaded look source (Tree tree) = ReadsAsTree source (λ d. IsMapped look d (view tree))
 IsLoaded look source (Report text) =
