@@ -1,8 +1,8 @@
 -- What callers need beside the contracts of the calls: known answers, which memory alone can prevent.
-use Rattle.std.proofs.Common.{◌≡◌, ◌≤◌, ℕ, suc, List, [], ◌∷◌, length, Option, Some, None, Result, Ok, Err, IfOk, IfSome, IsTrue, refl, subst, sym, arith}
+use Rattle.std.proofs.Common.{◌≡◌, ◌≤◌, ℕ, List, length, Option, Some, None, Result, Ok, Err, IfOk, IfSome, IsTrue, refl, subst, sym, arith}
 use Rattle.std.proofs.Math.Path.{fun_ext}
 use Rattle.std.proofs.lemmas.Iterator.Adapters.{option_map_id}
-use Rattle.std.specs.List.{All, AllByRecursion}
+use Rattle.std.specs.List.{All}
 use Rattle.std.specs.Option.{option_map}
 use Rattle.std.specs.Str.{IsUtf8}
 use Rattle.subst_error.specs.Fault.{Fault}
@@ -21,6 +21,7 @@ use Rattle.subst_language.specs.Language.Answer.{Answer, Answers, Gives, Refuses
 use Rattle.subst_language.specs.Calls.VariableMap.{look_up_of}
 use Rattle.subst_language.specs.Calls.Outcome.{Expands, answer_of}
 use Rattle.subst_language.proofs.Language.FaultLemmas.{exclusive}
+use Rattle.subst_language.proofs.Language.ListLemmas.{each_by_recursion}
 use Rattle.subst_language.proofs.Language.PlainLemmas.{plains, text-plains, value-plains, well_formed_plains}
 use Rattle.subst_language.proofs.WorkedExamples.Forms.{is_well_formed, well_formed_from_test}
 use Rattle.subst_language.proofs.Language.AnswerLemmas.{answer_unique}
@@ -100,14 +101,8 @@ pub answer_as_read : (s : List ℕ) (look : LookUp) (found : Option Answer)
     → IfSome found (Answers s (look_up_of (λ bytes. bytes) look)) → IfSome found (Answers s look)
 answer_as_read s look found h = subst (λ l. IfSome found (Answers s l)) (same_look_up look) h
 
--- what holds of each byte holds of each byte by recursion
-by_recursion : (P : ℕ → Type 0) (x : List ℕ) → All P x → AllByRecursion P x
-by_recursion P [] each = tt
-by_recursion P (b ∷ x) each =
-    (each 0 b (omega arith), by_recursion P x (λ k d h. each (suc k) d (omega arith)))
-
 -- a source without dollars and backslashes gives itself, whatever the look-up
 pub plain_answer : (s : List ℕ) (look : LookUp) → All IsPlain s → Answers s look (Gives s)
 plain_answer s look each =
-    let well_formed = well_formed_plains s (by_recursion IsPlain s each) in
+    let well_formed = well_formed_plains s (each_by_recursion IsPlain s each) in
     (plains s, record { well_formed = well_formed; spelled = sym (text-plains s) }, value-plains 0 s look)

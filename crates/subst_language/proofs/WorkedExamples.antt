@@ -8,6 +8,7 @@ pub mod Refused
 pub mod EveryDepth
 pub mod FirstFault
 pub mod NotAnswered
+pub mod OfLaws
 pub mod OneAnswer
 pub mod OptionalVariables
 pub mod PastAscii

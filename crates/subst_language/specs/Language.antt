@@ -6,10 +6,13 @@ pub mod Balanced
 pub mod Bytes
 pub mod Character
 pub mod Counts
+pub mod Escaped
 pub mod Followed
+pub mod Join
 pub mod Laws
 pub mod LookUp
 pub mod Name
+pub mod NamesIn
 pub mod Sentence
 pub mod Tree
 pub mod Value

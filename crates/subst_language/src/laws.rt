@@ -1,15 +1,23 @@
 //! Laws of the definitions that the contracts cite. Each is the contract of a function that does nothing.
 
-ghost use Rattle.std.specs.Prelude.{◌≡◌, ◌≤◌, ℕ, List, Some, length};
+ghost use Rattle.std.specs.Prelude.{◌≡◌, ◌≤◌, ◌+◌, ◌∷◌, ◌++◌, [], ℕ, List, Some, None, IsSome, length};
+ghost use Rattle.std.specs.List.{All};
 ghost use Rattle.std.specs.Str.{IsUtf8};
-ghost use Rattle.subst_error.specs.Fault.{Fault};
+ghost use Rattle.subst_error.specs.Fault.{Fault, InvalidEscapeSequence, MissingClosingBrace};
 ghost use Rattle.subst_error.specs.Range.{range_of, IsRangeIn};
-ghost use Rattle.subst_language.specs.Language.Answer.{Answers, Refuses};
-ghost use Rattle.subst_language.specs.Language.Laws.{OneTreeOrOneFault};
+ghost use Rattle.subst_language.specs.Language.Answer.{Answers, Gives, Refuses};
+ghost use Rattle.subst_language.specs.Language.BadItem.{HasFault};
+ghost use Rattle.subst_language.specs.Language.Bytes.{dollar, colon, opening_brace, closing_brace, IsPlain};
+ghost use Rattle.subst_language.specs.Language.Escaped.{escaped};
+ghost use Rattle.subst_language.specs.Language.Followed.{IsFollowed};
+ghost use Rattle.subst_language.specs.Language.Join.{join};
+ghost use Rattle.subst_language.specs.Language.Laws.{OneTreeOrOneFault, OpensAt, IsSettled};
+ghost use Rattle.subst_language.specs.Language.Name.{IsName};
+ghost use Rattle.subst_language.specs.Language.NamesIn.{names_in};
 ghost use Rattle.subst_language.specs.Earlier.Extension.{KeepsReading};
 ghost use Rattle.subst_language.specs.Language.Tree.{Tree, text};
 ghost use Rattle.subst_language.specs.Language.LookUp.{LookUp, GivesTexts};
-ghost use Rattle.subst_language.specs.Language.Sentence.{ByTree};
+ghost use Rattle.subst_language.specs.Language.Sentence.{ByTree, Spells};
 ghost use Rattle.subst_language.specs.Language.Value.{Bytes, value};
 ghost use Rattle.subst_language.specs.Language.Counts.{part_count, visited_count};
 
@@ -20,12 +28,66 @@ pub fn law_1()
     ensures { (s : List ℕ) → OneTreeOrOneFault s }
 {}
 
+/// The law of joined sentences. Where two sentences are written one after the other, and the second doesn't
+/// go on with a name at the end of the first, they are a sentence: its tree is their two trees joined, and
+/// where they give bytes, it gives these joined.
+pub fn law_2()
+    ensures tree { (t u : Tree) (a b : List ℕ) → Spells t a → Spells u b → IsFollowed t b
+        → Spells (join t u) (a ++ b) }
+    ensures bytes { (t : Tree) (a b x y : List ℕ) (look : LookUp) → Spells t a → IsFollowed t b
+        → value 0 t look ≡ Bytes x → Answers b look (Gives y) → Answers (a ++ b) look (Gives (x ++ y)) }
+{}
+
+/// The law of escaped texts. A text with a backslash before each special byte is a sentence that gives the
+/// text under every look-up. As a default it gives the text under every look-up that has nothing for the
+/// name.
+pub fn law_3()
+    ensures alone { (x : List ℕ) (look : LookUp) → Answers (escaped x) look (Gives x) }
+    ensures as_default { (n x : List ℕ) (look : LookUp) → IsName n → look n ≡ None
+        → Answers (dollar ∷ opening_brace ∷ n ++ (colon ∷ escaped x ++ closing_brace ∷ [])) look
+        (Gives x) }
+{}
+
+/// The law of names. Only the names in a tree matter: two look-ups that have the same for each of them give
+/// the tree one value. A value that is bytes stays bytes under a look-up that has something for at least the
+/// same of these names, though perhaps other bytes.
+pub fn law_4()
+    ensures same { (p : ℕ) (t : Tree) (a b : LookUp) → All (λ n. a n ≡ b n) (names_in t)
+        → value p t a ≡ value p t b }
+    ensures bytes { (p : ℕ) (t : Tree) (a b : LookUp) (x : List ℕ)
+        → All (λ n. IsSome (a n) → IsSome (b n)) (names_in t) → value p t a ≡ Bytes x
+        → (y : List ℕ) × (value p t b ≡ Bytes y) }
+{}
+
+/// The law of late faults. A source that lacks a closing brace is a sentence, then `${` with the brace that
+/// the fault is at, and then anything. In a source with an escape that has no character, the backslash is
+/// the last byte.
+pub fn law_5()
+    ensures brace { (p position : ℕ) (s : List ℕ) → HasFault p s (MissingClosingBrace position)
+        → OpensAt p s position }
+    ensures escape { (p position : ℕ) (s : List ℕ)
+        → HasFault p s (InvalidEscapeSequence position None) → position + 1 ≡ p + length s }
+{}
+
+/// The law of settled faults. A text keeps its fault whatever is written after it, if that is an escape with
+/// its character, an unexpected character, or a missing name that ends before the text does.
+pub fn law_6()
+    ensures { (p : ℕ) (s more : List ℕ) (f : Fault) → IsUtf8 s → HasFault p s f
+        → IsSettled (p + length s) f → HasFault p (s ++ more) f }
+{}
+
 /// The law of ranges. Each refusal of a text has a range whose ends are character boundaries of the text, so
 /// neither is past its end. So what the line and the underline of an error ask is so of each error that a
 /// substitution of the text returns.
 pub fn law_7()
     ensures { (s : List ℕ) (look : LookUp) (f : Fault) → IsUtf8 s → Answers s look (Refuses f)
         → IsRangeIn s (range_of (Some f)) }
+{}
+
+/// The law of plain texts. A source without dollars and backslashes is a sentence that gives itself under
+/// every look-up.
+pub fn law_8()
+    ensures { (s : List ℕ) (look : LookUp) → All IsPlain s → Answers s look (Gives s) }
 {}
 
 /// The law of extension. Each sentence of the earlier language, which had no `${name?}`, is a sentence, with

@@ -19,7 +19,7 @@ use Rattle.subst_raw.specs.declared.Span.{Span}
 use Rattle.subst_raw.specs.declared.Part.{Part}
 use Rattle.subst_raw.specs.declared.Part.TheVariants.{Default}
 use Rattle.subst_raw.specs.declared.parse.OpenDefault.{OpenDefault}
-use Rattle.subst_language.proofs.Language.TreeLemmas.{join}
+use Rattle.subst_language.specs.Language.Join.{join}
 use Rattle.subst_language.proofs.Language.PlainLemmas.{plains}
 use Rattle.subst_raw.proofs.ParsedLemmas.{current_tree_at}
 use Rattle.subst_raw.proofs.DepthLemmas.{depth_balanced, depth_opening, depth_byte, depth_append}

@@ -11,7 +11,8 @@ use Rattle.subst_raw.specs.Parts.{PartsMean}
 use Rattle.subst_raw.specs.Parsing.{IsTreeAt, IsParsed, IsParsedWithTail}
 use Rattle.subst_raw.specs.declared.Part.{Part}
 use Rattle.subst_raw.specs.declared.Part.TheVariants.{Literal}
-use Rattle.subst_language.proofs.Language.TreeLemmas.{join, text-join, well_formed_join, followed_join, followed_front}
+use Rattle.subst_language.specs.Language.Join.{join}
+use Rattle.subst_language.proofs.Language.TreeLemmas.{text-join, well_formed_join, followed_join, followed_front}
 use Rattle.subst_language.proofs.Language.CountLemmas.{ends_plain-join, ends_plain-apart, visited_count_after-apart}
 use Rattle.subst_raw.proofs.ByteRunLemmas.{slice_of_run, run_nothing}
 use Rattle.subst_raw.proofs.PartsLemmas.{mean_append, mean_literal}

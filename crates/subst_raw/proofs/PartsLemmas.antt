@@ -14,7 +14,8 @@ use Rattle.subst_raw.specs.declared.Span.{Span}
 use Rattle.subst_raw.specs.declared.Part.{Part}
 use Rattle.subst_raw.specs.declared.Part.TheVariants.{Literal, Escaped, Variable, Default}
 use Rattle.subst_language.proofs.Language.PlainLemmas.{plains, value-plains}
-use Rattle.subst_language.proofs.Language.TreeLemmas.{join, value-join}
+use Rattle.subst_language.specs.Language.Join.{join}
+use Rattle.subst_language.proofs.Language.TreeLemmas.{value-join}
 use Rattle.subst_language.proofs.Language.CountLemmas.{visited_count_after-join, visited_count-plains}
 use Rattle.subst_language.proofs.Language.ValueLemmas.{joined_assoc, joined-left, joined-right}
 

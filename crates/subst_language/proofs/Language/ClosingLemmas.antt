@@ -15,71 +15,78 @@ around x y z e f =
     ap (λ (u : List ℕ). opening_brace ∷ u)
     (e ∙ ap (λ (u : List ℕ). x ++ closing_brace ∷ u) f ∙ sym (append_assoc x (closing_brace ∷ y) (closing_brace ∷ z)))
 
-module _ (n : ℕ) (v : List ℕ) where
+-- a balanced prefix of the text is followed by a closing brace, and R holds of what is after that
+abbrev pub ClosesThen : (List ℕ → Type 0) → List ℕ → Type 0
+ClosesThen R w = (x y : List ℕ) × IsBalanced x × (w ≡ x ++ closing_brace ∷ y) × R y
+
+module _ (R : List ℕ → Type 0) (v : List ℕ) where
   -- what closes after a byte that is no backslash and no brace
-  after_byte : (b : ℕ) {x : List ℕ} → b ≢ backslash → b ≢ opening_brace → b ≢ closing_brace → IsBalanced x
-      → (y : List ℕ) → b ∷ v ≡ x ++ closing_brace ∷ y → ClosesAll n y
-      → ClosesAll (suc n) v
+  pub after_byte : (b : ℕ) {x : List ℕ} → b ≢ backslash → b ≢ opening_brace → b ≢ closing_brace → IsBalanced x
+      → (y : List ℕ) → b ∷ v ≡ x ++ closing_brace ∷ y → R y
+      → ClosesThen R v
   after_byte b no_slash no_open no_close empty y e rest = absurd (no_close (first_same e))
   after_byte b no_slash no_open no_close (byte {x = x} _ _ _ inner) y e rest =
       (x, y, inner, rest_same e, rest)
   after_byte b no_slash no_open no_close (escape inner) y e rest = absurd (no_slash (first_same e))
   after_byte b no_slash no_open no_close (braces inner more) y e rest = absurd (no_open (first_same e))
 
-  -- a byte that is no backslash and no brace closes nothing
-  pub closes_byte : (b : ℕ) → b ≢ backslash → b ≢ opening_brace → b ≢ closing_brace
-      → ClosesAll (suc n) (b ∷ v) ↔ ClosesAll (suc n) v
-  closes_byte b no_slash no_open no_close = (
-    λ (x, y, inner, e, rest). after_byte b no_slash no_open no_close inner y e rest,
-    λ (x, y, inner, e, rest).
-        (b ∷ x, y, byte no_slash no_open no_close inner, ap (λ (w : List ℕ). b ∷ w) e, rest),
-  )
-
   -- what closes after an escape
-  after_escape : (b : ℕ) {x : List ℕ} → IsBalanced x → (y : List ℕ)
-      → backslash ∷ b ∷ v ≡ x ++ closing_brace ∷ y → ClosesAll n y → ClosesAll (suc n) v
+  pub after_escape : (b : ℕ) {x : List ℕ} → IsBalanced x → (y : List ℕ)
+      → backslash ∷ b ∷ v ≡ x ++ closing_brace ∷ y → R y → ClosesThen R v
   after_escape b empty y e rest = absurd (omega (arith, first_same e))
   after_escape b (byte no_slash _ _ inner) y e rest = absurd (no_slash (sym (first_same e)))
   after_escape b (escape {x = x} inner) y e rest = (x, y, inner, rest_same (rest_same e), rest)
   after_escape b (braces inner more) y e rest = absurd (omega (arith, first_same e))
 
-  -- an escape closes nothing
-  pub closes_escape : (b : ℕ) → ClosesAll (suc n) (backslash ∷ b ∷ v) ↔ ClosesAll (suc n) v
-  closes_escape b = (
-    λ (x, y, inner, e, rest). after_escape b inner y e rest,
-    λ (x, y, inner, e, rest).
-        (backslash ∷ b ∷ x, y, escape inner, ap (λ (w : List ℕ). backslash ∷ b ∷ w) e, rest),
-  )
-
   -- what closes after an opening brace
-  after_opening : {x : List ℕ} → IsBalanced x → (y : List ℕ) → opening_brace ∷ v ≡ x ++ closing_brace ∷ y
-      → ClosesAll n y → ClosesAll (suc (suc n)) v
+  pub after_opening : {x : List ℕ} → IsBalanced x → (y : List ℕ) → opening_brace ∷ v ≡ x ++ closing_brace ∷ y
+      → R y → ClosesThen (ClosesThen R) v
   after_opening empty y e rest = absurd (omega (arith, first_same e))
   after_opening (byte _ no_open _ inner) y e rest = absurd (no_open (sym (first_same e)))
   after_opening (escape inner) y e rest = absurd (omega (arith, first_same e))
   after_opening (braces {x = x} {y = z} inner more) y e rest =
       (x, z ++ closing_brace ∷ y, inner, rest_same e ∙ append_assoc x (closing_brace ∷ z) (closing_brace ∷ y), (z, y, more, refl, rest))
 
-  -- an opening brace is one more to close
-  pub closes_opening : ClosesAll (suc n) (opening_brace ∷ v) ↔ ClosesAll (suc (suc n)) v
-  closes_opening = (
-    λ (x, y, inner, e, rest). after_opening inner y e rest,
-    λ (x, w, inner, e, (y, z, more, f, rest)).
-        (opening_brace ∷ x ++ closing_brace ∷ y, z, braces inner more, around x y z e f, rest),
-  )
-
   -- what closes after a closing brace
-  after_closing : {x : List ℕ} → IsBalanced x → (y : List ℕ) → closing_brace ∷ v ≡ x ++ closing_brace ∷ y
-      → ClosesAll n y → ClosesAll n v
-  after_closing empty y e rest = subst (λ (w : List ℕ). ClosesAll n w) (sym (rest_same e)) rest
+  pub after_closing : {x : List ℕ} → IsBalanced x → (y : List ℕ) → closing_brace ∷ v ≡ x ++ closing_brace ∷ y
+      → R y → R v
+  after_closing empty y e rest = subst R (sym (rest_same e)) rest
   after_closing (byte _ _ no_close inner) y e rest = absurd (no_close (sym (first_same e)))
   after_closing (escape inner) y e rest = absurd (omega (arith, first_same e))
   after_closing (braces inner more) y e rest = absurd (omega (arith, first_same e))
 
+module _ (n : ℕ) (v : List ℕ) where
+  -- a byte that is no backslash and no brace closes nothing
+  pub closes_byte : (b : ℕ) → b ≢ backslash → b ≢ opening_brace → b ≢ closing_brace
+      → ClosesAll (suc n) (b ∷ v) ↔ ClosesAll (suc n) v
+  closes_byte b no_slash no_open no_close = (
+    λ (x, y, inner, e, rest). after_byte (ClosesAll n) v b no_slash no_open no_close inner y e rest,
+    λ (x, y, inner, e, rest).
+        (b ∷ x, y, byte no_slash no_open no_close inner, ap (λ (w : List ℕ). b ∷ w) e, rest),
+  )
+
+  -- an escape closes nothing
+  pub closes_escape : (b : ℕ) → ClosesAll (suc n) (backslash ∷ b ∷ v) ↔ ClosesAll (suc n) v
+  closes_escape b = (
+    λ (x, y, inner, e, rest). after_escape (ClosesAll n) v b inner y e rest,
+    λ (x, y, inner, e, rest).
+        (backslash ∷ b ∷ x, y, escape inner, ap (λ (w : List ℕ). backslash ∷ b ∷ w) e, rest),
+  )
+
+  -- an opening brace is one more to close
+  pub closes_opening : ClosesAll (suc n) (opening_brace ∷ v) ↔ ClosesAll (suc (suc n)) v
+  closes_opening = (
+    λ (x, y, inner, e, rest). after_opening (ClosesAll n) v inner y e rest,
+    λ (x, w, inner, e, (y, z, more, f, rest)).
+        (opening_brace ∷ x ++ closing_brace ∷ y, z, braces inner more, around x y z e f, rest),
+  )
+
   -- a closing brace closes one
   pub closes_closing : ClosesAll (suc n) (closing_brace ∷ v) ↔ ClosesAll n v
-  closes_closing =
-      (λ (x, y, inner, e, rest). after_closing inner y e rest, λ rest. ([], v, empty, refl, rest))
+  closes_closing = (
+    λ (x, y, inner, e, rest). after_closing (ClosesAll n) v inner y e rest,
+    λ rest. ([], v, empty, refl, rest),
+  )
 
 -- an empty text closes nothing
 pub closes_nothing : (n : ℕ) → ¬ (ClosesAll (suc n) [])

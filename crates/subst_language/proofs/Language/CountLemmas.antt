@@ -6,7 +6,7 @@ use Rattle.subst_language.specs.Language.Counts.{is_plain, if_missing, item_part
 use Rattle.subst_language.specs.Lemmas.PlainEnds.{ends_plain, HasNoPlainEnds}
 use Rattle.subst_language.specs.Language.Bytes.{closing_brace, colon}
 use Rattle.subst_language.proofs.Language.PlainLemmas.{plains}
-use Rattle.subst_language.proofs.Language.TreeLemmas.{join}
+use Rattle.subst_language.specs.Language.Join.{join}
 
 -- of two trees concatenated an expansion visits the parts of the first, and after it those of the second
 pub visited_count_after-join : (after : Bool) (t u : Tree) (look : LookUp)

@@ -10,7 +10,8 @@ use Rattle.subst_error.specs.Fault.{Fault}
 use Rattle.subst_language.specs.Language.BadItem.{IsBad, HasFault}
 use Rattle.subst_language.specs.Language.BadItem.IsBad.{escape_at_end, escape}
 use Rattle.subst_language.specs.Language.BadItem.HasFault.{fault_after}
-use Rattle.subst_language.proofs.Language.TreeLemmas.{join, join_empty, text-join, well_formed_join, followed_front, followed_by_nothing, followed_by_no_name}
+use Rattle.subst_language.specs.Language.Join.{join}
+use Rattle.subst_language.proofs.Language.TreeLemmas.{join_empty, text-join, well_formed_join, followed_front, followed_by_nothing, followed_by_no_name}
 use Rattle.subst_language.proofs.Language.NameLemmas.{backslash_no_name, dollar_no_name}
 use Rattle.subst_language.proofs.Language.BeginningLemmas.{Beginning, Nothing, Simple, WithDefault, Bad, beginning, item_beginning, BeginningHasFault, beginning-bad}
 use Rattle.subst_language.proofs.Language.OneTreeLemmas.{front_tree, empty_text, GoesOn, one_goes_on}

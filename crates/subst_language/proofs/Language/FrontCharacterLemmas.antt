@@ -84,7 +84,7 @@ begins_cut x q c some (scalar, (rest, e)) =
     (scalar, front_by_take m x is)
 
 -- the character at the start of bytes is also at the start of longer bytes
-begins_more : (x z : List ℕ) (c : ℕ) → BeginsWithChar x c → BeginsWithChar (x ++ z) c
+pub begins_more : (x z : List ℕ) (c : ℕ) → BeginsWithChar x c → BeginsWithChar (x ++ z) c
 begins_more x z c (scalar, (rest, e)) =
     (scalar, (rest ++ z, ap (λ (w : List ℕ). w ++ z) e ∙ append_assoc (encode_utf8 c) rest z))
 

@@ -5,7 +5,7 @@ use Rattle.std.proofs.Math.Seq.{take-append_seam}
 use Rattle.std.proofs.lemmas.Bool.{eqb-true, false≢true}
 use Rattle.std.proofs.lemmas.List.{reverse-append, drop_more, drop_all, drop-drop, take-append-drop}
 use Rattle.std.proofs.lemmas.Option.{slice_get_within, get_or_from_slice_get, slice_get-get_or}
-use Rattle.std.specs.List.{AllByRecursion, slice_get}
+use Rattle.std.specs.List.{All, AllByRecursion, slice_get}
 use Rattle.std.specs.Option.{MatchOption, option_eq}
 
 -- equal lists have equal first elements
@@ -26,6 +26,18 @@ pub each_append : {X : Type 0} (P : X → Type 0) (x y : List X) → AllByRecurs
     → AllByRecursion P (x ++ y)
 each_append P [] y h k = k
 each_append P (a ∷ x) y h k = (h.0, each_append P x y h.1 k)
+
+-- and what holds of each element of both holds of each of the first list, and of each of the second
+pub each_parts : {X : Type 0} (P : X → Type 0) (x y : List X) → AllByRecursion P (x ++ y)
+    → AllByRecursion P x × AllByRecursion P y
+each_parts P [] y h = (tt, h)
+each_parts P (a ∷ x) y h = let parts = each_parts P x y h.1 in ((h.0, parts.0), parts.1)
+
+-- what holds of each element holds of each by recursion
+pub each_by_recursion : {X : Type 0} (P : X → Type 0) (x : List X) → All P x → AllByRecursion P x
+each_by_recursion P [] each = tt
+each_by_recursion P (a ∷ x) each =
+    (each 0 a (omega arith), each_by_recursion P x (λ k d h. each (suc k) d (omega arith)))
 
 -- what holds of a list where it holds of each shorter one holds of each list of at most k elements
 by_length_within : {X : Type 0} (P : List X → Type 0)

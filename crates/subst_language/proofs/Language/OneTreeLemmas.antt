@@ -4,7 +4,8 @@ use Rattle.subst_language.specs.Language.Tree.{Item, Plain, Escaped, Short, Brac
 use Rattle.subst_language.specs.Language.WellFormed.{IsItem, IsWellFormed}
 use Rattle.subst_language.specs.Language.Sentence.{Spells}
 use Rattle.subst_language.specs.Language.Followed.{IsFollowed}
-use Rattle.subst_language.proofs.Language.TreeLemmas.{join, join_empty, followed_tail, followed_by_nothing}
+use Rattle.subst_language.specs.Language.Join.{join}
+use Rattle.subst_language.proofs.Language.TreeLemmas.{join_empty, followed_tail, followed_by_nothing}
 use Rattle.subst_language.proofs.Language.NameLemmas.{backslash_no_name, dollar_no_name}
 use Rattle.subst_language.proofs.Language.BeginningLemmas.{beginning, item_beginning, beginning-item}
 

@@ -82,7 +82,7 @@ placed_in s range is =
     (subst (IsCharBoundary s) first start, subst (IsCharBoundary s) last end)
 
 -- UTF-8 that isn't empty begins with a character
-begins_with_some : (b : ℕ) (x : List ℕ) → IsUtf8 (b ∷ x) → (c : ℕ) × BeginsWithChar (b ∷ x) c
+pub begins_with_some : (b : ℕ) (x : List ℕ) → IsUtf8 (b ∷ x) → (c : ℕ) × BeginsWithChar (b ∷ x) c
 begins_with_some b x ([], (scalars, e)) = absurd cc
 begins_with_some b x (c ∷ cs, (scalars, e)) = (c, ((and_parts _ _ scalars).0, (_, sym e)))
 
@@ -132,7 +132,7 @@ brace_placed p w is =
     (after_ascii w opening_brace (omega arith) braced)
 
 -- what is after `${` and a name is UTF-8
-after_braced_name : (n x : List ℕ) → IsName n → IsUtf8 (dollar ∷ opening_brace ∷ (n ++ x)) → IsUtf8 x
+pub after_braced_name : (n x : List ℕ) → IsName n → IsUtf8 (dollar ∷ opening_brace ∷ (n ++ x)) → IsUtf8 x
 after_braced_name n x named is =
     let braced = after_ascii (opening_brace ∷ (n ++ x)) dollar (omega arith) is in
     after_name n x named (after_ascii (n ++ x) opening_brace (omega arith) braced)
@@ -160,7 +160,7 @@ bad_begins (escape n h) = (backslash, _, omega arith, refl)
 bad_begins _ = (dollar, _, omega arith, refl)
 
 -- so where it is after other bytes, in UTF-8, it is UTF-8
-bad_is_text : {p : ℕ} {r : List ℕ} {f : Fault} (x : List ℕ) → IsBad p r f → IsUtf8 (x ++ r) → IsUtf8 r
+pub bad_is_text : {p : ℕ} {r : List ℕ} {f : Fault} (x : List ℕ) → IsBad p r f → IsUtf8 (x ++ r) → IsUtf8 r
 bad_is_text {r = r} x bad is = of (bad_begins bad)
   where
     of : (b : ℕ) × (y : List ℕ) × (b < 128) × (r ≡ b ∷ y) → IsUtf8 r

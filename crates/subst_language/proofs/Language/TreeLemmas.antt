@@ -3,17 +3,13 @@ use Rattle.std.proofs.Common.{◌≡◌, ℕ, ◌+◌, List, [], ◌∷◌, ◌+
 use Rattle.subst_language.specs.Language.Name.{IsNameByte}
 use Rattle.subst_language.specs.Language.Tree.{Item, Plain, Short, Tree, Empty, Then, item_text, text}
 use Rattle.subst_language.specs.Language.Name.{BeginsWithNo}
+use Rattle.subst_language.specs.Language.Join.{join}
 use Rattle.subst_language.specs.Language.WellFormed.{EndsName, IsItem, IsWellFormed}
 use Rattle.subst_language.specs.Language.Followed.{IsFollowed}
 use Rattle.subst_language.specs.Language.Sentence.{Spells}
 use Rattle.subst_language.specs.Language.LookUp.{LookUp}
 use Rattle.subst_language.specs.Language.Value.{joined, value}
 use Rattle.subst_language.proofs.Language.ValueLemmas.{joined_assoc, joined-left}
-
--- the items of two trees concatenated
-abbrev pub join : Tree → Tree → Tree
-join Empty u = u
-join (Then item rest) u = Then item (join rest u)
 
 -- nothing after a tree changes nothing
 pub join_empty : (t : Tree) → join t Empty ≡ t

@@ -49,7 +49,7 @@ in_braces u n x w named is =
     (before, after_name n (x ++ w) named (subst IsUtf8 (append_assoc n x w) inside))
 
 -- a special byte is ASCII
-special_ascii : (b : ℕ) → IsSpecial b → b < 128
+pub special_ascii : (b : ℕ) → IsSpecial b → b < 128
 special_ascii b is = grind (arith, nat_tests)
 
 -- an ASCII byte alone is UTF-8
@@ -70,7 +70,7 @@ found_text (Some y) v x texts other e = let same : y ≡ x = cc in subst IsUtf8 
 found_text None v x texts other e = other e
 
 -- UTF-8 before an item, the value of the item, and UTF-8 after it
-between : (u x y : List ℕ) → IsUtf8 u → IsUtf8 x → IsUtf8 y → IsUtf8 (u ++ (x ++ y))
+pub between : (u x y : List ℕ) → IsUtf8 u → IsUtf8 x → IsUtf8 y → IsUtf8 (u ++ (x ++ y))
 between u x y before inside after = IsUtf8-append u (x ++ y) before (IsUtf8-append x y inside after)
 
 mutual

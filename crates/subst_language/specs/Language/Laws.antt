@@ -1,8 +1,9 @@
 -- Laws of the definitions.
-use Rattle.std.specs.Prelude.{◌≡◌, ◌⊎◌, ℕ, List}
-use Rattle.subst_error.specs.Fault.{Fault}
+use Rattle.std.specs.Prelude.{◌≡◌, ◌⊎◌, ℕ, ◌+◌, ◌<◌, List, ◌∷◌, ◌++◌, length, Some, None}
+use Rattle.subst_error.specs.Fault.{Fault, InvalidEscapeSequence, MissingVariableName, UnexpectedCharacter, MissingClosingBrace, NoSuchVariable}
+use Rattle.subst_language.specs.Language.Bytes.{dollar, opening_brace}
 use Rattle.subst_language.specs.Language.Tree.{Tree}
-use Rattle.subst_language.specs.Language.Sentence.{Spells}
+use Rattle.subst_language.specs.Language.Sentence.{Spells, IsSentence}
 use Rattle.subst_language.specs.Language.BadItem.{HasFault}
 
 -- s is a sentence with one tree, or has one fault at each position that it may be at, and never both
@@ -11,3 +12,20 @@ pub record OneTreeOrOneFault (s : List ℕ) : Type 0 where
   pub tree_unique : (t u : Tree) → Spells t s → Spells u s → t ≡ u
   pub fault_unique : (p : ℕ) (f g : Fault) → HasFault p s f → HasFault p s g → f ≡ g
   pub never_both : (t : Tree) (p : ℕ) (f : Fault) → Spells t s → ¬ (HasFault p s f)
+
+-- s, which is at position p, is a sentence, then `${` with the brace at the position, and then anything
+pub record OpensAt (p : ℕ) (s : List ℕ) (position : ℕ) : Type 0 where
+  pub before : List ℕ
+  pub after : List ℕ
+  pub sentence : IsSentence before
+  pub parts : s ≡ before ++ dollar ∷ opening_brace ∷ after
+  pub brace : position ≡ p + length before + 1
+
+-- a fault of a text that ends at the position `end` that no text after it can mend
+abbrev pub IsSettled : (end : ℕ) → Fault → Type 0
+IsSettled end (InvalidEscapeSequence position (Some character)) = Unit {0}
+IsSettled end (InvalidEscapeSequence position None) = ⊥
+IsSettled end (MissingVariableName position len) = position + len < end
+IsSettled end (UnexpectedCharacter position character expected) = Unit {0}
+IsSettled end (MissingClosingBrace position) = ⊥
+IsSettled end (NoSuchVariable position name) = ⊥

@@ -1,0 +1,57 @@
+-- Escaping up to the first special byte.
+use Rattle.std.proofs.Common.{◌≡◌, ℕ, zero, suc, ◌+◌, ◌<◌, ◌≤◌, true, false, List, [], ◌∷◌, ◌++◌, length, get_or, take, drop, Some, None, refl, sym, ap, ◌∙◌, arith, append_assoc}
+use Rattle.std.specs.List.{position, position_or_len}
+use Rattle.std.proofs.lemmas.Grind.{common_steps}
+use Rattle.std.proofs.lemmas.List.Sums.{fails_before_first}
+use Rattle.std.proofs.lemmas.List.Quantifiers.{position-Some}
+use Rattle.subst_language.specs.Language.Bytes.{backslash, is_special}
+use Rattle.subst_language.specs.Language.Escaped.{escaped_byte, escaped}
+
+-- a byte that isn't special stays as it is
+escaped_byte-plain : (b : ℕ) → is_special b ≡ false → escaped_byte b ≡ b ∷ []
+escaped_byte-plain b plain = rw plain refl
+
+-- a special byte comes after a backslash
+escaped_byte-special : (b : ℕ) → is_special b ≡ true → escaped_byte b ≡ backslash ∷ b ∷ []
+escaped_byte-special b special = rw special refl
+
+-- a text whose bytes before the index k aren't special, and whose byte there is
+escaped-at : (k : ℕ) (x : List ℕ) → k < length x → is_special (get_or x k 0) ≡ true
+    → ((j : ℕ) → j < k → is_special (get_or x j 0) ≡ false)
+    → escaped x ≡ take k x ++ backslash ∷ get_or x k 0 ∷ escaped (drop (suc k) x)
+escaped-at k [] inside special plain = absurd (omega arith)
+escaped-at zero (b ∷ x) inside special plain = ap (λ y. y ++ escaped x) (escaped_byte-special b special)
+escaped-at (suc k) (b ∷ x) inside special plain =
+    ap (λ y. y ++ escaped x) (escaped_byte-plain b (plain 0 (omega arith)))
+    ∙ ap (λ y. b ∷ y)
+    (escaped-at k x (omega arith) special (λ j below. plain (suc j) (omega arith)))
+
+-- a text none of whose bytes is special
+escaped-all_plain : (x : List ℕ) → ((j : ℕ) → j < length x → is_special (get_or x j 0) ≡ false) → escaped x ≡ x
+escaped-all_plain [] plain = refl
+escaped-all_plain (b ∷ x) plain =
+    ap (λ y. y ++ escaped x) (escaped_byte-plain b (plain 0 (omega arith)))
+    ∙ ap (λ y. b ∷ y) (escaped-all_plain x (λ j below. plain (suc j) (omega arith)))
+
+-- a text whose first special byte is at the index k
+pub escaped-found : (x : List ℕ) (k : ℕ) → position is_special x ≡ Some k
+    → escaped x ≡ take k x ++ backslash ∷ get_or x k 0 ∷ escaped (drop (k + 1) x)
+escaped-found x k found =
+    let at = position-Some is_special x k 0 found in
+    let next : suc k ≡ k + 1 = omega arith in
+    escaped-at k x at.0 at.1 at.2
+    ∙ ap (λ j. take k x ++ backslash ∷ get_or x k 0 ∷ escaped (drop j x)) next
+
+-- a text without special bytes
+pub escaped-none : (x : List ℕ) → position is_special x ≡ None → escaped x ≡ x
+escaped-none x none =
+    let past : length x ≤ position_or_len is_special x = grind (arith, common_steps) in
+    escaped-all_plain x (λ j below. fails_before_first is_special x j 0 (omega arith))
+
+-- one turn: what is before the first special byte, a backslash and the byte are written
+pub escaped_to_byte : (output rest text : List ℕ) (k : ℕ) → output ++ escaped rest ≡ escaped text
+    → position is_special rest ≡ Some k
+    → ((output ++ take k rest) ++ backslash ∷ []) ++ get_or rest k 0 ∷ [] ++ escaped (drop (k + 1) rest)
+    ≡ escaped text
+escaped_to_byte output rest text k so_far found =
+    simp append_assoc (ap (λ y. output ++ y) (sym (escaped-found rest k found)) ∙ so_far)

@@ -1,0 +1,10 @@
+use Rattle.subst_language.proofs.Language.LateFaultLemmas.{brace_opens, escape_ends}
+use Rattle.subst_language.proofs.laws.law_5.Goals as goal
+
+-- what a missing closing brace says
+pub returns-clause-brace : goal.returns-clause-brace
+returns-clause-brace c = brace_opens
+
+-- what an escape without a character says
+pub returns-clause-escape : goal.returns-clause-escape
+returns-clause-escape c = escape_ends

@@ -1,0 +1,6 @@
+use Rattle.subst_language.proofs.CallingLemmas.{plain_answer}
+use Rattle.subst_language.proofs.laws.law_8.Goals as goal
+
+-- each plain text gives itself
+pub returns : goal.returns
+returns c = plain_answer
