@@ -1,13 +1,10 @@
 -- A walk over a tree, step by step.
-use Rattle.std.proofs.Common.{◌≡◌, ℕ, List, [], ◌∷◌, ◌++◌, take, drop, get_or, length, ◌+◌, ◌<◌, Option, Some, None, IfSome, String, Global, string_bytes, string_cmp, nat_cmp, refl, sym, ap, ◌∙◌, subst, Less, Greater, rules}
-use Rattle.std.proofs.lemmas.Cmp.{nat_list_cmp_total}
-use Rattle.std.proofs.lemmas.List.{take-append-drop, take_more, drop_more}
+use Rattle.std.proofs.Common.{◌≡◌, ℕ, List, [], ◌∷◌, ◌++◌, take, drop, get_or, length, ◌+◌, ◌<◌, Option, Some, None, IfSome, String, Global, string_bytes, string_cmp, nat_cmp, refl, sym, ap, ◌∙◌, subst, Greater, rules}
+use Rattle.std.proofs.lemmas.List.{take_more}
 use Rattle.std.specs.BTreeMap.{insert_entry}
 use Rattle.std.specs.Cmp.Lexicographic.{slice_cmp}
-use Rattle.std.specs.List.{AllByRecursion}
 use Rattle.std.specs.List.Sorted.{IsStrictlySortedBy}
 use Rattle.std.specs.Map.{keys_of}
-use Rattle.std.specs.Ordering.{ordering_reverse}
 use Rattle.serde_json.specs.Data.{Data, string, Items, no_items, item, Members, no_members, member, put}
 use Rattle.serde_json.specs.View.{view, items_view, members_view}
 use Rattle.serde_json.specs.declared.value.Value.{Value, the_lemmas}
@@ -18,6 +15,7 @@ use Rattle.subst_language.specs.Language.LookUp.{LookUp}
 use Rattle.subst_language.specs.Language.Answer.{Answers, Refuses}
 use Rattle.subst_tree.specs.Texts.{IsFirstRefusal}
 use Rattle.subst_tree.proofs.TextsLemmas.{refusal_alone, refusal_before, refusal_after}
+use Rattle.subst_tree.proofs.WalkLemmas.{around, above_first}
 use Rattle.subst_json.specs.Mapped.{strings, strings_of_items, strings_of_members, IsMapped, AreMapped, HasMappedMembers}
 use Rattle.subst_json.proofs.MappedLemmas.{given}
 
@@ -64,13 +62,6 @@ member_refused look (x ∷ done) more m (member key e ns) f h k =
     refusal_after look (strings (view x.1)) (strings_of_members (members_view (done ++ m ∷ more))) f
     (given look (view x.1) e h.1) (member_refused look done more m ns f h.2 k)
 
--- an item is between those before it and those after it
-around : (vs : List Value) (i : ℕ) (v : Value) → i < length vs → v ≡ get_or vs i v
-    → vs ≡ take i vs ++ v ∷ drop (i + 1) vs
-around vs i v within is =
-    sym (take-append-drop i vs) ∙ ap (λ xs. take i vs ++ xs) (drop_more vs i v within)
-    ∙ ap (λ x. take i vs ++ x ∷ drop (i + 1) vs) (sym is)
-
 -- a walk over an array is at the item v, and the items before it are mapped
 pub record IsAtItem (look : LookUp) (vs : List Value) (i : ℕ) (v : Value) (ws : List Value) : Type 0 where
   pub within : i < length vs
@@ -107,13 +98,6 @@ object_refused look all done more m mapped (Some f) is h k =
     subst (λ es. IsFirstRefusal look (strings_of_members (members_view es)) f) (sym is)
     (member_refused look done more m mapped f h k)
 
--- a key that is above those before it
-below_middle : (first : Entry) (es : List Entry) (e : Entry) (more : List Entry)
-    → AllByRecursion (λ y. string_cmp first.0 y ≡ Less) (keys_of (es ++ e ∷ more))
-    → string_cmp first.0 e.0 ≡ Less
-below_middle first [] e more h = h.0
-below_middle first (x ∷ es) e more h = below_middle first es e more h.1
-
 -- the member with the next key goes last
 mapped_put : (look : LookUp) (done more : List Entry) (m : Entry) (ns : Members) (d : Data)
     → IsStrictlySortedBy string_cmp (keys_of (done ++ m ∷ more))
@@ -125,8 +109,7 @@ mapped_put look [] more m (member key e ns) d sorted h k = absurd h
 mapped_put look (first ∷ done) more m no_members d sorted h k = absurd h
 mapped_put look (first ∷ done) more m (member key e ns) d sorted h k =
     let above : slice_cmp nat_cmp (string_bytes m.0) (string_bytes first.0) ≡ Greater =
-    nat_list_cmp_total.antisymm (string_bytes m.0) (string_bytes first.0)
-    ∙ ap ordering_reverse (below_middle first done m more sorted.0) in
+    above_first first done m more sorted.0 in
     let last : put (string_bytes m.0) d (member key e ns) ≡ member key e (put (string_bytes m.0) d ns) =
     rw (sym h.0, above) refl in
     subst (HasMappedMembers look (members_view (first ∷ done ++ m ∷ []))) (sym last)

@@ -18,7 +18,7 @@ ghost use Rattle.serde_json.specs.View.{view};
 ghost use Rattle.subst_error.specs.ErrorFault.{error_fault};
 ghost use Rattle.subst_language.specs.Calls.Outcome.{OnFault};
 ghost use Rattle.subst_language.specs.Calls.VariableMap.{ByLookUp};
-ghost use Rattle.subst_tree.specs.Texts.{IsFirstRefusal};
+ghost use Rattle.subst_tree.specs.Texts.{HasRange, IsFirstRefusal};
 ghost use Rattle.subst_json.specs.Mapped.{strings, IsMapped};
 ghost use Rattle.subst_json.specs.Errors.{HasOwnMemory};
 ghost use Rattle.subst_json.specs.Outcome.{ReadsAsTree, OnJson, OnSubst};
@@ -54,6 +54,9 @@ where
         (λ look. OnOk result (IsMapped look (view value.old) (view value.new))) }
     ensures err { ByLookUp M.Value.text M.see (M.look_up variables.now)
         (λ look. OnFault error_fault result (IsFirstRefusal look (strings (view value.old)))) }
+
+    // The range of a fault can be asked for.
+    ensures range { OnFault error_fault result HasRange }
     ensures unchanged { OnErr result (value.new ≡ value.old) }
 {
     let filled = walk::filled(alloc, value, &Filler { variables })?;
@@ -88,6 +91,7 @@ where
     ensures subst { ByLookUp M.Value.text M.see (M.look_up variables.now)
         (λ look. OnSubst result
         (λ f. ReadsAsTree source.now (λ d. IsFirstRefusal look (strings d) f))) }
+    ensures range { OnSubst result HasRange }
 
     // Neither `Json` nor `Subst` says that memory ran out.
     ensures memory { IfErr result HasOwnMemory }
@@ -115,6 +119,7 @@ where
     ensures subst { ByLookUp M.Value.text M.see (M.look_up variables.now)
         (λ look. OnSubst result
         (λ f. ReadsAsTree source.now (λ d. IsFirstRefusal look (strings d) f))) }
+    ensures range { OnSubst result HasRange }
     ensures memory { IfErr result HasOwnMemory }
 {
     let value = Value::from_slice(alloc, source)?;
@@ -142,6 +147,7 @@ where
     ensures subst { ByLookUp M.Value.text M.see (M.look_up variables.now)
         (λ look. OnSubst result
         (λ f. ReadsAsTree source.now (λ d. IsFirstRefusal look (strings d) f))) }
+    ensures range { OnSubst result HasRange }
     ensures memory { IfErr result HasOwnMemory }
 {
     let value = value_from_str(alloc, source, variables)?;
@@ -166,6 +172,7 @@ where
     ensures subst { ByLookUp M.Value.text M.see (M.look_up variables.now)
         (λ look. OnSubst result
         (λ f. ReadsAsTree source.now (λ d. IsFirstRefusal look (strings d) f))) }
+    ensures range { OnSubst result HasRange }
     ensures memory { IfErr result HasOwnMemory }
 {
     let value = value_from_slice(alloc, source, variables)?;
@@ -185,6 +192,7 @@ where
     ensures json { OnJson result ⊥ }
     ensures subst { ByLookUp M.Value.text M.see (M.look_up variables.now)
         (λ look. OnSubst result (IsFirstRefusal look (strings (view value.now)))) }
+    ensures range { OnSubst result HasRange }
     ensures memory { IfErr result HasOwnMemory }
 {
     Ok(walk::filled(alloc, value, &Filler { variables })?)

@@ -5,7 +5,7 @@ ghost use Rattle.serde_json.specs.View.{view, items_view, members_view};
 ghost use Rattle.subst_error.specs.ErrorFault.{error_fault};
 ghost use Rattle.subst_language.specs.Language.LookUp.{LookUp};
 ghost use Rattle.subst_language.specs.Calls.Outcome.{OnFault};
-ghost use Rattle.subst_tree.specs.Texts.{IsFirstRefusal};
+ghost use Rattle.subst_tree.specs.Texts.{HasRange, IsFirstRefusal};
 ghost use Rattle.subst_json.specs.Mapped.{strings, strings_of_items, strings_of_members, IsMapped, AreMapped, HasMappedMembers};
 
 use serde_json::{Map, Value};
@@ -20,6 +20,7 @@ pub(crate) fn filled<F: Fill>(alloc: Global, value: &Value, filler: &F) -> Resul
         → IfOk result (λ tree. IsMapped look (view value.now) (view tree)) }
     ensures err { (look : LookUp) → F.is_look_up filler.now look
         → OnFault error_fault result (IsFirstRefusal look (strings (view value.now))) }
+    ensures range { OnFault error_fault result HasRange }
 {
     match value {
         Value::Null => Ok(Value::Null),
@@ -38,6 +39,7 @@ fn filled_items<F: Fill>(alloc: Global, items: &Vec<Value>, filler: &F) -> Resul
         (λ trees. AreMapped look (items_view items.now.items) (items_view trees.items)) }
     ensures err { (look : LookUp) → F.is_look_up filler.now look → OnFault error_fault result
         (IsFirstRefusal look (strings_of_items (items_view items.now.items))) }
+    ensures range { OnFault error_fault result HasRange }
 {
     let mut trees = Vec::with_capacity(alloc, items.len())?;
     for item in items {
@@ -58,6 +60,7 @@ fn filled_members<F: Fill>(
         (members_view trees.entries)) }
     ensures err { (look : LookUp) → F.is_look_up filler.now look → OnFault error_fault result
         (IsFirstRefusal look (strings_of_members (members_view members.now.entries))) }
+    ensures range { OnFault error_fault result HasRange }
 {
     let mut trees = Map::new(alloc);
     for (key, member) in members.iter() {

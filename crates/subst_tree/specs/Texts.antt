@@ -1,6 +1,7 @@
 -- The answers of several texts, one after the other.
-use Rattle.std.specs.Prelude.{◌≡◌, ⊤, ℕ, List, [], ◌∷◌, ◌++◌}
+use Rattle.std.specs.Prelude.{◌≡◌, ⊤, ℕ, ◌^◌, ◌<◌, List, [], ◌∷◌, ◌++◌, Some}
 use Rattle.subst_error.specs.Fault.{Fault}
+use Rattle.subst_error.specs.Range.{range_of}
 use Rattle.subst_language.specs.Language.LookUp.{LookUp}
 use Rattle.subst_language.specs.Language.Answer.{Answers, Gives, Refuses}
 
@@ -17,3 +18,7 @@ pub record IsFirstRefusal (look : LookUp) (texts : List (List ℕ)) (f : Fault) 
   pub cut : texts ≡ before ++ here ∷ after
   pub given : AreGiven look before
   pub refused : Answers here look (Refuses f)
+
+-- the range of the fault ends within a `usize`, as `source_range` asks
+abbrev pub HasRange : Fault → Type 0
+HasRange f = (range_of (Some f)).end < 2 ^ 64

@@ -10,6 +10,7 @@ ghost use Rattle.subst_error.specs.ErrorFault.{error_fault};
 ghost use Rattle.subst_language.specs.Language.Answer.{Answers, Gives, Refuses};
 ghost use Rattle.subst_language.specs.Language.LookUp.{LookUp};
 ghost use Rattle.subst_language.specs.Calls.Outcome.{OnFault};
+ghost use Rattle.subst_tree.specs.Texts.{HasRange};
 
 use memchr::memchr2;
 use std::alloc::Global;
@@ -31,7 +32,8 @@ pub trait Fill {
         ensures ok { (look : LookUp) → is_look_up self.now look
             → IfOk result (λ text. Answers source.now look (Gives (string_bytes text))) }
         ensures err { (look : LookUp) → is_look_up self.now look
-            → OnFault error_fault result (λ f. Answers source.now look (Refuses f)) };
+            → OnFault error_fault result (λ f. Answers source.now look (Refuses f)) }
+        ensures range { OnFault error_fault result HasRange };
 }
 
 /// Fills in texts from a map of variables.
