@@ -17,6 +17,8 @@ pub use Rattle.subst_language.proofs.CallingLemmas.{same_look_up}
 pub use Rattle.subst_language.proofs.CallingLemmas.{answer_as_read}
 -- a source without dollars and backslashes gives itself, whatever the look-up
 pub use Rattle.subst_language.proofs.CallingLemmas.{plain_answer}
+-- a text that begins with no name byte may follow each tree
+pub use Rattle.subst_language.proofs.Language.TreeLemmas.{followed_by_no_name}
 -- a tree that passes the test and whose text the source is, is the source's tree
 pub use Rattle.subst_language.proofs.CallingLemmas.{spells}
 -- a sentence has no fault: an error of its parsing says that memory ran out
@@ -35,3 +37,5 @@ pub use Rattle.subst_language.proofs.WorkedExamples.Forms.{is_well_formed}
 pub use Rattle.subst_language.proofs.WorkedExamples.Words.{plain, only_plain, only}
 -- a JSON tree is filled in as one tree, or refused for one fault, and never both
 pub use Rattle.subst_json.proofs.OneOutcomeLemmas.{one_outcome}
+-- the same of a TOML tree
+pub use Rattle.subst_toml.proofs.OneOutcomeLemmas.{one_outcome as toml_one_outcome}

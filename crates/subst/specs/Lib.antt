@@ -1,5 +1,6 @@
 pub mod Errors
 pub mod Json
+pub mod Toml
 pub use Rattle.subst_language.specs.Calls
 pub use Rattle.subst_language.specs.Earlier
 pub use Rattle.subst_language.specs.Language

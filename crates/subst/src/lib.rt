@@ -20,7 +20,8 @@
 //! Variables come from a `BTreeMap`, a `HashMap` or an `IndexMap` with keys `String` or `&str`, from pairs by
 //! an [`Env`], from [`NoSubstitution`], which has none, or from any other [`VariableMap`].
 //!
-//! [`json`] reads a tree first and then fills in its strings, so no value can break out of its string.
+//! [`json`] and [`toml`] read a tree first and then fill in its strings, so no value can break out of its
+//! string.
 //!
 //! This crate hands on public items of the crates below it under the names of the Rust crate `subst`, and has
 //! no code of its own.
@@ -36,3 +37,4 @@ pub use subst_raw::steps;
 
 pub mod json;
 pub mod laws;
+pub mod toml;

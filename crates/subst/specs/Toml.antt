@@ -1,0 +1,8 @@
+-- What contracts of the module `toml` cite, and the type of its errors.
+pub use Rattle.subst_toml.specs.declared.error.Error.{Error}
+pub use Rattle.subst_toml.specs.declared.error.Error.TheVariants as error
+pub use Rattle.subst_toml.specs.Errors
+pub use Rattle.subst_toml.specs.Laws
+pub use Rattle.subst_toml.specs.Mapped
+pub use Rattle.subst_toml.specs.Outcome
+pub use Rattle.subst_tree.specs.Texts

@@ -1,0 +1,4 @@
+pub mod MappedLemmas
+pub mod TreeLemmas
+pub mod OneOutcomeLemmas
+pub mod ReadingLemmas

@@ -1,0 +1,6 @@
+-- By induction on the tree, from the one answer that each string has.
+use Rattle.subst_toml.proofs.OneOutcomeLemmas.{one_outcome}
+use Rattle.subst_toml.proofs.laws.trees_have_one_outcome.Goals as goal
+
+pub returns : goal.returns
+returns c = one_outcome

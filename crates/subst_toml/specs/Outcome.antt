@@ -1,0 +1,44 @@
+-- What a call returned that reads a tree and fills it in.
+use Rattle.std.specs.Prelude.{◌≡◌, ⊤, ℕ, List, Some, Result, Ok, Err, IfErr, IfSome, IsUtf8}
+use Rattle.std.specs.Str.{valid_up_to, IsValidUpTo}
+use Rattle.toml.specs.Data.{Data, Members, table}
+use Rattle.toml.specs.Parse.{parse_document}
+use Rattle.subst_error.specs.Fault.{Fault}
+use Rattle.subst_error.specs.ErrorFault.{error_fault}
+use Rattle.subst_toml.specs.declared.error.Error.{Error}
+use Rattle.subst_toml.specs.declared.error.Error.TheVariants.{InvalidUtf8, Toml, Subst, OutOfMemory}
+
+-- the reader reads the text as a document, of whose tree P holds
+abbrev pub ReadsAsTree : List ℕ → (Data → Type 0) → Type 0
+ReadsAsTree text P = (ms : Members) × (parse_document text ≡ Some ms) × P (table ms)
+
+-- the bytes are UTF-8, but where the error says that they aren't, and from where
+abbrev tells_utf8 : List ℕ → Error → Type 0
+tells_utf8 bytes (InvalidUtf8 e) = ¬ (IsUtf8 bytes) × IsValidUpTo bytes (valid_up_to e)
+tells_utf8 bytes (Toml e) = IsUtf8 bytes
+tells_utf8 bytes (Subst e) = IsUtf8 bytes
+tells_utf8 bytes (OutOfMemory e) = IsUtf8 bytes
+
+abbrev pub TellsUtf8 : {T : Type 0} → List ℕ → Result T Error → Type 0
+TellsUtf8 bytes (Ok value) = IsUtf8 bytes
+TellsUtf8 bytes (Err e) = tells_utf8 bytes e
+
+-- P holds where the error is the reader's
+abbrev if_toml : Error → Type 0 → Type 0
+if_toml (InvalidUtf8 e) P = ⊤
+if_toml (Toml e) P = P
+if_toml (Subst e) P = ⊤
+if_toml (OutOfMemory e) P = ⊤
+
+abbrev pub OnToml : {T : Type 0} → Result T Error → Type 0 → Type 0
+OnToml result P = IfErr result (λ e. if_toml e P)
+
+-- P holds of the fault of a string, if that is the error
+abbrev if_subst : Error → (Fault → Type 0) → Type 0
+if_subst (InvalidUtf8 e) P = ⊤
+if_subst (Toml e) P = ⊤
+if_subst (Subst e) P = IfSome (error_fault e) P
+if_subst (OutOfMemory e) P = ⊤
+
+abbrev pub OnSubst : {T : Type 0} → Result T Error → (Fault → Type 0) → Type 0
+OnSubst result P = IfErr result (λ e. if_subst e P)

@@ -1,0 +1,99 @@
+//! Why a text isn't read and filled in.
+
+use std::alloc::{AllocError, AllocFailed};
+use std::fmt;
+use std::str::Utf8Error;
+
+/// Why a text isn't read and filled in.
+#[derive(Debug, Drop)]
+pub enum Error {
+    /// The bytes aren't UTF-8.
+    InvalidUtf8(Utf8Error),
+    /// The text isn't a TOML document; or, of the calls that return a type of the caller's, its tree is none
+    /// of that type.
+    Toml(toml::de::Error),
+    /// A string of the tree is refused. Positions are byte offsets in that string. It is never
+    /// `OutOfMemory`.
+    Subst(subst_error::Error),
+    /// An allocation failed.
+    OutOfMemory(AllocError),
+}
+
+impl From<Utf8Error> for Error {
+    ghost use Rattle.std.specs.Prelude.{◌≡◌};
+    ghost use Rattle.subst_toml.specs.declared.error.Error.TheVariants.{InvalidUtf8};
+
+    ghost from_gives = { λ e error. error ≡ InvalidUtf8 e };
+
+    fn from(e: Utf8Error) -> Error {
+        Error::InvalidUtf8(e)
+    }
+}
+
+impl From<toml::de::Error> for Error {
+    ghost use Rattle.subst_toml.specs.Errors.{IsOfReader};
+
+    ghost from_gives = { IsOfReader };
+
+    fn from(e: toml::de::Error) -> Error {
+        if e.is_memory() {
+            Error::OutOfMemory(AllocError)
+        } else {
+            Error::Toml(e)
+        }
+    }
+}
+
+impl From<subst_error::Error> for Error {
+    ghost use Rattle.subst_toml.specs.Errors.{IsOfSubstitution};
+
+    ghost from_gives = { IsOfSubstitution };
+
+    fn from(e: subst_error::Error) -> Error {
+        match e {
+            subst_error::Error::OutOfMemory(e) => Error::OutOfMemory(e),
+            e => Error::Subst(e),
+        }
+    }
+}
+
+impl From<AllocError> for Error {
+    ghost use Rattle.std.specs.Prelude.{◌≡◌};
+    ghost use Rattle.subst_toml.specs.declared.error.Error.TheVariants.{OutOfMemory};
+
+    ghost from_gives = { λ e error. error ≡ OutOfMemory e };
+
+    fn from(e: AllocError) -> Error {
+        Error::OutOfMemory(e)
+    }
+}
+
+impl<T: Drop> From<AllocFailed<T>> for Error {
+    ghost use Rattle.std.specs.Prelude.{◌≡◌};
+    ghost use Rattle.std.specs.declared.alloc.AllocError.{AllocError};
+    ghost use Rattle.subst_toml.specs.declared.error.Error.TheVariants.{OutOfMemory};
+
+    ghost from_gives = { λ _ error. (e : AllocError) × (error ≡ OutOfMemory e) };
+
+    fn from(e: AllocFailed<T>) -> Error {
+        Error::OutOfMemory(e.into())
+    }
+}
+
+/// The text of the error inside, or `out of memory`.
+impl fmt::Display for Error {
+    ghost use Rattle.subst_toml.specs.Errors.{display_of_toml};
+
+    ghost output = { display_of_toml };
+
+    fn fmt<W: fmt::Write>(&self, f: &mut fmt::Formatter<W>) -> fmt::Result {
+        match self {
+            Error::InvalidUtf8(e) => e.fmt(f),
+            Error::Toml(e) => e.fmt(f),
+            Error::Subst(e) => e.fmt(f),
+            Error::OutOfMemory(_) => f.write_str("out of memory"),
+        }
+    }
+}
+
+impl std::error::Error for Error {}

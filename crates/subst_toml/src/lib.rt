@@ -1,0 +1,212 @@
+//! TOML whose strings are filled in after it was read, so no value can break out of its string.
+//!
+//! Each string of the tree becomes what `substitute` of `subst` gives for it. Keys stay as they are, and so
+//! do numbers, booleans, dates and the shape of the tree. Arrays are walked by index, and tables in the byte
+//! order of their keys; where strings are refused, the error is that of the first one.
+//!
+//! [`substitute_string_values`] fills in a tree in place, [`value_from_str`] and [`value_from_slice`] read a
+//! document first, whose tree is a table, and [`from_str`] and [`from_slice`] go on to read a type of the
+//! caller's from it, by `serde`.
+//!
+//! The walk calls itself for each array and table that is inside another one. The reader bounds how deep
+//! these are; a deeper tree, which a caller has built, takes as much more of the stack.
+#![tactic(auto)]
+
+ghost use Rattle.std.specs.Prelude.{◌≡◌, IfErr, IfOk, None, OnErr, OnOk};
+ghost use Rattle.toml.specs.Data.{Data, table};
+ghost use Rattle.toml.specs.Parse.{parse_document};
+ghost use Rattle.toml.specs.View.{view, table_view};
+ghost use Rattle.subst_error.specs.ErrorFault.{error_fault};
+ghost use Rattle.subst_language.specs.Calls.Outcome.{OnFault};
+ghost use Rattle.subst_language.specs.Calls.VariableMap.{ByLookUp};
+ghost use Rattle.subst_tree.specs.Texts.{HasRange, IsFirstRefusal};
+ghost use Rattle.subst_toml.specs.Mapped.{strings, IsMapped};
+ghost use Rattle.subst_toml.specs.Errors.{HasOwnMemory};
+ghost use Rattle.subst_toml.specs.Outcome.{ReadsAsTree, OnToml, OnSubst, TellsUtf8};
+
+pub use error::Error;
+use serde::DeserializeOwned;
+use std::alloc::Global;
+use std::convert::AsStr;
+use subst_map::VariableMap;
+use subst_tree::Filler;
+use toml::{Table, Value};
+
+mod error;
+pub mod laws;
+mod typed;
+mod walk;
+
+/// Fills in the strings of a tree from `variables`, whose values are texts.
+///
+/// # Errors
+///
+/// The fault of the first string that is refused, as `substitute` of `subst` returns it: positions are byte
+/// offsets in that string. `OutOfMemory` when allocation fails. After an error the tree is as it was.
+pub fn substitute_string_values<'a, M: VariableMap<'a>>(
+    alloc: Global,
+    value: &mut Value,
+    variables: &'a M,
+) -> Result<(), subst_error::Error>
+where
+    M::Value: AsStr + Drop,
+
+    // Each string is replaced by what it gives under the map's look-up, and all else is as it was.
+    ensures ok { ByLookUp M.Value.text M.see (M.look_up variables.now)
+        (λ look. OnOk result (IsMapped look (view value.old) (view value.new))) }
+    ensures err { ByLookUp M.Value.text M.see (M.look_up variables.now)
+        (λ look. OnFault error_fault result (IsFirstRefusal look (strings (view value.old)))) }
+
+    // The range of a fault can be asked for.
+    ensures range { OnFault error_fault result HasRange }
+    ensures unchanged { OnErr result (value.new ≡ value.old) }
+{
+    let filled = walk::filled(alloc, value, &Filler { variables })?;
+    *value = filled;
+    Ok(())
+}
+
+/// Reads a TOML document, and returns its tree, a table, with its strings filled in from `variables`, whose
+/// values are texts.
+///
+/// ```text
+/// let tree = value_from_str(alloc, "\"$home\" = \"${home}/.config\"\n", &variables)?;
+/// // "$home" = "/home/user/.config"
+/// ```
+///
+/// # Errors
+///
+/// `Toml` where the source isn't a document, as `toml` decides, whatever its strings are; that error tells
+/// the line. Otherwise `Subst` with the fault of the first string that is refused; positions are byte
+/// offsets in that string. `OutOfMemory` when allocation fails.
+pub fn value_from_str<'a, M: VariableMap<'a>>(
+    alloc: Global,
+    source: &str,
+    variables: &'a M,
+) -> Result<Value, Error>
+where
+    M::Value: AsStr + Drop,
+
+    // It is the tree that the source is read as, with its strings filled in.
+    ensures ok { ByLookUp M.Value.text M.see (M.look_up variables.now)
+        (λ look. IfOk result (λ tree. ReadsAsTree source.now (λ d. IsMapped look d (view tree)))) }
+
+    // A text is UTF-8, so the error is never `InvalidUtf8`.
+    ensures utf8 { TellsUtf8 source.now result }
+    ensures toml { OnToml result (parse_document source.now ≡ None) }
+    ensures subst { ByLookUp M.Value.text M.see (M.look_up variables.now)
+        (λ look. OnSubst result
+        (λ f. ReadsAsTree source.now (λ d. IsFirstRefusal look (strings d) f))) }
+    ensures range { OnSubst result HasRange }
+
+    // Neither `Toml` nor `Subst` says that memory ran out.
+    ensures memory { IfErr result HasOwnMemory }
+{
+    Ok(Value::Table(filled_table(alloc, source, variables)?))
+}
+
+/// The same of bytes.
+///
+/// # Errors
+///
+/// `InvalidUtf8` where the bytes aren't UTF-8, which is found before anything is read; otherwise as
+/// [`value_from_str`].
+pub fn value_from_slice<'a, M: VariableMap<'a>>(
+    alloc: Global,
+    source: &[u8],
+    variables: &'a M,
+) -> Result<Value, Error>
+where
+    M::Value: AsStr + Drop,
+    ensures ok { ByLookUp M.Value.text M.see (M.look_up variables.now)
+        (λ look. IfOk result (λ tree. ReadsAsTree source.now (λ d. IsMapped look d (view tree)))) }
+
+    // `InvalidUtf8` is returned where the bytes aren't UTF-8, and only there; it tells how far they are.
+    ensures utf8 { TellsUtf8 source.now result }
+    ensures toml { OnToml result (parse_document source.now ≡ None) }
+    ensures subst { ByLookUp M.Value.text M.see (M.look_up variables.now)
+        (λ look. OnSubst result
+        (λ f. ReadsAsTree source.now (λ d. IsFirstRefusal look (strings d) f))) }
+    ensures range { OnSubst result HasRange }
+    ensures memory { IfErr result HasOwnMemory }
+{
+    value_from_str(alloc, std::str::from_utf8(source)?, variables)
+}
+
+/// Reads a TOML document, fills in its strings from `variables`, whose values are texts, and reads a `T` from
+/// the tree.
+///
+/// A string stays a string when it is filled in, so no variable gives a `T` its number or its date.
+///
+/// # Errors
+///
+/// As [`value_from_str`]. It is `Toml` too where the tree with its strings filled in is no `T`.
+pub fn from_str<'a, T: DeserializeOwned, M: VariableMap<'a>>(
+    alloc: Global,
+    source: &str,
+    variables: &'a M,
+) -> Result<T, Error>
+where
+    M::Value: AsStr + Drop,
+
+    // It is returned only where there is such a tree. Which `T` is read from it, no clause says.
+    ensures ok { ByLookUp M.Value.text M.see (M.look_up variables.now)
+        (λ look. OnOk result (ReadsAsTree source.now (λ d. (e : Data) × IsMapped look d e))) }
+    ensures utf8 { TellsUtf8 source.now result }
+    ensures subst { ByLookUp M.Value.text M.see (M.look_up variables.now)
+        (λ look. OnSubst result
+        (λ f. ReadsAsTree source.now (λ d. IsFirstRefusal look (strings d) f))) }
+    ensures range { OnSubst result HasRange }
+    ensures memory { IfErr result HasOwnMemory }
+{
+    let table = filled_table(alloc, source, variables)?;
+    let text = typed::printed(alloc, &table)?;
+    Ok(toml::from_str(alloc, text.as_str())?)
+}
+
+/// The same of bytes.
+///
+/// # Errors
+///
+/// As [`value_from_slice`]. It is `Toml` too where the tree with its strings filled in is no `T`.
+pub fn from_slice<'a, T: DeserializeOwned, M: VariableMap<'a>>(
+    alloc: Global,
+    source: &[u8],
+    variables: &'a M,
+) -> Result<T, Error>
+where
+    M::Value: AsStr + Drop,
+    ensures ok { ByLookUp M.Value.text M.see (M.look_up variables.now)
+        (λ look. OnOk result (ReadsAsTree source.now (λ d. (e : Data) × IsMapped look d e))) }
+    ensures utf8 { TellsUtf8 source.now result }
+    ensures subst { ByLookUp M.Value.text M.see (M.look_up variables.now)
+        (λ look. OnSubst result
+        (λ f. ReadsAsTree source.now (λ d. IsFirstRefusal look (strings d) f))) }
+    ensures range { OnSubst result HasRange }
+    ensures memory { IfErr result HasOwnMemory }
+{
+    from_str(alloc, std::str::from_utf8(source)?, variables)
+}
+
+/// Returns the table that a document is, with its strings filled in.
+fn filled_table<'a, M: VariableMap<'a>>(
+    alloc: Global,
+    source: &str,
+    variables: &'a M,
+) -> Result<Table, Error>
+where
+    M::Value: AsStr + Drop,
+    ensures ok { ByLookUp M.Value.text M.see (M.look_up variables.now)
+        (λ look. IfOk result (λ filled. ReadsAsTree source.now
+        (λ d. IsMapped look d (table (table_view filled))))) }
+    ensures utf8 { TellsUtf8 source.now result }
+    ensures toml { OnToml result (parse_document source.now ≡ None) }
+    ensures subst { ByLookUp M.Value.text M.see (M.look_up variables.now)
+        (λ look. OnSubst result
+        (λ f. ReadsAsTree source.now (λ d. IsFirstRefusal look (strings d) f))) }
+    ensures range { OnSubst result HasRange }
+    ensures memory { IfErr result HasOwnMemory }
+{
+    let table = toml::table_from_str(alloc, source)?;
+    Ok(walk::filled_members(alloc, &table, &Filler { variables })?)
+}
