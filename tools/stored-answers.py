@@ -1,10 +1,10 @@
 #!/usr/bin/env python3
 """stored-answers.py [--check]   Makes the stored run of subst_answers from the files of answers in tests/data.
 
-Writes crates/subst_answers/stdin, each record of the files as a record of the kind `bytes`, and after these each whose
-source and values are UTF-8 once more, of the kind `text`; and crates/subst_answers/stdout, the answer that the files
-have for each, with all its columns. With --check it writes nothing, and fails where one of the two isn't what it would
-write.
+Writes crates/subst_answers/stdin, each record of the answers to bytes as a record of the kind `bytes`, after these each
+whose source and values are UTF-8 once more, of the kind `text`, and then those to documents, each of its own kind; and
+crates/subst_answers/stdout, the answer that the files have for each, with all its columns. With --check it writes nothing,
+and fails where one of the two isn't what it would write.
 """
 import itertools
 import pathlib
@@ -14,8 +14,11 @@ import sys
 TOP = pathlib.Path(__file__).resolve().parent.parent
 DATA = TOP / 'tests' / 'data'
 CRATE = pathlib.Path('crates', 'subst_answers')
-# The columns of an answer: `ok OUTPUT`, or `fault CASE POSITION DETAIL EXPECTED DISPLAY RANGE LINE HIGHLIGHTING`.
-COLUMNS = {'ok': 2, 'fault': 9}
+# The columns of an answer: `ok OUTPUT`, `fault CASE POSITION DETAIL EXPECTED DISPLAY RANGE LINE HIGHLIGHTING`, or, of a
+# document alone, `refused ERROR`.
+COLUMNS = {'ok': 2, 'fault': 9, 'refused': 2}
+# The kinds of records whose source is a document; the answers to each are in a file of its name.
+DOCUMENTS = ['json', 'toml']
 # Those of a fault that say what was expected.
 EXPECTED, DISPLAY = 4, 5
 # What may come after a name in braces, as the Rust crate says it, and as it is with `${name?}`.
@@ -60,9 +63,10 @@ def are_texts(source, pairs):
     return all(map(is_text, [source] + values))
 
 
-def stored_run(rows):
+def stored_run(rows, documents):
     """The text of each file of the stored run, by its name."""
     asked = [('bytes', *row) for row in rows] + [('text', *row) for row in rows if are_texts(*row[:2])]
+    asked += [(kind, *row) for kind, rows in documents.items() for row in rows]
     stdin = ['\t'.join((kind, source, pairs)) + '\n' for kind, source, pairs, _ in asked]
     stdout = ['\t'.join(answer) + '\n' for _, _, _, answer in asked]
     return {'stdin': ''.join(stdin), 'stdout': ''.join(stdout)}
@@ -92,16 +96,26 @@ def check(run):
     return failed == 0
 
 
+def said(what, rows, kept):
+    """Says how many rows there are, and how many of them the departures change."""
+    changed = len(kept) - sum(row in rows for row in kept)
+    print(f'{len(rows)} {what} ({len(rows) - len(kept)} left out, {changed} with another message)')
+
+
 def main():
     if sys.argv[1:] not in ([], ['--check']):
         sys.exit(__doc__)
     rust = list(records('answers.tsv'))
     kept = list(with_optional_variables(rust))
     optional = list(records('answers-optional.tsv'))
-    left_out, changed = len(rust) - len(kept), len(kept) - sum(row in rust for row in kept)
-    print(f'{len(rust)} records of the Rust crate ({left_out} left out, {changed} with another message), '
-          f'{len(optional)} with optional variables')
-    run = stored_run(kept + optional)
+    said('records of the Rust crate', rust, kept)
+    print(f'{len(optional)} with optional variables')
+    documents = {}
+    for kind in DOCUMENTS:
+        rows = list(records(f'{kind}.tsv'))
+        documents[kind] = list(with_optional_variables(rows))
+        said(f'{kind} documents', rows, documents[kind])
+    run = stored_run(kept + optional, documents)
     if sys.argv[1:]:
         sys.exit(0 if check(run) else 1)
     for file, text in run.items():

@@ -1,8 +1,0 @@
-use Rattle.subst_answers.specs.Agreement.{values_of}
-use Rattle.subst_answers.proofs.AgreementLemmas.{agreement}
-use Rattle.subst_answers.proofs.bytes.answer.Goals as goal
-
-pub returns : goal.returns
-returns c =
-    agreement c.args.source.now (values_of (λ v. v.items) c.args.pairs.now) c.in_ok-whole.whole c.in_ok-parsed.parsed
-    c.agreed_with.result c.in_ok-whole.ensures c.in_ok-parsed.ensures c.agreed_with.ensures.same

@@ -1,0 +1,13 @@
+pub mod AgreementLemmas
+pub mod AnswerLineLemmas
+pub mod ColumnLemmas
+pub mod JsonLemmas
+pub mod PairLemmas
+pub mod PlaceLemmas
+pub mod PrintingLemmas
+pub mod ReadPairsLemmas
+pub mod RecordLemmas
+pub mod SeparatorLemmas
+pub mod TomlLemmas
+pub mod TomlTreeLemmas
+pub mod WritingLemmas

@@ -1,0 +1,8 @@
+use Rattle.subst_records.specs.Agreement.{values_of}
+use Rattle.subst_records.proofs.AgreementLemmas.{agreement}
+use Rattle.subst_records.proofs.bytes.answer.Goals as goal
+
+pub returns : goal.returns
+returns c =
+    agreement c.args.source.now (values_of (λ v. v.items) c.args.pairs.now) c.in_ok-whole.whole c.in_ok-parsed.parsed
+    c.agreed_with.result c.in_ok-whole.ensures c.in_ok-parsed.ensures c.agreed_with.ensures.same

@@ -1,0 +1,12 @@
+use Rattle.subst_records.specs.Record.{IsRecord}
+use Rattle.subst_records.specs.declared.failure.Failure.{Failure}
+use Rattle.subst_records.proofs.PrintingLemmas.{ok_before}
+use Rattle.subst_records.proofs.run.answer_line.Goals as goal
+
+pub returns-clause-ok : goal.returns-clause-ok
+returns-clause-ok c = record {
+  asked = c.in_ok-asked.asked;
+  is = ok_before Failure c.read.result c.in_ok-asked.asked (IsRecord c.args.line.now) _
+      c.read.ensures.ok c.in_ok-asked.ensures.cases (λ e none. none);
+  shown = c.in_ok-line_for.ensures;
+}

@@ -1,0 +1,14 @@
+pub mod Agreement
+pub mod AnswerLine
+pub mod Column
+pub mod Content
+pub mod DocumentLine
+pub mod Failure
+pub mod FaultColumns
+pub mod JsonAnswer
+pub mod PlaceColumns
+pub mod Printing
+pub mod Record
+pub mod TextOf
+pub mod TomlAnswer
+pub mod TomlTree
