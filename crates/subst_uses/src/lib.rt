@@ -4,15 +4,18 @@
 #![tactic(auto)]
 
 pub mod any_template;
+pub mod cache;
 pub mod config;
 #[cfg(test)]
 mod expected;
 pub mod filled;
 pub mod launcher;
 pub mod letter;
+pub mod lines;
 pub mod maps;
 mod memory;
 pub mod own_map;
 pub mod plain;
 pub mod report;
 pub mod texts;
+pub mod words;

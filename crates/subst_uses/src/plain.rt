@@ -9,7 +9,7 @@ ghost use Rattle.subst.specs.Calls.Outcome.{answer_of};
 
 use std::alloc::Global;
 use std::convert::AsSlice;
-use subst::{Error, VariableMap, substitute_bytes};
+use subst::{Error, VariableMap, laws, substitute_bytes};
 
 #[cfg(test)]
 mod tests;
@@ -31,5 +31,6 @@ where
         (λ _. IfSome (answer_of (λ output. output.items) result)
         (λ answer. answer ≡ Gives source.now)) }
 {
+    laws::law_8();
     substitute_bytes(alloc, source, variables)
 }

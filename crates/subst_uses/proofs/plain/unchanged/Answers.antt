@@ -3,7 +3,7 @@ use Rattle.std.proofs.lemmas.Option.{IfSome_then}
 use Rattle.subst.specs.Language.Answer.{Gives}
 use Rattle.subst.specs.Calls.VariableMap.{look_up_of}
 use Rattle.subst.specs.Calls.Outcome.{answer_of}
-use Rattle.subst.proofs.Calling.{answer_unique, plain_answer}
+use Rattle.subst.proofs.Calling.{answer_unique}
 use Rattle.subst_uses.proofs.plain.unchanged.Goals as goal
 
 pub returns : goal.returns
@@ -12,4 +12,4 @@ returns g c = λ bytes reads.
     let look = look_up_of bytes (g.M.VariableMap.look_up c.args.variables.now) in
     let result = c.substitute_bytes.result in
     IfSome_then (answer_of (λ output. output.items) result) (c.substitute_bytes.ensures bytes reads)
-    (λ answer h. answer_unique s look answer (Gives s) h (plain_answer s look c.requires))
+    (λ answer h. answer_unique s look answer (Gives s) h (c.law_8.ensures s look c.requires))
