@@ -20,19 +20,22 @@ pub fn texts(alloc: Global, pairs: &str) -> Result<Texts, AllocError> {
     Ok(variables)
 }
 
+/// What a call returns that reads JSON and fills in its tree.
+pub type Read = Result<Value, json::Error>;
+
 pub fn fill_in(alloc: Global, tree: &mut Value, variables: &Texts) -> Result<(), Error> {
     json::substitute_string_values(alloc, tree, variables)
 }
 
-pub fn read(alloc: Global, source: &str, variables: &Texts) -> Result<Value, json::Error> {
+pub fn read(alloc: Global, source: &str, variables: &Texts) -> Read {
     json::value_from_str(alloc, source, variables)
 }
 
-pub fn read_bytes(alloc: Global, source: &[u8], variables: &Texts) -> Result<Value, json::Error> {
+pub fn read_bytes(alloc: Global, source: &[u8], variables: &Texts) -> Read {
     json::value_from_slice(alloc, source, variables)
 }
 
-pub fn read_without_variables(alloc: Global, source: &str) -> Result<Value, json::Error> {
+pub fn read_without_variables(alloc: Global, source: &str) -> Read {
     json::value_from_str(alloc, source, &NoSubstitution)
 }
 

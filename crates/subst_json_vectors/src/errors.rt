@@ -1,9 +1,7 @@
 //! The texts of errors.
 
-use crate::calls::{read, texts, tree};
-use serde_json::Value;
+use crate::calls::{Read, read_without_variables, tree};
 use std::alloc::{AllocError, Global};
-use std::test::Fail;
 use subst::json::Error;
 
 fn shows(alloc: Global, error: &Error, want: &str) -> bool {
@@ -13,61 +11,61 @@ fn shows(alloc: Global, error: &Error, want: &str) -> bool {
     }
 }
 
-fn is_shown(alloc: Global, read: &Result<Value, Error>, want: &str) -> bool {
+fn is_shown(alloc: Global, read: Read, want: &str) -> bool {
     match read {
         Ok(_) => false,
-        Err(error) => shows(alloc, error, want),
+        Err(error) => shows(alloc, &error, want),
     }
 }
 
+/// The first of these rows, each a source without variables and the text of its error, that is wrong.
+fn wrong_text(alloc: Global, rows: &[(&str, &str)]) -> Option<usize> {
+    for (row, &(source, want)) in rows.iter().enumerate() {
+        if !is_shown(alloc, read_without_variables(alloc, source), want) {
+            return Some(row);
+        }
+    }
+    None
+}
+
 #[test]
-fn an_error_shows_the_one_inside(rt: HostRuntime) -> Result<(), Fail> {
-    let variables = texts(rt.alloc(), "a=1")?;
+fn an_error_shows_the_one_inside(rt: HostRuntime) {
     let rows: &[(&str, &str)] = &[
         ("[\"$x\"]", "No such variable: $x"),
         ("[\"\\\\x\"]", "Invalid escape sequence: \\x"),
         ("[\"${\"]", "Missing variable name"),
         ("[\"${a\"]", "Missing closing brace"),
     ];
-    for &(source, want) in rows {
-        assert!(rt;
-            is_shown(rt.alloc(), &read(rt.alloc(), source, &variables), want),
-            "{source}"
-        );
-    }
-    Ok(())
+    assert_eq!(rt; wrong_text(rt.alloc(), rows), None);
 }
 
 /// Whether a source is refused with the text of the error of `serde_json`.
-fn shows_reader(alloc: Global, source: &str, read: &Result<Value, Error>) -> bool {
+fn shows_reader(alloc: Global, source: &str) -> bool {
     let Err(e) = tree(alloc, source) else {
         return false;
     };
     match e.to_string(alloc) {
-        Ok(want) => is_shown(alloc, read, want.as_str()),
+        Ok(want) => is_shown(alloc, read_without_variables(alloc, source), want.as_str()),
         Err(_) => false,
     }
 }
 
 #[test]
-fn what_is_no_json_is_shown_by_the_reader(rt: HostRuntime) -> Result<(), Fail> {
-    let variables = texts(rt.alloc(), "a=1")?;
-    let rows: &[&str] = &["[\n\"$a\"", "[\"$x\",]", "{\"a\":1e999}"];
-    for &source in rows {
-        assert!(rt;
-            shows_reader(rt.alloc(), source, &read(rt.alloc(), source, &variables)),
-            "{source}"
-        );
+fn what_is_no_json_is_shown_by_the_reader(rt: HostRuntime) {
+    let sources: &[&str] = &["[\n\"$a\"", "[\"$x\",]", "{\"a\":1e999}"];
+    for &source in sources {
+        assert!(rt; shows_reader(rt.alloc(), source));
     }
-    Ok(())
+}
+
+fn is_out_of_memory(error: Error) -> bool {
+    matches!(error, Error::OutOfMemory(_))
 }
 
 #[test]
-fn out_of_memory_is_said(rt: HostRuntime) -> Result<(), Fail> {
-    assert!(rt; shows(rt.alloc(), &Error::from(AllocError), "out of memory"));
-    let inside = subst::Error::from(AllocError);
-    assert!(rt; matches!(Error::from(inside), Error::OutOfMemory(_)));
-    let reader = serde_json::Error::from(AllocError);
-    assert!(rt; matches!(Error::from(reader), Error::OutOfMemory(_)));
-    Ok(())
+fn out_of_memory_is_said(rt: HostRuntime) {
+    let is_shown = shows(rt.alloc(), &Error::from(AllocError), "out of memory");
+    let inside = is_out_of_memory(Error::from(subst::Error::from(AllocError)));
+    let reader = is_out_of_memory(Error::from(serde_json::Error::from(AllocError)));
+    assert_eq!(rt; (is_shown, inside, reader), (true, true, true));
 }

@@ -10,6 +10,8 @@ mod calls;
 #[cfg(test)]
 mod errors;
 #[cfg(test)]
+mod faults;
+#[cfg(test)]
 mod large;
 #[cfg(test)]
 mod readings;

@@ -1,19 +1,44 @@
 //! What isn't read: text that is no JSON, and bytes that are no text.
 
-use crate::calls::{read, read_bytes, texts};
-use serde_json::Value;
+use crate::calls::{Read, read, read_bytes, texts};
 use std::alloc::Global;
-use std::test::Fail;
 use subst::json::Error;
 
-fn is_no_json(read: &Result<Value, Error>) -> bool {
+fn is_no_json(read: Read) -> bool {
     matches!(read, Err(Error::Json(_)))
 }
 
+/// Whether these bytes aren't read as JSON.
+fn are_no_json(alloc: Global, source: &[u8]) -> bool {
+    match texts(alloc, "a=1") {
+        Ok(variables) => is_no_json(read_bytes(alloc, source, &variables)),
+        Err(_) => false,
+    }
+}
+
+/// Whether this isn't read as JSON, as a text and as bytes.
+fn text_is_no_json(alloc: Global, source: &str) -> bool {
+    match texts(alloc, "a=1") {
+        Ok(variables) => {
+            is_no_json(read(alloc, source, &variables)) && are_no_json(alloc, source.as_bytes())
+        }
+        Err(_) => false,
+    }
+}
+
+/// The first of these sources that is read as JSON.
+fn json_among(alloc: Global, sources: &[&str]) -> Option<usize> {
+    for (row, &source) in sources.iter().enumerate() {
+        if !text_is_no_json(alloc, source) {
+            return Some(row);
+        }
+    }
+    None
+}
+
 #[test]
-fn no_json_is_refused_whatever_its_strings(rt: HostRuntime) -> Result<(), Fail> {
-    let variables = texts(rt.alloc(), "a=1")?;
-    let rows: &[&str] = &[
+fn no_json_is_refused_whatever_its_strings(rt: HostRuntime) {
+    let sources: &[&str] = &[
         "[\"$a\"",
         "",
         "$a",
@@ -23,46 +48,13 @@ fn no_json_is_refused_whatever_its_strings(rt: HostRuntime) -> Result<(), Fail> 
         "{1:2}",
         "01",
     ];
-    for &source in rows {
-        assert!(rt;
-            is_no_json(&read(rt.alloc(), source, &variables)),
-            "{source}"
-        );
-        assert!(rt;
-            is_no_json(&read_bytes(rt.alloc(), source.as_bytes(), &variables)),
-            "{source}"
-        );
-    }
-    Ok(())
+    assert_eq!(rt; json_among(rt.alloc(), sources), None);
 }
 
 #[test]
-fn bytes_that_are_no_text_are_refused(rt: HostRuntime) -> Result<(), Fail> {
-    let variables = texts(rt.alloc(), "a=1")?;
-    let rows: &[&[u8]] = &[b"\xFF", b"[\"\xFF\"]", b"[\"$x\xE2\x98\"]", b"[]\x80"];
-    for &source in rows {
-        assert!(rt; is_no_json(&read_bytes(rt.alloc(), source, &variables)));
+fn bytes_that_are_no_text_are_refused(rt: HostRuntime) {
+    let sources: &[&[u8]] = &[b"\xFF", b"[\"\xFF\"]", b"[\"$x\xE2\x98\"]", b"[]\x80"];
+    for &source in sources {
+        assert!(rt; are_no_json(rt.alloc(), source));
     }
-    Ok(())
-}
-
-/// An array in an array, and so on, with a string inside.
-pub fn nested(alloc: Global, depth: usize, inner: &str) -> Result<String, Fail> {
-    let mut source = String::new(alloc);
-    for _ in 0..depth {
-        source.push('[')?;
-    }
-    source.push_str(inner)?;
-    for _ in 0..depth {
-        source.push(']')?;
-    }
-    Ok(source)
-}
-
-#[test]
-fn nested_deeper_than_the_reader_goes(rt: HostRuntime) -> Result<(), Fail> {
-    let variables = texts(rt.alloc(), "a=1")?;
-    let source = nested(rt.alloc(), 128, "\"$a\"")?;
-    assert!(rt; is_no_json(&read(rt.alloc(), source.as_str(), &variables)));
-    Ok(())
 }

@@ -5,7 +5,8 @@
 //! test prints a line and calls again; at its end it looks whether what it lent is as before. Without a
 //! refusal it prints nothing.
 
-use crate::calls::{Texts, fill_in, is_text, read, read_bytes, texts, tree};
+use crate::calls::{Read, Texts, fill_in, is_text, read, read_bytes, texts, tree};
+use crate::faults::{Fault, is_fault, is_refused};
 use serde_json::Value;
 use std::alloc::{AllocError, Global};
 use std::io::Print;
@@ -22,8 +23,8 @@ const GIVEN: &str =
 /// A tree whose second string is refused.
 const REFUSED: &str = "[\"$name\",[\"é$absent\"],\"$\"]";
 
-/// The byte offset of the name in that string.
-const ABSENT_AT: usize = 3;
+/// Why that string is refused.
+const ABSENT: Fault = Fault::Absent(3, "absent");
 
 /// The value of `name`.
 const VALUE: &str = "the whole round world";
@@ -88,12 +89,7 @@ fn filled_in_place(
 }
 
 /// Reads and fills in a tree, by a second call where memory ran out.
-fn read_and_filled(
-    alloc: Global,
-    rt: &impl Print,
-    source: &str,
-    variables: &Texts,
-) -> Result<Value, json::Error> {
+fn read_and_filled(alloc: Global, rt: &impl Print, source: &str, variables: &Texts) -> Read {
     match read(alloc, source, variables) {
         Err(json::Error::OutOfMemory(_)) => {
             say_out_of_memory(rt);
@@ -104,12 +100,7 @@ fn read_and_filled(
 }
 
 /// The same of bytes.
-fn bytes_read_and_filled(
-    alloc: Global,
-    rt: &impl Print,
-    source: &[u8],
-    variables: &Texts,
-) -> Result<Value, json::Error> {
+fn bytes_read_and_filled(alloc: Global, rt: &impl Print, source: &[u8], variables: &Texts) -> Read {
     match read_bytes(alloc, source, variables) {
         Err(json::Error::OutOfMemory(_)) => {
             say_out_of_memory(rt);
@@ -119,73 +110,71 @@ fn bytes_read_and_filled(
     }
 }
 
-fn is_given(alloc: Global, filled: &Result<Value, json::Error>) -> bool {
+fn is_given(alloc: Global, filled: Read) -> bool {
     match filled {
-        Ok(tree) => is_tree(alloc, tree, GIVEN),
+        Ok(tree) => is_tree(alloc, &tree, GIVEN),
         Err(_) => false,
     }
 }
 
-fn is_absent(error: &Error) -> bool {
-    match error {
-        Error::NoSuchVariable(e) => e.position == ABSENT_AT && e.name.as_str() == "absent",
-        _ => false,
+/// Whether a tree that is read is filled in.
+fn tree_is_given(alloc: Global, rt: &impl Print, variables: &Texts) -> bool {
+    match read_tree(alloc, SOURCE) {
+        Ok(mut tree) => {
+            filled_in_place(alloc, rt, &mut tree, SOURCE, variables).is_ok()
+                && is_tree(alloc, &tree, GIVEN)
+        }
+        Err(_) => false,
     }
 }
 
-fn is_refused(filled: &Result<Value, json::Error>) -> bool {
+fn is_refused_in_place(filled: Result<(), Error>) -> bool {
     match filled {
-        Err(json::Error::Subst(e)) => is_absent(e),
-        _ => false,
-    }
-}
-
-fn is_refused_in_place(filled: &Result<(), Error>) -> bool {
-    match filled {
-        Err(e) => is_absent(e),
+        Err(e) => is_fault(&e, ABSENT),
         Ok(()) => false,
+    }
+}
+
+/// Whether a tree that is read is refused, and as it was.
+fn tree_is_refused(alloc: Global, rt: &impl Print, variables: &Texts) -> bool {
+    match read_tree(alloc, REFUSED) {
+        Ok(mut tree) => {
+            is_refused_in_place(filled_in_place(alloc, rt, &mut tree, REFUSED, variables))
+                && is_tree(alloc, &tree, REFUSED)
+        }
+        Err(_) => false,
     }
 }
 
 #[test]
 fn tree_filled_in(rt: HostRuntime) -> Result<(), Fail> {
     let variables = variables(rt.alloc())?;
-    let mut tree = read_tree(rt.alloc(), SOURCE)?;
-    filled_in_place(rt.alloc(), &rt, &mut tree, SOURCE, &variables)?;
-    assert!(rt; is_tree(rt.alloc(), &tree, GIVEN));
-    assert!(rt; are_as_before(&variables));
+    let given = tree_is_given(rt.alloc(), &rt, &variables);
+    assert!(rt; given && are_as_before(&variables));
     Ok(())
 }
 
 #[test]
 fn tree_refused(rt: HostRuntime) -> Result<(), Fail> {
     let variables = variables(rt.alloc())?;
-    let mut tree = read_tree(rt.alloc(), REFUSED)?;
-    let filled = filled_in_place(rt.alloc(), &rt, &mut tree, REFUSED, &variables);
-    assert!(rt; is_refused_in_place(&filled));
-    assert!(rt; is_tree(rt.alloc(), &tree, REFUSED));
-    assert!(rt; are_as_before(&variables));
+    let refused = tree_is_refused(rt.alloc(), &rt, &variables);
+    assert!(rt; refused && are_as_before(&variables));
     Ok(())
 }
 
 #[test]
 fn text_read_and_filled_in(rt: HostRuntime) -> Result<(), Fail> {
     let variables = variables(rt.alloc())?;
-    assert!(rt;
-        is_given(
-            rt.alloc(),
-            &read_and_filled(rt.alloc(), &rt, SOURCE, &variables)
-        )
-    );
-    assert!(rt; are_as_before(&variables));
+    let filled = read_and_filled(rt.alloc(), &rt, SOURCE, &variables);
+    assert!(rt; is_given(rt.alloc(), filled) && are_as_before(&variables));
     Ok(())
 }
 
 #[test]
 fn text_read_and_refused(rt: HostRuntime) -> Result<(), Fail> {
     let variables = variables(rt.alloc())?;
-    assert!(rt; is_refused(&read_and_filled(rt.alloc(), &rt, REFUSED, &variables)));
-    assert!(rt; are_as_before(&variables));
+    let filled = read_and_filled(rt.alloc(), &rt, REFUSED, &variables);
+    assert!(rt; is_refused(filled, ABSENT) && are_as_before(&variables));
     Ok(())
 }
 
@@ -193,7 +182,6 @@ fn text_read_and_refused(rt: HostRuntime) -> Result<(), Fail> {
 fn bytes_read_and_filled_in(rt: HostRuntime) -> Result<(), Fail> {
     let variables = variables(rt.alloc())?;
     let filled = bytes_read_and_filled(rt.alloc(), &rt, SOURCE.as_bytes(), &variables);
-    assert!(rt; is_given(rt.alloc(), &filled));
-    assert!(rt; are_as_before(&variables));
+    assert!(rt; is_given(rt.alloc(), filled) && are_as_before(&variables));
     Ok(())
 }

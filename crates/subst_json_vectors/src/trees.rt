@@ -1,18 +1,12 @@
 //! What trees give, and which refusal is theirs.
 
-use crate::calls::{is_text, read, read_without_variables, texts};
-use crate::ways::{all_give, all_refuse};
-use serde_json::Value;
-use std::alloc::{AllocError, Global};
-use std::test::Fail;
-use subst::error::{
-    CharOrByte, InvalidEscapeSequence, MissingClosingBrace, MissingVariableName, NoSuchVariable,
-};
-use subst::{Error, json};
+use crate::calls::read_without_variables;
+use crate::faults::{Fault, is_refused};
+use crate::ways::{all_give, is_tree, wrong_refusal, wrong_tree};
+use std::alloc::Global;
 
 #[test]
-fn strings_are_filled_in_and_nothing_else(rt: HostRuntime) -> Result<(), Fail> {
-    let variables = texts(rt.alloc(), "a=1")?;
+fn strings_are_filled_in_and_nothing_else(rt: HostRuntime) {
     let rows: &[(&str, &str)] = &[
         (
             "{\"$a\":\"$a\",\"l\":[\"${b:x}\",1,true,null]}",
@@ -36,25 +30,30 @@ fn strings_are_filled_in_and_nothing_else(rt: HostRuntime) -> Result<(), Fail> {
             "{\"a\":\"1\",\"b\":\"1\"}",
         ),
     ];
-    for &(source, want) in rows {
-        assert!(rt; all_give(rt.alloc(), source, &variables, want), "{source}");
-    }
-    Ok(())
+    assert_eq!(rt; wrong_tree(rt.alloc(), "a=1", rows), None);
 }
 
 #[test]
-fn all_kinds_nested_in_each_other(rt: HostRuntime) -> Result<(), Fail> {
-    let variables = texts(rt.alloc(), "a=é,b=")?;
+fn all_kinds_nested_in_each_other(rt: HostRuntime) {
     let source = "{\"$a\":[{\"k\":[\"$a\",[],{}],\"n\":null},[[true,\"${b}\"],0,{\"\":\"$a$a\"}]],\
         \"s\":\"${c:${a}}\",\"t\":{\"u\":{\"$b\":false,\"v\":[\"\\\\$\"]}}}";
     let want = "{\"$a\":[{\"k\":[\"é\",[],{}],\"n\":null},[[true,\"\"],0,{\"\":\"éé\"}]],\
         \"s\":\"é\",\"t\":{\"u\":{\"$b\":false,\"v\":[\"$\"]}}}";
-    assert!(rt; all_give(rt.alloc(), source, &variables, want));
-    Ok(())
+    assert!(rt; all_give(rt.alloc(), source, "a=é,b=", want));
+}
+
+/// The first of these rows, each the value of `a` and the text of an array of it, that is wrong in some way.
+fn wrong_value(alloc: Global, rows: &[(&str, &str)]) -> Option<usize> {
+    for (row, &(pairs, want)) in rows.iter().enumerate() {
+        if !all_give(alloc, "[\"$a\"]", pairs, want) {
+            return Some(row);
+        }
+    }
+    None
 }
 
 #[test]
-fn a_value_stays_in_its_string(rt: HostRuntime) -> Result<(), Fail> {
+fn a_value_stays_in_its_string(rt: HostRuntime) {
     let rows: &[(&str, &str)] = &[
         ("a=\"q\"", "[\"\\\"q\\\"\"]"),
         ("a=\"}]", "[\"\\\"}]\"]"),
@@ -62,109 +61,67 @@ fn a_value_stays_in_its_string(rt: HostRuntime) -> Result<(), Fail> {
         ("a=$b${", "[\"$b${\"]"),
         ("a=\\u0041\\", "[\"\\\\u0041\\\\\"]"),
     ];
-    for &(pairs, want) in rows {
-        let variables = texts(rt.alloc(), pairs)?;
-        assert!(rt;
-            all_give(rt.alloc(), "[\"$a\"]", &variables, want),
-            "{pairs}"
-        );
-    }
-    Ok(())
+    assert_eq!(rt; wrong_value(rt.alloc(), rows), None);
 }
 
 #[test]
-fn without_variables_defaults_are_used(rt: HostRuntime) -> Result<(), Fail> {
-    let tree = read_without_variables(
-        rt.alloc(),
-        "{\"bar\":\"aap\",\"baz\":\"${noot:noot}/with/stuff\"}",
-    )?;
+fn without_variables_defaults_are_used(rt: HostRuntime) {
+    let source = "{\"bar\":\"aap\",\"baz\":\"${noot:noot}/with/stuff\"}";
     let want = "{\"bar\":\"aap\",\"baz\":\"noot/with/stuff\"}";
-    assert!(rt; is_text(rt.alloc(), &tree, want));
-    Ok(())
-}
-
-fn absent(alloc: Global, position: usize, name: &str) -> Result<Error, AllocError> {
-    let name = String::from_str(alloc, name)?;
-    Ok(Error::NoSuchVariable(NoSuchVariable { position, name }))
+    assert!(rt; is_tree(rt.alloc(), read_without_variables(rt.alloc(), source), want));
 }
 
 #[test]
-fn the_first_string_that_is_refused_gives_the_error(rt: HostRuntime) -> Result<(), Fail> {
-    let variables = texts(rt.alloc(), "a=1")?;
-    let rows: &[(&str, usize, &str)] = &[
-        ("[\"$a\",\"$z\"]", 1, "z"),
-        ("{\"a\":\"$x\",\"b\":\"$\"}", 1, "x"),
-        ("{\"k\":{\"a\":[\"$x\"],\"b\":\"$y\"}}", 1, "x"),
-        ("[\"${x?}\",\"${y}\"]", 2, "y"),
-        ("[[[\"$a\"],\"$u\"],\"$v\"]", 1, "u"),
-        ("{\"B\":\"$upper\",\"a\":\"$lower\"}", 1, "upper"),
-        ("{\"z\":\"$z\",\"é\":\"$e\"}", 1, "z"),
-        ("{\"a\":\"$short\",\"aa\":\"$long\"}", 1, "short"),
-        ("{\"$k\":\"é${v}\"}", 4, "v"),
+fn the_first_string_that_is_refused_gives_the_error(rt: HostRuntime) {
+    let rows: &[(&str, Fault)] = &[
+        ("[\"$a\",\"$z\"]", Fault::Absent(1, "z")),
+        ("{\"a\":\"$x\",\"b\":\"$\"}", Fault::Absent(1, "x")),
+        (
+            "{\"k\":{\"a\":[\"$x\"],\"b\":\"$y\"}}",
+            Fault::Absent(1, "x"),
+        ),
+        ("[\"${x?}\",\"${y}\"]", Fault::Absent(2, "y")),
+        ("[[[\"$a\"],\"$u\"],\"$v\"]", Fault::Absent(1, "u")),
+        (
+            "{\"B\":\"$upper\",\"a\":\"$lower\"}",
+            Fault::Absent(1, "upper"),
+        ),
+        ("{\"z\":\"$z\",\"é\":\"$e\"}", Fault::Absent(1, "z")),
+        (
+            "{\"a\":\"$short\",\"aa\":\"$long\"}",
+            Fault::Absent(1, "short"),
+        ),
+        ("{\"$k\":\"é${v}\"}", Fault::Absent(4, "v")),
     ];
-    for &(source, position, name) in rows {
-        let want = absent(rt.alloc(), position, name)?;
-        assert!(rt;
-            all_refuse(rt.alloc(), source, &variables, &want),
-            "{source}"
-        );
-    }
-    Ok(())
-}
-
-fn is_refused_for(read: &Result<Value, json::Error>, want: &Error) -> bool {
-    match read {
-        Err(json::Error::Subst(fault)) => fault == want,
-        _ => false,
-    }
+    assert_eq!(rt; wrong_refusal(rt.alloc(), rows), None);
 }
 
 #[test]
-fn keys_are_walked_in_byte_order(rt: HostRuntime) -> Result<(), Fail> {
-    let variables = texts(rt.alloc(), "a=1")?;
-    let want = absent(rt.alloc(), 1, "x")?;
-    let rows: &[&str] = &[
+fn faults_have_places_in_their_string(rt: HostRuntime) {
+    let rows: &[(&str, Fault)] = &[
+        ("[\"\",\"a\\\\x\"]", Fault::Escape(1, 'x')),
+        ("[\"ab\",\"ab$\"]", Fault::NoName(2)),
+        ("{\"k\":\"\\n${a\"}", Fault::Unclosed(2)),
+    ];
+    assert_eq!(rt; wrong_refusal(rt.alloc(), rows), None);
+}
+
+/// The first of these sources whose fault isn't that it lacks `x`.
+fn not_refused_for_x(alloc: Global, sources: &[&str]) -> Option<usize> {
+    for (row, &source) in sources.iter().enumerate() {
+        if !is_refused(read_without_variables(alloc, source), Fault::Absent(1, "x")) {
+            return Some(row);
+        }
+    }
+    None
+}
+
+#[test]
+fn keys_are_walked_in_byte_order(rt: HostRuntime) {
+    let sources: &[&str] = &[
         "{\"b\":\"$\",\"a\":\"$x\"}",
         "{\"k\":{\"b\":\"$y\",\"a\":[\"$x\"]}}",
         "{\"é\":\"$y\",\"z\":\"$x\"}",
     ];
-    for &source in rows {
-        assert!(rt;
-            is_refused_for(&read(rt.alloc(), source, &variables), &want),
-            "{source}"
-        );
-    }
-    Ok(())
-}
-
-#[test]
-fn faults_have_places_in_their_string(rt: HostRuntime) -> Result<(), Fail> {
-    let variables = texts(rt.alloc(), "a=1")?;
-    let rows: &[(&str, Error)] = &[
-        (
-            "[\"\",\"a\\\\x\"]",
-            Error::InvalidEscapeSequence(InvalidEscapeSequence {
-                position: 1,
-                character: Some(CharOrByte::Char('x')),
-            }),
-        ),
-        (
-            "[\"ab\",\"ab$\"]",
-            Error::MissingVariableName(MissingVariableName {
-                position: 2,
-                len: 1,
-            }),
-        ),
-        (
-            "{\"k\":\"\\n${a\"}",
-            Error::MissingClosingBrace(MissingClosingBrace { position: 2 }),
-        ),
-    ];
-    for (source, want) in rows {
-        assert!(rt;
-            all_refuse(rt.alloc(), source, &variables, want),
-            "{source}"
-        );
-    }
-    Ok(())
+    assert_eq!(rt; not_refused_for_x(rt.alloc(), sources), None);
 }

@@ -8,12 +8,23 @@ use subst::{ByteTemplate, ByteTemplateBuf};
 /// Variables whose values are bytes.
 pub type Bytes = BTreeMap<String, Vec<u8>>;
 
+/// Adds a variable, which owns its value before it has a copy of its name.
+fn add(variables: &mut Bytes, alloc: Global, name: &str, value: Vec<u8>) -> Result<(), AllocError> {
+    let _ = variables.insert(String::from_str(alloc, name)?, value)?;
+    Ok(())
+}
+
 /// One variable.
 pub fn one_variable(alloc: Global, name: &str, value: &[u8]) -> Result<Bytes, AllocError> {
-    let mut variables = BTreeMap::new(alloc);
     let value = Vec::from_slice(alloc, value)?;
-    let _ = variables.insert(String::from_str(alloc, name)?, value)?;
+    let mut variables = BTreeMap::new(alloc);
+    add(&mut variables, alloc, name, value)?;
     Ok(variables)
+}
+
+/// Whether bytes are equal. Where one side is a constant, its proof elsewhere would take it byte for byte.
+pub fn are_equal(a: &[u8], b: &[u8]) -> bool {
+    a == b
 }
 
 pub fn parse(alloc: Global, source: &[u8]) -> Result<ByteTemplate<'_>, ParseError> {

@@ -12,6 +12,8 @@ mod byte_calls;
 #[cfg(test)]
 mod byte_copies;
 #[cfg(test)]
+mod escapes;
+#[cfg(test)]
 mod faults;
 #[cfg(test)]
 mod refused_memory;

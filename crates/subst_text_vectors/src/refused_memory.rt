@@ -8,6 +8,7 @@
 use std::io::Print;
 
 mod byte_templates;
+mod escapes;
 mod texts;
 
 /// Prints that a call ran out of memory.

@@ -1,27 +1,29 @@
 //! How templates are shown.
 
 use crate::{byte_calls, text_calls};
-use std::alloc::Global;
+use std::alloc::{AllocError, Global};
+use std::fmt;
 use std::test::Fail;
 
+/// How a template is shown, which is dropped here.
+fn shown_once<T: fmt::Debug + Drop>(alloc: Global, template: T) -> Result<String, AllocError> {
+    format!(in alloc; "{template:?}")
+}
+
 fn shown(alloc: Global, source: &str) -> Result<String, Fail> {
-    let template = text_calls::parse(alloc, source)?;
-    Ok(format!(in alloc; "{template:?}")?)
+    Ok(shown_once(alloc, text_calls::parse(alloc, source)?)?)
 }
 
 fn shown_owner(alloc: Global, source: &str) -> Result<String, Fail> {
-    let template = text_calls::own(alloc, source)?;
-    Ok(format!(in alloc; "{template:?}")?)
+    Ok(shown_once(alloc, text_calls::own(alloc, source)?)?)
 }
 
 fn shown_bytes(alloc: Global, source: &[u8]) -> Result<String, Fail> {
-    let template = byte_calls::parse(alloc, source)?;
-    Ok(format!(in alloc; "{template:?}")?)
+    Ok(shown_once(alloc, byte_calls::parse(alloc, source)?)?)
 }
 
 fn shown_byte_owner(alloc: Global, source: &[u8]) -> Result<String, Fail> {
-    let template = byte_calls::own(alloc, source)?;
-    Ok(format!(in alloc; "{template:?}")?)
+    Ok(shown_once(alloc, byte_calls::own(alloc, source)?)?)
 }
 
 #[test]

@@ -3,7 +3,7 @@
 use std::alloc::{AllocError, Global};
 use std::collections::BTreeMap;
 use subst::error::{ExpandError, ParseError};
-use subst::{Error, Template, TemplateBuf, substitute};
+use subst::{Error, Template, TemplateBuf, laws, substitute};
 
 /// Variables whose values are texts.
 pub type Texts = BTreeMap<String, String>;
@@ -18,6 +18,15 @@ pub fn texts(alloc: Global, pairs: &str) -> Result<Texts, AllocError> {
         }
     }
     Ok(variables)
+}
+
+/// Whether texts are equal. Where one side is a constant, its proof elsewhere would take it byte for byte.
+pub fn are_equal(a: &str, b: &str) -> bool {
+    a == b
+}
+
+pub fn escaped(alloc: Global, text: &str) -> Result<String, AllocError> {
+    laws::escaped(alloc, text)
 }
 
 pub fn fill_in(alloc: Global, source: &str, variables: &Texts) -> Result<String, Error> {

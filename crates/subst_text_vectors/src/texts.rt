@@ -2,7 +2,7 @@
 
 use crate::text_calls::{expand, parse, texts};
 use crate::ways::all_give;
-use std::alloc::Global;
+use std::alloc::{AllocError, Global};
 use std::collections::BTreeMap;
 use std::test::Fail;
 use subst::{Error, Template, substitute};
@@ -85,10 +85,21 @@ fn one_template_serves_several_maps(rt: HostRuntime) -> Result<(), Fail> {
     Ok(())
 }
 
-/// What a text gives under a variable whose value is lent.
-fn fill_in_lent(alloc: Global, source: &str, name: &str, value: &str) -> Result<String, Error> {
+/// A variable whose value is lent.
+fn lent<'a>(
+    alloc: Global,
+    name: &str,
+    value: &'a str,
+) -> Result<BTreeMap<String, &'a str>, AllocError> {
+    let name = String::from_str(alloc, name)?;
     let mut variables = BTreeMap::new(alloc);
-    let _ = variables.insert(String::from_str(alloc, name)?, value)?;
+    let _ = variables.insert(name, value)?;
+    Ok(variables)
+}
+
+/// What a text gives under it.
+fn fill_in_lent(alloc: Global, source: &str, name: &str, value: &str) -> Result<String, Error> {
+    let variables = lent(alloc, name, value)?;
     substitute(alloc, source, &variables)
 }
 

@@ -2,18 +2,35 @@
 
 use crate::text_calls::{Texts, expand, expand_owner, fill_in, own, parse};
 use std::alloc::Global;
-use subst::Error;
+use subst::error::ExpandError;
+use subst::{Error, Template, TemplateBuf};
 
 type Filled = Result<String, Error>;
 
+/// What a template gives, which is dropped here: so no later line has to drop it.
+fn expand_lender(
+    alloc: Global,
+    template: Template<'_>,
+    variables: &Texts,
+) -> Result<String, ExpandError> {
+    expand(alloc, &template, variables)
+}
+
 fn by_lender(alloc: Global, source: &str, variables: &Texts) -> Filled {
-    let template = parse(alloc, source)?;
-    Ok(expand(alloc, &template, variables)?)
+    Ok(expand_lender(alloc, parse(alloc, source)?, variables)?)
+}
+
+/// The same of a template that owns its source.
+fn expand_once(
+    alloc: Global,
+    template: TemplateBuf,
+    variables: &Texts,
+) -> Result<String, ExpandError> {
+    expand_owner(alloc, &template, variables)
 }
 
 fn by_owner(alloc: Global, source: &str, variables: &Texts) -> Filled {
-    let template = own(alloc, source)?;
-    Ok(expand_owner(alloc, &template, variables)?)
+    Ok(expand_once(alloc, own(alloc, source)?, variables)?)
 }
 
 fn is_output(filled: &Filled, want: &str) -> bool {

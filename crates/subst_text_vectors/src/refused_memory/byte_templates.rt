@@ -35,7 +35,7 @@ fn variables(alloc: Global) -> Result<Bytes, AllocError> {
 /// Whether the variables are those that were asked for.
 fn are_as_before(variables: &Bytes) -> bool {
     match variables.get("name") {
-        Some(value) => variables.len() == 1 && value.as_slice() == VALUE,
+        Some(value) => variables.len() == 1 && calls::are_equal(value.as_slice(), VALUE),
         None => false,
     }
 }
@@ -156,11 +156,23 @@ fn copied_of_lent(
     }
 }
 
+/// Whether what a template gives is [`GIVEN`].
+fn is_expanded(output: &Result<Vec<u8>, ExpandError>) -> bool {
+    match output {
+        Ok(output) => calls::are_equal(output.as_slice(), GIVEN),
+        Err(_) => false,
+    }
+}
+
 /// Whether a template has the source [`SENTENCE`] and gives [`GIVEN`].
-fn is_whole(alloc: Global, rt: &impl Print, template: &ByteTemplate<'_>) -> Result<bool, Fail> {
+fn is_whole(
+    alloc: Global,
+    rt: &impl Print,
+    template: &ByteTemplate<'_>,
+) -> Result<bool, AllocError> {
     let variables = variables(alloc)?;
-    let output = expanded(alloc, rt, template, &variables)?;
-    Ok(template.source() == SENTENCE && output.as_slice() == GIVEN && are_as_before(&variables))
+    let gives = is_expanded(&expanded(alloc, rt, template, &variables));
+    Ok(gives && calls::are_equal(template.source(), SENTENCE) && are_as_before(&variables))
 }
 
 /// The same of its clone.
@@ -168,17 +180,26 @@ fn is_clone_whole(
     alloc: Global,
     rt: &impl Print,
     template: &ByteTemplate<'_>,
-) -> Result<bool, Fail> {
+) -> Result<bool, AllocError> {
     let copy = cloned(rt, template)?;
     is_whole(alloc, rt, &copy)
 }
 
-/// The same of a template that owns its source, which it gives back at last.
-fn is_whole_owner(alloc: Global, rt: &impl Print, template: ByteTemplateBuf) -> Result<bool, Fail> {
+/// Whether a template that owns its source gives [`GIVEN`].
+fn gives_by_owner(
+    alloc: Global,
+    rt: &impl Print,
+    template: &ByteTemplateBuf,
+) -> Result<bool, AllocError> {
     let variables = variables(alloc)?;
-    let output = expanded_by_owner(alloc, rt, &template, &variables)?;
-    let gives = output.as_slice() == GIVEN && are_as_before(&variables);
-    Ok(gives && calls::take_apart(template).as_slice() == SENTENCE)
+    let gives = is_expanded(&expanded_by_owner(alloc, rt, template, &variables));
+    Ok(gives && are_as_before(&variables))
+}
+
+/// Whether it gives [`GIVEN`], and then its source back, which is [`SENTENCE`].
+fn is_whole_owner(alloc: Global, rt: &impl Print, template: ByteTemplateBuf) -> bool {
+    let gives = gives_by_owner(alloc, rt, &template) == Ok(true);
+    gives && calls::are_equal(calls::take_apart(template).as_slice(), SENTENCE)
 }
 
 /// The same of an owned copy of a template.
@@ -186,9 +207,9 @@ fn is_copy_whole(
     alloc: Global,
     rt: &impl Print,
     template: &ByteTemplate<'_>,
-) -> Result<bool, Fail> {
+) -> Result<bool, AllocError> {
     let copy = copied(alloc, rt, template)?;
-    is_whole_owner(alloc, rt, copy)
+    Ok(is_whole_owner(alloc, rt, copy))
 }
 
 fn is_refused(parsed: &Result<ByteTemplateBuf, ParseError>) -> bool {
@@ -209,7 +230,7 @@ fn clone_of_a_template(rt: HostRuntime) -> Result<(), Fail> {
 #[test]
 fn from_vec_and_expand(rt: HostRuntime) -> Result<(), Fail> {
     let owner = owned(rt.alloc(), &rt, SENTENCE)?;
-    assert!(rt; is_whole_owner(rt.alloc(), &rt, owner)?);
+    assert!(rt; is_whole_owner(rt.alloc(), &rt, owner));
     Ok(())
 }
 
@@ -223,8 +244,8 @@ fn from_vec_of_a_refused_source(rt: HostRuntime) -> Result<(), Fail> {
 fn clone_of_an_owner(rt: HostRuntime) -> Result<(), Fail> {
     let owner = owned(rt.alloc(), &rt, SENTENCE)?;
     let copy = cloned_owner(&rt, &owner)?;
-    assert!(rt; is_whole_owner(rt.alloc(), &rt, owner)?);
-    assert!(rt; is_whole_owner(rt.alloc(), &rt, copy)?);
+    assert!(rt; is_whole_owner(rt.alloc(), &rt, owner));
+    assert!(rt; is_whole_owner(rt.alloc(), &rt, copy));
     Ok(())
 }
 
@@ -240,7 +261,7 @@ fn from_template(rt: HostRuntime) -> Result<(), Fail> {
 fn of_template(rt: HostRuntime) -> Result<(), Fail> {
     let lender = owned(rt.alloc(), &rt, SENTENCE)?;
     let copy = copied_of_lent(rt.alloc(), &rt, &lender)?;
-    assert!(rt; is_whole_owner(rt.alloc(), &rt, lender)?);
-    assert!(rt; is_whole_owner(rt.alloc(), &rt, copy)?);
+    assert!(rt; is_whole_owner(rt.alloc(), &rt, lender));
+    assert!(rt; is_whole_owner(rt.alloc(), &rt, copy));
     Ok(())
 }

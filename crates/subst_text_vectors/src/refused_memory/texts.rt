@@ -45,7 +45,7 @@ fn variables(alloc: Global) -> Result<Texts, AllocError> {
 /// Whether the variables are those that were asked for.
 fn are_as_before(variables: &Texts) -> bool {
     match variables.get("name") {
-        Some(value) => variables.len() == 1 && value.as_str() == VALUE,
+        Some(value) => variables.len() == 1 && calls::are_equal(value.as_str(), VALUE),
         None => false,
     }
 }
@@ -172,36 +172,61 @@ fn copied_of_lent(
     }
 }
 
+/// Whether what a template gives is [`GIVEN`].
+fn is_expanded(output: &Result<String, ExpandError>) -> bool {
+    match output {
+        Ok(output) => calls::are_equal(output.as_str(), GIVEN),
+        Err(_) => false,
+    }
+}
+
 /// Whether a template has the source [`SENTENCE`] and gives [`GIVEN`].
-fn is_whole(alloc: Global, rt: &impl Print, template: &Template<'_>) -> Result<bool, Fail> {
+fn is_whole(alloc: Global, rt: &impl Print, template: &Template<'_>) -> Result<bool, AllocError> {
     let variables = variables(alloc)?;
-    let output = expanded(alloc, rt, template, &variables)?;
-    Ok(template.source() == SENTENCE && output.as_str() == GIVEN && are_as_before(&variables))
+    let gives = is_expanded(&expanded(alloc, rt, template, &variables));
+    Ok(gives && calls::are_equal(template.source(), SENTENCE) && are_as_before(&variables))
 }
 
 /// The same of its clone.
-fn is_clone_whole(alloc: Global, rt: &impl Print, template: &Template<'_>) -> Result<bool, Fail> {
+fn is_clone_whole(
+    alloc: Global,
+    rt: &impl Print,
+    template: &Template<'_>,
+) -> Result<bool, AllocError> {
     let copy = cloned(rt, template)?;
     is_whole(alloc, rt, &copy)
 }
 
-/// The same of a template that owns its source, which it gives back at last.
-fn is_whole_owner(alloc: Global, rt: &impl Print, template: TemplateBuf) -> Result<bool, Fail> {
+/// Whether a template that owns its source gives [`GIVEN`].
+fn gives_by_owner(
+    alloc: Global,
+    rt: &impl Print,
+    template: &TemplateBuf,
+) -> Result<bool, AllocError> {
     let variables = variables(alloc)?;
-    let output = expanded_by_owner(alloc, rt, &template, &variables)?;
-    let gives = output.as_str() == GIVEN && are_as_before(&variables);
-    Ok(gives && calls::take_apart(template).as_str() == SENTENCE)
+    let gives = is_expanded(&expanded_by_owner(alloc, rt, template, &variables));
+    Ok(gives && are_as_before(&variables))
+}
+
+/// Whether it gives [`GIVEN`], and then its source back, which is [`SENTENCE`].
+fn is_whole_owner(alloc: Global, rt: &impl Print, template: TemplateBuf) -> bool {
+    let gives = gives_by_owner(alloc, rt, &template) == Ok(true);
+    gives && calls::are_equal(calls::take_apart(template).as_str(), SENTENCE)
 }
 
 /// The same of an owned copy of a template.
-fn is_copy_whole(alloc: Global, rt: &impl Print, template: &Template<'_>) -> Result<bool, Fail> {
+fn is_copy_whole(
+    alloc: Global,
+    rt: &impl Print,
+    template: &Template<'_>,
+) -> Result<bool, AllocError> {
     let copy = copied(alloc, rt, template)?;
-    is_whole_owner(alloc, rt, copy)
+    Ok(is_whole_owner(alloc, rt, copy))
 }
 
 fn is_given(filled: &Result<String, Error>) -> bool {
     match filled {
-        Ok(output) => output.as_str() == GIVEN,
+        Ok(output) => calls::are_equal(output.as_str(), GIVEN),
         Err(_) => false,
     }
 }
@@ -278,7 +303,7 @@ fn clone_of_a_template(rt: HostRuntime) -> Result<(), Fail> {
 #[test]
 fn from_string_and_expand(rt: HostRuntime) -> Result<(), Fail> {
     let owner = owned(rt.alloc(), &rt, SENTENCE)?;
-    assert!(rt; is_whole_owner(rt.alloc(), &rt, owner)?);
+    assert!(rt; is_whole_owner(rt.alloc(), &rt, owner));
     Ok(())
 }
 
@@ -292,8 +317,8 @@ fn from_string_of_a_refused_source(rt: HostRuntime) -> Result<(), Fail> {
 fn clone_of_an_owner(rt: HostRuntime) -> Result<(), Fail> {
     let owner = owned(rt.alloc(), &rt, SENTENCE)?;
     let copy = cloned_owner(&rt, &owner)?;
-    assert!(rt; is_whole_owner(rt.alloc(), &rt, owner)?);
-    assert!(rt; is_whole_owner(rt.alloc(), &rt, copy)?);
+    assert!(rt; is_whole_owner(rt.alloc(), &rt, owner));
+    assert!(rt; is_whole_owner(rt.alloc(), &rt, copy));
     Ok(())
 }
 
@@ -309,7 +334,7 @@ fn from_template(rt: HostRuntime) -> Result<(), Fail> {
 fn of_template(rt: HostRuntime) -> Result<(), Fail> {
     let lender = owned(rt.alloc(), &rt, SENTENCE)?;
     let copy = copied_of_lent(rt.alloc(), &rt, &lender)?;
-    assert!(rt; is_whole_owner(rt.alloc(), &rt, lender)?);
-    assert!(rt; is_whole_owner(rt.alloc(), &rt, copy)?);
+    assert!(rt; is_whole_owner(rt.alloc(), &rt, lender));
+    assert!(rt; is_whole_owner(rt.alloc(), &rt, copy));
     Ok(())
 }
