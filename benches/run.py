@@ -322,9 +322,10 @@ def environment(name, workload):
     return {"PATH": os.environ["PATH"], "LC_ALL": "C", **given}
 
 
-def build():
-    """Proves and builds our programs, where their sources have changed; without rt, takes them as they are."""
-    for crate, arguments in ((OURS, ["bytes"]), (BENCH, ["none", "0"])):
+def build(*crates):
+    """Proves and builds programs of ours, where their sources have changed; without rt, takes them as they are."""
+    for crate in crates:
+        arguments = {OURS: ["bytes"], BENCH: ["none", "0"]}[crate]
         if shutil.which("rt") is not None:
             command = ["rt", "run", "--", *arguments]
             streams = {"stdin": subprocess.DEVNULL, "stdout": sys.stderr}
@@ -594,7 +595,7 @@ def measure_texts(arguments, source):
 
 def main():
     arguments = arguments_given()
-    build()
+    build(OURS, BENCH)
     with tempfile.TemporaryDirectory() as folder:
         source = os.path.join(folder, "source")
         results, families = measure_all(arguments, source)

@@ -9,7 +9,6 @@ and built first. Each test prints a line, and the last line is 'N passed, M fail
 import contextlib
 import ctypes
 import os
-import pathlib
 import random
 import resource
 import signal
@@ -17,15 +16,11 @@ import subprocess
 import sys
 import tempfile
 import time
-from typing import NamedTuple
+import tty
 
-TOP = pathlib.Path(__file__).resolve().parent.parent
-CRATES = TOP / 'crates'
-# The programs, each with words for which it does its work.
-PROGRAMS = {'subst_filter': ['bytes'], 'subst_answers': []}
-# How long a program may run. Each run takes less than a second on a machine that does nothing else.
-SECONDS = 30
-MIB = 1 << 20
+sys.dont_write_bytecode = True
+from running import (GIB, KIB, MIB, PROGRAMS, SECONDS, End, Wrong, column, expect, expect_that, fill, in_memory,
+                     left_in, limited, path_of, pipe, preloading, run, run_tests, shown, unread_pipe, without)
 
 NOT_UTF8 = b'subst: input is not UTF-8\n'
 USAGE = b'usage: subst_filter bytes|text|env [NAME=VALUE]...\n'
@@ -37,56 +32,13 @@ ANSWERS_OUT_OF_MEMORY = b'subst_answers: out of memory\n'
 SPECIAL = b'\\${}:'
 # Every byte that stands for itself, also outside UTF-8.
 PLAIN = bytes(byte for byte in range(256) if byte not in b'\\$')
-
-
-class End(NamedTuple):
-    """How a program ended, and what it wrote."""
-    status: int
-    output: bytes
-    errors: bytes
-
-
-class Wrong(Exception):
-    """A program didn't do what was expected."""
+# Text that gives itself: all of it is more than a pipe holds.
+TEXT = b'Each line of this text is the same as all others.\n'
+# Each word of the filter, with a variable for those that take one.
+WORDS = (['bytes', 'name=world'], ['text', 'name=world'], ['env'])
 
 
 # Running programs
-
-
-def newest_source():
-    """The time of the last change of what the programs are built from."""
-    files = [TOP / 'crates.txt']
-    for part in ('src', 'specs', 'proofs'):
-        files += CRATES.glob(f'*/{part}/**/*')
-    return max(file.stat().st_mtime for file in files)
-
-
-def path_of(program):
-    return CRATES / program / 'out' / program
-
-
-def build(program):
-    """Proves and builds a program, unless it is newer than the sources. Returns whether it is there."""
-    path = path_of(program)
-    if path.exists() and path.stat().st_mtime >= newest_source():
-        return True
-    print(f'{program}: proving and building the program', flush=True)
-    ran = subprocess.run(['rt', 'run', '--', *PROGRAMS[program]], cwd=CRATES / program, stdin=subprocess.DEVNULL,
-                         stdout=subprocess.PIPE, stderr=subprocess.STDOUT)
-    if ran.returncode != 0:
-        sys.stdout.write(ran.stdout.decode(errors='replace'))
-    return ran.returncode == 0
-
-
-def run(program, words=(), source=b'', **options):
-    """Runs a program. The source is its input, through a pipe, unless the options, those of subprocess.run, name an
-    input; an output that they don't name is kept."""
-    if 'stdin' not in options:
-        options['input'] = source
-    for stream in ('stdout', 'stderr'):
-        options.setdefault(stream, subprocess.PIPE)
-    ran = subprocess.run([path_of(program), *words], timeout=SECONDS, **options)
-    return End(ran.returncode, ran.stdout or b'', ran.stderr or b'')
 
 
 def fill_in(words, source=b'', **options):
@@ -104,14 +56,14 @@ def fill_in_from(environment, source=b'', **options):
     return run('subst_filter', ['env'], source, env=environment, **options)
 
 
-def with_entries(words, entries):
+def with_entries(words, entries, has_name=True):
     """The option that runs the filter with these entries as its environment, which may be no names and values, or
-    have a name twice."""
+    have a name twice; and with its own name before its words, or without."""
     def strings(items):
         return (ctypes.c_char_p * (len(items) + 1))(*items, None)
 
     path, libc = os.fsencode(path_of('subst_filter')), ctypes.CDLL(None)
-    arguments, environment = strings([path, *words]), strings(entries)
+    arguments, environment = strings([path] * has_name + words), strings(entries)
     return {'preexec_fn': lambda: libc.execve(path, arguments, environment)}
 
 
@@ -120,77 +72,75 @@ def answer(source, **options):
     return run('subst_answers', [], source, **options)
 
 
-def limited(kind, amount):
-    """The option that runs a program under a limit."""
-    return {'preexec_fn': lambda: resource.setrlimit(kind, (amount, amount))}
+# Devices that fail while a program runs
 
 
-def in_memory(amount):
-    return limited(resource.RLIMIT_AS, amount)
+def run_on_failing_read(program, words, source):
+    """Runs a program whose input is a terminal that is hung up after the source: a read that fails comes next."""
+    terminal, other = os.openpty()
+    try:
+        tty.setraw(other)
+        os.write(other, source)
+        os.close(other)
+        return run(program, words, stdin=terminal)
+    finally:
+        os.close(terminal)
 
 
-def without(stream):
-    """The option that runs a program with a standard stream closed."""
-    name = ('stdin', 'stdout', 'stderr')[stream]
-    return {name: None, 'preexec_fn': lambda: os.close(stream)}
-
-
-def shown(value):
-    """A status, or the start of some bytes and how many there are."""
-    if isinstance(value, int):
-        return str(value)
-    return f'{value!r}' if len(value) <= 80 else f'{value[:80]!r}.. ({len(value)} bytes)'
-
-
-def expect(end, status, output=b'', errors=b''):
-    """Fails the test unless the program ended so."""
-    for what, is_, wanted in zip(End._fields, end, End(status, output, errors)):
-        if is_ != wanted:
-            raise Wrong(f'{what} is {shown(is_)} and not {shown(wanted)}')
-
-
-def expect_that(fact, text):
-    """Fails the test unless the fact holds."""
-    if not fact:
-        raise Wrong(text)
+def run_and_close(program, words, source):
+    """Runs a program into a pipe of which 10 bytes are read before it is closed, and has these as its output."""
+    with open('source', 'w+b') as file:
+        file.write(source)
+        file.seek(0)
+        with started(program, words, stdin=file) as ran:
+            taken = ran.stdout.read(10)
+            ran.stdout.close()
+            errors = ran.stderr.read()
+            return End(ran.wait(SECONDS), taken, errors)
 
 
 @contextlib.contextmanager
-def pipe():
-    """A pipe: its end to read from, and its end to write to."""
-    reader, writer = os.pipe()
-    try:
-        yield reader, writer
-    finally:
-        os.close(reader)
-        os.close(writer)
+def started(program, words, **options):
+    """A program that runs, and in which SIGUSR1 interrupts what waits. It is ended with the block."""
+    options = {'stdout': subprocess.PIPE, 'stderr': subprocess.PIPE, 'env': preloading('slow_devices.c'), **options}
+    with subprocess.Popen([path_of(program), *words], bufsize=0, **options) as ran:
+        try:
+            yield ran
+        finally:
+            ran.kill()
 
 
-@contextlib.contextmanager
-def unread_pipe():
-    """An end to write to of a pipe that nobody can read."""
-    reader, writer = os.pipe()
-    os.close(reader)
-    try:
-        yield writer
-    finally:
-        os.close(writer)
+def end_of(ran):
+    """How a program that runs ends."""
+    output, errors = ran.communicate(timeout=SECONDS)
+    return End(ran.returncode, output, errors)
 
 
-def fill(writer):
-    """Writes to a pipe all that it can hold, and returns how many bytes these are."""
-    os.set_blocking(writer, False)
-    count = 0
-    with contextlib.suppress(BlockingIOError):
-        while True:
-            count += os.write(writer, b'a' * 4096)
-    return count
+def interrupt(ran):
+    """Interrupts a program once it waits for one of its streams, and goes on when it waits again or has ended."""
+    until_it_waits(ran)
+    expect_that(ran.poll() is None, 'the program has ended')
+    ran.send_signal(signal.SIGUSR1)
+    until_it_waits(ran)
 
 
-def left_in(reader):
-    """The bytes that are in a pipe, of which it holds less than a MiB."""
-    os.set_blocking(reader, False)
-    return os.read(reader, MIB)
+def until_it_waits(ran):
+    """Goes on when a program waits, or has ended."""
+    end = time.monotonic() + SECONDS
+    while ran.poll() is None and not waits(ran.pid):
+        expect_that(time.monotonic() < end, 'the program waits for nothing')
+        time.sleep(0.002)
+
+
+def waits(process):
+    """Whether a process sleeps, has a handler of SIGUSR1, and has handled each that came."""
+    with open(f'/proc/{process}/status', encoding='ascii', errors='replace') as status:
+        fields = dict(line.rstrip('\n').split(':\t', 1) for line in status)
+
+    def has_signal(mask):
+        return int(fields[mask], 16) >> signal.SIGUSR1 - 1 & 1 == 1
+
+    return fields['State'].startswith('S') and has_signal('SigCgt') and not has_signal('ShdPnd')
 
 
 # Sources with what they give, by the rules of the language
@@ -236,15 +186,10 @@ def words_of(variables):
     return [name + b'=' + value for name, value in variables]
 
 
-def column(data):
-    """Bytes as they are written in a record and in an answer."""
-    return data.hex().encode() or b'-'
-
-
-def record(source, variables=()):
-    """The line of a record of the kind `bytes`."""
+def record(source, variables=(), kind=b'bytes'):
+    """The line of a record."""
     pairs = b','.join(column(name) + b'=' + column(value) for name, value in variables)
-    return b'bytes\t%b\t%b\n' % (column(source), pairs or b'-')
+    return b'%b\t%b\t%b\n' % (kind, column(source), pairs or b'-')
 
 
 def given(output):
@@ -366,6 +311,10 @@ def test_filter_prints_usage_at_wrong_words():
         expect(run('subst_filter', words, b'a'), 2, errors=USAGE)
 
 
+def test_filter_prints_usage_without_even_a_name():
+    expect(run('subst_filter', [], b'a', **with_entries([], [], has_name=False)), 2, errors=USAGE)
+
+
 def test_filter_leaves_the_input_unread_at_wrong_words():
     for words in WRONG_WORDS:
         with pipe() as (reader, writer):
@@ -430,6 +379,60 @@ def test_filter_fails_where_a_pipe_is_closed():
             expect(fill_in([], b'a', stdout=writer, restore_signals=restored), 3, errors=WRITE_FAILED)
 
 
+def test_filter_fails_where_a_read_fails_half_way():
+    for words in WORDS:
+        expect(run_on_failing_read('subst_filter', words, b'Hello $name!'), 3, errors=READ_FAILED)
+
+
+def test_filter_fails_where_a_pipe_is_closed_half_way():
+    for words in WORDS:
+        end = run_and_close('subst_filter', words, TEXT * 10000)
+        expect(end, 3, (TEXT * 10000)[:10], WRITE_FAILED)
+
+
+def test_filter_fails_where_a_read_is_interrupted():
+    for words in WORDS:
+        for before in (b'', b'Hello $na'):
+            with pipe() as (reader, writer), started('subst_filter', words, stdin=reader) as ran:
+                os.write(writer, before)
+                interrupt(ran)
+                expect(end_of(ran), 3, errors=READ_FAILED)
+
+
+def test_filter_goes_on_after_a_write_that_a_signal_cut_short():
+    with open('text', 'w+b') as file:
+        file.write(TEXT * 10000)
+        for words in WORDS:
+            file.seek(0)
+            with started('subst_filter', words, stdin=file) as ran:
+                # The pipe is full: the write ends with the bytes that it has moved, and the program writes the rest.
+                interrupt(ran)
+                expect(end_of(ran), 0, TEXT * 10000)
+
+
+def test_filter_fails_where_a_write_is_interrupted():
+    with open('text', 'w+b') as file:
+        file.write(TEXT * 10000)
+        for words in WORDS:
+            file.seek(0)
+            with started('subst_filter', words, stdin=file) as ran:
+                # The second signal comes before the next write has moved a byte.
+                interrupt(ran)
+                interrupt(ran)
+                end = end_of(ran)
+            expect(end, 3, (TEXT * 10000)[:len(end.output)], WRITE_FAILED)
+            expect_that(0 < len(end.output) < len(TEXT * 10000), f'{len(end.output)} bytes were written')
+
+
+def test_filter_takes_reads_and_writes_of_1_byte():
+    env = preloading('slow_devices.c', DEVICE_BYTES='1', name='world')
+    for words in WORDS:
+        expect(run('subst_filter', words, b'Hello $name!' * 300, env=env), 0, b'Hello world!' * 300)
+        expect(run('subst_filter', words, b'$', env=env)._replace(errors=b''), 1)
+    expect(run('subst_filter', ['bytes'], b'$', env=env), 1, errors=b'subst: Missing variable name\n')
+    expect(run('subst_filter', [], env=env), 2, errors=USAGE)
+
+
 def test_filter_writes_a_prefix_where_a_later_write_fails():
     result = PLAIN * 1000
     with pipe() as (reader, writer):
@@ -469,25 +472,16 @@ def test_filter_says_out_of_memory():
         expect(fill_in(words, source, **limit), 4, errors=OUT_OF_MEMORY)
 
 
-def refusing(folder):
-    """Builds the library that refuses one request for memory, and returns its path."""
-    library = os.path.join(folder, 'refuse_memory.so')
-    command = [os.environ.get('CC') or 'cc', '-O2', '-shared', '-fPIC', '-o', library, TOP / 'tools/refuse_memory.c']
-    subprocess.run(command, check=True)
-    return library
-
-
 def refuse_in_turn(program, words, source, output, errors, prefixes=(b'',), variables={}):
     """Runs a program again and again, each time with another of its requests for memory refused, until in a run none
     is. It has to end as if none were, or to be out of memory, with one of these prefixes of its output. The variables
     are those of its environment."""
     times = 0
     with tempfile.TemporaryDirectory() as folder:
-        library = refusing(folder)
         for request in range(1, 1000):
             report = os.path.join(folder, str(request))
-            env = {'LD_PRELOAD': library, 'REFUSE_REQUEST': str(request), 'REFUSE_REPORT': report}
-            end = run(program, words, source, env={**variables, **env})
+            refusing = preloading('refuse_memory.c', REFUSE_REQUEST=str(request), REFUSE_REPORT=report)
+            end = run(program, words, source, env={**variables, **refusing})
             if not os.path.exists(report):
                 expect(end, 0, output)
                 expect_that(times >= 4, f'out of memory at {times} requests alone')
@@ -505,6 +499,14 @@ def test_filter_says_out_of_memory_at_each_request():
     for words in (['bytes', 'name=world'], ['text', 'name=world']):
         refuse_in_turn('subst_filter', words, source, output, OUT_OF_MEMORY)
     refuse_in_turn('subst_filter', ['env'], source, output, OUT_OF_MEMORY, variables={'name': 'world'})
+
+
+def test_filter_says_out_of_memory_at_input_that_is_too_long():
+    with open('long', 'w+b') as file, open('/dev/zero', 'rb') as endless:
+        file.truncate(GIB)
+        for words in WORDS:
+            for source in (file, endless):
+                expect(run('subst_filter', words, stdin=source, **in_memory(64 * MIB)), 4, errors=OUT_OF_MEMORY)
 
 
 # Tests of subst_filter: large runs, which memory is enough for
@@ -543,6 +545,24 @@ def test_filter_reads_200000_nested_defaults():
     expect(fill_in([], opened + closed[1:]), 1, errors=b'subst: Missing closing brace\n')
 
 
+def test_filter_reads_1000000_levels_on_a_stack_of_64_kib():
+    count, limit = 1000000, limited(resource.RLIMIT_STACK, 64 * KIB)
+    opened, closed, braces = count * b'${a:', count * b'}', count * b'{'
+    missing = b'subst: Missing closing brace\n'
+    rows = [
+        (opened + b'x' + closed, 0, b'x', b''),
+        (opened + b'x' + closed[1:], 1, b'', missing),
+        (opened + b'\\x' + closed, 1, b'', b'subst: Invalid escape sequence: \\x\n'),
+        (b'${a:' + braces + closed + b'}', 0, braces + closed, b''),
+        (b'${a:' + braces + closed, 1, b'', missing),
+        (count * b'${a:\\x', 1, b'', missing),
+    ]
+    for source, *wanted in rows:
+        for end in (fill_in([], source, **limit), fill_text_in([], source, **limit),
+                    fill_in_from({}, source, **limit)):
+            expect(end, *wanted)
+
+
 def test_filter_writes_100_mib():
     value = 2048 * ('0123456789abcdef\u00e4\u20ac' + 29 * '.')
     words, output = ['a=' + value], 1024 * value.encode()
@@ -572,6 +592,46 @@ def test_answers_prints_an_answer_for_each_record():
     expect(answer(source), 0, given(b'') + fault + given(b'\x00'))
     expect(answer(source[:-1]), 0, given(b'') + fault + given(b'\x00'))
     expect(answer(b''), 0)
+
+
+# Sources that try what is hard, with what they give.
+SENTENCES = (
+    (b'${a:' + 100000 * b'{' + 100001 * b'}', 100000 * b'{' + 100000 * b'}'),
+    (100000 * b'${a:' + b'x' + 100000 * b'}', b'x'),
+    (bytes(byte for byte in range(256) if byte not in b'$\\'),) * 2,
+)
+# Others with the case of their fault, its position, detail and range, and its line, underlined: nothing where that is
+# too wide, and `None` where the source isn't UTF-8.
+FAULTS = (
+    (100000 * b'${a:' + b'\\x' + 100000 * b'}', b'InvalidEscapeSequence', 400000, b'c78', b'400000..400002', b''),
+    (100000 * b'${a:' + b'\\x' + 99999 * b'}', b'MissingClosingBrace', 1, b'-', b'1..2', b''),
+    (b'${a:' + 100000 * b'{' + 100000 * b'}', b'MissingClosingBrace', 1, b'-', b'1..2', b''),
+    (100000 * b'${a:\\x', b'MissingClosingBrace', 1, b'-', b'1..2', b''),
+    (bytes(range(256)), b'MissingVariableName', 36, b'1', b'36..37', None),
+    (b'\\\xed\xa0\x80', b'InvalidEscapeSequence', 0, b'bED', b'0..2', None),
+    (b'${a\xff', b'UnexpectedCharacter', 3, b'bFF', b'3..4', None),
+    (b'\\\xf0\x9f\x98\x80', b'InvalidEscapeSequence', 0, b'c1F600', b'0..5',
+     b'  \\\xf0\x9f\x98\x80\n  ^^^\n'),
+    (b'$\n', b'MissingVariableName', 0, b'1', b'0..1', b'  $\n  ^\n'),
+    (b'\\\r\n', b'InvalidEscapeSequence', 0, b'cD', b'0..2', b'  \\\n  ^\n'),
+    (b'a\r\n$', b'MissingVariableName', 3, b'1', b'3..4', b'  $\n  ^\n'),
+    (b'\n${a:\n', b'MissingClosingBrace', 2, b'-', b'2..3', b'  ${a:\n   ^\n'),
+    (29 * b'\xe3\x80\x80' + b'$', b'MissingVariableName', 87, b'1', b'87..88',
+     b'  ' + 29 * b'\xe3\x80\x80' + b'$\n' + 60 * b' ' + b'^\n'),
+    (30 * b'\xe3\x80\x80' + b'$', b'MissingVariableName', 90, b'1', b'90..91', b''),
+)
+
+
+def test_answers_to_hostile_sources():
+    for source, output in SENTENCES:
+        expect(answer(record(source)), 0, given(output))
+    expect(answer(record(SENTENCES[0][0], kind=b'text')), 0, given(SENTENCES[0][1]))
+    for source, case, position, detail, place, underlined in FAULTS:
+        wanted = [b'fault', case, b'%d' % position, detail, place, b'.' if underlined is None else column(underlined)]
+        for kind in [b'bytes'] if underlined is None else [b'bytes', b'text']:
+            columns = answer(record(source, kind=kind)).output.rstrip(b'\n').split(b'\t')
+            is_ = columns[:4] + columns[6:7] + columns[8:]
+            expect_that(is_ == wanted, f'{shown(source)} has the answer {is_} and not {wanted}')
 
 
 def test_answers_ignores_its_words():
@@ -629,6 +689,40 @@ def test_answers_fails_where_a_stream_fails():
             expect_failed(answer(record(b'a'), stdout=writer, restore_signals=restored))
 
 
+def test_answers_fails_where_a_stream_fails_half_way():
+    line, printed = record(b'a\\$'), given(b'a$')
+    # The fifth record lacks its end.
+    expect_failed(run_on_failing_read('subst_answers', [], (5 * line)[:-2]), 4 * printed)
+    # What was read of the pipe are the first answers, and the last of them may lack its end.
+    expect_failed(run_and_close('subst_answers', [], 100000 * line), (100000 * printed)[:10])
+
+
+def test_answers_goes_on_after_an_interruption():
+    with started('subst_answers', [], stdin=subprocess.PIPE) as ran:
+        interrupt(ran)
+        ran.stdin.write(record(b'a') + record(b'b')[:5])
+        interrupt(ran)
+        ran.stdin.write(record(b'b')[5:])
+        expect(end_of(ran), 0, given(b'a') + given(b'b'))
+    with open('records', 'w+b') as file:
+        file.write(record(b'a\\$') * 100000)
+        file.seek(0)
+        with started('subst_answers', [], stdin=file) as ran:
+            interrupt(ran)
+            interrupt(ran)
+            expect(end_of(ran), 0, given(b'a$') * 100000)
+
+
+def test_answers_takes_reads_and_writes_of_1_byte():
+    env = preloading('slow_devices.c', DEVICE_BYTES='1')
+    expect(run('subst_answers', [], record(b'a\\$') * 100, env=env), 0, given(b'a$') * 100)
+
+
+def test_answers_reads_1000000_levels_on_a_stack_of_64_kib():
+    source = 1000000 * b'${a:' + b'\xff' + 1000000 * b'}'
+    expect(answer(record(source), **limited(resource.RLIMIT_STACK, 64 * KIB)), 0, given(b'\xff'))
+
+
 def test_answers_says_out_of_memory():
     source = record(b'a') + record(b'a' * (40 * MIB)) + record(b'b')
     expect(answer(source, **in_memory(64 * MIB)), 4, given(b'a'), ANSWERS_OUT_OF_MEMORY)
@@ -637,6 +731,14 @@ def test_answers_says_out_of_memory():
 def test_answers_says_out_of_memory_at_each_request():
     source, prefixes = record(b'a$c', [(b'c', b'1')]) + record(b'b'), (b'', given(b'a1'))
     refuse_in_turn('subst_answers', [], source, given(b'a1') + given(b'b'), ANSWERS_OUT_OF_MEMORY, prefixes)
+
+
+def test_answers_says_out_of_memory_at_each_request_of_a_document():
+    source = record(b'{"b": [1.5, "$a"], "a": "${b:c}"}', [(b'a', b'"')], b'json')
+    refuse_in_turn('subst_answers', [], source, given(b'{"a":"c","b":[1.5,"\\""]}'), ANSWERS_OUT_OF_MEMORY)
+    source = record(b'["a", "$", "$b"]', kind=b'json')
+    fault = b'fault\tMissingVariableName\t0\t1\t-\t%b\t0..1\t.\t.\n' % column(b'Missing variable name')
+    refuse_in_turn('subst_answers', [], source, fault, ANSWERS_OUT_OF_MEMORY)
 
 
 # All tests
@@ -648,40 +750,5 @@ def tests():
     return [(name[len('test_'):], it) for name, it in found if name.startswith('test_')]
 
 
-def passes(name, test):
-    """Runs a test, and prints its line."""
-    begin, why = time.monotonic(), None
-    try:
-        test()
-    except (Wrong, OSError, subprocess.CalledProcessError) as failure:
-        why = str(failure)
-    except subprocess.TimeoutExpired:
-        why = f'no end in {SECONDS} s'
-    took = time.monotonic() - begin
-    print(f'{name}: FAILED: {why}' if why else f'{name}: {took:.1f} s', flush=True)
-    return why is None
-
-
-def stop(number, _frame):
-    """Ends the tests at a signal, so that files and programs that were started go with them."""
-    sys.exit(128 + number)
-
-
-def main():
-    for number in (signal.SIGHUP, signal.SIGTERM):
-        signal.signal(number, stop)
-    resource.setrlimit(resource.RLIMIT_CORE, (0, 0))
-    if not all([build(program) for program in PROGRAMS]):
-        print('0 passed, 1 failed')
-        sys.exit(1)
-    with tempfile.TemporaryDirectory() as folder:
-        os.chdir(folder)
-        results = [passes(name, test) for name, test in tests()]
-        os.chdir(TOP)
-    failed = results.count(False)
-    print(f'{len(results) - failed} passed, {failed} failed')
-    sys.exit(1 if failed else 0)
-
-
 if __name__ == '__main__':
-    main()
+    run_tests(tests(), PROGRAMS)

@@ -6,7 +6,7 @@ set -euo pipefail
 cd "$(dirname "$0")/.."
 ulimit -c 0
 
-crates='subst_vectors subst_text_vectors subst_json_vectors subst_report_vectors subst_filter_vectors'
+crates='subst_vectors subst_text_vectors subst_json_vectors subst_toml_vectors subst_report_vectors subst_filter_vectors'
 seconds_a_run=20
 most_requests=2000
 

@@ -1,0 +1,60 @@
+#!/usr/bin/env bash
+# Makes a repository in a folder of its own, with the library in it as README.md says, and README's example as a
+# program, and runs that with `rt try`, which proves nothing and so takes half a minute. The lines of crates.txt and the
+# example are taken from README.md as they are there. The last line is 'N passed, M failed'.
+set -euo pipefail
+cd "$(dirname "$0")/.."
+
+folder=$(mktemp -d)
+trap 'rm -rf "$folder"' EXIT
+. tools/stoppable.sh
+
+fail() {
+  printf '%s\n0 passed, 1 failed\n' "$1"
+  exit 1
+}
+
+# The lines of the library in crates.txt, as README has them.
+library_lines() {
+  sed -n '/^## The library$/,/^## /s/^    \(subst[a-z_]*: .*\)$/\1/p' README.md
+}
+
+# The first block of Rust in README, a whole function.
+example() {
+  sed -n '/^```rust$/,/^```$/{/^```/!p;/^```$/q}' README.md
+}
+
+# Copies the folders of the library, without what `rt` keeps in them.
+copy_library() {
+  local crate
+  for crate in $(library_lines | sed 's/:.*//'); do
+    mkdir -p "$folder/crates/$crate"
+    (cd "crates/$crate" && tar --exclude=./out -cf - .) | tar -xf - -C "$folder/crates/$crate"
+  done
+}
+
+# A program that prints what the example returns.
+write_program() {
+  mkdir -p "$folder/crates/greeting/src"
+  {
+    printf '//! Prints the greeting of the example.\n#![tactic(auto)]\n\n'
+    example
+    printf '\nfn main(rt: HostRuntime) -> anyhow::Result<()> {\n'
+    printf '    let greeting = greet(rt.alloc())?;\n    println!(rt; "{greeting}")?;\n    Ok(())\n}\n'
+  } >"$folder/crates/greeting/src/main.rt"
+  { library_lines && printf 'greeting: subst anyhow\n'; } >"$folder/crates.txt"
+}
+
+try() {
+  (cd "$folder/crates/greeting" && rt try) >"$folder/output" 2>"$folder/errors"
+}
+
+example | grep -q '^fn greet(' || fail 'the first example of README.md has no function greet'
+copy_library
+write_program
+if ! stoppable try; then
+  cat "$folder/errors"
+  fail 'the program of another repository does not run'
+fi
+[ "$(cat "$folder/output")" = 'Hello world!' ] || fail "it printed: $(cat "$folder/output")"
+printf 'a program of another repository printed: %s\n1 passed, 0 failed\n' "$(cat "$folder/output")"

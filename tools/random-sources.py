@@ -1,0 +1,266 @@
+#!/usr/bin/env python3
+"""random-sources.py [--seed SEED] [--count COUNT]   Compares answers to random sources: a million, unless COUNT says.
+
+Half of the sources are of the grammar, and half are damaged at one place. `subst_answers` answers each as bytes, and
+those of text once more as texts, and as the one string of a JSON document; it finds an answer in several ways, and
+prints `differs` where they disagree. All columns of the kinds have to be the same, and the output, or the fault and its
+place, have to be what the few lines of `answer_of` say, which are written from the rules of the language. Some sources
+are then given to `subst_filter`, which has to end as the answers say. The seed is fixed, unless SEED gives another; each
+failure names it with the record. Each test prints a line, and the last line is 'N passed, M failed'.
+"""
+import argparse
+import functools
+import json
+import random
+import re
+import sys
+from concurrent.futures import ThreadPoolExecutor
+
+sys.dont_write_bytecode = True
+from running import PROGRAMS, Wrong, column, expect, run, run_tests
+
+# How many sources are answered by one run of the program.
+CHUNK = 20000
+# How many sources the filter is given.
+FILTERED = 300
+# How many pieces there are to join sources from, two or three in each; as many again are short ones.
+PIECES = 1000
+
+NAMES = ('a', 'b', 'c', 'd', '9', '_', 'a1', 'none', 'none_2')
+# The variables that sources are filled in from: no value of a name that begins with `none`.
+VARIABLES = {'a': '1', 'b': '', 'c': '$a\\}', 'd': '${', '9': 'two\nlines', '_': '=', 'a1': ':'}
+TEXTS, BYTES = ('\u00e9', '\u2764', '\U0001f600', '\u200b'), ('\xe9', '\xff', '\xc3', '\x9f')
+PLAIN = ('', ' ', 'a', 'Z', '0', '_', '-', '\n', ':', '?', '{', '}', '\0', '\r\n', 'word ')
+ESCAPES = ('\\\\', '\\$', '\\{', '\\}', '\\:')
+# What comes into a source where it is damaged; with nothing a character is taken out.
+DAMAGE = ('', '', '', '$', '$', '${', '${a:', '{', '{', '}', '}', '\\', '\\', ':', '?', '-', 'a', '\n')
+
+
+# The rules
+
+
+class Refused(Exception):
+    """The case and the position of a fault, or of a missing variable."""
+
+
+NAME = re.compile(rb'[0-9A-Za-z_]+')
+PLAIN_BYTES = re.compile(rb'[^$\\]+')
+BRACE = re.compile(rb'\\.|[{}]', re.DOTALL)
+
+
+def answer_of(source, variables):
+    """The first columns of the answer of a source."""
+    try:
+        return b'ok\t' + column(b''.join(values(parsed(source, 0, len(source)), variables)))
+    except Refused as refused:
+        return b'fault\t%b\t%d\t' % refused.args
+
+
+def parsed(source, at, end):
+    """The items of the source between two places: bytes, or a variable as its place, its name and its default."""
+    items = []
+    while at < end:
+        if plain := PLAIN_BYTES.match(source, at, end):
+            items.append(plain[0])
+            at = plain.end()
+        elif source[at:at + 1] == b'\\':
+            if at + 1 == end or source[at + 1] not in b'\\${}:':
+                raise Refused(b'InvalidEscapeSequence', at)
+            items.append(source[at + 1:at + 2])
+            at += 2
+        else:
+            item, at = placeholder(source, at, end)
+            items.append(item)
+    return items
+
+
+def placeholder(source, at, end):
+    """The variable that begins at this dollar, and the place after it."""
+    brace = at + 1 if source[at + 1:min(at + 2, end)] == b'{' else None
+    name = NAME.match(source, at + 1 if brace is None else at + 2, end)
+    if name is None:
+        raise Refused(b'MissingVariableName', at)
+    after = name.end()
+    if brace is None or source[after:min(after + 1, end)] == b'}':
+        return (name.start(), name[0], None), after if brace is None else after + 1
+    if after == end:
+        raise Refused(b'MissingClosingBrace', brace)
+    if source[after:after + 1] == b':':
+        closing = closing_brace(source, after + 1, end, brace)
+        return (name.start(), name[0], parsed(source, after + 1, closing)), closing + 1
+    if source[after:after + 1] != b'?':
+        raise Refused(b'UnexpectedCharacter', after)
+    if after + 1 == end:
+        raise Refused(b'MissingClosingBrace', brace)
+    if source[after + 1:after + 2] != b'}':
+        raise Refused(b'UnexpectedCharacter', after + 1)
+    return (name.start(), name[0], []), after + 2
+
+
+def closing_brace(source, at, end, brace):
+    """The place of the brace that closes the default which begins here."""
+    depth = 1
+    for found in BRACE.finditer(source, at, end):
+        depth += {b'{': 1, b'}': -1}.get(found[0], 0)
+        if depth == 0:
+            return found.start()
+    raise Refused(b'MissingClosingBrace', brace)
+
+
+def values(items, variables):
+    """The bytes that items give, one after the other."""
+    for item in items:
+        if isinstance(item, bytes):
+            yield item
+            continue
+        place, name, default = item
+        if name in variables:
+            yield variables[name]
+        elif default is None:
+            raise Refused(b'NoSuchVariable', place)
+        else:
+            yield from values(default, variables)
+
+
+# Sources
+
+
+def some_pieces(rng, characters):
+    """Pieces that are templates by themselves: short ones, and defaults that are made of smaller pieces."""
+    short = [*PLAIN, *characters, *ESCAPES, *(f'${name}-' for name in NAMES), *(f'${{{name}}}' for name in NAMES),
+             *(f'${{{name}?}}' for name in NAMES)]
+    pieces = list(short)
+    forms = ('${%s:%s}', '${%s:%s}', '${%s:{%s}}', '${%s:$none%s}', '${%s:\\}%s}')
+    while len(pieces) < PIECES:
+        inner = ''.join(rng.choices(pieces, k=rng.randrange(1, 4)))
+        # A brace by itself isn't balanced.
+        if len(inner) < 20 and inner.count('{') == inner.count('}'):
+            pieces.append(rng.choice(forms) % (rng.choice(NAMES), inner))
+    return pieces + short * (2 * PIECES // len(short))
+
+
+def sources_of_grammar(rng, characters):
+    """As many sources as one run answers."""
+    picked = iter(rng.choices(some_pieces(rng, characters), k=3 * CHUNK))
+    return [first + second if len(second) > 9 else first + second + third
+            for first, second, third in zip(picked, picked, picked)]
+
+
+def damaged_sources(rng, characters):
+    """As many sources as one run answers, each damaged at one place."""
+    damage = DAMAGE + characters
+
+    def damaged(source):
+        at = int(rng.random() * (len(source) + 1))
+        return source[:at] + rng.choice(damage) + source[at + (rng.random() < 0.6):]
+
+    return [damaged(source) for source in sources_of_grammar(rng, characters)]
+
+
+def pairs_of(variables):
+    return b','.join(column(name) + b'=' + column(value) for name, value in variables.items())
+
+
+def answers(kind, sources, pairs):
+    """The line of the answer of each source."""
+    records = b''.join(b'%b\t%b\t%b\n' % (kind, source.hex().encode() or b'-', pairs) for source in sources)
+    end = run('subst_answers', [], records)
+    if end.status != 0:
+        raise Wrong(f'the program ends with status {end.status}: {end.errors!r}')
+    lines = end.output.split(b'\n')
+    if len(lines) != len(sources) + 1:
+        raise Wrong(f'{len(sources)} records have {len(lines) - 1} answers')
+    return lines[:-1]
+
+
+def document(source):
+    """The JSON document of this one string."""
+    return json.dumps([source.decode()], ensure_ascii=False).encode()
+
+
+def document_answer(line):
+    """The answer to that document, where this is the one to its string: the place of a fault is told by its range."""
+    if not line.startswith(b'ok\t'):
+        return b'\t'.join([*line.split(b'\t')[:-2], b'.', b'.'])
+    output = bytes.fromhex(line[3:].decode().strip('-')).decode()
+    return b'ok\t' + json.dumps([output], ensure_ascii=False, separators=(',', ':')).encode().hex().encode()
+
+
+# Tests
+
+
+def expect_same(seed, kind, sources, pairs, lines, wanted):
+    """Fails the test unless each line is what is wanted, and names the first that isn't. Of a fault may be wanted no
+    more than how its line begins, up to a tab."""
+    for source, line, begin in zip(sources, lines, wanted):
+        if line != begin and not (begin.endswith(b'\t') and line.startswith(begin)):
+            record = b'%b\t%b\t%b' % (kind, column(source), pairs)
+            raise Wrong(f'seed {seed}, record {record.decode()}\n    is answered {line.decode()}\n'
+                        f'    and not      {begin.decode()}')
+
+
+def compare(seed, make, encoding, characters, chunks):
+    """Compares the answers of so many runs over sources that are made so."""
+    variables = {name.encode(): value.encode(encoding) for name, value in VARIABLES.items()}
+    variables[b'd'] = characters[0].encode(encoding)
+    pairs = pairs_of(variables)
+    rng = random.Random(f'{seed} {make.__name__} {encoding}')
+    with ThreadPoolExecutor() as pool:
+        for _ in range(chunks):
+            sources = [source.encode(encoding) for source in make(rng, characters)]
+            kinds = {b'bytes': sources}
+            if encoding == 'utf-8':
+                kinds |= {b'text': sources, b'json': [document(source) for source in sources]}
+            running = {kind: pool.submit(answers, kind, made, pairs) for kind, made in kinds.items()}
+            # The answers as bytes are compared with the rules, and the others with these answers.
+            wanted = [answer_of(source, variables) for source in sources]
+            for kind, lines in running.items():
+                if kind == b'json':
+                    wanted = [document_answer(line) for line in wanted]
+                expect_same(seed, kind, kinds[kind], pairs, lines.result(), wanted)
+                wanted = lines.result()
+
+
+def filter_ends_as_the_answers_say(seed):
+    """Runs the filter on some sources, half of them damaged, with each of its words."""
+    rng = random.Random(f'{seed} filter')
+    variables = {name.encode(): value.encode() for name, value in VARIABLES.items()}
+    made = sources_of_grammar(rng, TEXTS)[:FILTERED // 2] + damaged_sources(rng, TEXTS)[:FILTERED - FILTERED // 2]
+    sources = [source.encode() for source in made]
+    words = [name + b'=' + value for name, value in variables.items()]
+    for source, line in zip(sources, answers(b'bytes', sources, pairs_of(variables))):
+        columns = [bytes.fromhex(text) if re.fullmatch('([0-9a-f]{2})+', text) else b''
+                   for text in line.decode().split('\t')]
+        for word in (['bytes', *words], ['text', *words], ['env']):
+            wanted = (0, columns[1], b'')
+            if line.startswith(b'fault'):
+                wanted = (1, b'', b'subst: ' + columns[5] + b'\n' + (b'' if word[0] == 'bytes' else columns[8]))
+            try:
+                expect(run('subst_filter', word, source, env=variables), *wanted)
+            except Wrong as wrong:
+                raise Wrong(f'seed {seed}, {word[0]}, source {source!r}: {wrong}') from wrong
+
+
+def tests(seed, count):
+    """The tests, each with its name. Four of five sources are texts."""
+    chunks = max(1, round(count / CHUNK / 10))
+    rows = [
+        ('texts_of_the_grammar', sources_of_grammar, 'utf-8', TEXTS, 4 * chunks),
+        ('damaged_texts', damaged_sources, 'utf-8', TEXTS, 4 * chunks),
+        ('bytes_of_the_grammar', sources_of_grammar, 'latin-1', BYTES, chunks),
+        ('damaged_bytes', damaged_sources, 'latin-1', BYTES, chunks),
+    ]
+    made = [(f'{row[-1] * CHUNK}_{row[0]}', functools.partial(compare, seed, *row[1:])) for row in rows]
+    return [*made, (f'filter_on_{FILTERED}_texts', functools.partial(filter_ends_as_the_answers_say, seed))]
+
+
+def main():
+    parser = argparse.ArgumentParser(description=__doc__.partition('   ')[2].partition('\n')[0])
+    parser.add_argument('--seed', default='1')
+    parser.add_argument('--count', type=int, default=1000000)
+    given = parser.parse_args()
+    print(f'seed {given.seed}')
+    run_tests(tests(given.seed, given.count), PROGRAMS)
+
+
+main()

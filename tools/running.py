@@ -1,0 +1,214 @@
+"""What the tests of the built programs share: building and running a program, what it has to end as, and the loop that
+runs tests. Each test prints a line, and the last line is 'N passed, M failed'.
+"""
+import contextlib
+import os
+import pathlib
+import resource
+import signal
+import subprocess
+import sys
+import tempfile
+import time
+from typing import NamedTuple
+
+TOP = pathlib.Path(__file__).resolve().parent.parent
+CRATES = TOP / 'crates'
+# The programs, each with words for which it does its work.
+PROGRAMS = {'subst_filter': ['bytes'], 'subst_answers': []}
+# How long a program may run. Each run takes less than a second on a machine that does nothing else.
+SECONDS = 30
+KIB = 1 << 10
+MIB = 1 << 20
+GIB = 1 << 30
+
+
+class End(NamedTuple):
+    """How a program ended, and what it wrote."""
+    status: int
+    output: bytes
+    errors: bytes
+
+
+class Wrong(Exception):
+    """A program didn't do what was expected."""
+
+
+# Running programs
+
+
+def newest_source():
+    """The time of the last change of what the programs are built from."""
+    files = [TOP / 'crates.txt']
+    for part in ('src', 'specs', 'proofs'):
+        files += CRATES.glob(f'*/{part}/**/*')
+    return max(file.stat().st_mtime for file in files)
+
+
+def path_of(program):
+    return CRATES / program / 'out' / program
+
+
+def build(program):
+    """Proves and builds a program, unless it is newer than the sources. Returns whether it is there."""
+    path = path_of(program)
+    if path.exists() and path.stat().st_mtime >= newest_source():
+        return True
+    print(f'{program}: proving and building the program', flush=True)
+    ran = subprocess.run(['rt', 'run', '--', *PROGRAMS[program]], cwd=CRATES / program, stdin=subprocess.DEVNULL,
+                         stdout=subprocess.PIPE, stderr=subprocess.STDOUT)
+    if ran.returncode != 0:
+        sys.stdout.write(ran.stdout.decode(errors='replace'))
+    return ran.returncode == 0
+
+
+def run(program, words=(), source=b'', **options):
+    """Runs a program. The source is its input, through a pipe, unless the options, those of subprocess.run, name an
+    input; an output that they don't name is kept."""
+    if 'stdin' not in options:
+        options['input'] = source
+    for stream in ('stdout', 'stderr'):
+        options.setdefault(stream, subprocess.PIPE)
+    ran = subprocess.run([path_of(program), *words], timeout=SECONDS, **options)
+    return End(ran.returncode, ran.stdout or b'', ran.stderr or b'')
+
+
+def compiled(source, *options):
+    """Compiles a file of tools/ into the folder that this runs in, unless it is there, and returns its path."""
+    made = os.path.abspath(os.path.splitext(source)[0])
+    if not os.path.exists(made):
+        compiler = os.environ.get('CC') or 'cc'
+        strict = ['-O2', '-Wall', '-Wextra', '-Werror']
+        subprocess.run([compiler, *strict, *options, '-o', made, TOP / 'tools' / source], check=True)
+    return made
+
+
+def preloading(source, **variables):
+    """The variables of an environment under which a program runs with a library of tools/ in front of its own."""
+    return {'LD_PRELOAD': compiled(source, '-shared', '-fPIC'), **variables}
+
+
+def limited(kind, amount):
+    """The option that runs a program under a limit."""
+    return {'preexec_fn': lambda: resource.setrlimit(kind, (amount, amount))}
+
+
+def in_memory(amount):
+    return limited(resource.RLIMIT_AS, amount)
+
+
+def without(stream):
+    """The option that runs a program with a standard stream closed."""
+    name = ('stdin', 'stdout', 'stderr')[stream]
+    return {name: None, 'preexec_fn': lambda: os.close(stream)}
+
+
+# What a program has to end as
+
+
+def shown(value):
+    """A status, or the start of some bytes and how many there are."""
+    if isinstance(value, int):
+        return str(value)
+    return f'{value!r}' if len(value) <= 80 else f'{value[:80]!r}.. ({len(value)} bytes)'
+
+
+def expect(end, status, output=b'', errors=b''):
+    """Fails the test unless the program ended so."""
+    for what, is_, wanted in zip(End._fields, end, End(status, output, errors)):
+        if is_ != wanted:
+            raise Wrong(f'{what} is {shown(is_)} and not {shown(wanted)}')
+
+
+def expect_that(fact, text):
+    """Fails the test unless the fact holds."""
+    if not fact:
+        raise Wrong(text)
+
+
+# Pipes
+
+
+@contextlib.contextmanager
+def pipe():
+    """A pipe: its end to read from, and its end to write to."""
+    reader, writer = os.pipe()
+    try:
+        yield reader, writer
+    finally:
+        os.close(reader)
+        os.close(writer)
+
+
+@contextlib.contextmanager
+def unread_pipe():
+    """An end to write to of a pipe that nobody can read."""
+    reader, writer = os.pipe()
+    os.close(reader)
+    try:
+        yield writer
+    finally:
+        os.close(writer)
+
+
+def fill(writer):
+    """Writes to a pipe all that it can hold, and returns how many bytes these are."""
+    os.set_blocking(writer, False)
+    count = 0
+    with contextlib.suppress(BlockingIOError):
+        while True:
+            count += os.write(writer, b'a' * 4096)
+    return count
+
+
+def left_in(reader):
+    """The bytes that are in a pipe, of which it holds less than a MiB."""
+    os.set_blocking(reader, False)
+    return os.read(reader, MIB)
+
+
+# Bytes as they are written in records and answers
+
+
+def column(data):
+    """Bytes as they are written in a record and in an answer."""
+    return data.hex().encode() or b'-'
+
+
+# Tests
+
+
+def passes(name, test):
+    """Runs a test, and prints its line."""
+    begin, why = time.monotonic(), None
+    try:
+        test()
+    except (Wrong, OSError, subprocess.CalledProcessError) as failure:
+        why = str(failure)
+    except subprocess.TimeoutExpired:
+        why = f'no end in {SECONDS} s'
+    took = time.monotonic() - begin
+    print(f'{name}: FAILED: {why}' if why else f'{name}: {took:.1f} s', flush=True)
+    return why is None
+
+
+def stop(number, _frame):
+    """Ends the tests at a signal, so that files and programs that were started go with them."""
+    sys.exit(128 + number)
+
+
+def run_tests(tests, programs):
+    """Builds the programs, runs tests, which are pairs of a name and a function, in a folder of their own, and ends."""
+    for number in (signal.SIGHUP, signal.SIGTERM):
+        signal.signal(number, stop)
+    resource.setrlimit(resource.RLIMIT_CORE, (0, 0))
+    if not all([build(program) for program in programs]):
+        print('0 passed, 1 failed')
+        sys.exit(1)
+    with tempfile.TemporaryDirectory() as folder:
+        os.chdir(folder)
+        results = [passes(name, test) for name, test in tests]
+        os.chdir(TOP)
+    failed = results.count(False)
+    print(f'{len(results) - failed} passed, {failed} failed')
+    sys.exit(1 if failed else 0)
