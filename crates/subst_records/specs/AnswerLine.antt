@@ -20,16 +20,16 @@ fault_line f text place = codes "fault\t" ++ (case_of f ++ (codes "\t" ++ (decim
     ++ (codes "\t" ++ (detail_of f ++ (codes "\t" ++ (expected_of f
     ++ (codes "\t" ++ (column_of text ++ (codes "\t" ++ (place ++ codes "\n")))))))))))
 
--- The line is that of the fault, with its text. Of a text that quotes a character past ASCII it is claimed that
--- it is some UTF-8.
+-- The line is that of the fault, with its text. Of a text that quotes a character past ASCII it is claimed
+-- that it is some UTF-8.
 pub record IsFaultLine (f : Fault) (place line : List ℕ) : Type 0 where
   pub text : List ℕ
   pub spelled : line ≡ fault_line f text place
   pub utf8 : IsUtf8 text
   pub known : IfSome (display_of_fault f) (λ shown. text ≡ shown)
 
--- The line is that of the fault that an error states, whose place is told by these columns. Out of memory has no
--- line.
+-- The line is that of the fault that an error states, whose place is told by these columns. Out of memory has
+-- no line.
 abbrev pub IsLineOfError : (Fault → List ℕ) → Option Fault → List ℕ → Type 0
 IsLineOfError place_of o line = IsSomeAnd o (λ f. IsFaultLine f (place_of f) line)
 

@@ -119,9 +119,10 @@ abbrev pub ArePairsRead : {V : Type 0} → Form → (V → List ℕ) → List �
 ArePairsRead form bytes_of column (Some variables) = HoldPairs form column (values_of bytes_of variables)
 ArePairsRead form bytes_of column None = IsNoPairs form column
 
--- The columns after a kind are those of the source and of the variables, each with its value. The source is of
--- the form `of_source`, and each value of the form `of_values`.
-pub record AreColumnsOf (of_source of_values : Form) (columns source : List ℕ) (values : LookUp) : Type 0 where
+-- The columns after a kind are those of the source and of the variables, each with its value. The source is
+-- of the form `of_source`, and each value of the form `of_values`.
+pub record AreColumnsOf (of_source of_values : Form) (columns source : List ℕ) (values : LookUp)
+    : Type 0 where
   pub column : List ℕ
   pub spelled : columns ≡ column_of source ++ (tab ∷ column)
   pub content : IsContent of_source source
