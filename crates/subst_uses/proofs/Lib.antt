@@ -1,3 +1,4 @@
 pub mod LetterLemmas
 pub mod LineLemmas
+pub mod LoaderLemmas
 pub mod WarningLemmas

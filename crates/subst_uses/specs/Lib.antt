@@ -3,3 +3,4 @@ pub mod CommandLine
 pub mod Config
 pub mod Letter
 pub mod Report
+pub mod Settings

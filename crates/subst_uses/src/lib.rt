@@ -17,5 +17,6 @@ mod memory;
 pub mod own_map;
 pub mod plain;
 pub mod report;
+pub mod settings;
 pub mod texts;
 pub mod words;

@@ -1,13 +1,8 @@
 -- A value is read as its bytes, and an error `Subst` states a fault.
-use Rattle.std.proofs.Common.{Option, Some, None, IfSome, IsSome, inr, refl, string_bytes}
+use Rattle.std.proofs.Common.{inr, refl, string_bytes}
 use Rattle.subst.specs.ErrorFault.{error_fault}
-use Rattle.subst.specs.Fault.{Fault}
+use Rattle.subst_uses.proofs.LoaderLemmas.{of_a_fault}
 use Rattle.subst_uses.proofs.config.load.Goals as goal
-
--- what holds of the fault that is stated holds of some fault
-of_a_fault : (stated : Option Fault) (P : Fault → Type 0) → IsSome stated → IfSome stated P → (f : Fault) × P f
-of_a_fault (Some f) P some h = (f, h)
-of_a_fault None P some h = absurd cc
 
 pub returns-in-Ok : goal.returns-in-Ok
 returns-in-Ok c = c.in-Ok.ensures.ok (λ v. string_bytes v) (λ v. refl)
