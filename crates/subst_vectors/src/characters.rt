@@ -1,15 +1,24 @@
 //! Characters in faults, and bytes that begin no character.
 
 use crate::rows::Answer::{BadEscape, Unexpected};
-use crate::rows::{expect_fault, fault_text};
-use std::alloc::Global;
-use std::process::Abort;
-use std::test::Fail;
+use crate::rows::{has_fault, has_text, wrong_text};
+use std::alloc::{AllocError, Global};
 use subst::error::CharOrByte;
 use subst::error::CharOrByte::{Byte, Char};
 
+/// The first of these rows, each a source and the character or byte that its first byte escapes, that is
+/// wrong.
+fn wrong_escape(alloc: Global, rows: &[(&[u8], CharOrByte)]) -> Option<usize> {
+    for (row, &(source, character)) in rows.iter().enumerate() {
+        if !has_fault(alloc, source, BadEscape(0, Some(character))) {
+            return Some(row);
+        }
+    }
+    None
+}
+
 #[test]
-fn escaped_character_is_in_the_fault(rt: HostRuntime) -> Result<(), Fail> {
+fn escaped_character_is_in_the_fault(rt: HostRuntime) {
     let rows: &[(&[u8], CharOrByte)] = &[
         (b"\\ello\x80", Char('e')),
         (b"\\e\x80llo\x80", Char('e')),
@@ -17,14 +26,11 @@ fn escaped_character_is_in_the_fault(rt: HostRuntime) -> Result<(), Fail> {
         (b"\\\xE2\x9D\xA4ll\xE2\x9D\xA4", Char('\u{2764}')),
         (b"\\\xF0\x9F\x98\x80", Char('\u{1F600}')),
     ];
-    for &(source, character) in rows {
-        expect_fault(&rt, rt.alloc(), source, &BadEscape(0, Some(character)))?;
-    }
-    Ok(())
+    assert_eq!(rt; wrong_escape(rt.alloc(), rows), None);
 }
 
 #[test]
-fn escaped_byte_that_begins_no_character_is_in_the_fault(rt: HostRuntime) -> Result<(), Fail> {
+fn escaped_byte_that_begins_no_character_is_in_the_fault(rt: HostRuntime) {
     let rows: &[(&[u8], CharOrByte)] = &[
         (b"\\\x80", Byte(0x80)),
         (b"\\\x80llo", Byte(0x80)),
@@ -33,14 +39,21 @@ fn escaped_byte_that_begins_no_character_is_in_the_fault(rt: HostRuntime) -> Res
         (b"\\\xE2\x9D", Byte(0xE2)),
         (b"\\\xED\xA0\x80", Byte(0xED)),
     ];
-    for &(source, byte) in rows {
-        expect_fault(&rt, rt.alloc(), source, &BadEscape(0, Some(byte)))?;
+    assert_eq!(rt; wrong_escape(rt.alloc(), rows), None);
+}
+
+/// The first of these rows, each a source and what is unexpected at 3, that is wrong.
+fn wrong_character(alloc: Global, rows: &[(&[u8], CharOrByte)]) -> Option<usize> {
+    for (row, &(source, character)) in rows.iter().enumerate() {
+        if !has_fault(alloc, source, Unexpected(3, character)) {
+            return Some(row);
+        }
     }
-    Ok(())
+    None
 }
 
 #[test]
-fn character_after_a_name_is_in_the_fault(rt: HostRuntime) -> Result<(), Fail> {
+fn character_after_a_name_is_in_the_fault(rt: HostRuntime) {
     let rows: &[(&[u8], CharOrByte)] = &[
         (b"${a)", Char(')')),
         (b"${a-b}", Char('-')),
@@ -48,14 +61,11 @@ fn character_after_a_name_is_in_the_fault(rt: HostRuntime) -> Result<(), Fail> {
         (b"${a\xC3\xA9}", Char('\u{e9}')),
         (b"${a\xFF", Byte(0xFF)),
     ];
-    for &(source, character) in rows {
-        expect_fault(&rt, rt.alloc(), source, &Unexpected(3, character))?;
-    }
-    Ok(())
+    assert_eq!(rt; wrong_character(rt.alloc(), rows), None);
 }
 
 #[test]
-fn escaped_characters_are_shown(rt: HostRuntime) -> Result<(), Fail> {
+fn escaped_characters_are_shown(rt: HostRuntime) {
     let rows: &[(&[u8], &str)] = &[
         (
             b"Hello \\\xE2\x9D\xA4\xE2\x9D\xA4",
@@ -64,25 +74,35 @@ fn escaped_characters_are_shown(rt: HostRuntime) -> Result<(), Fail> {
         (b"\\\x80", "Invalid escape sequence: \\0x80"),
         (b"\\\xED\xA0\x80", "Invalid escape sequence: \\0xED"),
     ];
-    for &(source, want) in rows {
-        let text = fault_text(rt.alloc(), source)?;
-        assert_eq!(rt; text.as_str(), want, "{source:?}");
-    }
-    Ok(())
+    assert_eq!(rt; wrong_text(rt.alloc(), rows), None);
 }
 
-/// The fault of `source` is an unexpected character, whose quoted form is `quoted`.
-fn expect_quoted(rt: &impl Abort, alloc: Global, source: &[u8], quoted: &str) -> Result<(), Fail> {
-    let text = fault_text(alloc, source)?;
-    let want = format!(in alloc;
+/// The text of the fault where a character of this quoted form is after a name.
+fn text_of_unexpected(alloc: Global, quoted: &str) -> Result<String, AllocError> {
+    format!(in alloc;
         "Unexpected character: {quoted}, expected a closing brace ('}}'), colon (':') or question mark ('?')"
-    )?;
-    assert_eq!(rt; text.as_str(), want.as_str(), "{source:?}");
-    Ok(())
+    )
+}
+
+fn is_quoted(alloc: Global, source: &[u8], quoted: &str) -> bool {
+    match text_of_unexpected(alloc, quoted) {
+        Ok(want) => has_text(alloc, source, want.as_str()),
+        Err(_) => false,
+    }
+}
+
+/// The first of these rows, each a source and how the unexpected character is quoted, that is wrong.
+fn wrongly_quoted(alloc: Global, rows: &[(&[u8], &str)]) -> Option<usize> {
+    for (row, &(source, quoted)) in rows.iter().enumerate() {
+        if !is_quoted(alloc, source, quoted) {
+            return Some(row);
+        }
+    }
+    None
 }
 
 #[test]
-fn ascii_characters_are_quoted(rt: HostRuntime) -> Result<(), Fail> {
+fn ascii_characters_are_quoted(rt: HostRuntime) {
     let rows: &[(&[u8], &str)] = &[
         (b"${a\0", "'\\0'"),
         (b"${a\t", "'\\t'"),
@@ -95,22 +115,16 @@ fn ascii_characters_are_quoted(rt: HostRuntime) -> Result<(), Fail> {
         (b"${a\x1B", "'\\u{1b}'"),
         (b"${a\x7F", "'\\u{7f}'"),
     ];
-    for &(source, quoted) in rows {
-        expect_quoted(&rt, rt.alloc(), source, quoted)?;
-    }
-    Ok(())
+    assert_eq!(rt; wrongly_quoted(rt.alloc(), rows), None);
 }
 
 #[test]
-fn characters_past_ascii_are_quoted(rt: HostRuntime) -> Result<(), Fail> {
+fn characters_past_ascii_are_quoted(rt: HostRuntime) {
     let rows: &[(&[u8], &str)] = &[
         (b"${a\xFF", "'\\xFF'"),
         (b"\xE2\x98Hello ${name\xE2\x98", "'\\xE2'"),
         (b"${a\xC3\xA9}", "'\u{e9}'"),
         (b"Hello ${name\xE2\x9D\xA4", "'\u{2764}'"),
     ];
-    for &(source, quoted) in rows {
-        expect_quoted(&rt, rt.alloc(), source, quoted)?;
-    }
-    Ok(())
+    assert_eq!(rt; wrongly_quoted(rt.alloc(), rows), None);
 }

@@ -5,8 +5,6 @@ ghost use Rattle.subst.specs.ErrorFault.{error_fault};
 
 use std::alloc::{AllocError, AllocFailed, Global};
 use std::fmt::Display;
-use std::process::Abort;
-use std::test::Fail;
 use subst::error::{
     CharOrByte, Error, ExpandError, ExpectedCharacter, InvalidEscapeSequence, MissingClosingBrace,
     MissingVariableName, NoSuchVariable, ParseError, UnexpectedCharacter,
@@ -37,8 +35,8 @@ fn no_brace(position: usize) -> ParseError {
     ParseError::MissingClosingBrace(MissingClosingBrace { position })
 }
 
-fn no_variable(rt: &HostRuntime, position: usize, name: &str) -> Result<ExpandError, AllocError> {
-    let name = String::from_str(rt.alloc(), name)?;
+fn no_variable(alloc: Global, position: usize, name: &str) -> Result<ExpandError, AllocError> {
+    let name = String::from_str(alloc, name)?;
     Ok(ExpandError::NoSuchVariable(NoSuchVariable { position, name }))
 }
 
@@ -56,28 +54,31 @@ fn copy_of(e: &Error) -> Result<Error, AllocError>
     e.clone()
 }
 
-// What was shown is this text.
-fn expect_shown(
-    rt: &impl Abort,
-    shown: Result<String, AllocError>,
-    text: &str,
-) -> Result<(), Fail> {
-    assert_eq!(rt; shown?.as_str(), text);
-    Ok(())
+/// Whether this text was shown.
+fn is_text(shown: Result<String, AllocError>, want: &str) -> bool {
+    match shown {
+        Ok(shown) => shown.as_str() == want,
+        Err(_) => false,
+    }
 }
 
-// The value is shown as this text.
-fn expect_display<D: Display>(
-    rt: &impl Abort,
-    alloc: Global,
-    value: &D,
-    text: &str,
-) -> Result<(), Fail> {
-    expect_shown(rt, format!(in alloc; "{value}"), text)
+/// Whether a value is shown as this text.
+fn is_shown<D: Display>(alloc: Global, value: &D, want: &str) -> bool {
+    is_text(format!(in alloc; "{value}"), want)
+}
+
+/// The first of these rows, each a character and its text, that is wrong.
+fn wrongly_shown(alloc: Global, rows: &[(CharOrByte, &str)]) -> Option<usize> {
+    for (row, &(character, want)) in rows.iter().enumerate() {
+        if !is_shown(alloc, &character, want) {
+            return Some(row);
+        }
+    }
+    None
 }
 
 #[test]
-fn shows_characters(rt: HostRuntime) -> Result<(), Fail> {
+fn shows_characters(rt: HostRuntime) {
     let rows: &[(CharOrByte, &str)] = &[
         (CharOrByte::Char('w'), "w"),
         (CharOrByte::Char('\n'), "\n"),
@@ -88,14 +89,21 @@ fn shows_characters(rt: HostRuntime) -> Result<(), Fail> {
         (CharOrByte::Byte(0x80), "0x80"),
         (CharOrByte::Byte(0xFF), "0xFF"),
     ];
-    for &(character, text) in rows {
-        assert_eq!(rt; format!(in rt.alloc(); "{character}")?.as_str(), text);
+    assert_eq!(rt; wrongly_shown(rt.alloc(), rows), None);
+}
+
+/// The first of these rows, each a character and its quoted form, that is wrong.
+fn wrongly_quoted(alloc: Global, rows: &[(CharOrByte, &str)]) -> Option<usize> {
+    for (row, &(character, want)) in rows.iter().enumerate() {
+        if !is_shown(alloc, &character.quoted_printable(), want) {
+            return Some(row);
+        }
     }
-    Ok(())
+    None
 }
 
 #[test]
-fn quotes_characters(rt: HostRuntime) -> Result<(), Fail> {
+fn quotes_characters(rt: HostRuntime) {
     let rows: &[(CharOrByte, &str)] = &[
         (CharOrByte::Byte(0x00), "'\\0'"),
         (CharOrByte::Char('\0'), "'\\0'"),
@@ -119,28 +127,49 @@ fn quotes_characters(rt: HostRuntime) -> Result<(), Fail> {
         (CharOrByte::Char('\u{200b}'), "'\\u{200b}'"),
         (CharOrByte::Char('\u{10ffff}'), "'\\u{10ffff}'"),
     ];
-    for &(character, text) in rows {
-        let quoted = character.quoted_printable();
-        assert_eq!(rt; format!(in rt.alloc(); "{quoted}")?.as_str(), text);
-    }
-    Ok(())
+    assert_eq!(rt; wrongly_quoted(rt.alloc(), rows), None);
 }
 
-#[test]
-fn quotes_characters_as_debug_does(rt: HostRuntime) -> Result<(), Fail> {
+fn is_quoted_as_debug(alloc: Global, c: char) -> bool {
+    match format!(in alloc; "{c:?}") {
+        Ok(debug) => is_shown(
+            alloc,
+            &CharOrByte::Char(c).quoted_printable(),
+            debug.as_str(),
+        ),
+        Err(_) => false,
+    }
+}
+
+/// The first of every thirteenth character that isn't quoted as `Debug` does.
+fn quoted_otherwise(alloc: Global) -> Option<char> {
     for number in (0..0x110000).step_by(13) {
         if let Some(c) = char::from_u32(number) {
-            let quoted = CharOrByte::Char(c).quoted_printable();
-            let quoted = format!(in rt.alloc(); "{quoted}")?;
-            let debug = format!(in rt.alloc(); "{c:?}")?;
-            assert_eq!(rt; quoted.as_str(), debug.as_str());
+            if !is_quoted_as_debug(alloc, c) {
+                return Some(c);
+            }
         }
     }
-    Ok(())
+    None
 }
 
 #[test]
-fn describes_each_fault(rt: HostRuntime) -> Result<(), Fail> {
+fn quotes_characters_as_debug_does(rt: HostRuntime) {
+    assert_eq!(rt; quoted_otherwise(rt.alloc()), None);
+}
+
+/// The first of these rows, each a fault and its text, that is wrong, as it is or as an `Error`.
+fn wrongly_described(alloc: Global, rows: &[(ParseError, &str)]) -> Option<usize> {
+    for (row, &(fault, want)) in rows.iter().enumerate() {
+        if !is_shown(alloc, &fault, want) || !is_shown(alloc, &Error::from(fault), want) {
+            return Some(row);
+        }
+    }
+    None
+}
+
+#[test]
+fn describes_each_fault(rt: HostRuntime) {
     let rows: &[(ParseError, &str)] = &[
         (
             escape(6, Some(CharOrByte::Char('w'))),
@@ -179,45 +208,61 @@ fn describes_each_fault(rt: HostRuntime) -> Result<(), Fail> {
         (no_brace(7), "Missing closing brace"),
         (ParseError::OutOfMemory(AllocError), "out of memory"),
     ];
-    for &(fault, text) in rows {
-        expect_display(&rt, rt.alloc(), &fault, text)?;
-        expect_display(&rt, rt.alloc(), &Error::from(fault), text)?;
+    assert_eq!(rt; wrongly_described(rt.alloc(), rows), None);
+}
+
+/// Whether an error that could be made has this text, as it is and as an `Error`.
+fn is_described(alloc: Global, made: Result<ExpandError, AllocError>, want: &str) -> bool {
+    match made {
+        Ok(made) => is_shown(alloc, &made, want) && is_shown(alloc, &Error::from(made), want),
+        Err(_) => false,
     }
-    Ok(())
 }
 
 #[test]
-fn describes_a_missing_variable(rt: HostRuntime) -> Result<(), Fail> {
-    let text = "No such variable: $name";
-    expect_display(&rt, rt.alloc(), &no_variable(&rt, 8, "name")?, text)?;
-    let error = Error::from(no_variable(&rt, 8, "name")?);
-    expect_display(&rt, rt.alloc(), &error, text)
+fn describes_a_missing_variable(rt: HostRuntime) {
+    let missing = no_variable(rt.alloc(), 8, "name");
+    assert!(rt; is_described(rt.alloc(), missing, "No such variable: $name"));
 }
 
 #[test]
-fn refused_pushes_are_out_of_memory(rt: HostRuntime) -> Result<(), Fail> {
-    assert!(rt; ParseError::from(AllocFailed { value: 7u8 }) == ParseError::from(AllocError));
-    assert!(rt; Error::from(AllocFailed { value: 7u8 }) == Error::from(AllocError));
+fn refused_pushes_are_out_of_memory(rt: HostRuntime) {
+    let parsing = ParseError::from(AllocFailed { value: 7u8 }) == ParseError::from(AllocError);
+    let whole = Error::from(AllocFailed { value: 7u8 }) == Error::from(AllocError);
     let full = ExpandError::from(AllocFailed { value: 7u8 });
-    expect_display(&rt, rt.alloc(), &full, "out of memory")
+    let expanding = is_described(rt.alloc(), Ok(full), "out of memory");
+    assert_eq!(rt; (parsing, whole, expanding), (true, true, true));
 }
 
-// The text of a value is this, whatever options it is formatted with.
-fn expect_text<D: Display>(
-    rt: &impl Abort,
-    alloc: Global,
-    value: &D,
-    text: &str,
-) -> Result<(), Fail> {
-    expect_shown(rt, format!(in alloc; "{value:>90}"), text)?;
-    expect_shown(rt, format!(in alloc; "{value:<90}"), text)?;
-    expect_shown(rt, format!(in alloc; "{value:*^90}"), text)?;
-    expect_shown(rt, format!(in alloc; "{value:.2}"), text)?;
-    expect_shown(rt, format!(in alloc; "{value:+#090.2}"), text)
+/// Whether the text of a value is this, whatever options it is formatted with.
+fn is_always<D: Display>(alloc: Global, value: &D, want: &str) -> bool {
+    is_text(format!(in alloc; "{value:>90}"), want)
+        && is_text(format!(in alloc; "{value:<90}"), want)
+        && is_text(format!(in alloc; "{value:*^90}"), want)
+        && is_text(format!(in alloc; "{value:.2}"), want)
+        && is_text(format!(in alloc; "{value:+#090.2}"), want)
+}
+
+/// The first of these rows, each a fault and its text, whose text depends on options.
+fn wrongly_formatted(alloc: Global, rows: &[(ParseError, &str)]) -> Option<usize> {
+    for (row, &(fault, want)) in rows.iter().enumerate() {
+        if !is_always(alloc, &fault, want) || !is_always(alloc, &Error::from(fault), want) {
+            return Some(row);
+        }
+    }
+    None
+}
+
+/// Whether the text of an error that could be made is always this.
+fn is_always_described(alloc: Global, made: Result<ExpandError, AllocError>, want: &str) -> bool {
+    match made {
+        Ok(made) => is_always(alloc, &made, want) && is_always(alloc, &Error::from(made), want),
+        Err(_) => false,
+    }
 }
 
 #[test]
-fn formats_of_errors_have_no_width(rt: HostRuntime) -> Result<(), Fail> {
+fn formats_of_errors_have_no_width(rt: HostRuntime) {
     let rows: &[(ParseError, &str)] = &[
         (
             escape(6, Some(CharOrByte::Char('❤'))),
@@ -239,18 +284,29 @@ fn formats_of_errors_have_no_width(rt: HostRuntime) -> Result<(), Fail> {
         (no_brace(7), "Missing closing brace"),
         (ParseError::OutOfMemory(AllocError), "out of memory"),
     ];
-    for &(fault, text) in rows {
-        expect_text(&rt, rt.alloc(), &fault, text)?;
-        expect_text(&rt, rt.alloc(), &Error::from(fault), text)?;
-    }
-    let missing = no_variable(&rt, 8, "name")?;
-    expect_text(&rt, rt.alloc(), &missing, "No such variable: $name")?;
-    let error = Error::from(missing);
-    expect_text(&rt, rt.alloc(), &error, "No such variable: $name")
+    assert_eq!(rt; wrongly_formatted(rt.alloc(), rows), None);
 }
 
 #[test]
-fn formats_of_characters_have_no_width(rt: HostRuntime) -> Result<(), Fail> {
+fn formats_of_a_missing_variable_have_no_width(rt: HostRuntime) {
+    let missing = no_variable(rt.alloc(), 8, "name");
+    assert!(rt; is_always_described(rt.alloc(), missing, "No such variable: $name"));
+}
+
+/// The first of these rows, each a character, its text and its quoted form, one of which depends on options.
+fn wrong_character(alloc: Global, rows: &[(CharOrByte, &str, &str)]) -> Option<usize> {
+    for (row, &(character, shown, quoted)) in rows.iter().enumerate() {
+        if !is_always(alloc, &character, shown)
+            || !is_always(alloc, &character.quoted_printable(), quoted)
+        {
+            return Some(row);
+        }
+    }
+    None
+}
+
+#[test]
+fn formats_of_characters_have_no_width(rt: HostRuntime) {
     let rows: &[(CharOrByte, &str, &str)] = &[
         (CharOrByte::Char('w'), "w", "'w'"),
         (CharOrByte::Char('\t'), "\t", "'\\t'"),
@@ -259,15 +315,28 @@ fn formats_of_characters_have_no_width(rt: HostRuntime) -> Result<(), Fail> {
         (CharOrByte::Byte(0x79), "y", "'y'"),
         (CharOrByte::Byte(0xE2), "0xE2", "'\\xE2'"),
     ];
-    for &(character, shown, quoted) in rows {
-        expect_text(&rt, rt.alloc(), &character, shown)?;
-        expect_text(&rt, rt.alloc(), &character.quoted_printable(), quoted)?;
+    assert_eq!(rt; wrong_character(rt.alloc(), rows), None);
+}
+
+/// Whether faults are equal as this says, and so are the errors that they become.
+fn are_told(a: ParseError, b: ParseError, equal: bool) -> bool {
+    (a == b) == equal && is_same(&Error::from(a), &Error::from(b)) == equal
+}
+
+/// The indexes of the first two of these faults that are equal, or of one that isn't equal to itself.
+fn confused(faults: &[ParseError]) -> Option<(usize, usize)> {
+    for (i, &a) in faults.iter().enumerate() {
+        for (j, &b) in faults.iter().enumerate() {
+            if !are_told(a, b, i == j) {
+                return Some((i, j));
+            }
+        }
     }
-    Ok(())
+    None
 }
 
 #[test]
-fn tells_faults_apart(rt: HostRuntime) -> Result<(), Fail> {
+fn tells_faults_apart(rt: HostRuntime) {
     let faults: &[ParseError] = &[
         escape(6, None),
         escape(7, None),
@@ -283,51 +352,97 @@ fn tells_faults_apart(rt: HostRuntime) -> Result<(), Fail> {
         no_brace(7),
         ParseError::OutOfMemory(AllocError),
     ];
-    for (i, a) in faults.iter().enumerate() {
-        for (j, b) in faults.iter().enumerate() {
-            assert_eq!(rt; *a == *b, i == j, "{a:?} and {b:?}");
-            assert_eq!(rt; is_same(&Error::from(*a), &Error::from(*b)), i == j);
+    assert_eq!(rt; confused(faults), None);
+}
+
+/// Whether a copy of an error is equal to another as this says.
+fn is_copy_told(error: &Error, other: &Error, equal: bool) -> bool {
+    match copy_of(error) {
+        Ok(copy) => is_same(&copy, other) == equal,
+        Err(_) => false,
+    }
+}
+
+/// Whether an error that could be copied and another become errors that are equal as this says.
+fn are_errors_told(
+    missing: Result<ExpandError, AllocError>,
+    other: ExpandError,
+    equal: bool,
+) -> bool {
+    match missing {
+        Ok(missing) => {
+            let error = Error::from(missing);
+            is_copy_told(&error, &Error::from(other), equal)
+                && error != Error::from(missing_name(8, 4))
+        }
+        Err(_) => false,
+    }
+}
+
+/// Whether a missing variable and another one are equal as this says.
+fn are_names_told(missing: ExpandError, other: ExpandError, equal: bool) -> bool {
+    (missing == other) == equal
+        && missing != ExpandError::from(AllocError)
+        && are_errors_told(missing.clone(), other, equal)
+}
+
+/// Whether a missing `name` at 8 is equal to this missing variable as this says.
+fn is_name_told(alloc: Global, position: usize, name: &str, equal: bool) -> bool {
+    match (
+        no_variable(alloc, 8, "name"),
+        no_variable(alloc, position, name),
+    ) {
+        (Ok(missing), Ok(other)) => are_names_told(missing, other, equal),
+        _ => false,
+    }
+}
+
+/// The first of these rows, each a position, a name, and whether a missing `name` at 8 is equal to that one,
+/// that is wrong.
+fn wrong_name(alloc: Global, rows: &[(usize, &str, bool)]) -> Option<usize> {
+    for (row, &(position, name, equal)) in rows.iter().enumerate() {
+        if !is_name_told(alloc, position, name, equal) {
+            return Some(row);
         }
     }
-    Ok(())
+    None
 }
 
 #[test]
-fn tells_names_apart(rt: HostRuntime) -> Result<(), Fail> {
+fn tells_names_apart(rt: HostRuntime) {
     let rows: &[(usize, &str, bool)] = &[
         (8, "name", true),
         (7, "name", false),
         (8, "game", false),
         (8, "", false),
     ];
-    for &(position, name, equal) in rows {
-        let missing = no_variable(&rt, 8, "name")?;
-        let other = no_variable(&rt, position, name)?;
-        assert_eq!(rt; missing == other, equal, "{missing:?} and {other:?}");
-        assert!(rt; missing != ExpandError::from(AllocError));
-        let error = Error::from(missing.clone()?);
-        assert_eq!(rt; is_same(&copy_of(&error)?, &Error::from(other)), equal);
-        assert!(rt; error != Error::from(missing_name(8, 4)));
-    }
-    Ok(())
+    assert_eq!(rt; wrong_name(rt.alloc(), rows), None);
+}
+
+/// Whether the message of what was expected is kept so.
+fn is_message(text: &'static str, want: &str) -> bool {
+    ExpectedCharacter::new(text).message() == want
+}
+
+fn is_equal_to_itself(text: &'static str) -> bool {
+    ExpectedCharacter::new(text) == ExpectedCharacter::new(text)
+}
+
+fn is_debug(alloc: Global, text: &'static str, want: &str) -> bool {
+    is_text(
+        format!(in alloc; "{:?}", ExpectedCharacter::new(text)),
+        want,
+    )
 }
 
 #[test]
-fn keeps_the_message(rt: HostRuntime) -> Result<(), Fail> {
-    let expected = ExpectedCharacter::new(AFTER_NAME);
-    assert_eq!(rt; expected.message(), AFTER_NAME);
-    assert_eq!(rt; expected, ExpectedCharacter::new(AFTER_NAME));
-    let long = ExpectedCharacter::new(
+fn keeps_the_message(rt: HostRuntime) {
+    let is_kept = is_message(AFTER_NAME, AFTER_NAME) && is_equal_to_itself(AFTER_NAME);
+    let is_cut = is_message(
         "a letter, a digit, an underscore, a brace, a colon, a dollar or a backslash",
+        "a letter, a digit, an underscore, a brace, a colon, a dollar ...",
     );
-    assert_eq!(rt;
-        long.message(),
-        "a letter, a digit, an underscore, a brace, a colon, a dollar ..."
-    );
-    let short = ExpectedCharacter::new("a brace");
-    assert_eq!(rt;
-        format!(in rt.alloc(); "{short:?}")?.as_str(),
-        "ExpectedCharacter { message: \"a brace\" }"
-    );
-    Ok(())
+    let want = "ExpectedCharacter { message: \"a brace\" }";
+    let is_shown = is_debug(rt.alloc(), "a brace", want);
+    assert_eq!(rt; (is_kept, is_cut, is_shown), (true, true, true));
 }

@@ -1,54 +1,55 @@
 //! Sources that are no sentences: their faults.
 
 use crate::rows::Answer::{self, BadEscape, NoName, Unclosed, Unexpected};
-use crate::rows::{Map, expect_fault, fault_text, map_of};
+use crate::rows::{by_pairs, expand, has_fault, is_text, parse, wrong_fault, wrong_text};
 use std::alloc::Global;
 use std::collections::BTreeMap;
-use std::test::Fail;
+use subst::Error;
 use subst::error::CharOrByte::Char;
-use subst::{ByteTemplate, Error, substitute_bytes};
+use subst::error::ExpandError;
 
 #[test]
-fn dollar_without_a_name_is_refused(rt: HostRuntime) -> Result<(), Fail> {
-    let rows: &[(&[u8], usize)] = &[
-        (b"$", 1),
-        (b"${", 2),
-        (b"${}", 2),
-        (b"${:x}", 2),
-        (b"$\xC3\xA9", 1),
+fn dollar_without_a_name_is_refused(rt: HostRuntime) {
+    let rows: &[(&[u8], Answer<'_>)] = &[
+        (b"$", NoName(0, 1)),
+        (b"${", NoName(0, 2)),
+        (b"${}", NoName(0, 2)),
+        (b"${:x}", NoName(0, 2)),
+        (b"$\xC3\xA9", NoName(0, 1)),
     ];
-    for &(source, len) in rows {
-        expect_fault(&rt, rt.alloc(), source, &NoName(0, len))?;
+    assert_eq!(rt; wrong_fault(rt.alloc(), rows), None);
+}
+
+/// The first of these sources whose fault isn't that its first brace is unclosed.
+fn not_unclosed(alloc: Global, sources: &[&[u8]]) -> Option<usize> {
+    for (row, &source) in sources.iter().enumerate() {
+        if !has_fault(alloc, source, Unclosed(1)) {
+            return Some(row);
+        }
     }
-    Ok(())
+    None
 }
 
 #[test]
-fn unclosed_brace_is_refused(rt: HostRuntime) -> Result<(), Fail> {
-    let rows: &[&[u8]] = &[b"${a", b"${a:{}", b"${a:\\}", b"${a:\\"];
-    for &source in rows {
-        expect_fault(&rt, rt.alloc(), source, &Unclosed(1))?;
-    }
-    Ok(())
+fn unclosed_brace_is_refused(rt: HostRuntime) {
+    let sources: &[&[u8]] = &[b"${a", b"${a:{}", b"${a:\\}", b"${a:\\"];
+    assert_eq!(rt; not_unclosed(rt.alloc(), sources), None);
 }
 
 #[test]
-fn unclosed_default_comes_before_faults_in_it(rt: HostRuntime) -> Result<(), Fail> {
-    let rows: &[&[u8]] = &[
+fn unclosed_default_comes_before_faults_in_it(rt: HostRuntime) {
+    let sources: &[&[u8]] = &[
         b"${a:\\x",
         b"${a:${b)}",
         b"${a:${\\}}",
         b"${a:{${b:\\x}}",
         b"${a:${b:{}",
     ];
-    for &source in rows {
-        expect_fault(&rt, rt.alloc(), source, &Unclosed(1))?;
-    }
-    Ok(())
+    assert_eq!(rt; not_unclosed(rt.alloc(), sources), None);
 }
 
 #[test]
-fn fault_in_a_closed_default_is_returned(rt: HostRuntime) -> Result<(), Fail> {
+fn fault_in_a_closed_default_is_returned(rt: HostRuntime) {
     let rows: &[(&[u8], Answer<'_>)] = &[
         (b"${a:\\x}", BadEscape(4, Some(Char('x')))),
         (b"${a:${b)}}", Unexpected(7, Char(')'))),
@@ -57,14 +58,11 @@ fn fault_in_a_closed_default_is_returned(rt: HostRuntime) -> Result<(), Fail> {
         (b"${a:${\\}}}", NoName(4, 2)),
         (b"${a:{${b:\\x}}}", BadEscape(9, Some(Char('x')))),
     ];
-    for &(source, want) in rows {
-        expect_fault(&rt, rt.alloc(), source, &want)?;
-    }
-    Ok(())
+    assert_eq!(rt; wrong_fault(rt.alloc(), rows), None);
 }
 
 #[test]
-fn faults_are_described(rt: HostRuntime) -> Result<(), Fail> {
+fn faults_are_described(rt: HostRuntime) {
     let rows: &[(&[u8], &str)] = &[
         (b"Hello $!", "Missing variable name"),
         (b"Hello ${}!", "Missing variable name"),
@@ -75,48 +73,56 @@ fn faults_are_described(rt: HostRuntime) -> Result<(), Fail> {
             "Unexpected character: ')', expected a closing brace ('}'), colon (':') or question mark ('?')",
         ),
     ];
-    for &(source, want) in rows {
-        let text = fault_text(rt.alloc(), source)?;
-        assert_eq!(rt; text.as_str(), want, "{source:?}");
-    }
-    Ok(())
+    assert_eq!(rt; wrong_text(rt.alloc(), rows), None);
 }
 
-#[test]
-fn parse_error_is_described(rt: HostRuntime) -> Result<(), Fail> {
-    let text = match ByteTemplate::from_slice(rt.alloc(), b"Hello ${name") {
-        Ok(_) => String::from_str(rt.alloc(), "no fault")?,
-        Err(fault) => format!(in rt.alloc(); "{fault}")?,
-    };
-    assert_eq!(rt; text.as_str(), "Missing closing brace");
-    Ok(())
-}
-
-// The text of the error of an expansion without variables.
-fn expand_error_text(alloc: Global, template: &ByteTemplate<'_>) -> Result<String, Fail> {
-    let map: Map = BTreeMap::new(alloc);
-    match template.expand(alloc, &map) {
-        Ok(_) => Ok(String::from_str(alloc, "no fault")?),
-        Err(fault) => Ok(format!(in alloc; "{fault}")?),
+/// Whether a source is no template, with an error of this text.
+fn is_no_template(alloc: Global, source: &[u8], want: &str) -> bool {
+    match parse(alloc, source) {
+        Ok(_) => false,
+        Err(fault) => is_text(fault.to_string(alloc), want),
     }
 }
 
 #[test]
-fn expand_error_is_described(rt: HostRuntime) -> Result<(), Fail> {
-    let template = ByteTemplate::from_slice(rt.alloc(), b"Hello ${name}!")?;
-    let text = expand_error_text(rt.alloc(), &template)?;
-    assert_eq!(rt; text.as_str(), "No such variable: $name");
-    Ok(())
+fn parse_error_is_described(rt: HostRuntime) {
+    assert!(rt; is_no_template(rt.alloc(), b"Hello ${name", "Missing closing brace"));
 }
 
-#[test]
-fn expected_characters_are_named(rt: HostRuntime) -> Result<(), Fail> {
-    match substitute_bytes(rt.alloc(), b"${a)", &map_of(rt.alloc(), "a=1")?) {
-        Err(Error::UnexpectedCharacter(fault)) => {
-            let words = "a closing brace ('}'), colon (':') or question mark ('?')";
-            assert_eq!(rt; fault.expected.message(), words);
+/// Whether an expansion was refused with an error of this text.
+fn is_refused(alloc: Global, expanded: Result<Vec<u8>, ExpandError>, want: &str) -> bool {
+    match expanded {
+        Ok(_) => false,
+        Err(fault) => is_text(fault.to_string(alloc), want),
+    }
+}
+
+/// Whether a source is a template whose expansion without variables has an error of this text.
+fn is_refused_later(alloc: Global, source: &[u8], want: &str) -> bool {
+    match parse(alloc, source) {
+        Ok(template) => {
+            let expanded = expand(alloc, &template, &BTreeMap::new(alloc));
+            is_refused(alloc, expanded, want)
         }
-        _ => assert!(rt; false, "another result"),
+        Err(_) => false,
     }
-    Ok(())
+}
+
+#[test]
+fn expand_error_is_described(rt: HostRuntime) {
+    assert!(rt; is_refused_later(rt.alloc(), b"Hello ${name}!", "No such variable: $name"));
+}
+
+/// Whether a source has an unexpected character, with these words for what was expected.
+fn is_expected(alloc: Global, source: &[u8], words: &str) -> bool {
+    match by_pairs(alloc, source, "a=1") {
+        Err(Error::UnexpectedCharacter(fault)) => fault.expected.message() == words,
+        _ => false,
+    }
+}
+
+#[test]
+fn expected_characters_are_named(rt: HostRuntime) {
+    let words = "a closing brace ('}'), colon (':') or question mark ('?')";
+    assert!(rt; is_expected(rt.alloc(), b"${a)", words));
 }

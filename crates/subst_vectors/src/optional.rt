@@ -1,12 +1,11 @@
 //! Optional variables.
 
-use crate::rows::Answer::{BadEscape, Gives, NoName, Unclosed, Unexpected};
-use crate::rows::{Answer, expect, expect_fault, fault_text};
-use std::test::Fail;
+use crate::rows::Answer::{self, BadEscape, NoName, Unclosed, Unexpected};
+use crate::rows::{wrong_fault, wrong_output, wrong_text};
 use subst::error::CharOrByte::{Byte, Char};
 
 #[test]
-fn optional_variable_gives_its_value_or_nothing(rt: HostRuntime) -> Result<(), Fail> {
+fn optional_variable_gives_its_value_or_nothing(rt: HostRuntime) {
     let rows: &[(&[u8], &str, &[u8])] = &[
         (b"a${x?}b", "", b"ab"),
         (b"a${x?}b", "x=1", b"a1b"),
@@ -15,14 +14,11 @@ fn optional_variable_gives_its_value_or_nothing(rt: HostRuntime) -> Result<(), F
         (b"${x?}$x${x?}", "x=1", b"111"),
         (b"${x?}${y?}", "y=2", b"2"),
     ];
-    for &(source, pairs, want) in rows {
-        expect(&rt, rt.alloc(), source, pairs, &Gives(want))?;
-    }
-    Ok(())
+    assert_eq!(rt; wrong_output(rt.alloc(), rows), None);
 }
 
 #[test]
-fn optional_variable_in_a_default(rt: HostRuntime) -> Result<(), Fail> {
+fn optional_variable_in_a_default(rt: HostRuntime) {
     let rows: &[(&[u8], &str, &[u8])] = &[
         (b"${a:${b?}}", "", b""),
         (b"${a:${b?}}", "b=2", b"2"),
@@ -30,14 +26,11 @@ fn optional_variable_in_a_default(rt: HostRuntime) -> Result<(), Fail> {
         (b"<${a:x${b?}y${c:z}}>", "", b"<xyz>"),
         (b"${a:${b?}{${c?}}}", "c=3", b"{3}"),
     ];
-    for &(source, pairs, want) in rows {
-        expect(&rt, rt.alloc(), source, pairs, &Gives(want))?;
-    }
-    Ok(())
+    assert_eq!(rt; wrong_output(rt.alloc(), rows), None);
 }
 
 #[test]
-fn question_mark_elsewhere_is_literal(rt: HostRuntime) -> Result<(), Fail> {
+fn question_mark_elsewhere_is_literal(rt: HostRuntime) {
     let rows: &[(&[u8], &str, &[u8])] = &[
         (b"$x?{?}", "x=1", b"1?{?}"),
         (b"${x?}}", "", b"}"),
@@ -45,14 +38,11 @@ fn question_mark_elsewhere_is_literal(rt: HostRuntime) -> Result<(), Fail> {
         (b"${x:?}", "", b"?"),
         (b"${x:$y?}", "y=2", b"2?"),
     ];
-    for &(source, pairs, want) in rows {
-        expect(&rt, rt.alloc(), source, pairs, &Gives(want))?;
-    }
-    Ok(())
+    assert_eq!(rt; wrong_output(rt.alloc(), rows), None);
 }
 
 #[test]
-fn question_mark_before_no_closing_brace_is_a_fault(rt: HostRuntime) -> Result<(), Fail> {
+fn question_mark_before_no_closing_brace_is_a_fault(rt: HostRuntime) {
     let rows: &[(&[u8], Answer<'_>)] = &[
         (b"${x?", Unclosed(1)),
         (b"ab${x?", Unclosed(3)),
@@ -68,28 +58,22 @@ fn question_mark_before_no_closing_brace_is_a_fault(rt: HostRuntime) -> Result<(
         (b"${a:${b?c}}", Unexpected(8, Char('c'))),
         (b"${a:{${b?c}}}", Unexpected(9, Char('c'))),
     ];
-    for &(source, want) in rows {
-        expect_fault(&rt, rt.alloc(), source, &want)?;
-    }
-    Ok(())
+    assert_eq!(rt; wrong_fault(rt.alloc(), rows), None);
 }
 
 #[test]
-fn question_mark_is_no_name_and_no_escape(rt: HostRuntime) -> Result<(), Fail> {
+fn question_mark_is_no_name_and_no_escape(rt: HostRuntime) {
     let rows: &[(&[u8], Answer<'_>)] = &[
         (b"${?}", NoName(0, 2)),
         (b"$?", NoName(0, 1)),
         (b"\\?", BadEscape(0, Some(Char('?')))),
         (b"${a:\\?}", BadEscape(4, Some(Char('?')))),
     ];
-    for &(source, want) in rows {
-        expect_fault(&rt, rt.alloc(), source, &want)?;
-    }
-    Ok(())
+    assert_eq!(rt; wrong_fault(rt.alloc(), rows), None);
 }
 
 #[test]
-fn faults_around_a_question_mark_are_described(rt: HostRuntime) -> Result<(), Fail> {
+fn faults_around_a_question_mark_are_described(rt: HostRuntime) {
     let rows: &[(&[u8], &str)] = &[
         (b"${x?", "Missing closing brace"),
         (
@@ -101,9 +85,5 @@ fn faults_around_a_question_mark_are_described(rt: HostRuntime) -> Result<(), Fa
             "Unexpected character: ')', expected a closing brace ('}'), colon (':') or question mark ('?')",
         ),
     ];
-    for &(source, want) in rows {
-        let text = fault_text(rt.alloc(), source)?;
-        assert_eq!(rt; text.as_str(), want, "{source:?}");
-    }
-    Ok(())
+    assert_eq!(rt; wrong_text(rt.alloc(), rows), None);
 }

@@ -1,16 +1,14 @@
 //! Rows: the answer of a source and its variables, by each way to it.
 
-use Answer::{Absent, BadEscape, Gives, NoName, OutOfMemory, Unclosed, Unexpected};
-use std::alloc::Global;
+use Answer::{Absent, BadEscape, Gives, NoName, Unclosed, Unexpected};
+use std::alloc::{AllocError, Global};
 use std::collections::BTreeMap;
-use std::process::Abort;
-use std::test::Fail;
-use subst::error::CharOrByte;
+use subst::error::{CharOrByte, ExpandError, ParseError};
 use subst::steps::{Reads, Turns};
 use subst::{ByteTemplate, Error, substitute_bytes};
 
 /// An answer: bytes, or a fault with its fields except the words for what was expected.
-#[derive(Clone, Copy, Debug, PartialEq)]
+#[derive(Clone, Copy)]
 pub enum Answer<'a> {
     Gives(&'a [u8]),
     BadEscape(usize, Option<CharOrByte>),
@@ -18,119 +16,221 @@ pub enum Answer<'a> {
     Unexpected(usize, CharOrByte),
     Unclosed(usize),
     Absent(usize, &'a str),
-    OutOfMemory,
 }
 
-/// The answer that a result states.
-pub fn answer_of(filled: &Result<Vec<u8>, Error>) -> Answer<'_> {
-    match filled {
-        Ok(bytes) => Gives(bytes.as_slice()),
-        Err(Error::InvalidEscapeSequence(e)) => BadEscape(e.position, e.character),
-        Err(Error::MissingVariableName(e)) => NoName(e.position, e.len),
-        Err(Error::UnexpectedCharacter(e)) => Unexpected(e.position, e.character),
-        Err(Error::MissingClosingBrace(e)) => Unclosed(e.position),
-        Err(Error::NoSuchVariable(e)) => Absent(e.position, e.name.as_str()),
-        Err(Error::OutOfMemory(_)) => OutOfMemory,
+/// What a call returns that fills in a source.
+pub type Filled = Result<Vec<u8>, Error>;
+
+/// Whether bytes are equal. Where one side is a constant, its proof elsewhere would take it byte for byte.
+pub fn are_equal(a: &[u8], b: &[u8]) -> bool {
+    a == b
+}
+
+fn is_fault(fault: &Error, want: Answer<'_>) -> bool {
+    match (fault, want) {
+        (Error::InvalidEscapeSequence(e), BadEscape(position, character)) => {
+            e.position == position && e.character == character
+        }
+        (Error::MissingVariableName(e), NoName(position, len)) => {
+            e.position == position && e.len == len
+        }
+        (Error::UnexpectedCharacter(e), Unexpected(position, character)) => {
+            e.position == position && e.character == character
+        }
+        (Error::MissingClosingBrace(e), Unclosed(position)) => e.position == position,
+        (Error::NoSuchVariable(e), Absent(position, name)) => {
+            e.position == position && e.name.as_str() == name
+        }
+        _ => false,
     }
+}
+
+/// Whether what a call returned states this answer.
+pub fn states(filled: Filled, want: Answer<'_>) -> bool {
+    match (filled, want) {
+        (Ok(output), Gives(want)) => are_equal(output.as_slice(), want),
+        (Err(fault), want) => is_fault(&fault, want),
+        _ => false,
+    }
+}
+
+/// Whether a call gave these bytes.
+pub fn is_filled(filled: Filled, want: &[u8]) -> bool {
+    states(filled, Gives(want))
 }
 
 pub type Map = BTreeMap<String, Vec<u8>>;
 
 /// The map of pairs as `a=1,b=2`.
-pub fn map_of(alloc: Global, pairs: &str) -> Result<Map, Fail> {
+pub fn map_of(alloc: Global, pairs: &str) -> Result<Map, AllocError> {
     let mut map = BTreeMap::new(alloc);
     for pair in pairs.split(',') {
         if let Some((name, value)) = pair.split_once('=') {
-            insert(&mut map, alloc, name, value.as_bytes())?;
+            insert(
+                &mut map,
+                alloc,
+                name,
+                Vec::from_slice(alloc, value.as_bytes())?,
+            )?;
         }
     }
     Ok(map)
 }
 
-/// Puts a value under its name.
-pub fn insert(map: &mut Map, alloc: Global, name: &str, value: &[u8]) -> Result<(), Fail> {
-    let value = Vec::from_slice(alloc, value)?;
-    map.insert(String::from_str(alloc, name)?, value)?;
+/// Puts a value under its name, which owns its value before it has a copy of its name.
+fn insert(map: &mut Map, alloc: Global, name: &str, value: Vec<u8>) -> Result<(), AllocError> {
+    let _ = map.insert(String::from_str(alloc, name)?, value)?;
     Ok(())
 }
 
-/// What the template expands to with the variables of pairs.
-pub fn expanded(alloc: Global, template: &ByteTemplate<'_>, pairs: &str) -> Result<Vec<u8>, Fail> {
-    let map = map_of(alloc, pairs)?;
-    Ok(template.expand(alloc, &map)?)
+/// The map of one name.
+pub fn one_variable(alloc: Global, name: &str, value: &[u8]) -> Result<Map, AllocError> {
+    let value = Vec::from_slice(alloc, value)?;
+    let mut map = BTreeMap::new(alloc);
+    insert(&mut map, alloc, name, value)?;
+    Ok(map)
+}
+
+/// What a source gives at once.
+pub fn at_once(alloc: Global, source: &[u8], map: &Map) -> Filled {
+    substitute_bytes(alloc, source, map)
+}
+
+/// The same with the variables of pairs.
+pub fn by_pairs(alloc: Global, source: &[u8], pairs: &str) -> Filled {
+    at_once(alloc, source, &map_of(alloc, pairs)?)
+}
+
+pub fn parse(alloc: Global, source: &[u8]) -> Result<ByteTemplate<'_>, ParseError> {
+    ByteTemplate::from_slice(alloc, source)
+}
+
+pub fn expand(
+    alloc: Global,
+    template: &ByteTemplate<'_>,
+    map: &Map,
+) -> Result<Vec<u8>, ExpandError> {
+    template.expand(alloc, map)
+}
+
+/// What a template gives, which is dropped here: so no later line has to drop it.
+fn expand_once(
+    alloc: Global,
+    template: ByteTemplate<'_>,
+    map: &Map,
+) -> Result<Vec<u8>, ExpandError> {
+    expand(alloc, &template, map)
 }
 
 /// The result of parsing a template and then expanding it.
-pub fn by_template(alloc: Global, source: &[u8], map: &Map) -> Result<Vec<u8>, Error> {
-    let template = ByteTemplate::from_slice(alloc, source)?;
-    Ok(template.expand(alloc, map)?)
+pub fn by_template(alloc: Global, source: &[u8], map: &Map) -> Filled {
+    Ok(expand_once(alloc, parse(alloc, source)?, map)?)
+}
+
+pub fn parse_counted(alloc: Global, source: &[u8]) -> Result<ByteTemplate<'_>, ParseError> {
+    ByteTemplate::from_slice_counted(alloc, source, &mut Reads::new())
+}
+
+pub fn expand_counted(
+    alloc: Global,
+    template: ByteTemplate<'_>,
+    map: &Map,
+) -> Result<Vec<u8>, ExpandError> {
+    template.expand_counted(alloc, map, &mut Turns::new())
 }
 
 /// The same by the calls that count.
-fn by_counted_calls(alloc: Global, source: &[u8], map: &Map) -> Result<Vec<u8>, Error> {
-    let template = ByteTemplate::from_slice_counted(alloc, source, &mut Reads::new())?;
-    Ok(template.expand_counted(alloc, map, &mut Turns::new())?)
+fn by_counted_calls(alloc: Global, source: &[u8], map: &Map) -> Filled {
+    Ok(expand_counted(alloc, parse_counted(alloc, source)?, map)?)
 }
 
-/// Each way returns `want`.
-pub fn expect(
-    rt: &impl Abort,
-    alloc: Global,
-    source: &[u8],
-    pairs: &str,
-    want: &Answer<'_>,
-) -> Result<(), Fail> {
-    let map = map_of(alloc, pairs)?;
-    expect_answer(
-        rt,
-        &substitute_bytes(alloc, source, &map),
-        want,
-        source,
-        "at once",
-    );
-    expect_answer(
-        rt,
-        &by_template(alloc, source, &map),
-        want,
-        source,
-        "by a template",
-    );
-    expect_answer(
-        rt,
-        &by_counted_calls(alloc, source, &map),
-        want,
-        source,
-        "by counted calls",
-    );
-    Ok(())
+fn all_ways_state(alloc: Global, source: &[u8], map: &Map, want: Answer<'_>) -> bool {
+    states(at_once(alloc, source, map), want)
+        && states(by_template(alloc, source, map), want)
+        && states(by_counted_calls(alloc, source, map), want)
 }
 
-fn expect_answer(
-    rt: &impl Abort,
-    filled: &Result<Vec<u8>, Error>,
-    want: &Answer<'_>,
-    source: &[u8],
-    way: &str,
-) {
-    assert_eq!(rt; &answer_of(filled), want, "{source:?} {way}");
-}
-
-/// Each way returns `want`, with some variables and with none.
-pub fn expect_fault(
-    rt: &impl Abort,
-    alloc: Global,
-    source: &[u8],
-    want: &Answer<'_>,
-) -> Result<(), Fail> {
-    expect(rt, alloc, source, "", want)?;
-    expect(rt, alloc, source, "a=1,x=}", want)
-}
-
-/// The text of the fault of `source`, with no variables.
-pub fn fault_text(alloc: Global, source: &[u8]) -> Result<String, Fail> {
-    let map: Map = BTreeMap::new(alloc);
-    match substitute_bytes(alloc, source, &map) {
-        Ok(_) => Ok(String::from_str(alloc, "no fault")?),
-        Err(fault) => Ok(format!(in alloc; "{fault}")?),
+/// Whether a source has this answer where the variables are those of pairs, by each way.
+pub fn has_answer(alloc: Global, source: &[u8], pairs: &str, want: Answer<'_>) -> bool {
+    match map_of(alloc, pairs) {
+        Ok(map) => all_ways_state(alloc, source, &map, want),
+        Err(_) => false,
     }
+}
+
+/// The first of these rows, each a source, its variables and the bytes that it gives, that is wrong.
+pub fn wrong_output(alloc: Global, rows: &[(&[u8], &str, &[u8])]) -> Option<usize> {
+    for (row, &(source, pairs, want)) in rows.iter().enumerate() {
+        if !has_answer(alloc, source, pairs, Gives(want)) {
+            return Some(row);
+        }
+    }
+    None
+}
+
+/// The first of these rows, each a source and what it gives without variables, that is wrong.
+pub fn wrong_default(alloc: Global, rows: &[(&[u8], &[u8])]) -> Option<usize> {
+    for (row, &(source, want)) in rows.iter().enumerate() {
+        if !has_answer(alloc, source, "", Gives(want)) {
+            return Some(row);
+        }
+    }
+    None
+}
+
+/// Whether a source has this fault, with some variables and with none.
+pub fn has_fault(alloc: Global, source: &[u8], want: Answer<'_>) -> bool {
+    has_answer(alloc, source, "", want) && has_answer(alloc, source, "a=1,x=}", want)
+}
+
+/// The first of these rows, each a source and its fault, that is wrong.
+pub fn wrong_fault(alloc: Global, rows: &[(&[u8], Answer<'_>)]) -> Option<usize> {
+    for (row, &(source, want)) in rows.iter().enumerate() {
+        if !has_fault(alloc, source, want) {
+            return Some(row);
+        }
+    }
+    None
+}
+
+/// The first of these rows, each a source and the position and the name of the variable that it lacks where
+/// `b` alone has a value, that is wrong.
+pub fn wrong_absence(alloc: Global, rows: &[(&[u8], usize, &str)]) -> Option<usize> {
+    for (row, &(source, position, name)) in rows.iter().enumerate() {
+        if !has_answer(alloc, source, "b=1", Absent(position, name)) {
+            return Some(row);
+        }
+    }
+    None
+}
+
+/// Whether a call was refused with a fault of this text.
+pub fn is_described(alloc: Global, filled: Filled, want: &str) -> bool {
+    match filled {
+        Ok(_) => false,
+        Err(fault) => is_text(fault.to_string(alloc), want),
+    }
+}
+
+/// Whether this text was made.
+pub fn is_text(made: Result<String, AllocError>, want: &str) -> bool {
+    match made {
+        Ok(text) => text.as_str() == want,
+        Err(_) => false,
+    }
+}
+
+/// Whether this is the text of the fault of a source, with no variables.
+pub fn has_text(alloc: Global, source: &[u8], want: &str) -> bool {
+    is_described(alloc, at_once(alloc, source, &BTreeMap::new(alloc)), want)
+}
+
+/// The first of these rows, each a source and the text of its fault, that is wrong.
+pub fn wrong_text(alloc: Global, rows: &[(&[u8], &str)]) -> Option<usize> {
+    for (row, &(source, want)) in rows.iter().enumerate() {
+        if !has_text(alloc, source, want) {
+            return Some(row);
+        }
+    }
+    None
 }
