@@ -1,7 +1,8 @@
-/* A library to preload that refuses one request for memory.
+/* A library to preload that refuses one request for memory, or tells of each.
  *
  * REFUSE_REQUEST says which of the program's requests gets NULL, counted from 1. When that request comes, the file that
- * REFUSE_REPORT names is made, so that without it no request was refused. It needs GNU's C library.
+ * REFUSE_REPORT names is made, so that without it no request was refused. With REFUSE_NONE in its place none is refused,
+ * and at each a line `request` is written to standard output. It needs GNU's C library.
  */
 #include <errno.h>
 #include <fcntl.h>
@@ -17,10 +18,23 @@ void *__libc_memalign(size_t alignment, size_t size);
 /* How many requests there are up to the refused one, that one included; 0 if no request is refused any more. */
 static unsigned long requests_left;
 
+/* Whether a line is written at each request. */
+static int are_told;
+
 __attribute__((constructor)) static void begin(void)
 {
     const char *request = getenv("REFUSE_REQUEST");
     requests_left = request ? strtoul(request, NULL, 10) : 0;
+    are_told = getenv("REFUSE_NONE") != NULL;
+}
+
+/* Tells of a request. If that fails, the program ends with a status of its own. */
+static void tell(void)
+{
+    static const char line[] = "request\n";
+    const ssize_t length = sizeof line - 1;
+    if (write(STDOUT_FILENO, line, length) != length)
+        _exit(99);
 }
 
 /* Reports that a request is refused. If that fails, the program ends with a status of its own. */
@@ -35,6 +49,8 @@ static void report(void)
 /* Whether this request is the one to refuse. */
 static int is_refused(void)
 {
+    if (are_told)
+        tell();
     if (requests_left == 0)
         return 0;
     requests_left -= 1;

@@ -13,6 +13,8 @@ mod devices;
 #[cfg(test)]
 mod fakes;
 #[cfg(test)]
+mod marks;
+#[cfg(test)]
 mod programs;
 #[cfg(test)]
 mod refused_memory;
@@ -24,5 +26,7 @@ mod tasks;
 mod text_runs;
 #[cfg(test)]
 mod values;
+#[cfg(test)]
+mod without_memory;
 #[cfg(test)]
 mod words;

@@ -1,17 +1,18 @@
-//! Runs in which memory runs out. `tools/refuse-memory.sh` runs each of these tests many times and makes one
-//! allocation fail in each: the first, then the second, and so on until a run has none left to fail.
+//! Runs in which memory runs out. `tools/refuse-memory.sh` runs each of these tests again and again, and in
+//! each run refuses another one of the requests for memory that the run between the two marks makes.
 //!
-//! At most one allocation fails in a run, so what is asked for a second time is always given. If the call
-//! under test returns out of memory, the test prints a line, checks that nothing was written, and calls again
-//! over the same source. If no allocation fails, it prints nothing.
+//! So the run ends as wanted, or is out of memory. Then the test says so, looks whether nothing was written
+//! and the variables are as before, and runs again over the same source, which has to end as wanted.
 
 use crate::fakes::{Drip, NEVER, Trickle};
+use crate::marks::{begin, end, say_out_of_memory};
 use crate::programs;
 use crate::programs::End;
 use crate::runs::{
     Ended, Run, Seen, Texts, Variables, Want, bytes_run, expect, shown, text_run, unwritten,
     variable, written,
 };
+use crate::values::value_of;
 use crate::words::{pairs, words};
 use std::alloc::{AllocError, Global};
 use std::io::Print;
@@ -20,6 +21,7 @@ use subst_program::device::standard::{FromReader, ToWriter};
 use subst_program::program::run_program;
 use subst_program::run_error::RunError;
 use subst_program::status::{DONE, OUT_OF_MEMORY};
+use subst_program::values::{Values, values_of_pairs, values_of_words};
 
 /// A sentence with a default in a default, escapes, and a variable.
 const SENTENCE: &[u8] = b"Hi ${hi:\\{${who:you}\\}} and $name!";
@@ -55,34 +57,14 @@ const TEXT_VALUE: &str = "❤ and the whole round world with all that is in it";
 /// How many bytes a writer has room for: more than any test writes.
 const ROOM: usize = 128;
 
-/// Prints the line that `tools/refuse-memory.sh` looks for.
-fn print_out_of_memory(rt: &impl Print) {
-    let _ = rt.println("out of memory");
-}
-
-fn room(alloc: Global) -> Result<Vec<u8>, AllocError> {
-    Vec::with_capacity(alloc, ROOM)
-}
-
-/// A writer that allocates no more when it is written to. If its own allocation fails, it is made again.
+/// A writer that allocates no more when it is written to.
 fn drip(alloc: Global) -> Result<Drip, AllocError> {
-    let room = match room(alloc) {
-        Err(_) => room(alloc),
-        room => room,
-    };
-    Ok(Drip::new(room?, NEVER))
+    Ok(Drip::new(Vec::with_capacity(alloc, ROOM)?, NEVER))
 }
 
-fn try_variables(alloc: Global) -> Result<Variables, AllocError> {
-    variable(alloc, "name", Vec::from_slice(alloc, VALUE)?)
-}
-
-/// The variable `name`. If an allocation fails, it is made again.
+/// The variable `name`.
 fn variables(alloc: Global) -> Result<Variables, AllocError> {
-    match try_variables(alloc) {
-        Err(_) => try_variables(alloc),
-        variables => variables,
-    }
+    variable(alloc, "name", Vec::from_slice(alloc, VALUE)?)
 }
 
 /// The variables are still those that were made.
@@ -98,13 +80,17 @@ fn expect_variables(rt: &impl Abort, variables: &Variables) {
 fn bytes_run_again(
     alloc: Global,
     rt: &(impl Print + Abort),
+    call: &str,
     source: &[u8],
     drip: &mut Drip,
     variables: &Variables,
 ) -> Run {
-    match bytes_run(alloc, source, NEVER, &mut *drip, variables) {
+    begin(rt, call);
+    let ran = bytes_run(alloc, source, NEVER, &mut *drip, variables);
+    end(rt);
+    match ran {
         Err(RunError::OutOfMemory) => {
-            print_out_of_memory(rt);
+            say_out_of_memory(rt);
             expect_variables(rt, variables);
             assert!(rt; drip.taken.is_empty());
             bytes_run(alloc, source, NEVER, drip, variables)
@@ -117,11 +103,12 @@ fn bytes_run_again(
 fn run_over_bytes(
     alloc: Global,
     rt: &(impl Print + Abort),
+    call: &str,
     source: &[u8],
 ) -> Result<Seen, AllocError> {
     let variables = variables(alloc)?;
     let mut drip = drip(alloc)?;
-    let ran = bytes_run_again(alloc, rt, source, &mut drip, &variables);
+    let ran = bytes_run_again(alloc, rt, call, source, &mut drip, &variables);
     expect_variables(rt, &variables);
     Ok(Seen { ran, drip })
 }
@@ -130,46 +117,44 @@ fn run_over_bytes(
 fn expect_bytes_run(
     rt: &(impl Print + Abort),
     alloc: Global,
+    call: &str,
     source: &[u8],
     want: Want<'_>,
 ) -> Result<(), AllocError> {
-    let seen = run_over_bytes(alloc, rt, source)?;
+    let seen = run_over_bytes(alloc, rt, call, source)?;
     expect(rt, 0, &seen, want);
     Ok(())
 }
 
 #[test]
 fn run_bytes_over_a_sentence(rt: HostRuntime) -> Result<(), AllocError> {
-    expect_bytes_run(&rt, rt.alloc(), SENTENCE, written(GIVEN))
+    let call = "run_bytes of a sentence";
+    expect_bytes_run(&rt, rt.alloc(), call, SENTENCE, written(GIVEN))
 }
 
 #[test]
 fn run_bytes_over_a_plain_source(rt: HostRuntime) -> Result<(), AllocError> {
-    expect_bytes_run(&rt, rt.alloc(), PLAIN, written(PLAIN))
+    let call = "run_bytes of a plain source";
+    expect_bytes_run(&rt, rt.alloc(), call, PLAIN, written(PLAIN))
 }
 
 #[test]
 fn run_bytes_over_a_missing_variable(rt: HostRuntime) -> Result<(), AllocError> {
     let want = unwritten(Ended::Missing(MISSING_POSITION, "absent"));
-    expect_bytes_run(&rt, rt.alloc(), MISSING, want)
+    let call = "run_bytes of a missing variable";
+    expect_bytes_run(&rt, rt.alloc(), call, MISSING, want)
 }
 
 #[test]
 fn run_bytes_over_a_bad_escape(rt: HostRuntime) -> Result<(), AllocError> {
     let want = unwritten(Ended::BadEscape(BAD_ESCAPE_POSITION));
-    expect_bytes_run(&rt, rt.alloc(), BAD_ESCAPE, want)
+    let call = "run_bytes of a bad escape";
+    expect_bytes_run(&rt, rt.alloc(), call, BAD_ESCAPE, want)
 }
 
-fn try_texts(alloc: Global) -> Result<Texts, AllocError> {
-    variable(alloc, "name", String::from_str(alloc, TEXT_VALUE)?)
-}
-
-/// The variable `name`, whose value is a text. If an allocation fails, it is made again.
+/// The variable `name`, whose value is a text.
 fn texts(alloc: Global) -> Result<Texts, AllocError> {
-    match try_texts(alloc) {
-        Err(_) => try_texts(alloc),
-        texts => texts,
-    }
+    variable(alloc, "name", String::from_str(alloc, TEXT_VALUE)?)
 }
 
 /// The variables are still those that were made.
@@ -185,13 +170,17 @@ fn expect_texts(rt: &impl Abort, texts: &Texts) {
 fn text_run_again(
     alloc: Global,
     rt: &(impl Print + Abort),
+    call: &str,
     source: &[u8],
     drip: &mut Drip,
     texts: &Texts,
 ) -> Run {
-    match text_run(alloc, source, drip, texts) {
+    begin(rt, call);
+    let ran = text_run(alloc, source, drip, texts);
+    end(rt);
+    match ran {
         Err(RunError::OutOfMemory) => {
-            print_out_of_memory(rt);
+            say_out_of_memory(rt);
             expect_texts(rt, texts);
             assert!(rt; drip.taken.is_empty());
             text_run(alloc, source, drip, texts)
@@ -204,11 +193,12 @@ fn text_run_again(
 fn run_over_text(
     alloc: Global,
     rt: &(impl Print + Abort),
+    call: &str,
     source: &[u8],
 ) -> Result<Seen, AllocError> {
     let texts = texts(alloc)?;
     let mut drip = drip(alloc)?;
-    let ran = text_run_again(alloc, rt, source, &mut drip, &texts);
+    let ran = text_run_again(alloc, rt, call, source, &mut drip, &texts);
     expect_texts(rt, &texts);
     Ok(Seen { ran, drip })
 }
@@ -217,11 +207,12 @@ fn run_over_text(
 fn expect_text_run(
     rt: &(impl Print + Abort),
     alloc: Global,
+    call: &str,
     source: &[u8],
     want: Want<'_>,
     highlighting: Option<&str>,
 ) -> Result<(), AllocError> {
-    let seen = run_over_text(alloc, rt, source)?;
+    let seen = run_over_text(alloc, rt, call, source)?;
     expect(rt, 0, &seen, want);
     assert_eq!(rt; shown(&seen.ran), highlighting);
     Ok(())
@@ -231,66 +222,75 @@ fn expect_text_run(
 fn run_text_over_a_sentence(rt: HostRuntime) -> Result<(), AllocError> {
     let source = "${a:é}: ${b:\\{$name\\}}".as_bytes();
     let given = "é: {❤ and the whole round world with all that is in it}".as_bytes();
-    expect_text_run(&rt, rt.alloc(), source, written(given), None)
+    let call = "run_text of a sentence";
+    expect_text_run(&rt, rt.alloc(), call, source, written(given), None)
 }
 
 #[test]
 fn run_text_over_a_plain_source(rt: HostRuntime) -> Result<(), AllocError> {
-    expect_text_run(&rt, rt.alloc(), PLAIN, written(PLAIN), None)
+    let call = "run_text of a plain source";
+    expect_text_run(&rt, rt.alloc(), call, PLAIN, written(PLAIN), None)
 }
 
 #[test]
 fn run_text_over_a_missing_variable(rt: HostRuntime) -> Result<(), AllocError> {
     let want = unwritten(Ended::Missing(MISSING_POSITION, "absent"));
-    expect_text_run(&rt, rt.alloc(), MISSING, want, Some(MISSING_SHOWN))
+    let call = "run_text of a missing variable";
+    expect_text_run(&rt, rt.alloc(), call, MISSING, want, Some(MISSING_SHOWN))
+}
+
+#[test]
+fn run_text_over_a_missing_name(rt: HostRuntime) -> Result<(), AllocError> {
+    let want = unwritten(Ended::NoName(3));
+    let call = "run_text of Hi $!";
+    expect_text_run(
+        &rt,
+        rt.alloc(),
+        call,
+        b"Hi $!",
+        want,
+        Some("  Hi $!\n     ^\n"),
+    )
 }
 
 #[test]
 fn run_text_over_no_text(rt: HostRuntime) -> Result<(), AllocError> {
     let want = unwritten(Ended::NotUtf8);
-    expect_text_run(&rt, rt.alloc(), b"$name\xFF", want, None)
+    let call = "run_text of bytes that aren't UTF-8";
+    expect_text_run(&rt, rt.alloc(), call, b"$name\xFF", want, None)
 }
 
-/// These words. If an allocation fails, they are made again.
-fn given_words(alloc: Global, line: &[&str]) -> Result<Vec<String>, AllocError> {
-    match words(alloc, line) {
-        Err(_) => words(alloc, line),
-        words => words,
-    }
-}
-
-/// An environment with one pair, of `name`. If an allocation fails, it is made again.
-fn environment(alloc: Global) -> Result<Vec<(String, String)>, AllocError> {
-    match pairs(alloc, &[("name", "world")]) {
-        Err(_) => pairs(alloc, &[("name", "world")]),
-        pairs => pairs,
-    }
-}
-
-/// The program with these words over `Hello $name!`, which is read one byte per call.
+/// The program with these words over `Hello $name!`, which is read one byte per call, and the pair of `name`
+/// and `world` as its environment.
 fn greet(
     alloc: Global,
+    rt: &impl Print,
+    call: &str,
     words: &[String],
     output: &mut Drip,
     errors: &mut Drip,
 ) -> Result<u8, AllocError> {
-    let pairs = environment(alloc)?;
-    Ok(run_program(
-        alloc,
-        words,
-        pairs,
-        &mut FromReader::new(Trickle::new(b"Hello $name!", NEVER)),
-        &mut ToWriter::new(output),
-        &mut ToWriter::new(errors),
-    ))
+    let pairs = pairs(alloc, &[("name", "world")])?;
+    let mut input = FromReader::new(Trickle::new(b"Hello $name!", NEVER));
+    let mut output = ToWriter::new(output);
+    let mut errors = ToWriter::new(errors);
+    begin(rt, call);
+    let status = run_program(alloc, words, pairs, &mut input, &mut output, &mut errors);
+    end(rt);
+    Ok(status)
 }
 
 /// Greets once, and returns whether memory ran out. Then nothing was written, and otherwise `Hello world!`
 /// was.
-fn greet_once(rt: &impl Abort, alloc: Global, words: &[String]) -> Result<bool, AllocError> {
+fn greet_once(
+    rt: &(impl Print + Abort),
+    alloc: Global,
+    call: &str,
+    words: &[String],
+) -> Result<bool, AllocError> {
     let mut output = drip(alloc)?;
     let mut errors = drip(alloc)?;
-    let status = greet(alloc, words, &mut output, &mut errors)?;
+    let status = greet(alloc, rt, call, words, &mut output, &mut errors)?;
     let end = End {
         status,
         output: output.taken,
@@ -318,26 +318,83 @@ fn wanted(is_out_of_memory: bool) -> programs::Want<'static> {
 }
 
 /// The program with these words, and once more if memory runs out in it. It has to write `Hello world!`.
-fn greet_again(rt: &(impl Print + Abort), alloc: Global, line: &[&str]) -> Result<(), AllocError> {
-    let words = given_words(alloc, line)?;
-    if greet_once(rt, alloc, &words)? {
-        print_out_of_memory(rt);
-        assert!(rt; !greet_once(rt, alloc, &words)?);
+fn greet_again(
+    rt: &(impl Print + Abort),
+    alloc: Global,
+    call: &str,
+    line: &[&str],
+) -> Result<(), AllocError> {
+    let words = words(alloc, line)?;
+    if greet_once(rt, alloc, call, &words)? {
+        say_out_of_memory(rt);
+        assert!(rt; !greet_once(rt, alloc, call, &words)?);
     }
     Ok(())
 }
 
 #[test]
 fn run_program_over_bytes(rt: HostRuntime) -> Result<(), AllocError> {
-    greet_again(&rt, rt.alloc(), &["bytes", "name=world"])
+    let call = "run_program after bytes name=world";
+    greet_again(&rt, rt.alloc(), call, &["bytes", "name=world"])
 }
 
 #[test]
 fn run_program_over_text(rt: HostRuntime) -> Result<(), AllocError> {
-    greet_again(&rt, rt.alloc(), &["text", "name=world"])
+    let call = "run_program after text name=world";
+    greet_again(&rt, rt.alloc(), call, &["text", "name=world"])
 }
 
 #[test]
 fn run_program_over_the_environment(rt: HostRuntime) -> Result<(), AllocError> {
-    greet_again(&rt, rt.alloc(), &["env"])
+    let call = "run_program after env";
+    greet_again(&rt, rt.alloc(), call, &["env"])
+}
+
+fn gives_world(made: Result<Values<'_>, AllocError>) -> bool {
+    match made {
+        Ok(values) => value_of(&values, "name") == Some("world"),
+        Err(_) => false,
+    }
+}
+
+/// Whether the map of words is made, by a second call where memory ran out.
+fn is_map_of_words(alloc: Global, rt: &impl Print, words: &[String]) -> bool {
+    begin(rt, "values_of_words");
+    let made = values_of_words(alloc, words);
+    end(rt);
+    match made {
+        Err(_) => {
+            say_out_of_memory(rt);
+            gives_world(values_of_words(alloc, words))
+        }
+        made => gives_world(made),
+    }
+}
+
+/// The same of pairs.
+fn is_map_of_pairs(alloc: Global, rt: &impl Print, pairs: &[(String, String)]) -> bool {
+    begin(rt, "values_of_pairs");
+    let made = values_of_pairs(alloc, pairs);
+    end(rt);
+    match made {
+        Err(_) => {
+            say_out_of_memory(rt);
+            gives_world(values_of_pairs(alloc, pairs))
+        }
+        made => gives_world(made),
+    }
+}
+
+#[test]
+fn map_of_words(rt: HostRuntime) -> Result<(), AllocError> {
+    let words = words(rt.alloc(), &["name=world"])?;
+    assert!(rt; is_map_of_words(rt.alloc(), &rt, &words));
+    Ok(())
+}
+
+#[test]
+fn map_of_pairs(rt: HostRuntime) -> Result<(), AllocError> {
+    let pairs = pairs(rt.alloc(), &[("name", "world")])?;
+    assert!(rt; is_map_of_pairs(rt.alloc(), &rt, &pairs));
+    Ok(())
 }

@@ -5,7 +5,8 @@ use std::alloc::{AllocError, Global};
 use std::process::Abort;
 use subst_program::values::{Values, values_of_pairs, values_of_words};
 
-fn value_of<'w>(values: &Values<'w>, name: &str) -> Option<&'w str> {
+/// The value of a name.
+pub fn value_of<'w>(values: &Values<'w>, name: &str) -> Option<&'w str> {
     match values.get(name) {
         Some(value) => Some(*value),
         None => None,

@@ -14,6 +14,8 @@ mod faults;
 #[cfg(test)]
 mod large;
 #[cfg(test)]
+mod marks;
+#[cfg(test)]
 mod readings;
 #[cfg(test)]
 mod refused_memory;
@@ -23,3 +25,5 @@ mod trees;
 mod typed;
 #[cfg(test)]
 mod ways;
+#[cfg(test)]
+mod without_memory;

@@ -8,6 +8,10 @@ mod every_name;
 #[cfg(test)]
 mod kinds;
 #[cfg(test)]
+mod marks;
+#[cfg(test)]
 mod no_names;
 #[cfg(test)]
 mod pairs;
+#[cfg(test)]
+mod without_memory;

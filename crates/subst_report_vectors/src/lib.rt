@@ -13,6 +13,10 @@ mod hand_made;
 #[cfg(test)]
 mod lines;
 #[cfg(test)]
+mod marks;
+#[cfg(test)]
 mod refused_memory;
 #[cfg(test)]
 mod shown;
+#[cfg(test)]
+mod without_memory;

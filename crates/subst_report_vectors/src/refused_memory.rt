@@ -1,18 +1,21 @@
-//! Out of memory. `tools/refuse-memory.sh` runs this test again and again, and refuses one request for memory
-//! in each run: the first, then the second, and so on until a run meets no refusal. Where a call returns out
-//! of memory, the test prints a line and calls again.
+//! Out of memory. `tools/refuse-memory.sh` runs this test again and again, and in each run refuses another one
+//! of the requests for memory that the call between the two marks makes. Where it returns out of memory, the
+//! test says so and calls again.
 
+use crate::marks::{begin, end, say_out_of_memory};
 use crate::shown::no_name;
-use std::io::Print;
 use std::test::Fail;
 
 #[test]
 fn highlighting(rt: HostRuntime) -> Result<(), Fail> {
     let e = no_name(7, 1);
     let source = "one\nHi $!";
-    let underlined = match e.source_highlighting(rt.alloc(), source) {
+    begin(&rt, "Error::source_highlighting");
+    let underlined = e.source_highlighting(rt.alloc(), source);
+    end(&rt);
+    let underlined = match underlined {
         Err(_) => {
-            let _ = rt.println("out of memory");
+            say_out_of_memory(&rt);
             e.source_highlighting(rt.alloc(), source)?
         }
         Ok(underlined) => underlined,

@@ -43,6 +43,10 @@ pub fn clone<'a>(template: &ByteTemplate<'a>) -> Result<ByteTemplate<'a>, AllocE
     template.clone()
 }
 
+pub fn take_over(source: Vec<u8>) -> Result<ByteTemplateBuf, ParseError> {
+    ByteTemplateBuf::from_vec(source)
+}
+
 /// The template that owns a copy of bytes.
 pub fn own(alloc: Global, source: &[u8]) -> Result<ByteTemplateBuf, ParseError> {
     ByteTemplateBuf::from_vec(Vec::from_slice(alloc, source)?)

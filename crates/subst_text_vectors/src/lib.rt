@@ -16,6 +16,8 @@ mod escapes;
 #[cfg(test)]
 mod faults;
 #[cfg(test)]
+mod marks;
+#[cfg(test)]
 mod refused_memory;
 #[cfg(test)]
 mod shown;
@@ -27,3 +29,5 @@ mod text_copies;
 mod texts;
 #[cfg(test)]
 mod ways;
+#[cfg(test)]
+mod without_memory;

@@ -1,17 +1,9 @@
-//! Out of memory. `tools/refuse-memory.sh` runs each of these tests again and again, and refuses one
-//! request for memory in each run: the first, then the second, and so on until a run meets no refusal.
+//! Out of memory. `tools/refuse-memory.sh` runs each of these tests again and again, and in each run refuses
+//! another one of the requests for memory that the call between the two marks makes.
 //!
-//! A run meets at most one refusal, so a second request succeeds. Where a call returns `OutOfMemory`, the
-//! test prints a line and calls again; at its end it looks whether what it lent is as before. Without a
-//! refusal it prints nothing.
-
-use std::io::Print;
+//! So the call returns its answer, or out of memory. Then the test says so, looks whether what the call was
+//! lent is as before, and calls again, which has to give the answer.
 
 mod byte_templates;
 mod escapes;
 mod texts;
-
-/// Prints that a call ran out of memory.
-fn say_out_of_memory(rt: &impl Print) {
-    let _ = rt.println("out of memory");
-}

@@ -49,6 +49,10 @@ pub fn clone<'a>(template: &Template<'a>) -> Result<Template<'a>, AllocError> {
     template.clone()
 }
 
+pub fn take_over(source: String) -> Result<TemplateBuf, ParseError> {
+    TemplateBuf::from_string(source)
+}
+
 /// The template that owns a copy of a text.
 pub fn own(alloc: Global, source: &str) -> Result<TemplateBuf, ParseError> {
     TemplateBuf::from_string(String::from_str(alloc, source)?)

@@ -17,6 +17,8 @@ mod faults;
 #[cfg(test)]
 mod large;
 #[cfg(test)]
+mod marks;
+#[cfg(test)]
 mod readings;
 #[cfg(test)]
 mod refused_memory;
@@ -26,3 +28,5 @@ mod trees;
 mod typed;
 #[cfg(test)]
 mod ways;
+#[cfg(test)]
+mod without_memory;

@@ -1,12 +1,13 @@
-//! Out of memory. `tools/refuse-memory.sh` runs each of these tests again and again, and refuses one
-//! request for memory in each run: the first, then the second, and so on until a run meets no refusal.
+//! Out of memory. `tools/refuse-memory.sh` runs each of these tests again and again, and in each run refuses
+//! another one of the requests for memory that the call between the two marks makes.
 //!
-//! A run meets at most one refusal, so a second request succeeds. Where a call returns `OutOfMemory`, the
-//! test prints a line and calls again; at its end it looks whether what it lent is as before. Without a
-//! refusal it prints nothing.
+//! So the call returns its answer, or out of memory. Then the test says so, looks whether what the call was
+//! lent is as before, and calls again, which has to give the answer. `Subst` that holds `OutOfMemory` is no
+//! answer.
 
 use crate::calls::{Read, Texts, fill_in, is_tree_of, read, read_bytes, texts, tree};
 use crate::faults::{Fault, is_fault, is_refused};
+use crate::marks::{begin, end, say_out_of_memory};
 use std::alloc::{AllocError, Global};
 use std::io::Print;
 use std::test::Fail;
@@ -31,100 +32,105 @@ const ABSENT: Fault = Fault::Absent(3, "absent");
 /// The value of `name`.
 const VALUE: &str = "the whole round world";
 
-/// Prints that a call ran out of memory.
-fn say_out_of_memory(rt: &impl Print) {
-    let _ = rt.println("out of memory");
-}
-
-fn ask_for_variables(alloc: Global) -> Result<Texts, AllocError> {
-    texts(alloc, "name=the whole round world")
-}
-
-/// The variables, from a second request where the first is refused.
 fn variables(alloc: Global) -> Result<Texts, AllocError> {
-    match ask_for_variables(alloc) {
-        Err(_) => ask_for_variables(alloc),
-        variables => variables,
-    }
+    texts(alloc, "name=the whole round world,a=1")
 }
 
-/// Whether the variables are those that were asked for.
-fn are_as_before(variables: &Texts) -> bool {
-    match variables.get("name") {
-        Some(value) => variables.len() == 1 && value.as_str() == VALUE,
+/// Whether a variable has this value.
+fn has(variables: &Texts, name: &str, want: &str) -> bool {
+    match variables.get(name) {
+        Some(value) => value.as_str() == want,
         None => false,
     }
 }
 
-/// Whether this is the tree of a document, from a second request where the first is refused.
-fn is_tree(alloc: Global, tree: &Value, want: &str) -> bool {
-    is_tree_of(alloc, tree, want) || is_tree_of(alloc, tree, want)
-}
-
-/// The tree of a document, from a second request where the first is refused.
-fn read_tree(alloc: Global, source: &str) -> Result<Value, toml::de::Error> {
-    match tree(alloc, source) {
-        Err(_) => tree(alloc, source),
-        tree => tree,
-    }
+/// Whether the variables are those that were made.
+fn are_as_before(variables: &Texts) -> bool {
+    variables.len() == 2 && has(variables, "name", VALUE) && has(variables, "a", "1")
 }
 
 /// Fills in a tree, by a second call where memory ran out, before which the tree has to be as it was.
 fn filled_in_place(
     alloc: Global,
     rt: &impl Print,
+    call: &str,
     tree: &mut Value,
     source: &str,
     variables: &Texts,
 ) -> Result<(), Error> {
-    match fill_in(alloc, tree, variables) {
-        Err(Error::OutOfMemory(e)) => {
-            say_out_of_memory(rt);
-            if is_tree(alloc, tree, source) {
-                fill_in(alloc, tree, variables)
-            } else {
-                Err(Error::OutOfMemory(e))
-            }
+    begin(rt, call);
+    let filled = fill_in(alloc, tree, variables);
+    end(rt);
+    if let Err(Error::OutOfMemory(_)) = filled {
+        say_out_of_memory(rt);
+        if is_tree_of(alloc, tree, source) && are_as_before(variables) {
+            return fill_in(alloc, tree, variables);
         }
-        answer => answer,
     }
+    filled
 }
 
-/// Reads a document and fills in its tree, by a second call where memory ran out.
-fn read_and_filled(alloc: Global, rt: &impl Print, source: &str, variables: &Texts) -> Read {
-    match read(alloc, source, variables) {
-        Err(ReadError::OutOfMemory(_)) => {
-            say_out_of_memory(rt);
-            read(alloc, source, variables)
+/// Reads and fills in a tree, by a second call where memory ran out and the variables are as before.
+fn read_and_filled(
+    alloc: Global,
+    rt: &impl Print,
+    call: &str,
+    source: &str,
+    variables: &Texts,
+) -> Read {
+    begin(rt, call);
+    let filled = read(alloc, source, variables);
+    end(rt);
+    if let Err(ReadError::OutOfMemory(_)) = filled {
+        say_out_of_memory(rt);
+        if are_as_before(variables) {
+            return read(alloc, source, variables);
         }
-        answer => answer,
     }
+    filled
 }
 
 /// The same of bytes.
-fn bytes_read_and_filled(alloc: Global, rt: &impl Print, source: &[u8], variables: &Texts) -> Read {
-    match read_bytes(alloc, source, variables) {
-        Err(ReadError::OutOfMemory(_)) => {
-            say_out_of_memory(rt);
-            read_bytes(alloc, source, variables)
+fn bytes_read_and_filled(
+    alloc: Global,
+    rt: &impl Print,
+    call: &str,
+    source: &[u8],
+    variables: &Texts,
+) -> Read {
+    begin(rt, call);
+    let filled = read_bytes(alloc, source, variables);
+    end(rt);
+    if let Err(ReadError::OutOfMemory(_)) = filled {
+        say_out_of_memory(rt);
+        if are_as_before(variables) {
+            return read_bytes(alloc, source, variables);
         }
-        answer => answer,
     }
+    filled
 }
 
-fn is_given(alloc: Global, filled: Read) -> bool {
+fn is_given(alloc: Global, filled: Read, want: &str) -> bool {
     match filled {
-        Ok(tree) => is_tree(alloc, &tree, GIVEN),
+        Ok(tree) => is_tree_of(alloc, &tree, want),
         Err(_) => false,
     }
 }
 
-/// Whether a tree that is read is filled in.
-fn tree_is_given(alloc: Global, rt: &impl Print, variables: &Texts) -> bool {
-    match read_tree(alloc, SOURCE) {
+/// Whether a tree that is read is filled in as wanted.
+fn tree_is_given(
+    alloc: Global,
+    rt: &impl Print,
+    call: &str,
+    source: &str,
+    want: &str,
+    variables: &Texts,
+) -> bool {
+    match tree(alloc, source) {
         Ok(mut tree) => {
-            filled_in_place(alloc, rt, &mut tree, SOURCE, variables).is_ok()
-                && is_tree(alloc, &tree, GIVEN)
+            filled_in_place(alloc, rt, call, &mut tree, source, variables).is_ok()
+                && is_tree_of(alloc, &tree, want)
+                && are_as_before(variables)
         }
         Err(_) => false,
     }
@@ -138,11 +144,12 @@ fn is_refused_in_place(filled: Result<(), Error>) -> bool {
 }
 
 /// Whether a tree that is read is refused, and as it was.
-fn tree_is_refused(alloc: Global, rt: &impl Print, variables: &Texts) -> bool {
-    match read_tree(alloc, REFUSED) {
+fn tree_is_refused(alloc: Global, rt: &impl Print, call: &str, variables: &Texts) -> bool {
+    match tree(alloc, REFUSED) {
         Ok(mut tree) => {
-            is_refused_in_place(filled_in_place(alloc, rt, &mut tree, REFUSED, variables))
-                && is_tree(alloc, &tree, REFUSED)
+            is_refused_in_place(filled_in_place(alloc, rt, call, &mut tree, REFUSED, variables))
+                && is_tree_of(alloc, &tree, REFUSED)
+                && are_as_before(variables)
         }
         Err(_) => false,
     }
@@ -151,31 +158,59 @@ fn tree_is_refused(alloc: Global, rt: &impl Print, variables: &Texts) -> bool {
 #[test]
 fn tree_filled_in(rt: HostRuntime) -> Result<(), Fail> {
     let variables = variables(rt.alloc())?;
-    let given = tree_is_given(rt.alloc(), &rt, &variables);
-    assert!(rt; given && are_as_before(&variables));
+    let call = "toml::substitute_string_values of each kind of values";
+    assert!(rt; tree_is_given(rt.alloc(), &rt, call, SOURCE, GIVEN, &variables));
+    Ok(())
+}
+
+#[test]
+fn array_filled_in(rt: HostRuntime) -> Result<(), Fail> {
+    let variables = variables(rt.alloc())?;
+    let call = "toml::substitute_string_values of k = ['$a', '${b:x}']";
+    assert!(rt;
+        tree_is_given(
+            rt.alloc(),
+            &rt,
+            call,
+            "k = ['$a', '${b:x}']",
+            "k = ['1', 'x']",
+            &variables
+        )
+    );
     Ok(())
 }
 
 #[test]
 fn tree_refused(rt: HostRuntime) -> Result<(), Fail> {
     let variables = variables(rt.alloc())?;
-    let refused = tree_is_refused(rt.alloc(), &rt, &variables);
-    assert!(rt; refused && are_as_before(&variables));
+    let call = "toml::substitute_string_values of a missing variable";
+    assert!(rt; tree_is_refused(rt.alloc(), &rt, call, &variables));
     Ok(())
 }
 
 #[test]
 fn text_read_and_filled_in(rt: HostRuntime) -> Result<(), Fail> {
     let variables = variables(rt.alloc())?;
-    let filled = read_and_filled(rt.alloc(), &rt, SOURCE, &variables);
-    assert!(rt; is_given(rt.alloc(), filled) && are_as_before(&variables));
+    let call = "toml::value_from_str of each kind of values";
+    let filled = read_and_filled(rt.alloc(), &rt, call, SOURCE, &variables);
+    assert!(rt; is_given(rt.alloc(), filled, GIVEN) && are_as_before(&variables));
+    Ok(())
+}
+
+#[test]
+fn string_read_and_filled_in(rt: HostRuntime) -> Result<(), Fail> {
+    let variables = variables(rt.alloc())?;
+    let call = "toml::value_from_str of k = '$a'";
+    let filled = read_and_filled(rt.alloc(), &rt, call, "k = '$a'", &variables);
+    assert!(rt; is_given(rt.alloc(), filled, "k = '1'") && are_as_before(&variables));
     Ok(())
 }
 
 #[test]
 fn text_read_and_refused(rt: HostRuntime) -> Result<(), Fail> {
     let variables = variables(rt.alloc())?;
-    let filled = read_and_filled(rt.alloc(), &rt, REFUSED, &variables);
+    let call = "toml::value_from_str of a missing variable";
+    let filled = read_and_filled(rt.alloc(), &rt, call, REFUSED, &variables);
     assert!(rt; is_refused(filled, ABSENT) && are_as_before(&variables));
     Ok(())
 }
@@ -183,7 +218,8 @@ fn text_read_and_refused(rt: HostRuntime) -> Result<(), Fail> {
 #[test]
 fn bytes_read_and_filled_in(rt: HostRuntime) -> Result<(), Fail> {
     let variables = variables(rt.alloc())?;
-    let filled = bytes_read_and_filled(rt.alloc(), &rt, SOURCE.as_bytes(), &variables);
-    assert!(rt; is_given(rt.alloc(), filled) && are_as_before(&variables));
+    let call = "toml::value_from_slice of each kind of values";
+    let filled = bytes_read_and_filled(rt.alloc(), &rt, call, SOURCE.as_bytes(), &variables);
+    assert!(rt; is_given(rt.alloc(), filled, GIVEN) && are_as_before(&variables));
     Ok(())
 }

@@ -1,29 +1,30 @@
-//! Out of memory. `tools/refuse-memory.sh` runs each of these tests again and again, and refuses one
-//! request for memory in each run: the first, then the second, and so on until a run meets no refusal.
+//! Out of memory. `tools/refuse-memory.sh` runs each of these tests again and again, and in each run refuses
+//! another one of the requests for memory that the call between the two marks makes.
 //!
-//! A run meets at most one refusal, so a second request succeeds. Where a call returns `OutOfMemory`, the
-//! test prints a line and calls again; at its end it looks whether what it lent is as before. Without a
-//! refusal it prints nothing.
+//! So the call returns its answer, or out of memory. Then the test says so, looks whether what the call was
+//! lent is as before, and calls again, which has to give the answer.
 
-use crate::rows::Answer::{self, Absent, BadEscape, Gives};
-use crate::rows::{Filled, Map, are_equal, at_once, expand, one_variable, parse, states};
+use crate::marks::{begin, end, say_out_of_memory};
+use crate::rows::{Answer, Filled, Map, map_of, states};
+use Answer::{Absent, BadEscape, Gives};
 use std::alloc::{AllocError, Global};
 use std::io::Print;
-use subst::error::CharOrByte::Char;
-use subst::error::{ExpandError, NoSuchVariable, ParseError};
-use subst::{ByteTemplate, Error};
+use std::test::Fail;
+use subst::error::{CharOrByte, ExpandError, NoSuchVariable, ParseError};
+use subst::steps::{Reads, Turns};
+use subst::{ByteTemplate, Error, substitute_bytes};
 
 /// A default in a default, escapes, and a variable.
 const SENTENCE: &[u8] = b"Hi ${hi:\\{${who:you}\\}} and $name!";
 
 /// What it gives.
-const GIVEN: &[u8] = b"Hi {you} and the whole round world with all that is in it!";
+const GIVEN: Answer<'static> = Gives(b"Hi {you} and the whole round world with all that is in it!");
 
 /// A sentence that needs a variable which isn't there.
-const MISSING_VARIABLE: &[u8] = b"Hi ${hi:$name and ${who:$absent}}!";
+const MISSING: &[u8] = b"Hi ${hi:$name and ${who:$absent}}!";
 
-/// The byte offset of that variable's name.
-const MISSING_AT: usize = 25;
+/// Why it gives nothing.
+const ABSENT: Answer<'static> = Absent(25, "absent");
 
 /// A source with a bad escape in its inner default.
 const REFUSED: &[u8] = b"Hi ${hi:$name and ${who:\\!}}!";
@@ -34,292 +35,259 @@ const BAD_ESCAPE: usize = 24;
 /// The value of `name`, longer than each source.
 const VALUE: &[u8] = b"the whole round world with all that is in it";
 
-fn ask_for_variables(alloc: Global) -> Result<Map, AllocError> {
-    one_variable(alloc, "name", VALUE)
-}
-
-/// The variables, from a second request where the first is refused.
 fn variables(alloc: Global) -> Result<Map, AllocError> {
-    match ask_for_variables(alloc) {
-        Err(_) => ask_for_variables(alloc),
-        variables => variables,
-    }
+    map_of(alloc, "name=the whole round world with all that is in it")
 }
 
-fn copy_of(alloc: Global, source: &[u8]) -> Result<Vec<u8>, AllocError> {
-    Vec::from_slice(alloc, source)
-}
-
-/// A copy of a source, from a second request where the first is refused.
-fn copied(alloc: Global, source: &[u8]) -> Result<Vec<u8>, AllocError> {
-    match copy_of(alloc, source) {
-        Err(_) => copy_of(alloc, source),
-        copy => copy,
-    }
-}
-
-/// Whether the variables are those that were asked for.
+/// Whether the variables are those that were made.
 fn are_as_before(variables: &Map) -> bool {
-    match variables.get("name") {
-        Some(value) => variables.len() == 1 && are_equal(value.as_slice(), VALUE),
-        None => false,
-    }
-}
-
-/// Prints that a call ran out of memory.
-fn say_out_of_memory(rt: &impl Print) {
-    let _ = rt.println("out of memory");
+    let value = variables.get("name");
+    variables.len() == 1 && value.is_some_and(|value| value.as_slice() == VALUE)
 }
 
 /// Returns the template of a source, from a second call where memory ran out.
 fn parsed<'a>(
     alloc: Global,
     rt: &impl Print,
+    call: &str,
     source: &'a [u8],
 ) -> Result<ByteTemplate<'a>, ParseError> {
-    match parse(alloc, source) {
-        Err(ParseError::OutOfMemory(_)) => {
-            say_out_of_memory(rt);
-            parse(alloc, source)
-        }
-        answer => answer,
+    begin(rt, call);
+    let parsed = ByteTemplate::from_slice(alloc, source);
+    end(rt);
+    if let Err(ParseError::OutOfMemory(_)) = parsed {
+        say_out_of_memory(rt);
+        return ByteTemplate::from_slice(alloc, source);
     }
+    parsed
 }
 
-/// Returns what a template expands to, from a second call where memory ran out.
+/// The same with the reads counted.
+fn parsed_counted<'a>(
+    alloc: Global,
+    rt: &impl Print,
+    source: &'a [u8],
+) -> Result<ByteTemplate<'a>, ParseError> {
+    let mut reads = Reads::new();
+    begin(rt, "ByteTemplate::from_slice_counted of a sentence");
+    let parsed = ByteTemplate::from_slice_counted(alloc, source, &mut reads);
+    end(rt);
+    if let Err(ParseError::OutOfMemory(_)) = parsed {
+        say_out_of_memory(rt);
+        return ByteTemplate::from_slice_counted(alloc, source, &mut reads);
+    }
+    parsed
+}
+
+/// Returns what a template gives, from a second call where memory ran out and what was lent is as before.
 fn expanded(
     alloc: Global,
     rt: &impl Print,
-    template: &ByteTemplate<'_>,
+    call: &str,
+    source: &[u8],
     variables: &Map,
-) -> Result<Vec<u8>, ExpandError> {
-    match expand(alloc, template, variables) {
-        Err(ExpandError::OutOfMemory(_)) => {
-            say_out_of_memory(rt);
-            expand(alloc, template, variables)
+) -> Filled {
+    let template = ByteTemplate::from_slice(alloc, source)?;
+    begin(rt, call);
+    let expanded = template.expand(alloc, variables);
+    end(rt);
+    if let Err(ExpandError::OutOfMemory(_)) = expanded {
+        say_out_of_memory(rt);
+        if template.source() == source && are_as_before(variables) {
+            return Ok(template.expand(alloc, variables)?);
         }
-        answer => answer,
     }
+    Ok(expanded?)
 }
 
-/// Returns what a source gives, from a second call where memory ran out.
-fn substituted(alloc: Global, rt: &impl Print, source: &[u8], variables: &Map) -> Filled {
-    match at_once(alloc, source, variables) {
-        Err(Error::OutOfMemory(_)) => {
-            say_out_of_memory(rt);
-            at_once(alloc, source, variables)
+/// The same with the turns counted.
+fn expanded_counted(
+    alloc: Global,
+    rt: &impl Print,
+    source: &[u8],
+    variables: &Map,
+) -> Filled {
+    let template = ByteTemplate::from_slice(alloc, source)?;
+    let mut turns = Turns::new();
+    begin(rt, "ByteTemplate::expand_counted of a sentence");
+    let expanded = template.expand_counted(alloc, variables, &mut turns);
+    end(rt);
+    if let Err(ExpandError::OutOfMemory(_)) = expanded {
+        say_out_of_memory(rt);
+        if template.source() == source && are_as_before(variables) {
+            return Ok(template.expand_counted(alloc, variables, &mut turns)?);
         }
-        answer => answer,
     }
+    Ok(expanded?)
 }
 
-/// Whether an expansion gave [`GIVEN`].
-fn is_given(expanded: Result<Vec<u8>, ExpandError>) -> bool {
-    match expanded {
-        Ok(output) => are_equal(output.as_slice(), GIVEN),
+/// Returns what a source gives, from a second call where memory ran out and the variables are as before.
+fn substituted(
+    alloc: Global,
+    rt: &impl Print,
+    call: &str,
+    source: &[u8],
+    variables: &Map,
+) -> Filled {
+    begin(rt, call);
+    let filled = substitute_bytes(alloc, source, variables);
+    end(rt);
+    if let Err(Error::OutOfMemory(_)) = filled {
+        say_out_of_memory(rt);
+        if are_as_before(variables) {
+            return substitute_bytes(alloc, source, variables);
+        }
+    }
+    filled
+}
+
+/// Whether this answer was returned, and the variables are as before.
+fn is(filled: Filled, want: Answer<'_>, variables: &Map) -> bool {
+    states(filled, want) && are_as_before(variables)
+}
+
+fn is_template_of(parsed: &Result<ByteTemplate<'_>, ParseError>, source: &[u8]) -> bool {
+    match parsed {
+        Ok(template) => template.source() == source,
         Err(_) => false,
     }
 }
 
-/// Whether a template gives [`GIVEN`] twice, and has kept its source and the variables.
-fn is_whole(alloc: Global, rt: &impl Print, template: &ByteTemplate<'_>, variables: &Map) -> bool {
-    is_given(expanded(alloc, rt, template, variables))
-        && is_given(expanded(alloc, rt, template, variables))
-        && are_equal(template.source(), SENTENCE)
-        && are_as_before(variables)
-}
-
-fn is_parsed(alloc: Global, rt: &impl Print, source: &[u8], variables: &Map) -> bool {
-    match parsed(alloc, rt, source) {
-        Ok(template) => is_whole(alloc, rt, &template, variables),
-        Err(_) => false,
-    }
-}
-
-/// Whether a copy of [`SENTENCE`] is parsed, and stays.
-fn is_copy_parsed(alloc: Global, rt: &impl Print) -> bool {
-    match (copied(alloc, SENTENCE), variables(alloc)) {
-        (Ok(source), Ok(variables)) => {
-            is_parsed(alloc, rt, &source, &variables) && are_equal(&source, SENTENCE)
-        }
+fn is_bad_escape(parsed: &Result<ByteTemplate<'_>, ParseError>) -> bool {
+    match parsed {
+        Err(ParseError::InvalidEscapeSequence(e)) => e.position == BAD_ESCAPE,
         _ => false,
     }
 }
 
 #[test]
 fn from_slice_of_a_sentence(rt: HostRuntime) {
-    assert!(rt; is_copy_parsed(rt.alloc(), &rt));
-}
-
-#[test]
-fn expand_to_bytes(rt: HostRuntime) -> Result<(), AllocError> {
-    let variables = variables(rt.alloc())?;
-    assert!(rt; is_parsed(rt.alloc(), &rt, SENTENCE, &variables));
-    Ok(())
-}
-
-/// Whether a source is no template for its bad escape.
-fn is_bad_escape(parsed: Result<ByteTemplate<'_>, ParseError>) -> bool {
-    match parsed {
-        Err(ParseError::InvalidEscapeSequence(fault)) => fault.position == BAD_ESCAPE,
-        _ => false,
-    }
-}
-
-/// Whether a copy of [`REFUSED`] is no template, and stays.
-fn is_copy_refused(alloc: Global, rt: &impl Print) -> bool {
-    match copied(alloc, REFUSED) {
-        Ok(source) => { is_bad_escape(parsed(alloc, rt, &source)) && are_equal(&source, REFUSED) }
-        Err(_) => false,
-    }
+    let parsed = parsed(
+        rt.alloc(),
+        &rt,
+        "ByteTemplate::from_slice of a sentence",
+        SENTENCE,
+    );
+    assert!(rt; is_template_of(&parsed, SENTENCE));
 }
 
 #[test]
 fn from_slice_of_a_refused_source(rt: HostRuntime) {
-    assert!(rt; is_copy_refused(rt.alloc(), &rt));
-}
-
-/// Whether this error of an expansion is that of [`MISSING_VARIABLE`].
-fn is_missing(missing: &NoSuchVariable) -> bool {
-    missing.position == MISSING_AT && missing.name.as_str() == "absent"
-}
-
-fn lacks_variable(expanded: Result<Vec<u8>, ExpandError>) -> bool {
-    match expanded {
-        Err(ExpandError::NoSuchVariable(missing)) => is_missing(&missing),
-        _ => false,
-    }
-}
-
-/// Whether [`MISSING_VARIABLE`] is a template whose expansion lacks its variable, twice.
-fn is_parsed_and_lacks_variable(alloc: Global, rt: &impl Print, variables: &Map) -> bool {
-    match parsed(alloc, rt, MISSING_VARIABLE) {
-        Ok(template) => {
-            lacks_variable(expanded(alloc, rt, &template, variables))
-                && lacks_variable(expanded(alloc, rt, &template, variables))
-                && are_equal(template.source(), MISSING_VARIABLE)
-        }
-        Err(_) => false,
-    }
+    let parsed = parsed(
+        rt.alloc(),
+        &rt,
+        "ByteTemplate::from_slice of a bad escape",
+        REFUSED,
+    );
+    assert!(rt; is_bad_escape(&parsed));
 }
 
 #[test]
-fn expand_to_a_missing_variable(rt: HostRuntime) -> Result<(), AllocError> {
+fn from_slice_counted_of_a_sentence(rt: HostRuntime) {
+    let parsed = parsed_counted(rt.alloc(), &rt, SENTENCE);
+    assert!(rt; is_template_of(&parsed, SENTENCE));
+}
+
+#[test]
+fn expand_to_bytes(rt: HostRuntime) -> Result<(), Fail> {
     let variables = variables(rt.alloc())?;
-    let holds = is_parsed_and_lacks_variable(rt.alloc(), &rt, &variables);
-    assert!(rt; holds && are_as_before(&variables));
+    let call = "ByteTemplate::expand of a sentence";
+    let filled = expanded(rt.alloc(), &rt, call, SENTENCE, &variables);
+    assert!(rt; is(filled, GIVEN, &variables));
     Ok(())
 }
 
-/// Whether a copy of a source has this answer, and it and the variables stay.
-fn is_substituted(alloc: Global, rt: &impl Print, source: &[u8], want: Answer<'_>) -> bool {
-    match (copied(alloc, source), variables(alloc)) {
-        (Ok(copy), Ok(variables)) => {
-            states(substituted(alloc, rt, &copy, &variables), want)
-                && are_equal(&copy, source)
-                && are_as_before(&variables)
-        }
-        _ => false,
-    }
+#[test]
+fn expand_to_a_missing_variable(rt: HostRuntime) -> Result<(), Fail> {
+    let variables = variables(rt.alloc())?;
+    let call = "ByteTemplate::expand of a missing variable";
+    let filled = expanded(rt.alloc(), &rt, call, MISSING, &variables);
+    assert!(rt; is(filled, ABSENT, &variables));
+    Ok(())
 }
 
 #[test]
-fn substitute_bytes_of_a_sentence(rt: HostRuntime) {
-    assert!(rt; is_substituted(rt.alloc(), &rt, SENTENCE, Gives(GIVEN)));
+fn expand_counted_to_bytes(rt: HostRuntime) -> Result<(), Fail> {
+    let variables = variables(rt.alloc())?;
+    let filled = expanded_counted(rt.alloc(), &rt, SENTENCE, &variables);
+    assert!(rt; is(filled, GIVEN, &variables));
+    Ok(())
 }
 
 #[test]
-fn substitute_bytes_of_a_missing_variable(rt: HostRuntime) {
-    let want = Absent(MISSING_AT, "absent");
-    assert!(rt; is_substituted(rt.alloc(), &rt, MISSING_VARIABLE, want));
+fn substitute_bytes_of_a_sentence(rt: HostRuntime) -> Result<(), Fail> {
+    let variables = variables(rt.alloc())?;
+    let call = "substitute_bytes of a sentence";
+    let filled = substituted(rt.alloc(), &rt, call, SENTENCE, &variables);
+    assert!(rt; is(filled, GIVEN, &variables));
+    Ok(())
 }
 
 #[test]
-fn substitute_bytes_of_a_refused_source(rt: HostRuntime) {
-    let want = BadEscape(BAD_ESCAPE, Some(Char('!')));
-    assert!(rt; is_substituted(rt.alloc(), &rt, REFUSED, want));
+fn substitute_bytes_of_a_missing_variable(rt: HostRuntime) -> Result<(), Fail> {
+    let variables = variables(rt.alloc())?;
+    let call = "substitute_bytes of a missing variable";
+    let filled = substituted(rt.alloc(), &rt, call, MISSING, &variables);
+    assert!(rt; is(filled, ABSENT, &variables));
+    Ok(())
 }
 
-fn copy_of_missing(missing: &NoSuchVariable) -> Result<NoSuchVariable, AllocError> {
-    missing.clone()
+#[test]
+fn substitute_bytes_of_a_refused_source(rt: HostRuntime) -> Result<(), Fail> {
+    let variables = variables(rt.alloc())?;
+    let call = "substitute_bytes of a bad escape";
+    let filled = substituted(rt.alloc(), &rt, call, REFUSED, &variables);
+    assert!(rt;
+        is(
+            filled,
+            BadEscape(BAD_ESCAPE, Some(CharOrByte::Char('!'))),
+            &variables
+        )
+    );
+    Ok(())
 }
 
-fn is_missing_cloned(rt: &impl Print, missing: &NoSuchVariable) -> bool {
-    let copy = match copy_of_missing(missing) {
+fn missing(alloc: Global) -> Result<NoSuchVariable, AllocError> {
+    Ok(NoSuchVariable {
+        position: 25,
+        name: String::from_str(alloc, "absent")?,
+    })
+}
+
+/// Returns a clone, from a second call where memory ran out.
+fn cloned<T: Clone>(rt: &impl Print, call: &str, original: &T) -> Result<T, AllocError> {
+    begin(rt, call);
+    let copy: Result<T, AllocError> = original.clone();
+    end(rt);
+    match copy {
         Err(_) => {
             say_out_of_memory(rt);
-            copy_of_missing(missing)
+            original.clone()
         }
         copy => copy,
-    };
-    match copy {
-        Ok(copy) => copy == *missing,
-        Err(_) => false,
-    }
-}
-
-fn copy_of_expand_error(error: &ExpandError) -> Result<ExpandError, AllocError> {
-    error.clone()
-}
-
-fn is_expand_error_cloned(rt: &impl Print, error: &ExpandError) -> bool {
-    let copy = match copy_of_expand_error(error) {
-        Err(_) => {
-            say_out_of_memory(rt);
-            copy_of_expand_error(error)
-        }
-        copy => copy,
-    };
-    match copy {
-        Ok(copy) => copy == *error,
-        Err(_) => false,
-    }
-}
-
-fn copy_of_error(error: &Error) -> Result<Error, AllocError> {
-    error.clone()
-}
-
-fn is_error_cloned(rt: &impl Print, error: &Error) -> bool {
-    let copy = match copy_of_error(error) {
-        Err(_) => {
-            say_out_of_memory(rt);
-            copy_of_error(error)
-        }
-        copy => copy,
-    };
-    match copy {
-        Ok(copy) => copy == *error,
-        Err(_) => false,
-    }
-}
-
-fn are_errors_cloned(rt: &impl Print, error: ExpandError) -> bool {
-    is_expand_error_cloned(rt, &error) && is_error_cloned(rt, &Error::from(error))
-}
-
-/// The name of a missing variable, from a second request where the first is refused.
-fn absent(alloc: Global) -> Result<String, AllocError> {
-    match String::from_str(alloc, "absent") {
-        Err(_) => String::from_str(alloc, "absent"),
-        name => name,
-    }
-}
-
-fn are_cloned(alloc: Global, rt: &impl Print) -> bool {
-    match absent(alloc) {
-        Ok(name) => {
-            let missing = NoSuchVariable {
-                position: MISSING_AT,
-                name,
-            };
-            is_missing_cloned(rt, &missing) && are_errors_cloned(rt, ExpandError::from(missing))
-        }
-        Err(_) => false,
     }
 }
 
 #[test]
-fn clones_of_errors(rt: HostRuntime) {
-    assert!(rt; are_cloned(rt.alloc(), &rt));
+fn clone_of_a_missing_variable(rt: HostRuntime) -> Result<(), Fail> {
+    let missing = missing(rt.alloc())?;
+    let copy = cloned(&rt, "NoSuchVariable::clone", &missing)?;
+    assert!(rt; copy == missing);
+    Ok(())
+}
+
+#[test]
+fn clone_of_an_error_of_an_expansion(rt: HostRuntime) -> Result<(), Fail> {
+    let missing = ExpandError::from(missing(rt.alloc())?);
+    let copy = cloned(&rt, "ExpandError::clone of a missing variable", &missing)?;
+    assert!(rt; copy == missing);
+    Ok(())
+}
+
+#[test]
+fn clone_of_an_error(rt: HostRuntime) -> Result<(), Fail> {
+    let missing = Error::from(missing(rt.alloc())?);
+    let copy = cloned(&rt, "Error::clone of a missing variable", &missing)?;
+    assert!(rt; copy == missing);
+    Ok(())
 }

@@ -1,8 +1,8 @@
 //! Out of memory in templates of bytes that own their sources, and in copies.
 
-use super::say_out_of_memory;
 use crate::byte_calls as calls;
 use crate::byte_calls::Bytes;
+use crate::marks::{begin, end, say_out_of_memory};
 use std::alloc::{AllocError, Global};
 use std::io::Print;
 use std::test::Fail;
@@ -24,15 +24,11 @@ const BAD_ESCAPE: usize = 24;
 /// The value of `name`, longer than each source.
 const VALUE: &[u8] = b"the whole round world with all that is in it";
 
-/// The variables, from a second request where the first is refused.
 fn variables(alloc: Global) -> Result<Bytes, AllocError> {
-    match calls::one_variable(alloc, "name", VALUE) {
-        Err(_) => calls::one_variable(alloc, "name", VALUE),
-        variables => variables,
-    }
+    calls::one_variable(alloc, "name", VALUE)
 }
 
-/// Whether the variables are those that were asked for.
+/// Whether the variables are those that were made.
 fn are_as_before(variables: &Bytes) -> bool {
     match variables.get("name") {
         Some(value) => variables.len() == 1 && calls::are_equal(value.as_slice(), VALUE),
@@ -40,24 +36,18 @@ fn are_as_before(variables: &Bytes) -> bool {
     }
 }
 
-/// Returns the template of a source, from a second call where memory ran out.
-fn parsed<'a>(
+/// Returns a template that takes over a copy of bytes, from a second call where memory ran out.
+fn owned(
     alloc: Global,
     rt: &impl Print,
-    source: &'a [u8],
-) -> Result<ByteTemplate<'a>, ParseError> {
-    match calls::parse(alloc, source) {
-        Err(ParseError::OutOfMemory(_)) => {
-            say_out_of_memory(rt);
-            calls::parse(alloc, source)
-        }
-        answer => answer,
-    }
-}
-
-/// Returns a template that owns a copy of a source, from a second call where memory ran out.
-fn owned(alloc: Global, rt: &impl Print, source: &[u8]) -> Result<ByteTemplateBuf, ParseError> {
-    match calls::own(alloc, source) {
+    call: &str,
+    source: &[u8],
+) -> Result<ByteTemplateBuf, ParseError> {
+    let bytes = Vec::from_slice(alloc, source)?;
+    begin(rt, call);
+    let owned = calls::take_over(bytes);
+    end(rt);
+    match owned {
         Err(ParseError::OutOfMemory(_)) => {
             say_out_of_memory(rt);
             calls::own(alloc, source)
@@ -66,49 +56,40 @@ fn owned(alloc: Global, rt: &impl Print, source: &[u8]) -> Result<ByteTemplateBu
     }
 }
 
-/// Returns what a template gives, from a second call where memory ran out.
-fn expanded(
-    alloc: Global,
-    rt: &impl Print,
-    template: &ByteTemplate<'_>,
-    variables: &Bytes,
-) -> Result<Vec<u8>, ExpandError> {
-    match calls::expand(alloc, template, variables) {
-        Err(ExpandError::OutOfMemory(_)) => {
-            say_out_of_memory(rt);
-            calls::expand(alloc, template, variables)
-        }
-        answer => answer,
-    }
-}
-
-/// The same by a template that owns its source.
+/// Returns what a template gives, from a second call where memory ran out and what was lent is as before.
 fn expanded_by_owner(
     alloc: Global,
     rt: &impl Print,
     template: &ByteTemplateBuf,
     variables: &Bytes,
 ) -> Result<Vec<u8>, ExpandError> {
-    match calls::expand_owner(alloc, template, variables) {
-        Err(ExpandError::OutOfMemory(_)) => {
-            say_out_of_memory(rt);
-            calls::expand_owner(alloc, template, variables)
+    begin(rt, "ByteTemplateBuf::expand of a sentence");
+    let expanded = calls::expand_owner(alloc, template, variables);
+    end(rt);
+    if let Err(ExpandError::OutOfMemory(_)) = expanded {
+        say_out_of_memory(rt);
+        if calls::are_equal(template.source(), SENTENCE) && are_as_before(variables) {
+            return calls::expand_owner(alloc, template, variables);
         }
-        answer => answer,
     }
+    expanded
 }
 
 /// Returns a clone of a template, from a second call where memory ran out.
 fn cloned<'a>(
     rt: &impl Print,
+    call: &str,
     template: &ByteTemplate<'a>,
 ) -> Result<ByteTemplate<'a>, AllocError> {
-    match calls::clone(template) {
+    begin(rt, call);
+    let copy = calls::clone(template);
+    end(rt);
+    match copy {
         Err(_) => {
             say_out_of_memory(rt);
             calls::clone(template)
         }
-        answer => answer,
+        copy => copy,
     }
 }
 
@@ -117,12 +98,15 @@ fn cloned_owner(
     rt: &impl Print,
     template: &ByteTemplateBuf,
 ) -> Result<ByteTemplateBuf, AllocError> {
-    match calls::clone_owner(template) {
+    begin(rt, "ByteTemplateBuf::clone");
+    let copy = calls::clone_owner(template);
+    end(rt);
+    match copy {
         Err(_) => {
             say_out_of_memory(rt);
             calls::clone_owner(template)
         }
-        answer => answer,
+        copy => copy,
     }
 }
 
@@ -132,84 +116,59 @@ fn copied(
     rt: &impl Print,
     template: &ByteTemplate<'_>,
 ) -> Result<ByteTemplateBuf, AllocError> {
-    match calls::from_template(alloc, template) {
+    begin(rt, "ByteTemplateBuf::from_template");
+    let copy = calls::from_template(alloc, template);
+    end(rt);
+    match copy {
         Err(_) => {
             say_out_of_memory(rt);
             calls::from_template(alloc, template)
         }
-        answer => answer,
+        copy => copy,
     }
 }
 
-/// Returns an owned copy of what a template lends, from a second call where memory ran out.
-fn copied_of_lent(
+/// Returns an owned copy of a template, which is given away, or of one that `again` lends where memory ran
+/// out.
+fn copied_of(
     alloc: Global,
     rt: &impl Print,
-    lender: &ByteTemplateBuf,
+    call: &str,
+    template: ByteTemplate<'_>,
+    again: &ByteTemplateBuf,
 ) -> Result<ByteTemplateBuf, AllocError> {
-    match calls::of_template(alloc, calls::lend(lender)) {
+    begin(rt, call);
+    let copy = calls::of_template(alloc, template);
+    end(rt);
+    match copy {
         Err(_) => {
             say_out_of_memory(rt);
-            calls::of_template(alloc, calls::lend(lender))
+            calls::of_template(alloc, calls::lend(again))
         }
-        answer => answer,
+        copy => copy,
     }
 }
 
-/// Whether what a template gives is [`GIVEN`].
-fn is_expanded(output: &Result<Vec<u8>, ExpandError>) -> bool {
+fn is_expanded(output: &Result<Vec<u8>, ExpandError>, variables: &Bytes) -> bool {
     match output {
-        Ok(output) => calls::are_equal(output.as_slice(), GIVEN),
+        Ok(output) => calls::are_equal(output.as_slice(), GIVEN) && are_as_before(variables),
         Err(_) => false,
     }
 }
 
 /// Whether a template has the source [`SENTENCE`] and gives [`GIVEN`].
-fn is_whole(
-    alloc: Global,
-    rt: &impl Print,
-    template: &ByteTemplate<'_>,
-) -> Result<bool, AllocError> {
-    let variables = variables(alloc)?;
-    let gives = is_expanded(&expanded(alloc, rt, template, &variables));
-    Ok(gives && calls::are_equal(template.source(), SENTENCE) && are_as_before(&variables))
+fn is_whole(alloc: Global, template: &ByteTemplate<'_>) -> bool {
+    match variables(alloc) {
+        Ok(variables) => {
+            let output = calls::expand(alloc, template, &variables);
+            is_expanded(&output, &variables) && calls::are_equal(template.source(), SENTENCE)
+        }
+        Err(_) => false,
+    }
 }
 
-/// The same of its clone.
-fn is_clone_whole(
-    alloc: Global,
-    rt: &impl Print,
-    template: &ByteTemplate<'_>,
-) -> Result<bool, AllocError> {
-    let copy = cloned(rt, template)?;
-    is_whole(alloc, rt, &copy)
-}
-
-/// Whether a template that owns its source gives [`GIVEN`].
-fn gives_by_owner(
-    alloc: Global,
-    rt: &impl Print,
-    template: &ByteTemplateBuf,
-) -> Result<bool, AllocError> {
-    let variables = variables(alloc)?;
-    let gives = is_expanded(&expanded_by_owner(alloc, rt, template, &variables));
-    Ok(gives && are_as_before(&variables))
-}
-
-/// Whether it gives [`GIVEN`], and then its source back, which is [`SENTENCE`].
-fn is_whole_owner(alloc: Global, rt: &impl Print, template: ByteTemplateBuf) -> bool {
-    let gives = gives_by_owner(alloc, rt, &template) == Ok(true);
-    gives && calls::are_equal(calls::take_apart(template).as_slice(), SENTENCE)
-}
-
-/// The same of an owned copy of a template.
-fn is_copy_whole(
-    alloc: Global,
-    rt: &impl Print,
-    template: &ByteTemplate<'_>,
-) -> Result<bool, AllocError> {
-    let copy = copied(alloc, rt, template)?;
-    Ok(is_whole_owner(alloc, rt, copy))
+fn is_whole_owner(alloc: Global, template: &ByteTemplateBuf) -> bool {
+    is_whole(alloc, &calls::lend(template))
 }
 
 fn is_refused(parsed: &Result<ByteTemplateBuf, ParseError>) -> bool {
@@ -221,47 +180,87 @@ fn is_refused(parsed: &Result<ByteTemplateBuf, ParseError>) -> bool {
 
 #[test]
 fn clone_of_a_template(rt: HostRuntime) -> Result<(), Fail> {
-    let template = parsed(rt.alloc(), &rt, SENTENCE)?;
-    assert!(rt; is_clone_whole(rt.alloc(), &rt, &template)?);
-    assert!(rt; is_whole(rt.alloc(), &rt, &template)?);
+    let template = calls::parse(rt.alloc(), SENTENCE)?;
+    let copy = cloned(&rt, "ByteTemplate::clone", &template)?;
+    assert!(rt; is_whole(rt.alloc(), &copy) && is_whole(rt.alloc(), &template));
     Ok(())
 }
 
 #[test]
-fn from_vec_and_expand(rt: HostRuntime) -> Result<(), Fail> {
-    let owner = owned(rt.alloc(), &rt, SENTENCE)?;
-    assert!(rt; is_whole_owner(rt.alloc(), &rt, owner));
+fn clone_of_a_lent_template(rt: HostRuntime) -> Result<(), Fail> {
+    let owner = calls::own(rt.alloc(), SENTENCE)?;
+    let copy = cloned(
+        &rt,
+        "ByteTemplate::clone of a lent one",
+        &calls::lend(&owner),
+    )?;
+    assert!(rt; is_whole(rt.alloc(), &copy));
     Ok(())
 }
 
 #[test]
-fn from_vec_of_a_refused_source(rt: HostRuntime) -> Result<(), Fail> {
-    assert!(rt; is_refused(&owned(rt.alloc(), &rt, REFUSED)));
+fn from_vec(rt: HostRuntime) -> Result<(), Fail> {
+    let owner = owned(
+        rt.alloc(),
+        &rt,
+        "ByteTemplateBuf::from_vec of a sentence",
+        SENTENCE,
+    )?;
+    assert!(rt; is_whole_owner(rt.alloc(), &owner));
+    Ok(())
+}
+
+#[test]
+fn from_vec_of_a_refused_source(rt: HostRuntime) {
+    let owner = owned(
+        rt.alloc(),
+        &rt,
+        "ByteTemplateBuf::from_vec of a bad escape",
+        REFUSED,
+    );
+    assert!(rt; is_refused(&owner));
+}
+
+#[test]
+fn expand_by_an_owner(rt: HostRuntime) -> Result<(), Fail> {
+    let variables = variables(rt.alloc())?;
+    let owner = calls::own(rt.alloc(), SENTENCE)?;
+    let filled = expanded_by_owner(rt.alloc(), &rt, &owner, &variables);
+    assert!(rt; is_expanded(&filled, &variables));
     Ok(())
 }
 
 #[test]
 fn clone_of_an_owner(rt: HostRuntime) -> Result<(), Fail> {
-    let owner = owned(rt.alloc(), &rt, SENTENCE)?;
+    let owner = calls::own(rt.alloc(), SENTENCE)?;
     let copy = cloned_owner(&rt, &owner)?;
-    assert!(rt; is_whole_owner(rt.alloc(), &rt, owner));
-    assert!(rt; is_whole_owner(rt.alloc(), &rt, copy));
+    assert!(rt; is_whole_owner(rt.alloc(), &copy) && is_whole_owner(rt.alloc(), &owner));
     Ok(())
 }
 
 #[test]
 fn from_template(rt: HostRuntime) -> Result<(), Fail> {
-    let template = parsed(rt.alloc(), &rt, SENTENCE)?;
-    assert!(rt; is_copy_whole(rt.alloc(), &rt, &template)?);
-    assert!(rt; is_whole(rt.alloc(), &rt, &template)?);
+    let template = calls::parse(rt.alloc(), SENTENCE)?;
+    let copy = copied(rt.alloc(), &rt, &template)?;
+    assert!(rt; is_whole_owner(rt.alloc(), &copy) && is_whole(rt.alloc(), &template));
     Ok(())
 }
 
 #[test]
 fn of_template(rt: HostRuntime) -> Result<(), Fail> {
-    let lender = owned(rt.alloc(), &rt, SENTENCE)?;
-    let copy = copied_of_lent(rt.alloc(), &rt, &lender)?;
-    assert!(rt; is_whole_owner(rt.alloc(), &rt, lender));
-    assert!(rt; is_whole_owner(rt.alloc(), &rt, copy));
+    let owner = calls::own(rt.alloc(), SENTENCE)?;
+    let template = calls::parse(rt.alloc(), SENTENCE)?;
+    let call = "ByteTemplateBuf::of_template";
+    let copy = copied_of(rt.alloc(), &rt, call, template, &owner)?;
+    assert!(rt; is_whole_owner(rt.alloc(), &copy));
+    Ok(())
+}
+
+#[test]
+fn of_a_lent_template(rt: HostRuntime) -> Result<(), Fail> {
+    let owner = calls::own(rt.alloc(), SENTENCE)?;
+    let call = "ByteTemplateBuf::of_template of a lent one";
+    let copy = copied_of(rt.alloc(), &rt, call, calls::lend(&owner), &owner)?;
+    assert!(rt; is_whole_owner(rt.alloc(), &copy) && is_whole_owner(rt.alloc(), &owner));
     Ok(())
 }

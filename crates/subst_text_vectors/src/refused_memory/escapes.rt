@@ -1,13 +1,16 @@
 //! Escaping a text.
 
-use super::say_out_of_memory;
+use crate::marks::{begin, end, say_out_of_memory};
 use crate::text_calls::escaped;
 use std::test::Fail;
 
 #[test]
 fn escaping(rt: HostRuntime) -> Result<(), Fail> {
     let text = "a$b{c}:\\";
-    let found = match escaped(rt.alloc(), text) {
+    begin(&rt, "laws::escaped");
+    let found = escaped(rt.alloc(), text);
+    end(&rt);
+    let found = match found {
         Err(_) => {
             say_out_of_memory(&rt);
             escaped(rt.alloc(), text)?

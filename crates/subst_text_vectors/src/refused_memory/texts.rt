@@ -1,6 +1,6 @@
 //! Out of memory in `substitute` and in templates of texts.
 
-use super::say_out_of_memory;
+use crate::marks::{begin, end, say_out_of_memory};
 use crate::text_calls as calls;
 use crate::text_calls::Texts;
 use std::alloc::{AllocError, Global};
@@ -16,7 +16,7 @@ const SENTENCE: &str = "Hé ${hi:\\{${who:❤}\\}} and $name!";
 const GIVEN: &str = "Hé {❤} and the whole round world with all that is in it!";
 
 /// A sentence that needs a variable which isn't there.
-const MISSING_VARIABLE: &str = "Hé ${hi:$name and ${who:$absent}}!";
+const MISSING: &str = "Hé ${hi:$name and ${who:$absent}}!";
 
 /// The byte offset of that variable's name.
 const MISSING_AT: usize = 26;
@@ -30,19 +30,11 @@ const BAD_ESCAPE: usize = 25;
 /// The value of `name`, longer than each source.
 const VALUE: &str = "the whole round world with all that is in it";
 
-fn ask_for_variables(alloc: Global) -> Result<Texts, AllocError> {
+fn variables(alloc: Global) -> Result<Texts, AllocError> {
     calls::texts(alloc, "name=the whole round world with all that is in it")
 }
 
-/// The variables, from a second request where the first is refused.
-fn variables(alloc: Global) -> Result<Texts, AllocError> {
-    match ask_for_variables(alloc) {
-        Err(_) => ask_for_variables(alloc),
-        variables => variables,
-    }
-}
-
-/// Whether the variables are those that were asked for.
+/// Whether the variables are those that were made.
 fn are_as_before(variables: &Texts) -> bool {
     match variables.get("name") {
         Some(value) => variables.len() == 1 && calls::are_equal(value.as_str(), VALUE),
@@ -50,25 +42,32 @@ fn are_as_before(variables: &Texts) -> bool {
     }
 }
 
-/// Returns what a text gives, from a second call where memory ran out.
+/// Returns what a text gives, from a second call where memory ran out and the variables are as before.
 fn substituted(
     alloc: Global,
     rt: &impl Print,
+    call: &str,
     source: &str,
     variables: &Texts,
 ) -> Result<String, Error> {
-    match calls::fill_in(alloc, source, variables) {
-        Err(Error::OutOfMemory(_)) => {
-            say_out_of_memory(rt);
-            calls::fill_in(alloc, source, variables)
+    begin(rt, call);
+    let filled = calls::fill_in(alloc, source, variables);
+    end(rt);
+    if let Err(Error::OutOfMemory(_)) = filled {
+        say_out_of_memory(rt);
+        if are_as_before(variables) {
+            return calls::fill_in(alloc, source, variables);
         }
-        answer => answer,
     }
+    filled
 }
 
-/// Returns the template of a source, from a second call where memory ran out.
+/// Returns the template of a text, from a second call where memory ran out.
 fn parsed<'a>(alloc: Global, rt: &impl Print, source: &'a str) -> Result<Template<'a>, ParseError> {
-    match calls::parse(alloc, source) {
+    begin(rt, "Template::from_str of a sentence");
+    let parsed = calls::parse(alloc, source);
+    end(rt);
+    match parsed {
         Err(ParseError::OutOfMemory(_)) => {
             say_out_of_memory(rt);
             calls::parse(alloc, source)
@@ -77,9 +76,18 @@ fn parsed<'a>(alloc: Global, rt: &impl Print, source: &'a str) -> Result<Templat
     }
 }
 
-/// Returns a template that owns a copy of a source, from a second call where memory ran out.
-fn owned(alloc: Global, rt: &impl Print, source: &str) -> Result<TemplateBuf, ParseError> {
-    match calls::own(alloc, source) {
+/// Returns a template that takes over a copy of a text, from a second call where memory ran out.
+fn owned(
+    alloc: Global,
+    rt: &impl Print,
+    call: &str,
+    source: &str,
+) -> Result<TemplateBuf, ParseError> {
+    let text = String::from_str(alloc, source)?;
+    begin(rt, call);
+    let owned = calls::take_over(text);
+    end(rt);
+    match owned {
         Err(ParseError::OutOfMemory(_)) => {
             say_out_of_memory(rt);
             calls::own(alloc, source)
@@ -88,20 +96,25 @@ fn owned(alloc: Global, rt: &impl Print, source: &str) -> Result<TemplateBuf, Pa
     }
 }
 
-/// Returns what a template gives, from a second call where memory ran out.
+/// Returns what a template gives, from a second call where memory ran out and what was lent is as before.
 fn expanded(
     alloc: Global,
     rt: &impl Print,
+    call: &str,
     template: &Template<'_>,
+    source: &str,
     variables: &Texts,
 ) -> Result<String, ExpandError> {
-    match calls::expand(alloc, template, variables) {
-        Err(ExpandError::OutOfMemory(_)) => {
-            say_out_of_memory(rt);
-            calls::expand(alloc, template, variables)
+    begin(rt, call);
+    let expanded = calls::expand(alloc, template, variables);
+    end(rt);
+    if let Err(ExpandError::OutOfMemory(_)) = expanded {
+        say_out_of_memory(rt);
+        if calls::are_equal(template.source(), source) && are_as_before(variables) {
+            return calls::expand(alloc, template, variables);
         }
-        answer => answer,
     }
+    expanded
 }
 
 /// The same by a template that owns its source.
@@ -111,34 +124,47 @@ fn expanded_by_owner(
     template: &TemplateBuf,
     variables: &Texts,
 ) -> Result<String, ExpandError> {
-    match calls::expand_owner(alloc, template, variables) {
-        Err(ExpandError::OutOfMemory(_)) => {
-            say_out_of_memory(rt);
-            calls::expand_owner(alloc, template, variables)
+    begin(rt, "TemplateBuf::expand of a sentence");
+    let expanded = calls::expand_owner(alloc, template, variables);
+    end(rt);
+    if let Err(ExpandError::OutOfMemory(_)) = expanded {
+        say_out_of_memory(rt);
+        if calls::are_equal(template.source(), SENTENCE) && are_as_before(variables) {
+            return calls::expand_owner(alloc, template, variables);
         }
-        answer => answer,
     }
+    expanded
 }
 
 /// Returns a clone of a template, from a second call where memory ran out.
-fn cloned<'a>(rt: &impl Print, template: &Template<'a>) -> Result<Template<'a>, AllocError> {
-    match calls::clone(template) {
+fn cloned<'a>(
+    rt: &impl Print,
+    call: &str,
+    template: &Template<'a>,
+) -> Result<Template<'a>, AllocError> {
+    begin(rt, call);
+    let copy = calls::clone(template);
+    end(rt);
+    match copy {
         Err(_) => {
             say_out_of_memory(rt);
             calls::clone(template)
         }
-        answer => answer,
+        copy => copy,
     }
 }
 
 /// The same of a template that owns its source.
 fn cloned_owner(rt: &impl Print, template: &TemplateBuf) -> Result<TemplateBuf, AllocError> {
-    match calls::clone_owner(template) {
+    begin(rt, "TemplateBuf::clone");
+    let copy = calls::clone_owner(template);
+    end(rt);
+    match copy {
         Err(_) => {
             say_out_of_memory(rt);
             calls::clone_owner(template)
         }
-        answer => answer,
+        copy => copy,
     }
 }
 
@@ -148,99 +174,82 @@ fn copied(
     rt: &impl Print,
     template: &Template<'_>,
 ) -> Result<TemplateBuf, AllocError> {
-    match calls::from_template(alloc, template) {
+    begin(rt, "TemplateBuf::from_template");
+    let copy = calls::from_template(alloc, template);
+    end(rt);
+    match copy {
         Err(_) => {
             say_out_of_memory(rt);
             calls::from_template(alloc, template)
         }
-        answer => answer,
+        copy => copy,
     }
 }
 
-/// Returns an owned copy of what a template lends, from a second call where memory ran out.
-fn copied_of_lent(
+/// Returns an owned copy of a template, which is given away, or of one that `again` lends where memory ran
+/// out.
+fn copied_of(
     alloc: Global,
     rt: &impl Print,
-    lender: &TemplateBuf,
+    call: &str,
+    template: Template<'_>,
+    again: &TemplateBuf,
 ) -> Result<TemplateBuf, AllocError> {
-    match calls::of_template(alloc, calls::lend(lender)) {
+    begin(rt, call);
+    let copy = calls::of_template(alloc, template);
+    end(rt);
+    match copy {
         Err(_) => {
             say_out_of_memory(rt);
-            calls::of_template(alloc, calls::lend(lender))
+            calls::of_template(alloc, calls::lend(again))
         }
-        answer => answer,
+        copy => copy,
     }
 }
 
-/// Whether what a template gives is [`GIVEN`].
-fn is_expanded(output: &Result<String, ExpandError>) -> bool {
+fn is_expanded(output: &Result<String, ExpandError>, variables: &Texts) -> bool {
     match output {
-        Ok(output) => calls::are_equal(output.as_str(), GIVEN),
+        Ok(output) => calls::are_equal(output.as_str(), GIVEN) && are_as_before(variables),
         Err(_) => false,
     }
 }
 
 /// Whether a template has the source [`SENTENCE`] and gives [`GIVEN`].
-fn is_whole(alloc: Global, rt: &impl Print, template: &Template<'_>) -> Result<bool, AllocError> {
-    let variables = variables(alloc)?;
-    let gives = is_expanded(&expanded(alloc, rt, template, &variables));
-    Ok(gives && calls::are_equal(template.source(), SENTENCE) && are_as_before(&variables))
-}
-
-/// The same of its clone.
-fn is_clone_whole(
-    alloc: Global,
-    rt: &impl Print,
-    template: &Template<'_>,
-) -> Result<bool, AllocError> {
-    let copy = cloned(rt, template)?;
-    is_whole(alloc, rt, &copy)
-}
-
-/// Whether a template that owns its source gives [`GIVEN`].
-fn gives_by_owner(
-    alloc: Global,
-    rt: &impl Print,
-    template: &TemplateBuf,
-) -> Result<bool, AllocError> {
-    let variables = variables(alloc)?;
-    let gives = is_expanded(&expanded_by_owner(alloc, rt, template, &variables));
-    Ok(gives && are_as_before(&variables))
-}
-
-/// Whether it gives [`GIVEN`], and then its source back, which is [`SENTENCE`].
-fn is_whole_owner(alloc: Global, rt: &impl Print, template: TemplateBuf) -> bool {
-    let gives = gives_by_owner(alloc, rt, &template) == Ok(true);
-    gives && calls::are_equal(calls::take_apart(template).as_str(), SENTENCE)
-}
-
-/// The same of an owned copy of a template.
-fn is_copy_whole(
-    alloc: Global,
-    rt: &impl Print,
-    template: &Template<'_>,
-) -> Result<bool, AllocError> {
-    let copy = copied(alloc, rt, template)?;
-    Ok(is_whole_owner(alloc, rt, copy))
-}
-
-fn is_given(filled: &Result<String, Error>) -> bool {
-    match filled {
-        Ok(output) => calls::are_equal(output.as_str(), GIVEN),
+fn is_whole(alloc: Global, template: &Template<'_>) -> bool {
+    match variables(alloc) {
+        Ok(variables) => {
+            let output = calls::expand(alloc, template, &variables);
+            is_expanded(&output, &variables) && calls::are_equal(template.source(), SENTENCE)
+        }
         Err(_) => false,
     }
 }
 
-fn is_missing(filled: &Result<String, Error>) -> bool {
+fn is_whole_owner(alloc: Global, template: &TemplateBuf) -> bool {
+    is_whole(alloc, &calls::lend(template))
+}
+
+fn is_given(filled: &Result<String, Error>, variables: &Texts) -> bool {
     match filled {
-        Err(Error::NoSuchVariable(e)) => e.position == MISSING_AT && e.name.as_str() == "absent",
+        Ok(output) => calls::are_equal(output.as_str(), GIVEN) && are_as_before(variables),
+        Err(_) => false,
+    }
+}
+
+fn is_missing(filled: &Result<String, Error>, variables: &Texts) -> bool {
+    match filled {
+        Err(Error::NoSuchVariable(e)) => {
+            e.position == MISSING_AT && e.name.as_str() == "absent" && are_as_before(variables)
+        }
         _ => false,
     }
 }
 
-fn is_bad_escape(filled: &Result<String, Error>) -> bool {
+fn is_bad_escape(filled: &Result<String, Error>, variables: &Texts) -> bool {
     match filled {
-        Err(Error::InvalidEscapeSequence(e)) => e.position == BAD_ESCAPE,
+        Err(Error::InvalidEscapeSequence(e)) => {
+            e.position == BAD_ESCAPE && are_as_before(variables)
+        }
         _ => false,
     }
 }
@@ -255,86 +264,136 @@ fn is_refused(parsed: &Result<TemplateBuf, ParseError>) -> bool {
 #[test]
 fn substitute_of_a_sentence(rt: HostRuntime) -> Result<(), Fail> {
     let variables = variables(rt.alloc())?;
-    assert!(rt; is_given(&substituted(rt.alloc(), &rt, SENTENCE, &variables)));
-    assert!(rt; are_as_before(&variables));
+    let call = "substitute of a sentence";
+    let filled = substituted(rt.alloc(), &rt, call, SENTENCE, &variables);
+    assert!(rt; is_given(&filled, &variables));
     Ok(())
 }
 
 #[test]
 fn substitute_of_a_missing_variable(rt: HostRuntime) -> Result<(), Fail> {
     let variables = variables(rt.alloc())?;
-    assert!(rt; is_missing(&substituted(rt.alloc(), &rt, MISSING_VARIABLE, &variables)));
-    assert!(rt; are_as_before(&variables));
+    let call = "substitute of a missing variable";
+    let filled = substituted(rt.alloc(), &rt, call, MISSING, &variables);
+    assert!(rt; is_missing(&filled, &variables));
     Ok(())
 }
 
 #[test]
 fn substitute_of_a_refused_text(rt: HostRuntime) -> Result<(), Fail> {
     let variables = variables(rt.alloc())?;
-    assert!(rt; is_bad_escape(&substituted(rt.alloc(), &rt, REFUSED, &variables)));
-    assert!(rt; are_as_before(&variables));
+    let call = "substitute of a bad escape";
+    let filled = substituted(rt.alloc(), &rt, call, REFUSED, &variables);
+    assert!(rt; is_bad_escape(&filled, &variables));
     Ok(())
 }
 
 #[test]
-fn from_str_and_expand(rt: HostRuntime) -> Result<(), Fail> {
+fn from_str(rt: HostRuntime) -> Result<(), Fail> {
     let template = parsed(rt.alloc(), &rt, SENTENCE)?;
-    assert!(rt; is_whole(rt.alloc(), &rt, &template)?);
+    assert!(rt; is_whole(rt.alloc(), &template));
+    Ok(())
+}
+
+#[test]
+fn expand(rt: HostRuntime) -> Result<(), Fail> {
+    let variables = variables(rt.alloc())?;
+    let template = calls::parse(rt.alloc(), SENTENCE)?;
+    let call = "Template::expand of a sentence";
+    let filled = expanded(rt.alloc(), &rt, call, &template, SENTENCE, &variables);
+    assert!(rt; is_expanded(&filled, &variables));
     Ok(())
 }
 
 #[test]
 fn expand_to_a_missing_variable(rt: HostRuntime) -> Result<(), Fail> {
-    let template = parsed(rt.alloc(), &rt, MISSING_VARIABLE)?;
     let variables = variables(rt.alloc())?;
-    let filled = expanded(rt.alloc(), &rt, &template, &variables).map_err(Error::from);
-    assert!(rt; is_missing(&filled));
+    let template = calls::parse(rt.alloc(), MISSING)?;
+    let call = "Template::expand of a missing variable";
+    let filled = expanded(rt.alloc(), &rt, call, &template, MISSING, &variables);
+    assert!(rt; is_missing(&filled.map_err(Error::from), &variables));
     Ok(())
 }
 
 #[test]
 fn clone_of_a_template(rt: HostRuntime) -> Result<(), Fail> {
-    let template = parsed(rt.alloc(), &rt, SENTENCE)?;
-    assert!(rt; is_clone_whole(rt.alloc(), &rt, &template)?);
-    assert!(rt; is_whole(rt.alloc(), &rt, &template)?);
+    let template = calls::parse(rt.alloc(), SENTENCE)?;
+    let copy = cloned(&rt, "Template::clone", &template)?;
+    assert!(rt; is_whole(rt.alloc(), &copy) && is_whole(rt.alloc(), &template));
     Ok(())
 }
 
 #[test]
-fn from_string_and_expand(rt: HostRuntime) -> Result<(), Fail> {
-    let owner = owned(rt.alloc(), &rt, SENTENCE)?;
-    assert!(rt; is_whole_owner(rt.alloc(), &rt, owner));
+fn clone_of_a_lent_template(rt: HostRuntime) -> Result<(), Fail> {
+    let owner = calls::own(rt.alloc(), SENTENCE)?;
+    let copy = cloned(&rt, "Template::clone of a lent one", &calls::lend(&owner))?;
+    assert!(rt; is_whole(rt.alloc(), &copy));
     Ok(())
 }
 
 #[test]
-fn from_string_of_a_refused_source(rt: HostRuntime) -> Result<(), Fail> {
-    assert!(rt; is_refused(&owned(rt.alloc(), &rt, REFUSED)));
+fn from_string(rt: HostRuntime) -> Result<(), Fail> {
+    let owner = owned(
+        rt.alloc(),
+        &rt,
+        "TemplateBuf::from_string of a sentence",
+        SENTENCE,
+    )?;
+    assert!(rt; is_whole_owner(rt.alloc(), &owner));
+    Ok(())
+}
+
+#[test]
+fn from_string_of_a_refused_source(rt: HostRuntime) {
+    let owner = owned(
+        rt.alloc(),
+        &rt,
+        "TemplateBuf::from_string of a bad escape",
+        REFUSED,
+    );
+    assert!(rt; is_refused(&owner));
+}
+
+#[test]
+fn expand_by_an_owner(rt: HostRuntime) -> Result<(), Fail> {
+    let variables = variables(rt.alloc())?;
+    let owner = calls::own(rt.alloc(), SENTENCE)?;
+    let filled = expanded_by_owner(rt.alloc(), &rt, &owner, &variables);
+    assert!(rt; is_expanded(&filled, &variables));
     Ok(())
 }
 
 #[test]
 fn clone_of_an_owner(rt: HostRuntime) -> Result<(), Fail> {
-    let owner = owned(rt.alloc(), &rt, SENTENCE)?;
+    let owner = calls::own(rt.alloc(), SENTENCE)?;
     let copy = cloned_owner(&rt, &owner)?;
-    assert!(rt; is_whole_owner(rt.alloc(), &rt, owner));
-    assert!(rt; is_whole_owner(rt.alloc(), &rt, copy));
+    assert!(rt; is_whole_owner(rt.alloc(), &copy) && is_whole_owner(rt.alloc(), &owner));
     Ok(())
 }
 
 #[test]
 fn from_template(rt: HostRuntime) -> Result<(), Fail> {
-    let template = parsed(rt.alloc(), &rt, SENTENCE)?;
-    assert!(rt; is_copy_whole(rt.alloc(), &rt, &template)?);
-    assert!(rt; is_whole(rt.alloc(), &rt, &template)?);
+    let template = calls::parse(rt.alloc(), SENTENCE)?;
+    let copy = copied(rt.alloc(), &rt, &template)?;
+    assert!(rt; is_whole_owner(rt.alloc(), &copy) && is_whole(rt.alloc(), &template));
     Ok(())
 }
 
 #[test]
 fn of_template(rt: HostRuntime) -> Result<(), Fail> {
-    let lender = owned(rt.alloc(), &rt, SENTENCE)?;
-    let copy = copied_of_lent(rt.alloc(), &rt, &lender)?;
-    assert!(rt; is_whole_owner(rt.alloc(), &rt, lender));
-    assert!(rt; is_whole_owner(rt.alloc(), &rt, copy));
+    let owner = calls::own(rt.alloc(), SENTENCE)?;
+    let template = calls::parse(rt.alloc(), SENTENCE)?;
+    let call = "TemplateBuf::of_template";
+    let copy = copied_of(rt.alloc(), &rt, call, template, &owner)?;
+    assert!(rt; is_whole_owner(rt.alloc(), &copy));
+    Ok(())
+}
+
+#[test]
+fn of_a_lent_template(rt: HostRuntime) -> Result<(), Fail> {
+    let owner = calls::own(rt.alloc(), SENTENCE)?;
+    let call = "TemplateBuf::of_template of a lent one";
+    let copy = copied_of(rt.alloc(), &rt, call, calls::lend(&owner), &owner)?;
+    assert!(rt; is_whole_owner(rt.alloc(), &copy) && is_whole_owner(rt.alloc(), &owner));
     Ok(())
 }

@@ -1,0 +1,91 @@
+//! Calls that take no memory. `tools/refuse-memory.sh` counts the requests for memory between the two marks
+//! of each, and there must be none.
+
+use crate::marks::{begin, end};
+use crate::{byte_calls, text_calls};
+use std::io::Print;
+use std::test::Fail;
+use subst::steps::{Reads, Turns};
+use subst::{ByteTemplateBuf, TemplateBuf, laws};
+
+const SENTENCE: &str = "${a:b}";
+
+/// Whether it lends its source, in each way.
+fn lends_text(template: &TemplateBuf) -> bool {
+    let lent = text_calls::lend(template);
+    let by_from = text_calls::lend_by_from(template);
+    text_calls::are_equal(template.source(), SENTENCE)
+        && text_calls::are_equal(lent.source(), SENTENCE)
+        && text_calls::are_equal(by_from.source(), SENTENCE)
+}
+
+/// Whether it lends its source, and then gives it back.
+fn keeps_text(rt: &impl Print, template: TemplateBuf) -> bool {
+    begin(rt, "as_template, from, source and into_source of texts");
+    let is_lent = lends_text(&template);
+    let source = text_calls::take_apart(template);
+    end(rt);
+    is_lent && text_calls::are_equal(source.as_str(), SENTENCE)
+}
+
+/// Whether it lends its source, in each way.
+fn lends_bytes(template: &ByteTemplateBuf) -> bool {
+    let lent = byte_calls::lend(template);
+    let by_from = byte_calls::lend_by_from(template);
+    byte_calls::are_equal(template.source(), SENTENCE.as_bytes())
+        && byte_calls::are_equal(lent.source(), SENTENCE.as_bytes())
+        && byte_calls::are_equal(by_from.source(), SENTENCE.as_bytes())
+}
+
+/// Whether it lends its source, and then gives it back.
+fn keeps_bytes(rt: &impl Print, template: ByteTemplateBuf) -> bool {
+    begin(rt, "as_template, from, source and into_source of bytes");
+    let is_lent = lends_bytes(&template);
+    let source = byte_calls::take_apart(template);
+    end(rt);
+    is_lent && byte_calls::are_equal(source.as_slice(), SENTENCE.as_bytes())
+}
+
+#[test]
+fn sources_of_texts(rt: HostRuntime) -> Result<(), Fail> {
+    let template = text_calls::own(rt.alloc(), SENTENCE)?;
+    assert!(rt; keeps_text(&rt, template));
+    Ok(())
+}
+
+#[test]
+fn sources_of_bytes(rt: HostRuntime) -> Result<(), Fail> {
+    let template = byte_calls::own(rt.alloc(), SENTENCE.as_bytes())?;
+    assert!(rt; keeps_bytes(&rt, template));
+    Ok(())
+}
+
+#[test]
+fn counters(rt: HostRuntime) {
+    begin(&rt, "Reads::new and Turns::new");
+    let _reads = Reads::new();
+    let _turns = Turns::new();
+    end(&rt);
+}
+
+#[test]
+fn each_law(rt: HostRuntime) {
+    begin(
+        &rt,
+        "law_1 to law_9, and the laws of texts, turns and trees",
+    );
+    laws::law_1();
+    laws::law_2();
+    laws::law_3();
+    laws::law_4();
+    laws::law_5();
+    laws::law_6();
+    laws::law_7();
+    laws::law_8();
+    laws::law_9();
+    laws::texts_give_texts();
+    laws::turns_are_bounded();
+    laws::trees_have_one_outcome();
+    laws::toml_trees_have_one_outcome();
+    end(&rt);
+}
