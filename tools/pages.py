@@ -66,9 +66,10 @@ def test_install_links_a_static_program():
 
 
 def test_install_refuses_other_words():
-    for words in ([], ['--prefix'], ['a', 'b'], ['--static'], ['']):
+    for words in ([], ['--prefix'], ['a', 'b'], ['--static'], ['--library'], ['']):
         end = subprocess.run([TOP / 'tools/install', *words], stderr=subprocess.PIPE, text=True)
-        expect_that((end.returncode, end.stderr) == (2, 'usage: tools/install [--static] PREFIX\n'), f'{words}: {end}')
+        usage = 'usage: tools/install [--static | --library] PREFIX\n'
+        expect_that((end.returncode, end.stderr) == (2, usage), f'{words}: {end}')
 
 
 def test_page_has_no_warnings():

@@ -1,0 +1,4 @@
+pub mod Fault
+pub mod Pairs
+pub mod Room
+pub mod Text

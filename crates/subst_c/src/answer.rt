@@ -1,0 +1,44 @@
+//! The answer of a source under pairs, and what it says.
+
+ghost use Rattle.std.specs.Prelude.{◌≤◌, IfErr, IfOk, IfSome, length, string_bytes};
+ghost use Rattle.subst.specs.Calls.Outcome.{answer_of};
+ghost use Rattle.subst.specs.Language.Answer.{Answers};
+ghost use Rattle.subst.specs.ErrorFault.{error_fault};
+ghost use Rattle.subst.specs.Range.{range_of};
+ghost use Rattle.subst_c.specs.Pairs.{first_value};
+ghost use Rattle.subst_c.specs.Text.{IsTextOf};
+
+use crate::pairs::{Pair, Pairs};
+use std::alloc::{AllocError, Global};
+use subst::{Error, substitute_bytes};
+
+/// Returns the bytes of the source with its variables filled in from the pairs.
+///
+/// # Errors
+///
+/// The fault that the source is refused for. `OutOfMemory` when allocation fails.
+pub fn fill_in(alloc: Global, source: &[u8], pairs: &[Pair]) -> Result<Vec<u8>, Error>
+    ensures answer { IfSome (answer_of (λ output. output.items) result)
+        (Answers source.now (first_value pairs.now)) }
+    ensures range { IfErr result (λ e. (range_of (error_fault e)).end ≤ length source.now) }
+{
+    substitute_bytes(alloc, source, &Pairs { pairs })
+}
+
+/// Returns the text of the fault that the source is refused for, or the empty text where it isn't refused.
+///
+/// # Errors
+///
+/// When allocation fails, and for nothing else.
+pub fn fault_text(alloc: Global, source: &[u8], pairs: &[Pair]) -> Result<String, AllocError>
+    ensures { IfOk result (λ text.
+        IsTextOf (Answers source.now (first_value pairs.now)) (string_bytes text)) }
+{
+    match fill_in(alloc, source, pairs) {
+        Ok(_) => Ok(String::new(alloc)),
+        Err(e) => match e {
+            Error::OutOfMemory(e) => Err(e),
+            e => format!(in alloc; "{e}"),
+        },
+    }
+}

@@ -1,0 +1,68 @@
+//! What a caller in C is told of a fault.
+
+ghost use Rattle.std.specs.Prelude.{◌≡◌, ◌≢◌, ◌^◌, ◌<◌, None, Some};
+ghost use Rattle.std.specs.Option.{option_map};
+ghost use Rattle.subst.specs.ErrorFault.{error_fault};
+ghost use Rattle.subst.specs.Range.{range_of};
+ghost use Rattle.subst_c.specs.Fault.{IsToldOf, record_of, kind_of};
+ghost use Rattle.subst_c.specs.declared.outcome.TheConstants.{REFUSED, OUT_OF_MEMORY};
+
+use crate::outcome::{OUT_OF_MEMORY, REFUSED};
+use subst::Error;
+
+/// A backslash before a character that can't be escaped, or at the end of the source.
+pub const INVALID_ESCAPE_SEQUENCE: u32 = 1;
+
+/// A placeholder with no name.
+pub const MISSING_VARIABLE_NAME: u32 = 2;
+
+/// A character that can't follow the name of a placeholder in braces.
+pub const UNEXPECTED_CHARACTER: u32 = 3;
+
+/// A placeholder that is never closed.
+pub const MISSING_CLOSING_BRACE: u32 = 4;
+
+/// A variable that is needed, and that no pair names.
+pub const NO_SUCH_VARIABLE: u32 = 5;
+
+/// What a fault is, by the number of its kind, and where it is: its first byte, and how many bytes it takes.
+#[repr(C)]
+#[derive(Clone, Copy)]
+pub struct FaultRecord {
+    pub kind: u32,
+    pub position: usize,
+    pub length: usize,
+}
+
+/// Tells the fault that the error states. Where it states none, memory ran out.
+pub fn refuse(e: &Error, fault: &mut FaultRecord) -> u32
+    requires { (range_of (error_fault e.now)).end < 2 ^ 64 }
+    ensures refused { result ≡ REFUSED → IsToldOf (λ f. error_fault e.now ≡ Some f) fault.new }
+    ensures kept { result ≢ REFUSED → fault.new ≡ fault.old }
+    ensures others { result ≢ REFUSED → result ≡ OUT_OF_MEMORY }
+{
+    let Some(kind) = kind(e) else {
+        return OUT_OF_MEMORY;
+    };
+    let range = e.source_range();
+    *fault = FaultRecord {
+        kind,
+        position: range.start,
+        length: range.end - range.start,
+    };
+    REFUSED
+}
+
+/// Returns the number of the kind of fault that an error states.
+fn kind(e: &Error) -> Option<u32>
+    ensures { result ≡ option_map kind_of (error_fault e.now) }
+{
+    match e {
+        Error::InvalidEscapeSequence(_) => Some(INVALID_ESCAPE_SEQUENCE),
+        Error::MissingVariableName(_) => Some(MISSING_VARIABLE_NAME),
+        Error::UnexpectedCharacter(_) => Some(UNEXPECTED_CHARACTER),
+        Error::MissingClosingBrace(_) => Some(MISSING_CLOSING_BRACE),
+        Error::NoSuchVariable(_) => Some(NO_SUCH_VARIABLE),
+        Error::OutOfMemory(_) => None,
+    }
+}

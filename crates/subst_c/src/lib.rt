@@ -1,0 +1,101 @@
+//! The library under names of C: variables come as pairs, and what is returned goes into the caller's room.
+//!
+//! The header `data/subst.h` declares what is here, and docs/C.md shows how to call it. Each call returns one of
+//! the numbers of [`outcome`]. No pointer may be null, also where its length is 0; what is lent to be written
+//! overlaps nothing else that is passed.
+#![tactic(auto)]
+
+ghost use Rattle.std.specs.Prelude.{◌≡◌, ◌≢◌, [], length};
+ghost use Rattle.subst.specs.Language.Answer.{Answers, Gives, Refuses};
+ghost use Rattle.subst.specs.Language.BadItem.{HasFault};
+ghost use Rattle.subst.specs.Language.Sentence.{IsSentence};
+ghost use Rattle.subst_c.specs.Fault.{IsToldOf};
+ghost use Rattle.subst_c.specs.Pairs.{first_value};
+ghost use Rattle.subst_c.specs.Room.{IsPut, IsTooLong};
+ghost use Rattle.subst_c.specs.Text.{IsTextOf};
+ghost use Rattle.subst_c.specs.declared.outcome.TheConstants.{DONE, REFUSED, OUT_OF_MEMORY, ROOM_TOO_SMALL};
+
+pub use fault::FaultRecord;
+use outcome::{DONE, OUT_OF_MEMORY};
+pub use pairs::Pair;
+use std::alloc::Global;
+use subst::{ByteTemplate, Error};
+
+mod answer;
+mod fault;
+pub mod outcome;
+mod pairs;
+mod room;
+
+/// Puts the bytes of `source` with its variables filled in from `pairs` at the front of the room.
+#[unsafe(no_mangle)]
+pub extern "C" fn subst_bytes(
+    alloc: Global,
+    source: &[u8],
+    pairs: &[Pair],
+    room: &mut [u8],
+    needed: &mut usize,
+    fault: &mut FaultRecord,
+) -> u32
+    // The room begins with what the source gives.
+    ensures done { result ≡ DONE
+        → IsPut (λ x. Answers source.now (first_value pairs.now) (Gives x)) needed.new room.old room.new }
+
+    // The fault is that which the source is refused for.
+    ensures refused { result ≡ REFUSED
+        → IsToldOf (λ f. Answers source.now (first_value pairs.now) (Refuses f)) fault.new }
+
+    // What the source gives is longer than the room.
+    ensures too_small { result ≡ ROOM_TOO_SMALL
+        → IsTooLong (λ x. Answers source.now (first_value pairs.now) (Gives x)) needed.new room.old }
+
+    // There is no other result, but out of memory, and each leaves the rest as it was.
+    ensures others { result ≢ DONE → result ≢ REFUSED → result ≢ ROOM_TOO_SMALL
+        → result ≡ OUT_OF_MEMORY }
+    ensures room_kept { result ≢ DONE → room.new ≡ room.old }
+    ensures fault_kept { result ≢ REFUSED → fault.new ≡ fault.old }
+    ensures needed_kept { result ≢ DONE → result ≢ ROOM_TOO_SMALL → needed.new ≡ needed.old }
+{
+    match answer::fill_in(alloc, source, pairs) {
+        Ok(bytes) => room::deliver(&bytes, room, needed),
+        Err(e) => fault::refuse(&e, fault),
+    }
+}
+
+/// Looks whether `source` is a sentence of the template language, without variables.
+#[unsafe(no_mangle)]
+pub extern "C" fn subst_check(alloc: Global, source: &[u8], fault: &mut FaultRecord) -> u32
+    ensures done { result ≡ DONE → IsSentence source.now }
+    ensures refused { result ≡ REFUSED → IsToldOf (HasFault 0 source.now) fault.new }
+    ensures others { result ≢ DONE → result ≢ REFUSED → result ≡ OUT_OF_MEMORY }
+    ensures fault_kept { result ≢ REFUSED → fault.new ≡ fault.old }
+{
+    match ByteTemplate::from_slice(alloc, source) {
+        Ok(_) => DONE,
+        Err(e) => fault::refuse(&Error::from(e), fault),
+    }
+}
+
+/// Puts the text of the fault that `subst_bytes` finds, over the same source and pairs, at the front of the
+/// room. Where that finds none, the text is empty.
+#[unsafe(no_mangle)]
+pub extern "C" fn subst_fault_text(
+    alloc: Global,
+    source: &[u8],
+    pairs: &[Pair],
+    room: &mut [u8],
+    needed: &mut usize,
+) -> u32
+    ensures done { result ≡ DONE
+        → IsPut (IsTextOf (Answers source.now (first_value pairs.now))) needed.new room.old room.new }
+    ensures too_small { result ≡ ROOM_TOO_SMALL
+        → IsTooLong (IsTextOf (Answers source.now (first_value pairs.now))) needed.new room.old }
+    ensures others { result ≢ DONE → result ≢ ROOM_TOO_SMALL → result ≡ OUT_OF_MEMORY }
+    ensures room_kept { result ≢ DONE → room.new ≡ room.old }
+    ensures needed_kept { result ≢ DONE → result ≢ ROOM_TOO_SMALL → needed.new ≡ needed.old }
+{
+    match answer::fault_text(alloc, source, pairs) {
+        Ok(text) => room::deliver(text.as_bytes(), room, needed),
+        Err(_) => OUT_OF_MEMORY,
+    }
+}

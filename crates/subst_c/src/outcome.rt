@@ -1,0 +1,16 @@
+//! The results of calls, by number. A number never changes.
+
+/// Done.
+pub const DONE: u32 = 0;
+
+/// The source is refused.
+pub const REFUSED: u32 = 1;
+
+/// Memory ran out.
+pub const OUT_OF_MEMORY: u32 = 4;
+
+/// The room is too small.
+pub const ROOM_TOO_SMALL: u32 = 5;
+
+/// What has to be a text isn't UTF-8.
+pub const NOT_UTF8: u32 = 6;

@@ -1,0 +1,93 @@
+/* Shell-like variables in byte strings: $name, ${name}, ${name?} and ${name:default}.
+ *
+ * A backslash escapes \ $ { } and :. Values are inserted as they are, and never read as templates. docs/C.md has an
+ * example, and says how to link.
+ *
+ * No pointer may be NULL, also where its length is 0. What a call writes, as `room`, `needed` and `fault`, overlaps
+ * nothing else that is passed to it. A call keeps nothing that it is passed, so calls in several threads don't meet. It
+ * takes memory by malloc and gives all of it back, so it isn't for signal handlers. Lengths are in bytes, and positions
+ * are byte offsets from 0.
+ */
+#ifndef SUBST_H
+#define SUBST_H
+
+#include <stddef.h>
+#include <stdint.h>
+
+#if defined(__GNUC__)
+#define SUBST_NO_NULL __attribute__((nonnull))
+#else
+#define SUBST_NO_NULL
+#endif
+
+#ifdef __cplusplus
+extern "C" {
+#endif
+
+/* Results. A number never changes, and there are no others, but further calls may bring further ones. */
+enum {
+    SUBST_DONE = 0,
+    /* The source is refused, and `fault` says why. */
+    SUBST_REFUSED = 1,
+    SUBST_OUT_OF_MEMORY = 4,
+    /* `needed` says how many bytes the room has to have. */
+    SUBST_ROOM_TOO_SMALL = 5
+};
+
+/* Kinds of faults. A number never changes. */
+enum {
+    /* A backslash before a character that can't be escaped, or at the end of the source. */
+    SUBST_INVALID_ESCAPE_SEQUENCE = 1,
+    /* A placeholder with no name. */
+    SUBST_MISSING_VARIABLE_NAME = 2,
+    /* A character that can't follow the name of a placeholder in braces. */
+    SUBST_UNEXPECTED_CHARACTER = 3,
+    /* A placeholder whose opening brace is never closed. */
+    SUBST_MISSING_CLOSING_BRACE = 4,
+    /* A variable that is needed, and that no pair names. */
+    SUBST_NO_SUCH_VARIABLE = 5
+};
+
+/* A variable. Where pairs have the same name, the first one counts. */
+struct subst_pair {
+    const uint8_t *name;
+    size_t name_len;
+    const uint8_t *value;
+    size_t value_len;
+};
+
+/* The kind of a fault, and where in the source it is: its first byte, and how many bytes it takes. */
+struct subst_fault {
+    uint32_t kind;
+    size_t position;
+    size_t length;
+};
+
+/* Fills in the variables of the source. After SUBST_DONE the first `*needed` bytes of the room are the result, and the
+ * bytes behind these are as before.
+ *
+ * `*needed` is written with SUBST_DONE and SUBST_ROOM_TOO_SMALL alone, the room with SUBST_DONE alone, and `*fault` with
+ * SUBST_REFUSED alone. */
+uint32_t subst_bytes(const uint8_t *source, size_t source_len,
+                     const struct subst_pair *pairs, size_t pairs_len,
+                     uint8_t *room, size_t room_len, size_t *needed,
+                     struct subst_fault *fault) SUBST_NO_NULL;
+
+/* Looks at the source without its variables. SUBST_DONE: it is a template, so that only a missing variable, or memory,
+ * can be wrong with it. SUBST_REFUSED: `*fault` says why it is none. */
+uint32_t subst_check(const uint8_t *source, size_t source_len,
+                     struct subst_fault *fault) SUBST_NO_NULL;
+
+/* Puts the text of the fault that subst_bytes finds in this source with these pairs into the room, as subst_bytes puts
+ * its result there, and no byte 0 after it. Where there is no fault the text is empty. A fault that subst_check finds is
+ * found with any pairs, also with none. */
+uint32_t subst_fault_text(const uint8_t *source, size_t source_len,
+                          const struct subst_pair *pairs, size_t pairs_len,
+                          uint8_t *room, size_t room_len,
+                          size_t *needed) SUBST_NO_NULL;
+
+#ifdef __cplusplus
+}
+#endif
+
+#endif

@@ -1,0 +1,104 @@
+#!/usr/bin/env bash
+# Tests the library for C: tools/c_library.c built as C, as C++ and with the sanitizers of the compiler, the same with each
+# request for memory refused in turn, and what tools/install puts in place with the examples of docs/C.md. What the machine
+# lacks is said. The last line is 'N passed, M failed'.
+set -euo pipefail
+cd "$(dirname "$0")/.."
+ulimit -c 0
+
+seconds_a_run=60
+most_requests=2000
+compiler=${CC:-cc}
+strict=(-O2 -Wall -Wextra -Werror -pedantic)
+kit=$(dirname "$(rt doc)")
+archives=(crates/subst_c/out/libsubst_c.a "$kit/c/liblibc_c.a")
+
+folder=$(mktemp -d)
+trap 'rm -rf "$folder"' EXIT
+output=$folder/output
+passed=0
+failed=0
+
+# Runs a command, whose output is kept. It has to end with status 0.
+runs() {
+  local status=0
+  timeout --foreground "$seconds_a_run" "$@" >"$output" 2>&1 || status=$?
+  [ "$status" -eq 0 ] || printf 'status %d\n' "$status" >>"$output"
+  return "$status"
+}
+
+# Runs a test, a function, and prints its line.
+test_that() {
+  if "$2"; then
+    printf '%s: %s\n' "$1" "$(tail -n 1 "$output")"
+    passed=$((passed + 1))
+  else
+    printf '%s: FAILED\n' "$1"
+    sed 's/^/    /' "$output"
+    failed=$((failed + 1))
+  fi
+}
+
+built_as_c() {
+  runs "$compiler" -std=c99 "${strict[@]}" -Iinclude -o "$folder/c" tools/c_library.c "${archives[@]}" &&
+    runs "$folder/c"
+}
+
+built_as_cpp() {
+  runs "${CXX:-c++}" "${strict[@]}" -Iinclude -x c++ -o "$folder/cpp" tools/c_library.c -x none "${archives[@]}" &&
+    runs "$folder/cpp"
+}
+
+sanitized=(-g -fsanitize=address,undefined -fno-sanitize-recover=all)
+
+has_sanitizers() {
+  printf 'int main(void) { return 0; }\n' | "$compiler" "${sanitized[@]}" -x c -o "$folder/probe" - 2>/dev/null &&
+    "$folder/probe"
+}
+
+built_with_sanitizers() {
+  runs "$compiler" -std=c99 "${strict[@]}" "${sanitized[@]}" -Iinclude -o "$folder/sanitized" tools/c_library.c \
+    "${archives[@]}" &&
+    runs "$folder/sanitized"
+}
+
+# Each request for memory is refused once, until no request is refused in a run. A run has to be out of memory at least
+# once, and the last one never.
+refused_in_turn() {
+  local request times=0 report=$folder/refused library=$folder/refuse_memory.so
+  runs "$compiler" "${strict[@]}" -shared -fPIC -o "$library" tools/refuse_memory.c || return
+  for ((request = 1; request <= most_requests; request++)); do
+    rm -f "$report"
+    runs env LD_PRELOAD="$library" REFUSE_REQUEST="$request" REFUSE_REPORT="$report" "$folder/c" || return
+    if [ ! -e "$report" ]; then
+      ! grep -qx 'out of memory' "$output" || return
+      printf '%d requests refused in turn, %d times out of memory\n' $((request - 1)) "$times" >"$output"
+      [ "$times" -gt 0 ]
+      return
+    fi
+    if grep -qx 'out of memory' "$output"; then
+      times=$((times + 1))
+    fi
+  done
+  printf 'no end of requests\n' >"$output"
+  return 1
+}
+
+tools/install --library "$folder/prefix" || {
+  printf 'the library is not built\n0 passed, 1 failed\n'
+  exit 1
+}
+test_that 'as C' built_as_c
+test_that 'with memory refused' refused_in_turn
+if command -v "${CXX:-c++}" >/dev/null; then
+  test_that 'as C++' built_as_cpp
+else
+  printf 'there is no C++ compiler here, so the header is not tried with one\n'
+fi
+if has_sanitizers; then
+  test_that 'with sanitizers' built_with_sanitizers
+else
+  printf 'the compiler has no sanitizers here, so nothing is run under them\n'
+fi
+printf '%d passed, %d failed\n' "$passed" "$failed"
+[ "$failed" -eq 0 ]

@@ -1,0 +1,242 @@
+/* Tests of the library as C calls it. Each test prints a line, and the last line is 'N passed, M failed'.
+ *
+ * What is expected is by the rules of the language. A call that is out of memory has to have written nothing; it is said
+ * and made again, so that tools/c-library.sh can refuse each request for memory.
+ */
+#include "subst.h"
+
+#include <stdio.h>
+#include <stdlib.h>
+#include <string.h>
+
+enum { ROOM = 128, UNTOUCHED = 0xA5, MOST_PAIRS = 4 };
+
+/* A template with its variables, as NAME, VALUE, .., and what it gives, or else its fault and the text of that. */
+struct row {
+    const char *source;
+    const char *variables[2 * MOST_PAIRS];
+    const char *wanted;
+    struct subst_fault fault;
+    const char *text;
+};
+
+/* What a call may write, all of it untouched. */
+struct written {
+    uint8_t room[ROOM];
+    size_t needed;
+    struct subst_fault fault;
+};
+
+static const struct subst_fault NO_FAULT = {77, 77, 77};
+static int passed, failed;
+
+static const uint8_t *bytes_of(const char *text)
+{
+    return (const uint8_t *)text;
+}
+
+static struct subst_pair pair_of(const char *name, const char *value)
+{
+    struct subst_pair pair = {bytes_of(name), strlen(name), bytes_of(value), strlen(value)};
+    return pair;
+}
+
+static size_t pairs_of(const struct row *row, struct subst_pair *pairs)
+{
+    size_t count = 0;
+    while (count < MOST_PAIRS && row->variables[2 * count] != NULL) {
+        pairs[count] = pair_of(row->variables[2 * count], row->variables[2 * count + 1]);
+        count += 1;
+    }
+    return count;
+}
+
+static struct written untouched(void)
+{
+    struct written written;
+    memset(written.room, UNTOUCHED, ROOM);
+    written.needed = 77;
+    written.fault = NO_FAULT;
+    return written;
+}
+
+static int is_fault(const struct subst_fault *a, const struct subst_fault *b)
+{
+    return a->kind == b->kind && a->position == b->position && a->length == b->length;
+}
+
+/* Whether the room begins with these bytes, and has nothing else. */
+static int holds(const struct written *written, const void *bytes, size_t length)
+{
+    size_t i;
+    for (i = length; i < ROOM; i++)
+        if (written->room[i] != UNTOUCHED)
+            return 0;
+    return memcmp(written->room, bytes, length) == 0;
+}
+
+static int is_untouched(const struct written *written)
+{
+    return holds(written, "", 0) && written->needed == 77 && is_fault(&written->fault, &NO_FAULT);
+}
+
+static void end_test(const char *name, const char *source, int is_right)
+{
+    if (is_right) {
+        passed += 1;
+        return;
+    }
+    failed += 1;
+    printf("%s of '%s': FAILED\n", name, source);
+}
+
+/* Whether the call has to be made again because it was out of memory, which has to have written nothing. */
+static int is_out_of_memory(uint32_t result, const struct written *written)
+{
+    if (result != SUBST_OUT_OF_MEMORY)
+        return 0;
+    puts("out of memory");
+    if (!is_untouched(written))
+        end_test("out of memory", "written", 0);
+    return 1;
+}
+
+static uint32_t bytes_call(const struct row *row, size_t room_len, struct written *written)
+{
+    struct subst_pair pairs[MOST_PAIRS];
+    size_t count = pairs_of(row, pairs);
+    uint32_t result;
+    do {
+        *written = untouched();
+        result = subst_bytes(bytes_of(row->source), strlen(row->source), pairs, count,
+                             written->room, room_len, &written->needed, &written->fault);
+    } while (is_out_of_memory(result, written));
+    return result;
+}
+
+static uint32_t text_call(const struct row *row, size_t room_len, struct written *written)
+{
+    struct subst_pair pairs[MOST_PAIRS];
+    size_t count = pairs_of(row, pairs);
+    uint32_t result;
+    do {
+        *written = untouched();
+        result = subst_fault_text(bytes_of(row->source), strlen(row->source), pairs, count,
+                                  written->room, room_len, &written->needed);
+    } while (is_out_of_memory(result, written));
+    return result;
+}
+
+static uint32_t check_call(const char *source, struct written *written)
+{
+    uint32_t result;
+    do {
+        *written = untouched();
+        result = subst_check(bytes_of(source), strlen(source), &written->fault);
+    } while (is_out_of_memory(result, written));
+    return result;
+}
+
+/* Whether a call puts just this text into a room of its length and into a larger one, and nothing into a smaller one. */
+static int is_put(uint32_t (*call)(const struct row *, size_t, struct written *), const struct row *row,
+                  const char *text)
+{
+    struct written written;
+    size_t length = strlen(text);
+    if (call(row, ROOM, &written) != SUBST_DONE || written.needed != length || !holds(&written, text, length))
+        return 0;
+    if (!is_fault(&written.fault, &NO_FAULT))
+        return 0;
+    if (call(row, length, &written) != SUBST_DONE || written.needed != length || !holds(&written, text, length))
+        return 0;
+    if (length == 0)
+        return 1;
+    return call(row, length - 1, &written) == SUBST_ROOM_TOO_SMALL && written.needed == length
+        && holds(&written, "", 0) && is_fault(&written.fault, &NO_FAULT)
+        && call(row, 0, &written) == SUBST_ROOM_TOO_SMALL && written.needed == length;
+}
+
+/* Whether the row's fault, and nothing else, is written. */
+static int is_refused(const struct row *row)
+{
+    struct written written;
+    struct subst_fault fault;
+    if (bytes_call(row, ROOM, &written) != SUBST_REFUSED)
+        return 0;
+    fault = written.fault;
+    written.fault = NO_FAULT;
+    return is_fault(&fault, &row->fault) && is_untouched(&written);
+}
+
+/* Whether subst_check says what it has to: a missing variable is none of its faults. */
+static int is_checked(const struct row *row)
+{
+    struct written written;
+    int is_template = row->wanted != NULL || row->fault.kind == SUBST_NO_SUCH_VARIABLE;
+    if (check_call(row->source, &written) != (is_template ? SUBST_DONE : SUBST_REFUSED))
+        return 0;
+    return is_fault(&written.fault, is_template ? &NO_FAULT : &row->fault);
+}
+
+static void test_row(const struct row *row)
+{
+    end_test("subst_check", row->source, is_checked(row));
+    if (row->wanted != NULL) {
+        end_test("subst_bytes", row->source, is_put(bytes_call, row, row->wanted));
+        end_test("subst_fault_text", row->source, is_put(text_call, row, ""));
+        return;
+    }
+    end_test("subst_bytes", row->source, is_refused(row));
+    end_test("subst_fault_text", row->source, is_put(text_call, row, row->text));
+}
+
+/* Sources and values are bytes: a byte 0 in them, and no UTF-8. */
+static void test_bytes(void)
+{
+    static const uint8_t source[] = {'<', 0, '$', 'a', 0xFF, '>'}, value[] = {'$', 0, 0xFE};
+    static const uint8_t wanted[] = {'<', 0, '$', 0, 0xFE, 0xFF, '>'};
+    struct subst_pair pair = {bytes_of("a"), 1, value, sizeof value};
+    struct written written;
+    uint32_t result;
+    do {
+        written = untouched();
+        result = subst_bytes(source, sizeof source, &pair, 1, written.room, ROOM, &written.needed, &written.fault);
+    } while (is_out_of_memory(result, &written));
+    end_test("subst_bytes", "bytes that are no text",
+             result == SUBST_DONE && written.needed == sizeof wanted && holds(&written, wanted, sizeof wanted));
+}
+
+#define GIVES(text) text, {0, 0, 0}, NULL
+#define REFUSED(kind, position, length, text) NULL, {kind, position, length}, text
+
+static const struct row rows[] = {
+    {"", {NULL}, GIVES("")},
+    {"Hello $name!", {"name", "world"}, GIVES("Hello world!")},
+    {"Hello ${name:nobody}!", {"other", "x"}, GIVES("Hello nobody!")},
+    {"${a}${b?}${c:<$a>}", {"a", "$x\\"}, GIVES("$x\\<$x\\>")},
+    {"$a", {"b", "0", "a", "first", "a", "last"}, GIVES("first")},
+    {"$a", {"", "0", "aa", "1", "a", ""}, GIVES("")},
+    {"a\\x", {"a", "1"}, REFUSED(SUBST_INVALID_ESCAPE_SEQUENCE, 1, 2, "Invalid escape sequence: \\x")},
+    {"a\\", {NULL}, REFUSED(SUBST_INVALID_ESCAPE_SEQUENCE, 1, 1, "Invalid escape sequence: missing escape character")},
+    {"$", {NULL}, REFUSED(SUBST_MISSING_VARIABLE_NAME, 0, 1, "Missing variable name")},
+    {"ab${}", {NULL}, REFUSED(SUBST_MISSING_VARIABLE_NAME, 2, 2, "Missing variable name")},
+    {"${a)}", {"a", "1"}, REFUSED(SUBST_UNEXPECTED_CHARACTER, 3, 1, "Unexpected character: ')', "
+     "expected a closing brace ('}'), colon (':') or question mark ('?')")},
+    {"${a?b}", {"a", "1"}, REFUSED(SUBST_UNEXPECTED_CHARACTER, 4, 1, "Unexpected character: 'b', "
+     "expected a closing brace ('}')")},
+    {"${a:${b:x}", {NULL}, REFUSED(SUBST_MISSING_CLOSING_BRACE, 1, 1, "Missing closing brace")},
+    {"1 ${a:$long_name}", {"b", "1"}, REFUSED(SUBST_NO_SUCH_VARIABLE, 7, 9, "No such variable: $long_name")},
+};
+
+int main(void)
+{
+    /* so that only the library asks for memory */
+    static char buffer[BUFSIZ];
+    size_t i;
+    setvbuf(stdout, buffer, _IOFBF, sizeof buffer);
+    for (i = 0; i < sizeof rows / sizeof rows[0]; i++)
+        test_row(&rows[i]);
+    test_bytes();
+    printf("%d passed, %d failed\n", passed, failed);
+    return failed == 0 ? EXIT_SUCCESS : EXIT_FAILURE;
+}
