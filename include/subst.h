@@ -1,4 +1,4 @@
-/* Shell-like variables in byte strings: $name, ${name}, ${name?} and ${name:default}.
+/* Shell-like variables in texts and byte strings: $name, ${name}, ${name?} and ${name:default}.
  *
  * A backslash escapes \ $ { } and :. Values are inserted as they are, and never read as templates. docs/C.md has an
  * example, and says how to link.
@@ -24,14 +24,16 @@
 extern "C" {
 #endif
 
-/* Results. A number never changes, and there are no others, but further calls may bring further ones. */
+/* Results. A number never changes. */
 enum {
     SUBST_DONE = 0,
     /* The source is refused, and `fault` says why. */
     SUBST_REFUSED = 1,
     SUBST_OUT_OF_MEMORY = 4,
     /* `needed` says how many bytes the room has to have. */
-    SUBST_ROOM_TOO_SMALL = 5
+    SUBST_ROOM_TOO_SMALL = 5,
+    /* What has to be a text isn't UTF-8. */
+    SUBST_NOT_UTF8 = 6
 };
 
 /* Kinds of faults. A number never changes. */
@@ -73,6 +75,13 @@ uint32_t subst_bytes(const uint8_t *source, size_t source_len,
                      uint8_t *room, size_t room_len, size_t *needed,
                      struct subst_fault *fault) SUBST_NO_NULL;
 
+/* Does what subst_bytes does, where the source and all values are UTF-8; otherwise the result is SUBST_NOT_UTF8. What is
+ * put into the room is UTF-8 too. */
+uint32_t subst_text(const uint8_t *source, size_t source_len,
+                    const struct subst_pair *pairs, size_t pairs_len,
+                    uint8_t *room, size_t room_len, size_t *needed,
+                    struct subst_fault *fault) SUBST_NO_NULL;
+
 /* Looks at the source without its variables. SUBST_DONE: it is a template, so that only a missing variable, or memory,
  * can be wrong with it. SUBST_REFUSED: `*fault` says why it is none. */
 uint32_t subst_check(const uint8_t *source, size_t source_len,
@@ -85,6 +94,14 @@ uint32_t subst_fault_text(const uint8_t *source, size_t source_len,
                           const struct subst_pair *pairs, size_t pairs_len,
                           uint8_t *room, size_t room_len,
                           size_t *needed) SUBST_NO_NULL;
+
+/* Puts the line of that fault, and below it carets under the fault, into the room in the same way. Each of the two is
+ * indented by two spaces and ends in a line feed. Where there is no fault, and where the line is wider than 60 columns,
+ * the text is empty. The source has to be UTF-8; otherwise the result is SUBST_NOT_UTF8. */
+uint32_t subst_fault_highlighting(const uint8_t *source, size_t source_len,
+                                  const struct subst_pair *pairs, size_t pairs_len,
+                                  uint8_t *room, size_t room_len,
+                                  size_t *needed) SUBST_NO_NULL;
 
 #ifdef __cplusplus
 }

@@ -84,8 +84,48 @@ refused_in_turn() {
   return 1
 }
 
+# A block of docs/C.md in this language, of which there is one.
+block() {
+  sed -n "/^\`\`\`$1\$/,/^\`\`\`\$/{/^\`\`\`/!p}" docs/C.md
+}
+
+# The commands of the document, each with what it prints.
+session() {
+  local line
+  while IFS= read -r line; do
+    case $line in '$ '*)
+      printf '%s\n' "$line"
+      (cd "$folder/examples" && eval "${line#\$ }") 2>&1 || true
+      ;;
+    esac
+  done
+}
+
+examples_print_what_is_written() {
+  mkdir "$folder/examples"
+  block c >"$folder/examples/greet.c"
+  block python >"$folder/examples/greet.py"
+  block console >"$folder/wanted"
+  PREFIX=$folder/prefix session <"$folder/wanted" >"$folder/printed"
+  diff "$folder/wanted" "$folder/printed" >"$output" || return
+  printf '%d commands\n' "$(grep -c '^\$ ' "$folder/wanted")" >"$output"
+  [ -s "$folder/wanted" ]
+}
+
+# The compiler's words by pkg-config build the example too.
+package_is_found() {
+  local words
+  words=$(PKG_CONFIG_PATH=$folder/prefix/lib/pkgconfig pkg-config --cflags --libs subst 2>"$output") || return
+  read -ra words <<<"$words"
+  runs "$compiler" -o "$folder/found" "$folder/examples/greet.c" "${words[@]}" && runs "$folder/found" 'Hello $name!'
+}
+
+if ! command -v "$compiler" >/dev/null; then
+  printf 'there is no C compiler here (%s; the variable CC names another)\n0 passed, 1 failed\n' "$compiler"
+  exit 1
+fi
 tools/install --library "$folder/prefix" || {
-  printf 'the library is not built\n0 passed, 1 failed\n'
+  printf 'the library is not installed\n0 passed, 1 failed\n'
   exit 1
 }
 test_that 'as C' built_as_c
@@ -99,6 +139,16 @@ if has_sanitizers; then
   test_that 'with sanitizers' built_with_sanitizers
 else
   printf 'the compiler has no sanitizers here, so nothing is run under them\n'
+fi
+if command -v python3 >/dev/null; then
+  test_that 'examples of docs/C.md' examples_print_what_is_written
+else
+  printf 'there is no python3 here, so the examples of docs/C.md are not run\n'
+fi
+if command -v pkg-config >/dev/null; then
+  test_that 'by pkg-config' package_is_found
+else
+  printf 'there is no pkg-config here, so subst.pc is not read\n'
 fi
 printf '%d passed, %d failed\n' "$passed" "$failed"
 [ "$failed" -eq 0 ]

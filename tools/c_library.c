@@ -101,30 +101,56 @@ static int is_out_of_memory(uint32_t result, const struct written *written)
     return 1;
 }
 
-static uint32_t bytes_call(const struct row *row, size_t room_len, struct written *written)
+/* Calls that fill in a source, and calls that say what its fault is. */
+typedef uint32_t filling(const uint8_t *source, size_t source_len, const struct subst_pair *pairs, size_t pairs_len,
+                         uint8_t *room, size_t room_len, size_t *needed, struct subst_fault *fault);
+typedef uint32_t saying(const uint8_t *source, size_t source_len, const struct subst_pair *pairs, size_t pairs_len,
+                        uint8_t *room, size_t room_len, size_t *needed);
+
+static uint32_t fill(filling *call, const struct row *row, size_t room_len, struct written *written)
 {
     struct subst_pair pairs[MOST_PAIRS];
     size_t count = pairs_of(row, pairs);
     uint32_t result;
     do {
         *written = untouched();
-        result = subst_bytes(bytes_of(row->source), strlen(row->source), pairs, count,
-                             written->room, room_len, &written->needed, &written->fault);
+        result = call(bytes_of(row->source), strlen(row->source), pairs, count, written->room, room_len,
+                      &written->needed, &written->fault);
     } while (is_out_of_memory(result, written));
     return result;
 }
 
-static uint32_t text_call(const struct row *row, size_t room_len, struct written *written)
+static uint32_t say(saying *call, const struct row *row, size_t room_len, struct written *written)
 {
     struct subst_pair pairs[MOST_PAIRS];
     size_t count = pairs_of(row, pairs);
     uint32_t result;
     do {
         *written = untouched();
-        result = subst_fault_text(bytes_of(row->source), strlen(row->source), pairs, count,
-                                  written->room, room_len, &written->needed);
+        result = call(bytes_of(row->source), strlen(row->source), pairs, count, written->room, room_len,
+                      &written->needed);
     } while (is_out_of_memory(result, written));
     return result;
+}
+
+static uint32_t bytes_call(const struct row *row, size_t room_len, struct written *written)
+{
+    return fill(subst_bytes, row, room_len, written);
+}
+
+static uint32_t text_call(const struct row *row, size_t room_len, struct written *written)
+{
+    return fill(subst_text, row, room_len, written);
+}
+
+static uint32_t fault_text_call(const struct row *row, size_t room_len, struct written *written)
+{
+    return say(subst_fault_text, row, room_len, written);
+}
+
+static uint32_t highlighting_call(const struct row *row, size_t room_len, struct written *written)
+{
+    return say(subst_fault_highlighting, row, room_len, written);
 }
 
 static uint32_t check_call(const char *source, struct written *written)
@@ -137,9 +163,10 @@ static uint32_t check_call(const char *source, struct written *written)
     return result;
 }
 
+typedef uint32_t row_call(const struct row *row, size_t room_len, struct written *written);
+
 /* Whether a call puts just this text into a room of its length and into a larger one, and nothing into a smaller one. */
-static int is_put(uint32_t (*call)(const struct row *, size_t, struct written *), const struct row *row,
-                  const char *text)
+static int is_put(row_call *call, const struct row *row, const char *text)
 {
     struct written written;
     size_t length = strlen(text);
@@ -157,11 +184,11 @@ static int is_put(uint32_t (*call)(const struct row *, size_t, struct written *)
 }
 
 /* Whether the row's fault, and nothing else, is written. */
-static int is_refused(const struct row *row)
+static int is_refused(row_call *call, const struct row *row)
 {
     struct written written;
     struct subst_fault fault;
-    if (bytes_call(row, ROOM, &written) != SUBST_REFUSED)
+    if (call(row, ROOM, &written) != SUBST_REFUSED)
         return 0;
     fault = written.fault;
     written.fault = NO_FAULT;
@@ -183,11 +210,42 @@ static void test_row(const struct row *row)
     end_test("subst_check", row->source, is_checked(row));
     if (row->wanted != NULL) {
         end_test("subst_bytes", row->source, is_put(bytes_call, row, row->wanted));
-        end_test("subst_fault_text", row->source, is_put(text_call, row, ""));
+        end_test("subst_text", row->source, is_put(text_call, row, row->wanted));
+        end_test("subst_fault_text", row->source, is_put(fault_text_call, row, ""));
+        end_test("subst_fault_highlighting", row->source, is_put(highlighting_call, row, ""));
         return;
     }
-    end_test("subst_bytes", row->source, is_refused(row));
-    end_test("subst_fault_text", row->source, is_put(text_call, row, row->text));
+    end_test("subst_bytes", row->source, is_refused(bytes_call, row));
+    end_test("subst_text", row->source, is_refused(text_call, row));
+    end_test("subst_fault_text", row->source, is_put(fault_text_call, row, row->text));
+}
+
+/* A row whose source has a fault, and the highlighting of that. */
+static void test_highlighting(const char *source, const char *highlighting)
+{
+    struct row row = {NULL, {NULL}, NULL, {0, 0, 0}, NULL};
+    row.source = source;
+    end_test("subst_fault_highlighting", source, is_put(highlighting_call, &row, highlighting));
+}
+
+/* Whether a call says that a text isn't UTF-8, and has written nothing. */
+static int is_no_text(row_call *call, const struct row *row)
+{
+    struct written written;
+    return call(row, ROOM, &written) == SUBST_NOT_UTF8 && is_untouched(&written);
+}
+
+static void test_no_text(void)
+{
+    static const struct row source = {"a\xFF$", {NULL}, NULL, {0, 0, 0}, NULL};
+    static const struct row value = {"$a", {"a", "1", "b", "\xC3"}, "1", {0, 0, 0}, NULL};
+    static const struct row name = {"$a", {"\xC3", "0", "a", "1"}, "1", {0, 0, 0}, NULL};
+    end_test("subst_text", "a source that is no text", is_no_text(text_call, &source));
+    end_test("subst_text", "a value that is no text", is_no_text(text_call, &value));
+    end_test("subst_text", "a name that is no text", is_put(text_call, &name, name.wanted));
+    end_test("subst_fault_highlighting", "a source that is no text", is_no_text(highlighting_call, &source));
+    end_test("subst_fault_highlighting", "a value that is no text", is_put(highlighting_call, &value, ""));
+    end_test("subst_fault_text", "a source that is no text", is_put(fault_text_call, &source, "Missing variable name"));
 }
 
 /* Sources and values are bytes: a byte 0 in them, and no UTF-8. */
@@ -237,6 +295,10 @@ int main(void)
     for (i = 0; i < sizeof rows / sizeof rows[0]; i++)
         test_row(&rows[i]);
     test_bytes();
+    test_no_text();
+    test_highlighting("a\n\u00E9 ${b}\nc", "  \u00E9 ${b}\n      ^\n");
+    test_highlighting("\\x", "  \\x\n  ^^\n");
+    test_highlighting("0123456789012345678901234567890123456789012345678901234567890$", "");
     printf("%d passed, %d failed\n", passed, failed);
     return failed == 0 ? EXIT_SUCCESS : EXIT_FAILURE;
 }

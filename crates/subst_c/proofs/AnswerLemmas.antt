@@ -10,12 +10,13 @@ use Rattle.subst.specs.Language.LookUp.{LookUp}
 use Rattle.subst.specs.Display.{display_of_error}
 use Rattle.subst.specs.ErrorFault.{error_fault}
 use Rattle.subst.specs.Fault.{Fault}
+use Rattle.subst.specs.Highlighting.{highlighting_of}
 use Rattle.subst.specs.Range.{range_of}
 use Rattle.subst.specs.Errors.{Error}
 use Rattle.subst.specs.Errors.error.{OutOfMemory}
 use Rattle.subst.proofs.Calling.{range_in_source}
 use Rattle.subst_c.specs.Fault.{IsToldOf}
-use Rattle.subst_c.specs.Text.{IsTextOf}
+use Rattle.subst_c.specs.Text.{IsHighlighting, IsText, SaysOf}
 use Rattle.subst_c.specs.declared.fault.FaultRecord.{FaultRecord}
 
 -- what is told of an error is told of the fault for which the source is refused
@@ -37,7 +38,7 @@ states_a_fault _ other none = cc
 -- so its text is that of the fault
 of_a_fault : (e : Option Fault) (IsAnswer : Answer → Type 0) (text : List ℕ) → e ≢ None
     → IfSome (option_map Refuses e) IsAnswer → IfSome (display_of_error e) (λ shown. text ≡ shown)
-    → IsTextOf IsAnswer text
+    → SaysOf IsAnswer IsText text
 of_a_fault (Some f) IsAnswer text some answer shown = (Refuses f, answer, shown)
 of_a_fault None IsAnswer text some answer shown = absurd (some refl)
 
@@ -45,10 +46,26 @@ of_a_fault None IsAnswer text some answer shown = absurd (some refl)
 pub text_of_error : {E : Type 0} (e : Error) (IsAnswer : Answer → Type 0) (r : Result (String Global) E)
     → ((x : AllocError) → ¬ (e ≡ OutOfMemory x)) → IfSome (option_map Refuses (error_fault e)) IsAnswer
     → IfOk r (λ text. IfSome (display_of_error (error_fault e)) (λ shown. string_bytes text ≡ shown))
-    → IfOk r (λ text. IsTextOf IsAnswer (string_bytes text))
+    → IfOk r (λ text. SaysOf IsAnswer IsText (string_bytes text))
 text_of_error e IsAnswer (Ok text) other refused shown =
     of_a_fault (error_fault e) IsAnswer (string_bytes text) (states_a_fault e other) refused shown
 text_of_error e IsAnswer (Err x) other refused shown = tt
+
+-- and its highlighting is that of the fault
+highlights_a_fault : (e : Option Fault) (IsAnswer : Answer → Type 0) (s text : List ℕ) → e ≢ None
+    → IfSome (option_map Refuses e) IsAnswer → text ≡ highlighting_of e s → SaysOf IsAnswer (IsHighlighting s) text
+highlights_a_fault (Some f) IsAnswer s text some answer shown = (Refuses f, answer, shown)
+highlights_a_fault None IsAnswer s text some answer shown = absurd (some refl)
+
+-- the highlighting of an error that isn't out of memory says the answer
+pub highlighting_of_error : {E : Type 0} (e : Error) (IsAnswer : Answer → Type 0) (s : List ℕ)
+    (r : Result (String Global) E) → ((x : AllocError) → ¬ (e ≡ OutOfMemory x))
+    → IfSome (option_map Refuses (error_fault e)) IsAnswer
+    → IfOk r (λ text. string_bytes text ≡ highlighting_of (error_fault e) s)
+    → IfOk r (λ text. SaysOf IsAnswer (IsHighlighting s) (string_bytes text))
+highlighting_of_error e IsAnswer s (Ok text) other refused shown =
+    highlights_a_fault (error_fault e) IsAnswer s (string_bytes text) (states_a_fault e other) refused shown
+highlighting_of_error e IsAnswer s (Err x) other refused shown = tt
 
 -- the range of an error ends within the source
 pub error_within : {T : Type 0} (bytes_of : T → List ℕ) (s : List ℕ) (look : LookUp) (r : Result T Error)

@@ -1,13 +1,30 @@
--- The text of the fault that a source is refused for.
-use Rattle.std.specs.Prelude.{◌≡◌, ℕ, List, [], IfSome}
+-- What is said of the answer of a source: its fault, as a text.
+use Rattle.std.specs.Prelude.{◌≡◌, ℕ, Bool, ◌&&◌, List, [], Some, IfSome}
+use Rattle.std.specs.List.{list_all}
+use Rattle.std.specs.Str.{is_utf8}
 use Rattle.subst.specs.Display.{display_of_fault}
+use Rattle.subst.specs.Fault.{Fault}
+use Rattle.subst.specs.Highlighting.{highlighting_of}
 use Rattle.subst.specs.Language.Answer.{Answer, Gives, Refuses}
+use Rattle.subst_c.specs.declared.pairs.Pair.{Pair}
 
--- what the text says of an answer: the fault, where that has one text, and nothing where bytes are given
-abbrev pub Says : Answer → List ℕ → Type 0
-Says (Gives x) text = text ≡ []
-Says (Refuses f) text = IfSome (display_of_fault f) (λ shown. text ≡ shown)
+-- the text says what the fault is, where there is one text for that
+abbrev pub IsText : Fault → List ℕ → Type 0
+IsText f text = IfSome (display_of_fault f) (λ shown. text ≡ shown)
 
--- the text says the answer
-abbrev pub IsTextOf : (Answer → Type 0) → List ℕ → Type 0
-IsTextOf IsAnswer text = (a : Answer) × IsAnswer a × Says a text
+-- the text is the line of the fault in the source s, with the fault underlined
+abbrev pub IsHighlighting : List ℕ → Fault → List ℕ → Type 0
+IsHighlighting s f text = text ≡ highlighting_of (Some f) s
+
+-- the text says so of the fault of an answer, and nothing where that is bytes
+abbrev pub Says : (Fault → List ℕ → Type 0) → Answer → List ℕ → Type 0
+Says IsSaid (Gives x) text = text ≡ []
+Says IsSaid (Refuses f) text = IsSaid f text
+
+-- the text says so of the answer
+abbrev pub SaysOf : (Answer → Type 0) → (Fault → List ℕ → Type 0) → List ℕ → Type 0
+SaysOf IsAnswer IsSaid text = (a : Answer) × IsAnswer a × Says IsSaid a text
+
+-- a source and the values of pairs are UTF-8
+abbrev pub are_texts : List ℕ → List Pair → Bool
+are_texts s pairs = is_utf8 s && list_all (λ pair. is_utf8 pair.value.now) pairs

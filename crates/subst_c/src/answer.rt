@@ -1,12 +1,14 @@
 //! The answer of a source under pairs, and what it says.
 
-ghost use Rattle.std.specs.Prelude.{◌≤◌, IfErr, IfOk, IfSome, length, string_bytes};
+ghost use Rattle.std.specs.Prelude.{◌≡◌, ◌≤◌, IfErr, IfOk, IfSome, length, string_bytes};
+ghost use Rattle.std.specs.List.{list_all};
+ghost use Rattle.std.specs.Str.{is_utf8};
 ghost use Rattle.subst.specs.Calls.Outcome.{answer_of};
 ghost use Rattle.subst.specs.Language.Answer.{Answers};
 ghost use Rattle.subst.specs.ErrorFault.{error_fault};
 ghost use Rattle.subst.specs.Range.{range_of};
 ghost use Rattle.subst_c.specs.Pairs.{first_value};
-ghost use Rattle.subst_c.specs.Text.{IsTextOf};
+ghost use Rattle.subst_c.specs.Text.{IsHighlighting, IsText, SaysOf, are_texts as all_are_texts};
 
 use crate::pairs::{Pair, Pairs};
 use std::alloc::{AllocError, Global};
@@ -31,8 +33,8 @@ pub fn fill_in(alloc: Global, source: &[u8], pairs: &[Pair]) -> Result<Vec<u8>, 
 ///
 /// When allocation fails, and for nothing else.
 pub fn fault_text(alloc: Global, source: &[u8], pairs: &[Pair]) -> Result<String, AllocError>
-    ensures { IfOk result (λ text.
-        IsTextOf (Answers source.now (first_value pairs.now)) (string_bytes text)) }
+    ensures { IfOk result (λ text. SaysOf (Answers source.now (first_value pairs.now)) IsText
+        (string_bytes text)) }
 {
     match fill_in(alloc, source, pairs) {
         Ok(_) => Ok(String::new(alloc)),
@@ -41,4 +43,44 @@ pub fn fault_text(alloc: Global, source: &[u8], pairs: &[Pair]) -> Result<String
             e => format!(in alloc; "{e}"),
         },
     }
+}
+
+/// Returns the line of the fault that the source is refused for, underlined, or the empty text where it isn't
+/// refused.
+///
+/// # Errors
+///
+/// When allocation fails, and for nothing else.
+pub fn fault_highlighting(alloc: Global, source: &str, pairs: &[Pair]) -> Result<String, AllocError>
+    ensures { IfOk result (λ text. SaysOf (Answers source.now (first_value pairs.now))
+        (IsHighlighting source.now) (string_bytes text)) }
+{
+    match fill_in(alloc, source.as_bytes(), pairs) {
+        Ok(_) => Ok(String::new(alloc)),
+        Err(e) => match e {
+            Error::OutOfMemory(e) => Err(e),
+            e => e.source_highlighting(alloc, source),
+        },
+    }
+}
+
+/// Whether the source and the values of all pairs are UTF-8.
+pub fn are_texts(source: &[u8], pairs: &[Pair]) -> bool
+    ensures { result ≡ all_are_texts source.now pairs.now }
+{
+    is_text(source) && values_are_texts(pairs)
+}
+
+/// Whether the values of all pairs are UTF-8.
+fn values_are_texts(pairs: &[Pair]) -> bool
+    ensures { result ≡ list_all (λ pair. is_utf8 pair.value.now) pairs.now }
+{
+    pairs.iter().all(|pair| is_text(pair.value))
+}
+
+/// Whether bytes are UTF-8.
+fn is_text(bytes: &[u8]) -> bool
+    ensures { result ≡ is_utf8 bytes.now }
+{
+    str::from_utf8(bytes).is_ok()
 }

@@ -5,21 +5,22 @@
 //! overlaps nothing else that is passed.
 #![tactic(auto)]
 
-ghost use Rattle.std.specs.Prelude.{◌≡◌, ◌≢◌, [], length};
+ghost use Rattle.std.specs.Prelude.{◌≡◌, ◌≢◌, true, false};
+ghost use Rattle.std.specs.Str.{IsUtf8};
 ghost use Rattle.subst.specs.Language.Answer.{Answers, Gives, Refuses};
 ghost use Rattle.subst.specs.Language.BadItem.{HasFault};
 ghost use Rattle.subst.specs.Language.Sentence.{IsSentence};
 ghost use Rattle.subst_c.specs.Fault.{IsToldOf};
 ghost use Rattle.subst_c.specs.Pairs.{first_value};
 ghost use Rattle.subst_c.specs.Room.{IsPut, IsTooLong};
-ghost use Rattle.subst_c.specs.Text.{IsTextOf};
-ghost use Rattle.subst_c.specs.declared.outcome.TheConstants.{DONE, REFUSED, OUT_OF_MEMORY, ROOM_TOO_SMALL};
+ghost use Rattle.subst_c.specs.Text.{IsHighlighting, IsText, SaysOf, are_texts};
+ghost use Rattle.subst_c.specs.declared.outcome.TheConstants.{DONE, REFUSED, OUT_OF_MEMORY, ROOM_TOO_SMALL, NOT_UTF8};
 
 pub use fault::FaultRecord;
-use outcome::{DONE, OUT_OF_MEMORY};
+use outcome::{DONE, NOT_UTF8, OUT_OF_MEMORY};
 pub use pairs::Pair;
 use std::alloc::Global;
-use subst::{ByteTemplate, Error};
+use subst::{ByteTemplate, Error, laws};
 
 mod answer;
 mod fault;
@@ -62,6 +63,42 @@ pub extern "C" fn subst_bytes(
     }
 }
 
+/// Puts the text of `source` with its variables filled in from `pairs` at the front of the room. The source
+/// and all values have to be UTF-8, and so is what is put there.
+#[unsafe(no_mangle)]
+pub extern "C" fn subst_text(
+    alloc: Global,
+    source: &[u8],
+    pairs: &[Pair],
+    room: &mut [u8],
+    needed: &mut usize,
+    fault: &mut FaultRecord,
+) -> u32
+    // As `subst_bytes`, and what is put into the room is UTF-8.
+    ensures done { result ≡ DONE
+        → IsPut (λ x. IsUtf8 x × Answers source.now (first_value pairs.now) (Gives x))
+        needed.new room.old room.new }
+    ensures refused { result ≡ REFUSED
+        → IsToldOf (λ f. Answers source.now (first_value pairs.now) (Refuses f)) fault.new }
+    ensures too_small { result ≡ ROOM_TOO_SMALL
+        → IsTooLong (λ x. Answers source.now (first_value pairs.now) (Gives x)) needed.new room.old }
+
+    // The source or a value is told not to be UTF-8 exactly where one isn't.
+    ensures text { result ≢ NOT_UTF8 → are_texts source.now pairs.now ≡ true }
+    ensures not_text { result ≡ NOT_UTF8 → are_texts source.now pairs.now ≡ false }
+    ensures others { result ≢ DONE → result ≢ REFUSED → result ≢ ROOM_TOO_SMALL → result ≢ NOT_UTF8
+        → result ≡ OUT_OF_MEMORY }
+    ensures room_kept { result ≢ DONE → room.new ≡ room.old }
+    ensures fault_kept { result ≢ REFUSED → fault.new ≡ fault.old }
+    ensures needed_kept { result ≢ DONE → result ≢ ROOM_TOO_SMALL → needed.new ≡ needed.old }
+{
+    laws::texts_give_texts();
+    if !answer::are_texts(source, pairs) {
+        return NOT_UTF8;
+    }
+    subst_bytes(alloc, source, pairs, room, needed, fault)
+}
+
 /// Looks whether `source` is a sentence of the template language, without variables.
 #[unsafe(no_mangle)]
 pub extern "C" fn subst_check(alloc: Global, source: &[u8], fault: &mut FaultRecord) -> u32
@@ -87,15 +124,50 @@ pub extern "C" fn subst_fault_text(
     needed: &mut usize,
 ) -> u32
     ensures done { result ≡ DONE
-        → IsPut (IsTextOf (Answers source.now (first_value pairs.now))) needed.new room.old room.new }
+        → IsPut (SaysOf (Answers source.now (first_value pairs.now)) IsText) needed.new room.old room.new }
     ensures too_small { result ≡ ROOM_TOO_SMALL
-        → IsTooLong (IsTextOf (Answers source.now (first_value pairs.now))) needed.new room.old }
+        → IsTooLong (SaysOf (Answers source.now (first_value pairs.now)) IsText) needed.new room.old }
     ensures others { result ≢ DONE → result ≢ ROOM_TOO_SMALL → result ≡ OUT_OF_MEMORY }
     ensures room_kept { result ≢ DONE → room.new ≡ room.old }
     ensures needed_kept { result ≢ DONE → result ≢ ROOM_TOO_SMALL → needed.new ≡ needed.old }
 {
     match answer::fault_text(alloc, source, pairs) {
         Ok(text) => room::deliver(text.as_bytes(), room, needed),
+        Err(_) => OUT_OF_MEMORY,
+    }
+}
+
+/// Puts the line of the fault that `subst_bytes` finds, over the same source and pairs, with the fault
+/// underlined, at the front of the room. Where that finds none, or the line is wider than 60 columns, the
+/// text is empty.
+#[unsafe(no_mangle)]
+pub extern "C" fn subst_fault_highlighting(
+    alloc: Global,
+    source: &[u8],
+    pairs: &[Pair],
+    room: &mut [u8],
+    needed: &mut usize,
+) -> u32
+    ensures done { result ≡ DONE
+        → IsPut (SaysOf (Answers source.now (first_value pairs.now)) (IsHighlighting source.now))
+        needed.new room.old room.new }
+    ensures too_small { result ≡ ROOM_TOO_SMALL
+        → IsTooLong (SaysOf (Answers source.now (first_value pairs.now)) (IsHighlighting source.now))
+        needed.new room.old }
+
+    // The source is told not to be UTF-8 exactly where it isn't.
+    ensures text { result ≢ NOT_UTF8 → IsUtf8 source.now }
+    ensures not_text { result ≡ NOT_UTF8 → ¬ (IsUtf8 source.now) }
+    ensures others { result ≢ DONE → result ≢ ROOM_TOO_SMALL → result ≢ NOT_UTF8
+        → result ≡ OUT_OF_MEMORY }
+    ensures room_kept { result ≢ DONE → room.new ≡ room.old }
+    ensures needed_kept { result ≢ DONE → result ≢ ROOM_TOO_SMALL → needed.new ≡ needed.old }
+{
+    let Ok(source) = str::from_utf8(source) else {
+        return NOT_UTF8;
+    };
+    match answer::fault_highlighting(alloc, source, pairs) {
+        Ok(shown) => room::deliver(shown.as_bytes(), room, needed),
         Err(_) => OUT_OF_MEMORY,
     }
 }

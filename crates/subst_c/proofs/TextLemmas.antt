@@ -1,0 +1,73 @@
+-- What a source of text gives, filled in with texts, is a text.
+use Rattle.std.proofs.Common.{◌≡◌, ℕ, Bool, true, false, ◌&&◌, if◌then◌else◌, List, [], ◌∷◌, Option, Some, None, IfSome, MatchResult, Result, Ok, Err, find, is_ok, refl, subst, sym}
+use Rattle.std.proofs.lemmas.Str.{IsUtf8-from_is_utf8, is_utf8-from_IsUtf8}
+use Rattle.std.specs.List.{list_all}
+use Rattle.std.specs.Option.{option_map}
+use Rattle.std.specs.Str.{IsUtf8, bytes_eq, is_utf8}
+use Rattle.subst.specs.Language.Answer.{Answers, Gives}
+use Rattle.subst.specs.Language.LookUp.{LookUp, GivesTexts}
+use Rattle.subst.specs.Language.Sentence.{ByTree}
+use Rattle.subst.specs.Language.Value.{value, Bytes}
+use Rattle.subst_c.specs.Pairs.{first_value}
+use Rattle.subst_c.specs.Room.{IsPut}
+use Rattle.subst_c.specs.Text.{are_texts}
+use Rattle.subst_c.specs.declared.pairs.Pair.{Pair}
+
+-- the law of texts, which `laws::texts_give_texts` states
+abbrev pub TextsGiveTexts : Type 0
+TextsGiveTexts = (s x : List ℕ) (p : ℕ) (look : LookUp) → IsUtf8 s → GivesTexts look
+    → ByTree s (λ t. value p t look ≡ Bytes x → IsUtf8 x)
+
+-- a test for UTF-8 by a result that is `Ok` exactly for UTF-8
+pub tells_text : {A E : Type 0} (s : List ℕ) (P : A → Type 0) (Q : E → Type 0) (r : Result A E)
+    → MatchResult r (λ x. P x × IsUtf8 s) (λ e. ¬ (IsUtf8 s) × Q e) → is_ok r ≡ is_utf8 s
+tells_text s P Q (Ok x) (p, is) = sym (is_utf8-from_IsUtf8 s is)
+tells_text s P Q (Err e) (none, q) = of (is_utf8 s) refl
+  where
+    of : (b : Bool) → is_utf8 s ≡ b → false ≡ b
+    of true is = absurd (none (IsUtf8-from_is_utf8 s is))
+    of false is = refl
+
+-- both of two tests that pass together
+first_passes : (a b : Bool) → (a && b) ≡ true → a ≡ true
+first_passes true b e = refl
+first_passes false b e = absurd cc
+
+second_passes : (a b : Bool) → (a && b) ≡ true → b ≡ true
+second_passes true b e = e
+second_passes false b e = absurd cc
+
+-- the value that is found under a name is one of the values
+found_is_text : (pairs : List Pair) (name : List ℕ) → list_all (λ pair. is_utf8 pair.value.now) pairs ≡ true
+    → IfSome (find (λ pair. bytes_eq pair.name.now name) pairs) (λ pair. is_utf8 pair.value.now ≡ true)
+found_is_text [] name all = tt
+found_is_text (pair ∷ pairs) name all =
+    of (bytes_eq pair.name.now name) _ (first_passes (is_utf8 pair.value.now) _ all)
+    (found_is_text pairs name (second_passes (is_utf8 pair.value.now) _ all))
+  where
+    of : (b : Bool) (later : Option Pair) → is_utf8 pair.value.now ≡ true
+        → IfSome later (λ p. is_utf8 p.value.now ≡ true)
+        → IfSome (if b then Some pair else later) (λ p. is_utf8 p.value.now ≡ true)
+    of true later is rest = is
+    of false later is rest = rest
+
+-- what is found is a text
+value_is_text : (found : Option Pair) (x : List ℕ) → IfSome found (λ pair. is_utf8 pair.value.now ≡ true)
+    → option_map (λ pair. pair.value.now) found ≡ Some x → IsUtf8 x
+value_is_text (Some pair) x is e =
+    let same : pair.value.now ≡ x = cc in
+    subst (λ (s : List ℕ). IsUtf8 s) same (IsUtf8-from_is_utf8 pair.value.now is)
+value_is_text None x is e = absurd cc
+
+-- what is put into the room is a text
+pub puts_text : (law : TextsGiveTexts) (s : List ℕ) (pairs : List Pair) (needed : ℕ) (old new : List ℕ)
+    → are_texts s pairs ≡ true → IsPut (λ x. Answers s (first_value pairs) (Gives x)) needed old new
+    → IsPut (λ x. IsUtf8 x × Answers s (first_value pairs) (Gives x)) needed old new
+puts_text law s pairs needed old new are put =
+    let texts : GivesTexts (first_value pairs) = λ name x found.
+    value_is_text (find (λ pair. bytes_eq pair.name.now name) pairs) x
+    (found_is_text pairs name (second_passes (is_utf8 s) _ are)) found in
+    let source = IsUtf8-from_is_utf8 s (first_passes (is_utf8 s) _ are) in
+    let tree = put.wanted in
+    let is = law s put.bytes 0 (first_value pairs) source texts tree.0 tree.1 tree.2 in
+    record { bytes = put.bytes; wanted = (is, put.wanted); counted = put.counted; put = put.put }
