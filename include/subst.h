@@ -68,15 +68,15 @@ struct subst_fault {
 /* Fills in the variables of the source. After SUBST_DONE the first `*needed` bytes of the room are the result, and the
  * bytes behind these are as before.
  *
- * `*needed` is written with SUBST_DONE and SUBST_ROOM_TOO_SMALL alone, the room with SUBST_DONE alone, and `*fault` with
- * SUBST_REFUSED alone. */
+ * `*needed` is written with SUBST_DONE and SUBST_ROOM_TOO_SMALL alone, the room with SUBST_DONE alone, and `*fault`
+ * with SUBST_REFUSED alone. */
 uint32_t subst_bytes(const uint8_t *source, size_t source_len,
                      const struct subst_pair *pairs, size_t pairs_len,
                      uint8_t *room, size_t room_len, size_t *needed,
                      struct subst_fault *fault) SUBST_NO_NULL;
 
-/* Does what subst_bytes does, where the source and all values are UTF-8; otherwise the result is SUBST_NOT_UTF8. What is
- * put into the room is UTF-8 too. */
+/* Does what subst_bytes does, where the source and all values are UTF-8; otherwise the result is SUBST_NOT_UTF8. What
+ * is put into the room is UTF-8 too. */
 uint32_t subst_text(const uint8_t *source, size_t source_len,
                     const struct subst_pair *pairs, size_t pairs_len,
                     uint8_t *room, size_t room_len, size_t *needed,
@@ -88,8 +88,8 @@ uint32_t subst_check(const uint8_t *source, size_t source_len,
                      struct subst_fault *fault) SUBST_NO_NULL;
 
 /* Puts the text of the fault that subst_bytes finds in this source with these pairs into the room, as subst_bytes puts
- * its result there, and no byte 0 after it. Where there is no fault the text is empty. A fault that subst_check finds is
- * found with any pairs, also with none. */
+ * its result there, and no byte 0 after it. Where there is no fault the text is empty. A fault that subst_check finds
+ * is found with any pairs, also with none. */
 uint32_t subst_fault_text(const uint8_t *source, size_t source_len,
                           const struct subst_pair *pairs, size_t pairs_len,
                           uint8_t *room, size_t room_len,

@@ -1,7 +1,7 @@
 #!/usr/bin/env bash
-# Tests the library for C: tools/c_library.c built as C, as C++ and with the sanitizers of the compiler, the same with each
-# request for memory refused in turn, and what tools/install puts in place with the examples of docs/C.md. What the machine
-# lacks is said. The last line is 'N passed, M failed'.
+# Tests the library for C: tools/c_library.c built as C, as C++ and with the sanitizers of the compiler, the same with
+# each request for memory refused in turn, and what tools/install puts in place, by the examples of docs/C.md. What the
+# machine lacks is said. The last line is 'N passed, M failed'.
 set -euo pipefail
 cd "$(dirname "$0")/.."
 ulimit -c 0

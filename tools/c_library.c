@@ -1,7 +1,7 @@
 /* Tests of the library as C calls it. Each test prints a line, and the last line is 'N passed, M failed'.
  *
- * What is expected is by the rules of the language. A call that is out of memory has to have written nothing; it is said
- * and made again, so that tools/c-library.sh can refuse each request for memory.
+ * What is expected is by the rules of the language. A call that is out of memory has to have written nothing; it is
+ * said and made again, so that tools/c-library.sh can refuse each request for memory.
  */
 #include "subst.h"
 
@@ -165,7 +165,7 @@ static uint32_t check_call(const char *source, struct written *written)
 
 typedef uint32_t row_call(const struct row *row, size_t room_len, struct written *written);
 
-/* Whether a call puts just this text into a room of its length and into a larger one, and nothing into a smaller one. */
+/* Whether a call puts just this text into a room of its length and a larger one, and nothing into a smaller one. */
 static int is_put(row_call *call, const struct row *row, const char *text)
 {
     struct written written;
