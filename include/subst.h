@@ -58,6 +58,12 @@ struct subst_pair {
     size_t value_len;
 };
 
+/* The variables of one expansion of several. */
+struct subst_row {
+    const struct subst_pair *pairs;
+    size_t pairs_len;
+};
+
 /* The kind of a fault, and where in the source it is: its first byte, and how many bytes it takes. */
 struct subst_fault {
     uint32_t kind;
@@ -81,6 +87,19 @@ uint32_t subst_text(const uint8_t *source, size_t source_len,
                     const struct subst_pair *pairs, size_t pairs_len,
                     uint8_t *room, size_t room_len, size_t *needed,
                     struct subst_fault *fault) SUBST_NO_NULL;
+
+/* Does what subst_bytes does, for each row of variables, and parses the source once. After SUBST_DONE the room begins
+ * with the outputs, one after the other, `*needed` bytes in all, and `ends[i]` is where the output of `rows[i]` ends.
+ * After SUBST_REFUSED `*row` is the index of the first row that the source is refused for, and 0 for a fault that it
+ * has with any row. SUBST_ROOM_TOO_SMALL: there are fewer than `*needed` bytes of room, or fewer ends than rows.
+ *
+ * `*needed` is written with SUBST_DONE and SUBST_ROOM_TOO_SMALL alone, the room and the ends with SUBST_DONE alone, and
+ * `*row` and `*fault` with SUBST_REFUSED alone. */
+uint32_t subst_bytes_each(const uint8_t *source, size_t source_len,
+                          const struct subst_row *rows, size_t rows_len,
+                          uint8_t *room, size_t room_len,
+                          size_t *ends, size_t ends_len, size_t *needed,
+                          size_t *row, struct subst_fault *fault) SUBST_NO_NULL;
 
 /* Looks at the source without its variables. SUBST_DONE: it is a template, so that only a missing variable, or memory,
  * can be wrong with it. SUBST_REFUSED: `*fault` says why it is none. */

@@ -264,6 +264,75 @@ static void test_bytes(void)
              result == SUBST_DONE && written.needed == sizeof wanted && holds(&written, wanted, sizeof wanted));
 }
 
+/* What subst_bytes_each may write besides what others may. */
+struct each_written {
+    struct written written;
+    size_t ends[3];
+    size_t row;
+};
+
+/* Calls subst_bytes_each with a row for each of these values of the variable `name`, NULL for none. */
+static uint32_t each_call(const char *source, const char *const *names, size_t count, size_t room_len, size_t ends_len,
+                          struct each_written *each)
+{
+    struct subst_pair pairs[3];
+    struct subst_row rows[3];
+    size_t i;
+    uint32_t result;
+    for (i = 0; i < count; i++) {
+        pairs[i] = pair_of("name", names[i] != NULL ? names[i] : "");
+        rows[i].pairs = &pairs[i];
+        rows[i].pairs_len = names[i] != NULL;
+    }
+    do {
+        each->written = untouched();
+        each->ends[0] = each->ends[1] = each->ends[2] = each->row = 77;
+        result = subst_bytes_each(bytes_of(source), strlen(source), rows, count, each->written.room, room_len,
+                                  each->ends, ends_len, &each->written.needed, &each->row, &each->written.fault);
+    } while (is_out_of_memory(result, &each->written));
+    return result;
+}
+
+/* Whether nothing but this row and this fault is written. */
+static int is_refused_row(uint32_t result, struct each_written *each, size_t row, uint32_t kind, size_t position,
+                          size_t length)
+{
+    struct subst_fault fault;
+    fault.kind = kind;
+    fault.position = position;
+    fault.length = length;
+    if (result != SUBST_REFUSED || each->row != row || !is_fault(&each->written.fault, &fault))
+        return 0;
+    each->written.fault = NO_FAULT;
+    return is_untouched(&each->written) && each->ends[0] == 77;
+}
+
+static void test_each(void)
+{
+    static const char *const names[] = {"Ann", NULL, "Bo"};
+    static const char letters[] = "Dear Ann,Dear friend,Dear Bo,";
+    struct each_written each;
+    uint32_t result = each_call("Dear ${name:friend},", names, 3, ROOM, 3, &each);
+    end_test("subst_bytes_each", "letters", result == SUBST_DONE && each.written.needed == strlen(letters)
+             && holds(&each.written, letters, strlen(letters)) && each.ends[0] == 9 && each.ends[1] == 21
+             && each.ends[2] == 29 && each.row == 77 && is_fault(&each.written.fault, &NO_FAULT));
+    result = each_call("Dear ${name:friend},", names, 3, strlen(letters) - 1, 3, &each);
+    end_test("subst_bytes_each", "a room that is too small", result == SUBST_ROOM_TOO_SMALL
+             && each.written.needed == strlen(letters) && holds(&each.written, "", 0) && each.ends[0] == 77);
+    result = each_call("Dear ${name:friend},", names, 3, ROOM, 2, &each);
+    end_test("subst_bytes_each", "too few ends", result == SUBST_ROOM_TOO_SMALL
+             && each.written.needed == strlen(letters) && holds(&each.written, "", 0) && each.ends[0] == 77);
+    result = each_call("Dear $name,", names, 1, ROOM, 3, &each);
+    end_test("subst_bytes_each", "one row", result == SUBST_DONE && each.ends[0] == 9 && each.ends[1] == 77);
+    result = each_call("Dear $name,", names, 3, ROOM, 3, &each);
+    end_test("subst_bytes_each", "a name that is missing",
+             is_refused_row(result, &each, 1, SUBST_NO_SUCH_VARIABLE, 6, 4));
+    result = each_call("$name${", names, 3, ROOM, 3, &each);
+    end_test("subst_bytes_each", "no template", is_refused_row(result, &each, 0, SUBST_MISSING_VARIABLE_NAME, 5, 2));
+    result = each_call("${name", names, 0, ROOM, 3, &each);
+    end_test("subst_bytes_each", "no row", is_refused_row(result, &each, 0, SUBST_MISSING_CLOSING_BRACE, 1, 1));
+}
+
 #define GIVES(text) text, {0, 0, 0}, NULL
 #define REFUSED(kind, position, length, text) NULL, {kind, position, length}, text
 
@@ -296,6 +365,7 @@ int main(void)
         test_row(&rows[i]);
     test_bytes();
     test_no_text();
+    test_each();
     test_highlighting("a\n\u00E9 ${b}\nc", "  \u00E9 ${b}\n      ^\n");
     test_highlighting("\\x", "  \\x\n  ^^\n");
     test_highlighting("0123456789012345678901234567890123456789012345678901234567890$", "");

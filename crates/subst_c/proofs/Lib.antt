@@ -1,3 +1,4 @@
 mod AnswerLemmas
+mod EachLemmas
 mod RoomLemmas
 mod TextLemmas

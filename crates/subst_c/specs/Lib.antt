@@ -1,3 +1,4 @@
+pub mod Each
 pub mod Fault
 pub mod Pairs
 pub mod Room

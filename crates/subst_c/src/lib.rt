@@ -5,11 +5,12 @@
 //! overlaps nothing else that is passed.
 #![tactic(auto)]
 
-ghost use Rattle.std.specs.Prelude.{◌≡◌, ◌≢◌, true, false};
+ghost use Rattle.std.specs.Prelude.{◌≡◌, ◌≢◌, ◌⊎◌, ◌<◌, ◌++◌, ℕ, List, drop, length, true, false};
 ghost use Rattle.std.specs.Str.{IsUtf8};
 ghost use Rattle.subst.specs.Language.Answer.{Answers, Gives, Refuses};
 ghost use Rattle.subst.specs.Language.BadItem.{HasFault};
 ghost use Rattle.subst.specs.Language.Sentence.{IsSentence};
+ghost use Rattle.subst_c.specs.Each.{AreOutputs, IsRefusedIn};
 ghost use Rattle.subst_c.specs.Fault.{IsToldOf};
 ghost use Rattle.subst_c.specs.Pairs.{first_value};
 ghost use Rattle.subst_c.specs.Room.{IsPut, IsTooLong};
@@ -17,12 +18,13 @@ ghost use Rattle.subst_c.specs.Text.{IsHighlighting, IsText, SaysOf, are_texts};
 ghost use Rattle.subst_c.specs.declared.outcome.TheConstants.{DONE, REFUSED, OUT_OF_MEMORY, ROOM_TOO_SMALL, NOT_UTF8};
 
 pub use fault::FaultRecord;
-use outcome::{DONE, NOT_UTF8, OUT_OF_MEMORY};
-pub use pairs::Pair;
+use outcome::{DONE, NOT_UTF8, OUT_OF_MEMORY, REFUSED};
+pub use pairs::{Pair, Row};
 use std::alloc::Global;
 use subst::{ByteTemplate, Error, laws};
 
 mod answer;
+mod each;
 mod fault;
 pub mod outcome;
 mod pairs;
@@ -97,6 +99,51 @@ pub extern "C" fn subst_text(
         return NOT_UTF8;
     }
     subst_bytes(alloc, source, pairs, room, needed, fault)
+}
+
+/// Puts what `source` gives under each row of pairs at the front of the room, one output after the other, and
+/// where each ends at the front of `ends`. The source is parsed once.
+#[unsafe(no_mangle)]
+pub extern "C" fn subst_bytes_each(
+    alloc: Global,
+    source: &[u8],
+    rows: &[Row],
+    room: &mut [u8],
+    ends: &mut [usize],
+    needed: &mut usize,
+    row: &mut usize,
+    fault: &mut FaultRecord,
+) -> u32
+    ensures done { result ≡ DONE
+        → (outputs_end : List ℕ)
+        × IsPut (λ x. AreOutputs source.now rows.now x outputs_end) needed.new room.old room.new
+        × (ends.new ≡ outputs_end ++ drop (length outputs_end) ends.old) }
+
+    // The fault is that of the source, or of the first row under which it is refused, whose index is told.
+    ensures refused { result ≡ REFUSED
+        → IsToldOf (IsRefusedIn source.now rows.now row.new) fault.new }
+
+    // The outputs are longer than the room, or more than the ends that there is room for.
+    ensures too_small { result ≡ ROOM_TOO_SMALL
+        → (x : List ℕ) × (outputs_end : List ℕ) × AreOutputs source.now rows.now x outputs_end
+        × (needed.new ≡ length x)
+        × ((length room.old < needed.new) ⊎ (length ends.old < length outputs_end)) }
+    ensures others { result ≢ DONE → result ≢ REFUSED → result ≢ ROOM_TOO_SMALL
+        → result ≡ OUT_OF_MEMORY }
+    ensures room_kept { result ≢ DONE → (room.new ≡ room.old) × (ends.new ≡ ends.old) }
+    ensures fault_kept { result ≢ REFUSED → (fault.new ≡ fault.old) × (row.new ≡ row.old) }
+    ensures needed_kept { result ≢ DONE → result ≢ ROOM_TOO_SMALL → needed.new ≡ needed.old }
+{
+    match each::fill_in_each(alloc, source, rows) {
+        Ok(outputs) => outputs.deliver(room, ends, needed),
+        Err(refusal) => {
+            let result = fault::refuse(&refusal.error, fault);
+            if result == REFUSED {
+                *row = refusal.row;
+            }
+            result
+        }
+    }
 }
 
 /// Looks whether `source` is a sentence of the template language, without variables.

@@ -10,6 +10,13 @@ pub struct Pair<'a> {
     pub value: &'a [u8],
 }
 
+/// The pairs of one expansion of several.
+#[repr(C)]
+#[derive(Clone, Copy)]
+pub struct Row<'a> {
+    pub pairs: &'a [Pair<'a>],
+}
+
 /// Pairs as a map: the first pair with a name counts.
 #[derive(Clone, Copy)]
 pub struct Pairs<'a> {

@@ -1,0 +1,12 @@
+-- The fault is one of the source, so its range ends within it.
+use Rattle.std.proofs.Common.{arith}
+use Rattle.subst_c.proofs.EachLemmas.{refused_within}
+use Rattle.subst_c.proofs.subst_bytes_each.Goals as goal
+
+pub refuse-result-requires : goal.refuse-result-requires
+refuse-result-requires c =
+    omega (
+      arith,
+      refused_within c.args.source.now c.args.rows.now c.in-Err.refusal.row c.in-Err.refusal.error
+          c.in-Err.ensures.err,
+    )

@@ -1,0 +1,118 @@
+//! One source filled in again and again: it is parsed once.
+
+ghost use Rattle.std.specs.Prelude.{◌≡◌, ◌≢◌, ◌⊎◌, ◌<◌, ℕ, List, ◌++◌, ◌∷◌, [], IfErr, IfOk, IfSome, OnOk, drop, length};
+ghost use Rattle.subst.specs.ErrorFault.{error_fault, expand_fault};
+ghost use Rattle.subst.specs.Language.Answer.{Answers, Gives, Refuses};
+ghost use Rattle.subst_c.specs.Each.{AreOutputs, IsRefusedIn};
+ghost use Rattle.subst_c.specs.Pairs.{first_value};
+ghost use Rattle.subst_c.specs.declared.outcome.TheConstants.{DONE, ROOM_TOO_SMALL};
+
+use crate::outcome::{DONE, ROOM_TOO_SMALL};
+use crate::pairs::{Pairs, Row};
+use crate::room;
+use std::alloc::Global;
+use subst::error::ExpandError;
+use subst::{ByteTemplate, Error};
+
+/// What a source gives under each of several rows of pairs.
+#[derive(Drop)]
+pub struct Outputs {
+    /// The outputs, one after the other.
+    pub bytes: Vec<u8>,
+    /// Where in these bytes each output ends.
+    pub ends: Vec<usize>,
+}
+
+impl Outputs {
+    /// Puts the outputs at the front of the room, and their ends at the front of `ends`, and tells how many
+    /// bytes the outputs are. Where one of the two is too small, both stay as they are.
+    pub fn deliver(&self, room: &mut [u8], ends: &mut [usize], needed: &mut usize) -> u32
+        ensures needed { needed.new ≡ length self.now.bytes.items }
+        ensures done { result ≡ DONE
+            → (room.new ≡ self.now.bytes.items ++ drop (length self.now.bytes.items) room.old)
+            × (ends.new ≡ self.now.ends.items ++ drop (length self.now.ends.items) ends.old) }
+        ensures too_small { result ≡ ROOM_TOO_SMALL
+            → (length room.old < length self.now.bytes.items)
+            ⊎ (length ends.old < length self.now.ends.items) }
+        ensures kept { result ≢ DONE → (room.new ≡ room.old) × (ends.new ≡ ends.old) }
+        ensures others { result ≢ DONE → result ≡ ROOM_TOO_SMALL }
+    {
+        if ends.len() < self.ends.len() {
+            *needed = self.bytes.len();
+            return ROOM_TOO_SMALL;
+        }
+        let result = room::deliver(&self.bytes, room, needed);
+        if result == DONE {
+            ends[..self.ends.len()].copy_from_slice(&self.ends);
+        }
+        result
+    }
+}
+
+/// Why there are no outputs.
+#[derive(Drop)]
+pub struct Refusal {
+    /// The index of the row.
+    pub row: usize,
+    /// What is wrong.
+    pub error: Error,
+}
+
+/// Returns the bytes of the source with its variables filled in from each row of pairs.
+///
+/// # Errors
+///
+/// The fault of the first row under which the source is refused. `OutOfMemory` when allocation fails.
+pub fn fill_in_each(alloc: Global, source: &[u8], rows: &[Row]) -> Result<Outputs, Refusal>
+    ensures ok { IfOk result (λ o. AreOutputs source.now rows.now o.bytes.items o.ends.items) }
+    ensures err { IfErr result (λ e. IfSome (error_fault e.error)
+        (IsRefusedIn source.now rows.now e.row)) }
+{
+    let template = match ByteTemplate::from_slice(alloc, source) {
+        Ok(template) => template,
+        Err(e) => {
+            return Err(Refusal {
+                row: 0,
+                error: Error::from(e),
+            });
+        }
+    };
+    let mut outputs = Outputs {
+        bytes: Vec::new(alloc),
+        ends: Vec::new(alloc),
+    };
+    for row in rows {
+        match add(alloc, &template, row, &mut outputs) {
+            Ok(()) => {}
+            Err(e) => {
+                return Err(Refusal {
+                    row: outputs.ends.len(),
+                    error: Error::from(e),
+                });
+            }
+        }
+    }
+    Ok(outputs)
+}
+
+/// Adds what the template gives under a row of pairs to the outputs. Where it gives nothing, no end is added.
+fn add(
+    alloc: Global,
+    template: &ByteTemplate,
+    row: &Row,
+    outputs: &mut Outputs,
+) -> Result<(), ExpandError>
+    ensures ok { OnOk result ((output : List ℕ)
+        × Answers template.now (first_value row.now.pairs.now) (Gives output)
+        × (outputs.new.bytes.items ≡ outputs.old.bytes.items ++ output)
+        × (outputs.new.ends.items ≡ outputs.old.ends.items ++ (length outputs.new.bytes.items ∷ []))) }
+    ensures err { IfErr result (λ e. IfSome (expand_fault e)
+        (λ f. Answers template.now (first_value row.now.pairs.now) (Refuses f))) }
+    ensures ends { IfErr result (λ e. outputs.new.ends.items ≡ outputs.old.ends.items) }
+{
+    let _source = template.source();
+    let bytes = template.expand(alloc, &Pairs { pairs: row.pairs })?;
+    outputs.bytes.extend_from_slice(&bytes)?;
+    outputs.ends.push(outputs.bytes.len())?;
+    Ok(())
+}
