@@ -20,8 +20,8 @@ use Rattle.subst_c.specs.Text.{IsHighlighting, IsText, SaysOf}
 use Rattle.subst_c.specs.declared.fault.FaultRecord.{FaultRecord}
 
 -- what is told of an error is told of the fault for which the source is refused
-pub told_of_refusal : (e : Error) (IsSuch : Fault → Type 0) (told : FaultRecord) → IfSome (error_fault e) IsSuch
-    → IsToldOf (λ f. error_fault e ≡ Some f) told → IsToldOf IsSuch told
+pub told_of_refusal : (e : Error) (IsSuch : Fault → Type 0) (told : FaultRecord)
+    → IfSome (error_fault e) IsSuch → IsToldOf (λ f. error_fault e ≡ Some f) told → IsToldOf IsSuch told
 told_of_refusal e IsSuch told such (f, states, is) = (f, subst (λ o. IfSome o IsSuch) states such, is)
 
 -- an error that states a refusal states a fault of which it is so
@@ -53,7 +53,8 @@ text_of_error e IsAnswer (Err x) other refused shown = tt
 
 -- and its highlighting is that of the fault
 highlights_a_fault : (e : Option Fault) (IsAnswer : Answer → Type 0) (s text : List ℕ) → e ≢ None
-    → IfSome (option_map Refuses e) IsAnswer → text ≡ highlighting_of e s → SaysOf IsAnswer (IsHighlighting s) text
+    → IfSome (option_map Refuses e) IsAnswer → text ≡ highlighting_of e s
+    → SaysOf IsAnswer (IsHighlighting s) text
 highlights_a_fault (Some f) IsAnswer s text some answer shown = (Refuses f, answer, shown)
 highlights_a_fault None IsAnswer s text some answer shown = absurd (some refl)
 
@@ -69,7 +70,8 @@ highlighting_of_error e IsAnswer s (Err x) other refused shown = tt
 
 -- the range of an error ends within the source
 pub error_within : {T : Type 0} (bytes_of : T → List ℕ) (s : List ℕ) (look : LookUp) (r : Result T Error)
-    → IfSome (answer_of bytes_of r) (Answers s look) → IfErr r (λ e. (range_of (error_fault e)).end ≤ length s)
+    → IfSome (answer_of bytes_of r) (Answers s look)
+    → IfErr r (λ e. (range_of (error_fault e)).end ≤ length s)
 error_within bytes_of s look (Ok output) h = tt
 error_within bytes_of s look (Err e) h = range_in_source s look e h
 
@@ -78,7 +80,8 @@ pub fault_within : (s : List ℕ) (e : Error) (o : Option Fault) → error_fault
     → (range_of (error_fault e)).end ≤ length s
 fault_within s e o states h =
     let look : LookUp = λ _. None in
-    range_in_source s look e (subst (λ x. IfSome (option_map Refuses x) (Answers s look)) (sym states) (refusal look o h))
+    range_in_source s look e
+    (subst (λ x. IfSome (option_map Refuses x) (Answers s look)) (sym states) (refusal look o h))
   where
     refusal : (look : LookUp) (o : Option Fault) → IfSome o (HasFault 0 s)
         → IfSome (option_map Refuses o) (Answers s look)

@@ -54,7 +54,8 @@ ends_from-append n (o ∷ outputs) output =
     ap (λ l. (n + length o) ∷ l) (later ∙ ap (λ m. ends_from (n + length o) outputs ++ m ∷ []) e)
 
 -- the outputs joined, with one more
-concat-more : (outputs : List (List ℕ)) (output : List ℕ) → concat (outputs ++ output ∷ []) ≡ concat outputs ++ output
+concat-more : (outputs : List (List ℕ)) (output : List ℕ)
+    → concat (outputs ++ output ∷ []) ≡ concat outputs ++ output
 concat-more outputs output =
     concat-append outputs (output ∷ []) ∙ ap (λ x. concat outputs ++ x) (append-nil output)
 
@@ -63,8 +64,8 @@ pub no_outputs : (s : List ℕ) → AreOutputs s [] [] []
 no_outputs s = record { outputs = []; given = tt; joined = refl; ended = refl }
 
 -- the output of the row at an index, after those of the rows before it
-pub one_more : (s : List ℕ) (rows : List Row) (i : ℕ) (d : Row) (bytes ends output new_bytes new_ends : List ℕ)
-    → i < length rows → AreOutputs s (take i rows) bytes ends
+pub one_more : (s : List ℕ) (rows : List Row) (i : ℕ) (d : Row)
+    (bytes ends output new_bytes new_ends : List ℕ) → i < length rows → AreOutputs s (take i rows) bytes ends
     → Answers s (first_value (get_or rows i d).pairs.now) (Gives output) → new_bytes ≡ bytes ++ output
     → new_ends ≡ ends ++ length new_bytes ∷ [] → AreOutputs s (take (i + 1) rows) new_bytes new_ends
 one_more s rows i d bytes ends output new_bytes new_ends h are given joined ended =
@@ -94,8 +95,8 @@ length-take (r ∷ rows) zero h = refl
 length-take (r ∷ rows) (suc i) h = ap suc (length-take rows i (omega arith))
 
 -- the row at an index is refused, after outputs of the rows before it
-pub refused_at : (s : List ℕ) (rows : List Row) (i : ℕ) (d : Row) (bytes ends new_ends : List ℕ) (e o : Option Fault)
-    → i < length rows → AreOutputs s (take i rows) bytes ends → new_ends ≡ ends → e ≡ o
+pub refused_at : (s : List ℕ) (rows : List Row) (i : ℕ) (d : Row)
+    (bytes ends new_ends : List ℕ) (e o : Option Fault) → i < length rows → AreOutputs s (take i rows) bytes ends → new_ends ≡ ends → e ≡ o
     → IfSome o (λ f. Answers s (first_value (get_or rows i d).pairs.now) (Refuses f))
     → IfSome e (IsRefusedIn s rows (length new_ends))
 refused_at s rows i d bytes ends new_ends e o h are same states refused =
@@ -119,8 +120,8 @@ refused_at s rows i d bytes ends new_ends e o h are same states refused =
     })
 
 -- the range of such a fault ends within the source
-pub refused_within : (s : List ℕ) (rows : List Row) (i : ℕ) (e : Error) → IfSome (error_fault e) (IsRefusedIn s rows i)
-    → (range_of (error_fault e)).end ≤ length s
+pub refused_within : (s : List ℕ) (rows : List Row) (i : ℕ) (e : Error)
+    → IfSome (error_fault e) (IsRefusedIn s rows i) → (range_of (error_fault e)).end ≤ length s
 refused_within s rows i e h =
     let is = some_look (error_fault e) h in
     range_in_source s is.0 e is.1
@@ -139,9 +140,11 @@ pub refused_for_missing : {T : Type 0} (s : List ℕ) (look : LookUp) (t : Tree)
 refused_for_missing s look t (Ok x) e same spells h = tt
 refused_for_missing s look t (Err x) e same spells h =
     subst (λ y. IfSome (expand_fault y) (λ f. Answers s look (Refuses f))) (sym same)
-    (of (expand_fault e) (subst (λ l. IfSome (expand_fault e) (IsMissing (value 0 t l))) (same_look_up look) h))
+    (of (expand_fault e)
+    (subst (λ l. IfSome (expand_fault e) (IsMissing (value 0 t l))) (same_look_up look) h))
   where
-    of : (o : Option Fault) → IfSome o (IsMissing (value 0 t look)) → IfSome o (λ f. Answers s look (Refuses f))
+    of : (o : Option Fault) → IfSome o (IsMissing (value 0 t look))
+        → IfSome o (λ f. Answers s look (Refuses f))
     of None missing = tt
     of (Some f) missing = inr (t, spells, missing)
 

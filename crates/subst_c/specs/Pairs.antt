@@ -7,4 +7,5 @@ use Rattle.subst_c.specs.declared.pairs.Pair.{Pair}
 
 -- the value of the first pair with this name
 abbrev pub first_value : List Pair → LookUp
-first_value pairs name = option_map (λ pair. pair.value.now) (find (λ pair. bytes_eq pair.name.now name) pairs)
+first_value pairs name =
+    option_map (λ pair. pair.value.now) (find (λ pair. bytes_eq pair.name.now name) pairs)

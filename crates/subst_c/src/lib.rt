@@ -1,8 +1,8 @@
 //! The library under names of C: variables come as pairs, and what is returned goes into the caller's room.
 //!
-//! The header `data/subst.h` declares what is here, and docs/C.md shows how to call it. Each call returns one of
-//! the numbers of [`outcome`]. No pointer may be null, also where its length is 0; what is lent to be written
-//! overlaps nothing else that is passed.
+//! The header `include/subst.h` declares what is here, and docs/C.md shows how to call it. Each call returns
+//! one of the numbers of [`outcome`]. No pointer may be null, also where its length is 0; what is lent to be
+//! written overlaps nothing else that is passed.
 #![tactic(auto)]
 
 ghost use Rattle.std.specs.Prelude.{◌≡◌, ◌≢◌, ◌⊎◌, ◌<◌, ◌++◌, ℕ, List, drop, length, true, false};
@@ -42,7 +42,8 @@ pub extern "C" fn subst_bytes(
 ) -> u32
     // The room begins with what the source gives.
     ensures done { result ≡ DONE
-        → IsPut (λ x. Answers source.now (first_value pairs.now) (Gives x)) needed.new room.old room.new }
+        → IsPut (λ x. Answers source.now (first_value pairs.now) (Gives x))
+        needed.new room.old room.new }
 
     // The fault is that which the source is refused for.
     ensures refused { result ≡ REFUSED
@@ -50,7 +51,8 @@ pub extern "C" fn subst_bytes(
 
     // What the source gives is longer than the room.
     ensures too_small { result ≡ ROOM_TOO_SMALL
-        → IsTooLong (λ x. Answers source.now (first_value pairs.now) (Gives x)) needed.new room.old }
+        → IsTooLong (λ x. Answers source.now (first_value pairs.now) (Gives x))
+        needed.new room.old }
 
     // There is no other result, but out of memory, and each leaves the rest as it was.
     ensures others { result ≢ DONE → result ≢ REFUSED → result ≢ ROOM_TOO_SMALL
@@ -83,7 +85,8 @@ pub extern "C" fn subst_text(
     ensures refused { result ≡ REFUSED
         → IsToldOf (λ f. Answers source.now (first_value pairs.now) (Refuses f)) fault.new }
     ensures too_small { result ≡ ROOM_TOO_SMALL
-        → IsTooLong (λ x. Answers source.now (first_value pairs.now) (Gives x)) needed.new room.old }
+        → IsTooLong (λ x. Answers source.now (first_value pairs.now) (Gives x))
+        needed.new room.old }
 
     // The source or a value is told not to be UTF-8 exactly where one isn't.
     ensures text { result ≢ NOT_UTF8 → are_texts source.now pairs.now ≡ true }
@@ -171,9 +174,11 @@ pub extern "C" fn subst_fault_text(
     needed: &mut usize,
 ) -> u32
     ensures done { result ≡ DONE
-        → IsPut (SaysOf (Answers source.now (first_value pairs.now)) IsText) needed.new room.old room.new }
+        → IsPut (SaysOf (Answers source.now (first_value pairs.now)) IsText)
+        needed.new room.old room.new }
     ensures too_small { result ≡ ROOM_TOO_SMALL
-        → IsTooLong (SaysOf (Answers source.now (first_value pairs.now)) IsText) needed.new room.old }
+        → IsTooLong (SaysOf (Answers source.now (first_value pairs.now)) IsText)
+        needed.new room.old }
     ensures others { result ≢ DONE → result ≢ ROOM_TOO_SMALL → result ≡ OUT_OF_MEMORY }
     ensures room_kept { result ≢ DONE → room.new ≡ room.old }
     ensures needed_kept { result ≢ DONE → result ≢ ROOM_TOO_SMALL → needed.new ≡ needed.old }
@@ -199,8 +204,8 @@ pub extern "C" fn subst_fault_highlighting(
         → IsPut (SaysOf (Answers source.now (first_value pairs.now)) (IsHighlighting source.now))
         needed.new room.old room.new }
     ensures too_small { result ≡ ROOM_TOO_SMALL
-        → IsTooLong (SaysOf (Answers source.now (first_value pairs.now)) (IsHighlighting source.now))
-        needed.new room.old }
+        → IsTooLong (SaysOf (Answers source.now (first_value pairs.now))
+        (IsHighlighting source.now)) needed.new room.old }
 
     // The source is told not to be UTF-8 exactly where it isn't.
     ensures text { result ≢ NOT_UTF8 → IsUtf8 source.now }

@@ -5,8 +5,8 @@ ghost use Rattle.subst_c.specs.declared.outcome.TheConstants.{DONE, ROOM_TOO_SMA
 
 use crate::outcome::{DONE, ROOM_TOO_SMALL};
 
-/// Puts bytes at the front of the room, and tells how many they are. Where they are more than the room has, it
-/// stays as it is.
+/// Puts bytes at the front of the room, and tells how many they are. Where they are more than the room has,
+/// it stays as it is.
 pub fn deliver(bytes: &[u8], room: &mut [u8], needed: &mut usize) -> u32
     ensures needed { needed.new ≡ length bytes.now }
     ensures done { result ≡ DONE

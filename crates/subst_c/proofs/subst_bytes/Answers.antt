@@ -8,7 +8,8 @@ use Rattle.subst_c.proofs.subst_bytes.Goals as goal
 
 pub returns-in-Ok-clause-done : goal.returns-in-Ok-clause-done
 returns-in-Ok-clause-done c done =
-    is_put _ _ _ _ _ _ c.in-Ok.ensures.answer c.deref.ensures.value c.deliver.ensures.needed (c.deliver.ensures.done done)
+    is_put _ _ _ _ _ _ c.in-Ok.ensures.answer c.deref.ensures.value c.deliver.ensures.needed
+    (c.deliver.ensures.done done)
 
 pub returns-in-Ok-clause-too_small : goal.returns-in-Ok-clause-too_small
 returns-in-Ok-clause-too_small c small =

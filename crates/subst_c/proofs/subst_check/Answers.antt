@@ -6,4 +6,7 @@ use Rattle.subst_c.proofs.subst_check.Goals as goal
 
 pub refuse-requires : goal.refuse-requires
 refuse-requires c =
-    omega (arith, fault_within c.args.source.now c.from.result (parse_fault c.in-Err.e) c.from.ensures c.in-Err.ensures.err)
+    omega (
+      arith,
+      fault_within c.args.source.now c.from.result (parse_fault c.in-Err.e) c.from.ensures c.in-Err.ensures.err,
+    )

@@ -10,5 +10,6 @@ returns-clause-answer c = answer_as_read _ _ _ (c.substitute_bytes.ensures (λ v
 
 pub returns-clause-range : goal.returns-clause-range
 returns-clause-range c =
-    error_within (λ output. output.items) c.args.source.now (first_value c.args.pairs.now) c.substitute_bytes.result
+    error_within (λ output. output.items) c.args.source.now (first_value c.args.pairs.now)
+    c.substitute_bytes.result
     (answer_as_read _ _ _ (c.substitute_bytes.ensures (λ v. v) (λ v. refl)))

@@ -8,7 +8,8 @@ pub returns-in_err-bytes-clause-err : goal.returns-in_err-bytes-clause-err
 returns-in_err-bytes-clause-err c =
     let is = c.source-source.ensures.sentence in
     refused_for_missing c.args.template.now (first_value c.args.row.now.pairs.now) is.0 c.from_residual.result
-    c.in_err-bytes.field-0.0 c.from_residual.ensures.1 is.1 (c.in_err-bytes.ensures (λ v. v) (λ v. refl) is.0 is.1)
+    c.in_err-bytes.field-0.0 c.from_residual.ensures.1 is.1
+    (c.in_err-bytes.ensures (λ v. v) (λ v. refl) is.0 is.1)
 
 pub returns-clause-ok : goal.returns-clause-ok
 returns-clause-ok c =
