@@ -1,9 +1,10 @@
 #!/usr/bin/env python3
-"""trees.py [--write]   Counts the instructions of filling in a tree, apart from reading and printing it.
+"""trees.py [--write] [--program PATH]   Counts the instructions of filling in a tree, apart from reading and printing it.
 
-`subst_answers` answers one record of the kind `json` under callgrind, whose source is a generated document of 5.8 MB
-and whose variables are 300. What counts as filling in are the calls of the walk from outside of it, with all that they
-call, and dropping the tree that was read. Prints a table in Markdown; with --write it goes into RESULTS.md too.
+`subst_answers` answers two records under callgrind: one of the kind `json`, whose source is a generated document of
+5.8 MB, and one of the kind `toml`, of 3.7 MB. Each has 300 variables. What counts as filling in are the calls of the
+walk from outside of it, with all that they call, and dropping the tree that was read where the walk leaves it. Prints a
+table in Markdown for each; with --write they go into RESULTS.md too. --program names another build of `subst_answers`.
 """
 import argparse
 import json
@@ -18,11 +19,6 @@ HERE = Path(__file__).resolve().parent
 RESULTS = HERE / "RESULTS.md"
 BEGIN, END = "<!-- trees -->\n", "<!-- end of trees -->\n"
 PROGRAM = HERE.parent / "crates/subst_answers/out/subst_answers"
-# Instructions of the Rust crate to fill in a tree of 5.8 MB with 300 variables.
-RUST = 167_000_000
-# The functions of the walk, and what drops the tree that was read.
-WALK = re.compile(r"subst_json::walk::filled")
-DROP = re.compile(r"subst_json::.*Destruct::drop")
 
 
 # The input
@@ -37,20 +33,30 @@ def some_value(rng, names):
     return words if which < 0.6 else f"{words}/${{{rng.choice(names)}}}"
 
 
-def document(rng, names, size):
+def json_text(objects):
+    return json.dumps(objects)
+
+
+def toml_text(objects):
+    """An array of tables. Keys are letters, and strings have nothing that TOML escapes, so JSON's quoting will do."""
+    return "\n".join("[[table]]\n" + "".join(f"{key} = {json.dumps(value)}\n" for key, value in members.items())
+                     for members in objects)
+
+
+def document(rng, names, text_of, size):
     """A document of about this many bytes: an array of objects with ten members each."""
     objects, length = [], 0
     while length < size:
         keys = {"".join(rng.choices("abcdefghij", k=rng.randrange(4, 8))) for _ in range(10)}
         objects.append({key: some_value(rng, names) for key in sorted(keys)})
-        length += len(json.dumps(objects[-1])) + 2
-    return json.dumps(objects).encode()
+        length += len(text_of(objects[-1:]))
+    return text_of(objects).encode()
 
 
-def record(source, variables):
+def record(kind, source, variables):
     """The line of a record."""
     pairs = ",".join(f"{name.encode().hex()}={value.encode().hex()}" for name, value in variables.items())
-    return f"json\t{source.hex()}\t{pairs}\n".encode()
+    return f"{kind}\t{source.hex()}\t{pairs}\n".encode()
 
 
 # Counting
@@ -73,44 +79,53 @@ def calls_of(profile):
                 yield names[caller], names[callee], int(next(lines).split()[1])
 
 
-def counts(profile):
+def counts(profile, kind):
     """The instructions of the whole run, of the walk, and of dropping the tree that was read."""
+    is_walk = re.compile(rf"subst_{kind}::walk::").search
+    is_drop = re.compile(rf"subst_{kind}::.*Destruct::drop").search
     total = int(re.search(r"^(?:summary|totals): (\d+)", Path(profile).read_text(errors="replace"), re.M)[1])
     walk = drop = 0
     for caller, callee, cost in calls_of(profile):
-        if WALK.search(callee) and not WALK.search(caller):
+        if is_walk(callee) and not is_walk(caller):
             walk += cost
-        if DROP.search(callee) and not DROP.search(caller) and not WALK.search(caller):
+        if is_drop(callee) and not is_drop(caller) and not is_walk(caller):
             drop += cost
     return total, walk, drop
 
 
-def table():
+def table(program, kind, text_of, size, rust):
     rng = random.Random(7)
     names = [f"NAME_{number}" for number in range(300)]
     variables = {name: "".join(rng.choices("abcdefghij/.-", k=rng.randrange(4, 24))) for name in names}
-    source = document(rng, names, 5_800_000)
+    source = document(rng, names, text_of, size)
     with tempfile.TemporaryDirectory() as folder:
         profile = f"{folder}/profile"
-        command = ["valgrind", "--tool=callgrind", f"--callgrind-out-file={profile}", str(PROGRAM)]
-        ran = subprocess.run(command, input=record(source, variables), capture_output=True, check=True)
+        command = ["valgrind", "--tool=callgrind", f"--callgrind-out-file={profile}", str(program)]
+        ran = subprocess.run(command, input=record(kind, source, variables), capture_output=True, check=True)
         if not ran.stdout.startswith(b"ok\t"):
             sys.exit(f"the document was not filled in: {ran.stdout[:80]!r}")
-        total, walk, drop = counts(profile)
-    filled = source.count(b"${")
-    return (f"A document of {len(source) / 1e6:.1f} MB, of which {filled:,} strings hold one of 300 variables:\n\n"
+        total, walk, drop = counts(profile, kind)
+    return (f"{kind.upper()}: a document of {len(source) / 1e6:.1f} MB, of which {source.count(b'${'):,} strings hold "
+            "one of 300 variables:\n\n"
             "| | Instructions |\n|---|---:|\n"
             f"| filling in the tree | {walk / 1e6:.0f}M |\n"
             f"| dropping the tree that was read | {drop / 1e6:.0f}M |\n"
-            f"| the Rust crate, which fills in place | {RUST / 1e6:.0f}M |\n"
+            f"| the Rust crate, which fills in place | {rust / 1e6:.0f}M |\n"
             f"| the whole run: reading the record, reading, filling in and printing the tree | {total / 1e6:.0f}M |\n")
+
+
+def tables(program):
+    """The table of each format, of a size for which the Rust crate's instructions are known."""
+    return (table(program, "json", json_text, 5_800_000, 167_000_000) + "\n"
+            + table(program, "toml", toml_text, 3_700_000, 160_000_000))
 
 
 def main():
     parser = argparse.ArgumentParser(description=__doc__.split("\n")[0])
-    parser.add_argument("--write", action="store_true", help="put the table into RESULTS.md too")
+    parser.add_argument("--write", action="store_true", help="put the tables into RESULTS.md too")
+    parser.add_argument("--program", type=Path, default=PROGRAM, help="the program to count")
     options = parser.parse_args()
-    text = table()
+    text = tables(options.program)
     print(text, end="")
     if options.write:
         before, _, rest = RESULTS.read_text().partition(BEGIN)

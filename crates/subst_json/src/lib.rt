@@ -59,7 +59,7 @@ where
     ensures range { OnFault error_fault result HasRange }
     ensures unchanged { OnErr result (value.new ≡ value.old) }
 {
-    let filled = walk::filled(alloc, value, &Filler { variables })?;
+    let filled = walk::filled(alloc, value.clone()?, &Filler { variables })?;
     *value = filled;
     Ok(())
 }
@@ -97,7 +97,7 @@ where
     ensures memory { IfErr result HasOwnMemory }
 {
     let value = Value::from_str(alloc, source)?;
-    fill_tree(alloc, &value, variables)
+    fill_tree(alloc, value, variables)
 }
 
 /// The same of bytes.
@@ -123,7 +123,7 @@ where
     ensures memory { IfErr result HasOwnMemory }
 {
     let value = Value::from_slice(alloc, source)?;
-    fill_tree(alloc, &value, variables)
+    fill_tree(alloc, value, variables)
 }
 
 /// Reads JSON, fills in its strings from `variables`, whose values are texts, and reads a `T` from the tree.
@@ -182,16 +182,16 @@ where
 /// Returns a tree that was read, with its strings filled in.
 fn fill_tree<'a, M: VariableMap<'a>>(
     alloc: Global,
-    value: &Value,
+    value: Value,
     variables: &'a M,
 ) -> Result<Value, Error>
 where
     M::Value: AsStr + Drop,
     ensures ok { ByLookUp M.Value.text M.see (M.look_up variables.now)
-        (λ look. IfOk result (λ tree. IsMapped look (view value.now) (view tree))) }
+        (λ look. IfOk result (λ tree. IsMapped look (view value) (view tree))) }
     ensures json { OnJson result ⊥ }
     ensures subst { ByLookUp M.Value.text M.see (M.look_up variables.now)
-        (λ look. OnSubst result (IsFirstRefusal look (strings (view value.now)))) }
+        (λ look. OnSubst result (IsFirstRefusal look (strings (view value)))) }
     ensures range { OnSubst result HasRange }
     ensures memory { IfErr result HasOwnMemory }
 {

@@ -1,4 +1,4 @@
-//! The walk over a tree: it builds a new one, and leaves the old one as it is.
+//! The walk over a tree: it takes the tree apart, and puts it together again with its strings filled in.
 
 ghost use Rattle.std.specs.Prelude.{IfOk};
 ghost use Rattle.serde_json.specs.View.{view, items_view, members_view};
@@ -10,22 +10,23 @@ ghost use Rattle.subst_json.specs.Mapped.{strings, strings_of_items, strings_of_
 
 use serde_json::{Map, Value};
 use std::alloc::Global;
+use std::mem::replace;
 use subst_error::Error;
-use subst_tree::Fill;
+use subst_tree::{Fill, put_values};
 
 /// Returns the tree with its strings filled in.
 #[cycle(walk)]
-pub(crate) fn filled<F: Fill>(alloc: Global, value: &Value, filler: &F) -> Result<Value, Error>
+pub(crate) fn filled<F: Fill>(alloc: Global, value: Value, filler: &F) -> Result<Value, Error>
     ensures ok { (look : LookUp) → F.is_look_up filler.now look
-        → IfOk result (λ tree. IsMapped look (view value.now) (view tree)) }
+        → IfOk result (λ tree. IsMapped look (view value) (view tree)) }
     ensures err { (look : LookUp) → F.is_look_up filler.now look
-        → OnFault error_fault result (IsFirstRefusal look (strings (view value.now))) }
+        → OnFault error_fault result (IsFirstRefusal look (strings (view value))) }
     ensures range { OnFault error_fault result HasRange }
 {
     match value {
         Value::Null => Ok(Value::Null),
-        Value::Bool(b) => Ok(Value::Bool(*b)),
-        Value::Number(number) => Ok(Value::Number(*number)),
+        Value::Bool(b) => Ok(Value::Bool(b)),
+        Value::Number(number) => Ok(Value::Number(number)),
         Value::String(text) => Ok(Value::String(filler.fill(alloc, text)?)),
         Value::Array(items) => Ok(Value::Array(filled_items(alloc, items, filler)?)),
         Value::Object(members) => Ok(Value::Object(filled_members(alloc, members, filler)?)),
@@ -34,11 +35,11 @@ pub(crate) fn filled<F: Fill>(alloc: Global, value: &Value, filler: &F) -> Resul
 
 /// Returns the items of an array, in their order.
 #[cycle(walk)]
-fn filled_items<F: Fill>(alloc: Global, items: &Vec<Value>, filler: &F) -> Result<Vec<Value>, Error>
+fn filled_items<F: Fill>(alloc: Global, items: Vec<Value>, filler: &F) -> Result<Vec<Value>, Error>
     ensures ok { (look : LookUp) → F.is_look_up filler.now look → IfOk result
-        (λ trees. AreMapped look (items_view items.now.items) (items_view trees.items)) }
+        (λ trees. AreMapped look (items_view items.items) (items_view trees.items)) }
     ensures err { (look : LookUp) → F.is_look_up filler.now look → OnFault error_fault result
-        (IsFirstRefusal look (strings_of_items (items_view items.now.items))) }
+        (IsFirstRefusal look (strings_of_items (items_view items.items))) }
     ensures range { OnFault error_fault result HasRange }
 {
     let mut trees = Vec::with_capacity(alloc, items.len())?;
@@ -48,25 +49,25 @@ fn filled_items<F: Fill>(alloc: Global, items: &Vec<Value>, filler: &F) -> Resul
     Ok(trees)
 }
 
-/// Returns the members of an object, in the byte order of their keys.
+/// Returns the members of an object, whose values are taken out in the byte order of their keys.
 #[cycle(walk)]
 fn filled_members<F: Fill>(
     alloc: Global,
-    members: &Map<String, Value>,
+    mut members: Map<String, Value>,
     filler: &F,
 ) -> Result<Map<String, Value>, Error>
     ensures ok { (look : LookUp) → F.is_look_up filler.now look → IfOk result
-        (λ trees. HasMappedMembers look (members_view members.now.entries)
+        (λ trees. HasMappedMembers look (members_view members.entries)
         (members_view trees.entries)) }
     ensures err { (look : LookUp) → F.is_look_up filler.now look → OnFault error_fault result
-        (IsFirstRefusal look (strings_of_members (members_view members.now.entries))) }
+        (IsFirstRefusal look (strings_of_members (members_view members.entries))) }
     ensures range { OnFault error_fault result HasRange }
 {
-    let mut trees = Map::new(alloc);
-    for (key, member) in members.iter() {
-        let name = key.clone()?;
-        let tree = filled(alloc, member, filler)?;
-        drop(trees.insert(name, tree)?);
+    let mut trees = Vec::with_capacity(alloc, members.len())?;
+    for member in members.values_mut() {
+        let tree = replace(member, Value::Null);
+        trees.push(filled(alloc, tree, filler)?)?;
     }
-    Ok(trees)
+    put_values(&mut members, trees);
+    Ok(members)
 }

@@ -61,7 +61,7 @@ where
     ensures range { OnFault error_fault result HasRange }
     ensures unchanged { OnErr result (value.new ≡ value.old) }
 {
-    let filled = walk::filled(alloc, value, &Filler { variables })?;
+    let filled = walk::filled(alloc, value.clone()?, &Filler { variables })?;
     *value = filled;
     Ok(())
 }
@@ -208,5 +208,5 @@ where
     ensures memory { IfErr result HasOwnMemory }
 {
     let table = toml::table_from_str(alloc, source)?;
-    Ok(walk::filled_members(alloc, &table, &Filler { variables })?)
+    Ok(walk::filled_members(alloc, table, &Filler { variables })?)
 }

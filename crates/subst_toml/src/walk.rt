@@ -1,4 +1,4 @@
-//! The walk over a tree: it builds a new one, and leaves the old one as it is.
+//! The walk over a tree: it takes the tree apart, and puts it together again with its strings filled in.
 
 ghost use Rattle.std.specs.Prelude.{IfOk};
 ghost use Rattle.toml.specs.View.{view, items_view, members_view};
@@ -9,25 +9,26 @@ ghost use Rattle.subst_tree.specs.Texts.{HasRange, IsFirstRefusal};
 ghost use Rattle.subst_toml.specs.Mapped.{strings, strings_of_items, strings_of_members, IsMapped, AreMapped, HasMappedMembers};
 
 use std::alloc::Global;
+use std::mem::replace;
 use subst_error::Error;
-use subst_tree::Fill;
+use subst_tree::{Fill, put_values};
 use toml::{Table, Value};
 
 /// Returns the tree with its strings filled in.
 #[cycle(walk)]
-pub(crate) fn filled<F: Fill>(alloc: Global, value: &Value, filler: &F) -> Result<Value, Error>
+pub(crate) fn filled<F: Fill>(alloc: Global, value: Value, filler: &F) -> Result<Value, Error>
     ensures ok { (look : LookUp) → F.is_look_up filler.now look
-        → IfOk result (λ tree. IsMapped look (view value.now) (view tree)) }
+        → IfOk result (λ tree. IsMapped look (view value) (view tree)) }
     ensures err { (look : LookUp) → F.is_look_up filler.now look
-        → OnFault error_fault result (IsFirstRefusal look (strings (view value.now))) }
+        → OnFault error_fault result (IsFirstRefusal look (strings (view value))) }
     ensures range { OnFault error_fault result HasRange }
 {
     match value {
         Value::String(text) => Ok(Value::String(filler.fill(alloc, text)?)),
-        Value::Integer(number) => Ok(Value::Integer(*number)),
-        Value::Float(number) => Ok(Value::Float(*number)),
-        Value::Boolean(b) => Ok(Value::Boolean(*b)),
-        Value::Datetime(date) => Ok(Value::Datetime(*date)),
+        Value::Integer(number) => Ok(Value::Integer(number)),
+        Value::Float(number) => Ok(Value::Float(number)),
+        Value::Boolean(b) => Ok(Value::Boolean(b)),
+        Value::Datetime(date) => Ok(Value::Datetime(date)),
         Value::Array(items) => Ok(Value::Array(filled_items(alloc, items, filler)?)),
         Value::Table(members) => Ok(Value::Table(filled_members(alloc, members, filler)?)),
     }
@@ -35,11 +36,11 @@ pub(crate) fn filled<F: Fill>(alloc: Global, value: &Value, filler: &F) -> Resul
 
 /// Returns the items of an array, in their order.
 #[cycle(walk)]
-fn filled_items<F: Fill>(alloc: Global, items: &Vec<Value>, filler: &F) -> Result<Vec<Value>, Error>
+fn filled_items<F: Fill>(alloc: Global, items: Vec<Value>, filler: &F) -> Result<Vec<Value>, Error>
     ensures ok { (look : LookUp) → F.is_look_up filler.now look → IfOk result
-        (λ trees. AreMapped look (items_view items.now.items) (items_view trees.items)) }
+        (λ trees. AreMapped look (items_view items.items) (items_view trees.items)) }
     ensures err { (look : LookUp) → F.is_look_up filler.now look → OnFault error_fault result
-        (IsFirstRefusal look (strings_of_items (items_view items.now.items))) }
+        (IsFirstRefusal look (strings_of_items (items_view items.items))) }
     ensures range { OnFault error_fault result HasRange }
 {
     let mut trees = Vec::with_capacity(alloc, items.len())?;
@@ -49,25 +50,25 @@ fn filled_items<F: Fill>(alloc: Global, items: &Vec<Value>, filler: &F) -> Resul
     Ok(trees)
 }
 
-/// Returns the members of a table, in the byte order of their keys.
+/// Returns the members of a table, whose values are taken out in the byte order of their keys.
 #[cycle(walk)]
 pub(crate) fn filled_members<F: Fill>(
     alloc: Global,
-    members: &Table,
+    mut members: Table,
     filler: &F,
 ) -> Result<Table, Error>
     ensures ok { (look : LookUp) → F.is_look_up filler.now look → IfOk result
-        (λ trees. HasMappedMembers look (members_view members.now.entries)
+        (λ trees. HasMappedMembers look (members_view members.entries)
         (members_view trees.entries)) }
     ensures err { (look : LookUp) → F.is_look_up filler.now look → OnFault error_fault result
-        (IsFirstRefusal look (strings_of_members (members_view members.now.entries))) }
+        (IsFirstRefusal look (strings_of_members (members_view members.entries))) }
     ensures range { OnFault error_fault result HasRange }
 {
-    let mut trees = Table::new(alloc);
-    for (key, member) in members.iter() {
-        let name = key.clone()?;
-        let tree = filled(alloc, member, filler)?;
-        drop(trees.insert(name, tree)?);
+    let mut trees = Vec::with_capacity(alloc, members.len())?;
+    for member in members.values_mut() {
+        let tree = replace(member, Value::Boolean(false));
+        trees.push(filled(alloc, tree, filler)?)?;
     }
-    Ok(trees)
+    put_values(&mut members, trees);
+    Ok(members)
 }

@@ -3,8 +3,10 @@
 //! `subst` doesn't hand on this crate.
 #![tactic(auto)]
 
-ghost use Rattle.std.specs.Prelude.{◌≡◌, ◌↔◌, IfOk, IsTrue, ℕ, List, string_bytes};
+ghost use Rattle.std.specs.Prelude.{◌≡◌, ◌↔◌, ◌+◌, ◌<◌, IfOk, IsTrue, ℕ, List, ◌∷◌, length, string_bytes};
 ghost use Rattle.std.specs.List.{All};
+ghost use Rattle.std.specs.Map.{keys_of, values_of};
+ghost use Rattle.std.specs.Vec.Iter.{into_iter_items, into_iter_len};
 ghost use Rattle.subst_language.specs.Language.Bytes.{IsPlain};
 ghost use Rattle.subst_error.specs.ErrorFault.{error_fault};
 ghost use Rattle.subst_language.specs.Language.Answer.{Answers, Gives, Refuses};
@@ -14,6 +16,7 @@ ghost use Rattle.subst_tree.specs.Texts.{HasRange};
 
 use memchr::memchr2;
 use std::alloc::Global;
+use std::collections::BTreeMap;
 use std::convert::AsStr;
 use subst_core::substitute;
 use subst_error::Error;
@@ -28,11 +31,11 @@ pub trait Fill {
     ghost is_look_up: { Self → LookUp → Type 0 };
 
     /// Returns `source` with its variables filled in.
-    fn fill(&self, alloc: Global, source: &str) -> Result<String, Error>
+    fn fill(&self, alloc: Global, source: String) -> Result<String, Error>
         ensures ok { (look : LookUp) → is_look_up self.now look
-            → IfOk result (λ text. Answers source.now look (Gives (string_bytes text))) }
+            → IfOk result (λ text. Answers (string_bytes source) look (Gives (string_bytes text))) }
         ensures err { (look : LookUp) → is_look_up self.now look
-            → OnFault error_fault result (λ f. Answers source.now look (Refuses f)) }
+            → OnFault error_fault result (λ f. Answers (string_bytes source) look (Refuses f)) }
         ensures range { OnFault error_fault result HasRange };
 }
 
@@ -53,11 +56,11 @@ where
     ghost is_look_up = { λ filler look. (bytes : M.Seen → List ℕ) × ReadsAs M.Value.text M.see bytes
         × (look ≡ look_up_of bytes (M.look_up filler.variables.now)) };
 
-    fn fill(&self, alloc: Global, source: &str) -> Result<String, Error> {
+    fn fill(&self, alloc: Global, source: String) -> Result<String, Error> {
         if is_plain(source.as_bytes()) {
-            return Ok(String::from_str(alloc, source)?);
+            return Ok(source);
         }
-        substitute(alloc, source, self.variables)
+        substitute(alloc, source.as_str(), self.variables)
     }
 }
 
@@ -66,4 +69,26 @@ fn is_plain(source: &[u8]) -> bool
     ensures { IsTrue result ↔ All IsPlain source.now }
 {
     memchr2(b'$', b'\\', source).is_none()
+}
+
+/// Puts these values into a map, in the order of its keys.
+pub fn put_values<V: Drop>(members: &mut BTreeMap<String, V>, values: Vec<V>)
+    requires { length values.items ≡ length members.old.entries }
+    ensures keys { keys_of members.new.entries ≡ keys_of members.old.entries }
+    ensures values { values_of members.new.entries ≡ values.items }
+{
+    let mut rest = values.into_iter();
+    members.retain(
+        |_, member|
+            ensures stays { IsTrue result }
+            ensures put { 0 < into_iter_len rest.entry
+                → (into_iter_items rest.entry ≡ member.new ∷ into_iter_items rest.exit)
+                × (into_iter_len rest.exit + 1 ≡ into_iter_len rest.entry) }
+        {
+            if let Some(value) = rest.next() {
+                *member = value;
+            }
+            true
+        },
+    );
 }

@@ -1,17 +1,25 @@
-use Rattle.std.proofs.Common.{◌≡◌, List, ◌++◌, take}
-use Rattle.serde_json.specs.View.{items_view, members_view}
-use Rattle.serde_json.proofs.Views.{Entry}
+use Rattle.std.proofs.Common.{◌≡◌, List, ◌++◌, length}
+use Rattle.std.specs.BTreeMap.IterMut.{values_mut_rest}
+use Rattle.std.specs.Map.{values_of}
+use Rattle.std.specs.Vec.Iter.{into_iter_items, into_iter_len}
+use Rattle.serde_json.specs.View.{items_view}
+use Rattle.serde_json.specs.declared.value.Value.{Value}
 use Rattle.subst_language.specs.Language.LookUp.{LookUp}
-use Rattle.subst_json.specs.Mapped.{AreMapped, HasMappedMembers}
+use Rattle.subst_json.specs.Mapped.{AreMapped}
 use Rattle.subst_json.proofs.walk.+walk.Given as goal
 
 -- the items so far are mapped
 abbrev pub invariant-filled_items-loop-item : goal.invariant-filled_items-loop-item
-invariant-filled_items-loop-item g l = (look : LookUp) → g.F.Fill.is_look_up l.filler look
-    → AreMapped look (items_view (take l.item-index l.item-items)) (items_view l.trees.items)
-
--- so are the members so far
-abbrev pub invariant-filled_members-loop-key : goal.invariant-filled_members-loop-key
-invariant-filled_members-loop-key g l = (done : List Entry) × (l.members.entries ≡ done ++ l.key-iterator)
+invariant-filled_items-loop-item g l = (done : List Value)
+    × (l.fn.items.items ≡ done ++ into_iter_items l.item-iterator)
+    × (into_iter_len l.item-iterator ≡ length (into_iter_items l.item-iterator))
     × ((look : LookUp) → g.F.Fill.is_look_up l.filler look
-    → HasMappedMembers look (members_view done) (members_view l.trees.entries))
+    → AreMapped look (items_view done) (items_view l.trees.items))
+
+-- so are the values so far
+abbrev pub invariant-filled_members-loop-member : goal.invariant-filled_members-loop-member
+invariant-filled_members-loop-member g l = (done : List Value)
+    × (values_of l.fn.members.entries ≡ done ++ values_mut_rest l.member-iterator)
+    × (length l.trees.items ≡ length done)
+    × ((look : LookUp) → g.F.Fill.is_look_up l.filler look
+    → AreMapped look (items_view done) (items_view l.trees.items))
