@@ -1,5 +1,5 @@
 #!/usr/bin/env python3
-"""trees.py [--write] [--program PATH]   Counts the instructions of filling in a tree, apart from reading and printing it.
+"""trees.py [--write] [--program PATH]   Counts the instructions of filling in trees, without reading and printing.
 
 `subst_answers` answers two records under callgrind: one of the kind `json`, whose source is a generated document of
 5.8 MB, and one of the kind `toml`, of 3.7 MB. Each has 300 variables. What counts as filling in are the calls of the
@@ -83,12 +83,13 @@ def counts(profile, kind):
     """The instructions of the whole run, of the walk, and of dropping the tree that was read."""
     is_walk = re.compile(rf"subst_{kind}::walk::").search
     is_drop = re.compile(rf"subst_{kind}::.*Destruct::drop").search
+    is_caller = re.compile(rf"subst_{kind}::").match
     total = int(re.search(r"^(?:summary|totals): (\d+)", Path(profile).read_text(errors="replace"), re.M)[1])
     walk = drop = 0
     for caller, callee, cost in calls_of(profile):
         if is_walk(callee) and not is_walk(caller):
             walk += cost
-        if is_drop(callee) and not is_drop(caller) and not is_walk(caller):
+        if is_drop(callee) and is_caller(caller) and not is_drop(caller) and not is_walk(caller):
             drop += cost
     return total, walk, drop
 
@@ -109,7 +110,7 @@ def table(program, kind, text_of, size, rust):
             "one of 300 variables:\n\n"
             "| | Instructions |\n|---|---:|\n"
             f"| filling in the tree | {walk / 1e6:.0f}M |\n"
-            f"| dropping the tree that was read | {drop / 1e6:.0f}M |\n"
+            f"| dropping what the walk leaves of the tree that was read | {drop / 1e6:.0f}M |\n"
             f"| the Rust crate, which fills in place | {rust / 1e6:.0f}M |\n"
             f"| the whole run: reading the record, reading, filling in and printing the tree | {total / 1e6:.0f}M |\n")
 
