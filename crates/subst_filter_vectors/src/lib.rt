@@ -13,8 +13,6 @@ mod devices;
 #[cfg(test)]
 mod fakes;
 #[cfg(test)]
-mod marks;
-#[cfg(test)]
 mod programs;
 #[cfg(test)]
 mod refused_memory;

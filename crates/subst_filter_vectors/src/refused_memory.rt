@@ -5,7 +5,6 @@
 //! and the variables are as before, and runs again over the same source, which has to end as wanted.
 
 use crate::fakes::{Drip, NEVER, Trickle};
-use crate::marks::{begin, end, say_out_of_memory};
 use crate::programs;
 use crate::programs::End;
 use crate::runs::{
@@ -17,6 +16,7 @@ use crate::words::{pairs, words};
 use std::alloc::{AllocError, Global};
 use std::io::Print;
 use std::process::Abort;
+use subst_marks::{begin, end, say_out_of_memory};
 use subst_program::device::standard::{FromReader, ToWriter};
 use subst_program::program::run_program;
 use subst_program::run_error::RunError;

@@ -2,13 +2,13 @@
 //! of each, and there must be none.
 
 use crate::fakes::{Drip, NEVER, Trickle};
-use crate::marks::{begin, end};
 use crate::words::words;
 use std::alloc::{AllocError, Global};
 use std::fmt::Write;
 use std::io::Print;
 use subst::Error;
 use subst::error::MissingVariableName;
+use subst_marks::{begin, end};
 use subst_program::device::standard::{FromReader, ToWriter};
 use subst_program::device::{ByteInput, ByteOutput};
 use subst_program::program::{end_with, run_program};

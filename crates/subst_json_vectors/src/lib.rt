@@ -14,8 +14,6 @@ mod faults;
 #[cfg(test)]
 mod large;
 #[cfg(test)]
-mod marks;
-#[cfg(test)]
 mod readings;
 #[cfg(test)]
 mod refused_memory;

@@ -7,12 +7,12 @@
 
 use crate::calls::{Read, Texts, fill_in, is_text, read, read_bytes, texts, tree};
 use crate::faults::{Fault, is_fault, is_refused};
-use crate::marks::{begin, end, say_out_of_memory};
 use serde_json::Value;
 use std::alloc::{AllocError, Global};
 use std::io::Print;
 use std::test::Fail;
 use subst::{Error, json};
+use subst_marks::{begin, end, say_out_of_memory};
 
 /// A tree of each kind of values, in its compact form.
 const SOURCE: &str = "{\"k\":[\"$name\",1,null,{\"$name\":\"${b:x}\"}],\"l\":\"${c:$name}/y\"}";

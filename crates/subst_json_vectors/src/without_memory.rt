@@ -2,12 +2,12 @@
 //! and there must be none.
 
 use crate::calls::tree;
-use crate::marks::{begin, end};
 use std::alloc::AllocError;
 use std::io::Print;
 use subst::Error;
 use subst::error::MissingClosingBrace;
 use subst::json::Error as ReadError;
+use subst_marks::{begin, end};
 
 fn are_of_reading_refusal_and_memory(errors: &(ReadError, ReadError, ReadError)) -> bool {
     match errors {

@@ -8,8 +8,6 @@ mod every_name;
 #[cfg(test)]
 mod kinds;
 #[cfg(test)]
-mod marks;
-#[cfg(test)]
 mod no_names;
 #[cfg(test)]
 mod pairs;

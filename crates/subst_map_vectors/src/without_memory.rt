@@ -1,13 +1,13 @@
 //! Calls that take no memory. `tools/refuse-memory.sh` counts the requests for memory between the two marks
 //! of each, and there must be none.
 
-use crate::marks::{begin, end};
 use indexmap::IndexMap;
 use std::alloc::{AllocError, Global};
 use std::collections::{BTreeMap, HashMap};
 use std::io::Print;
 use std::test::Fail;
 use subst::{Env, NoSubstitution, VariableMap};
+use subst_marks::{begin, end};
 
 /// Whether a map has a value for `name`, and none for `absent`.
 fn has_name_alone<'a, M: VariableMap<'a>>(rt: &impl Print, call: &str, variables: &'a M) -> bool

@@ -13,8 +13,6 @@ mod hand_made;
 #[cfg(test)]
 mod lines;
 #[cfg(test)]
-mod marks;
-#[cfg(test)]
 mod refused_memory;
 #[cfg(test)]
 mod shown;

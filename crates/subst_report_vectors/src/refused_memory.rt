@@ -2,9 +2,9 @@
 //! of the requests for memory that the call between the two marks makes. Where it returns out of memory, the
 //! test says so and calls again.
 
-use crate::marks::{begin, end, say_out_of_memory};
 use crate::shown::no_name;
 use std::test::Fail;
+use subst_marks::{begin, end, say_out_of_memory};
 
 #[test]
 fn highlighting(rt: HostRuntime) -> Result<(), Fail> {

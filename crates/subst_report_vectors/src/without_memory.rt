@@ -4,7 +4,6 @@
 ghost use Rattle.subst.specs.ErrorFault.{error_fault};
 ghost use Rattle.subst.specs.Range.{range_of, IsRangeIn};
 
-use crate::marks::{begin, end};
 use crate::shown::no_name;
 use std::alloc::{AllocError, Global};
 use std::fmt::{Display, Write};
@@ -15,6 +14,7 @@ use subst::error::{
     CharOrByte, ExpandError, ExpectedCharacter, InvalidEscapeSequence, MissingClosingBrace,
     MissingVariableName, NoSuchVariable, ParseError, UnexpectedCharacter,
 };
+use subst_marks::{begin, end};
 
 /// A text with room for what is written in these tests.
 fn room(alloc: Global) -> Result<String, AllocError> {

@@ -16,8 +16,6 @@ mod escapes;
 #[cfg(test)]
 mod faults;
 #[cfg(test)]
-mod marks;
-#[cfg(test)]
 mod refused_memory;
 #[cfg(test)]
 mod shown;

@@ -1,12 +1,12 @@
 //! Calls that take no memory. `tools/refuse-memory.sh` counts the requests for memory between the two marks
 //! of each, and there must be none.
 
-use crate::marks::{begin, end};
 use crate::{byte_calls, text_calls};
 use std::io::Print;
 use std::test::Fail;
 use subst::steps::{Reads, Turns};
 use subst::{ByteTemplateBuf, TemplateBuf, laws};
+use subst_marks::{begin, end};
 
 const SENTENCE: &str = "${a:b}";
 

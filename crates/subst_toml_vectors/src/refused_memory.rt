@@ -7,12 +7,12 @@
 
 use crate::calls::{Read, Texts, fill_in, is_tree_of, read, read_bytes, texts, tree};
 use crate::faults::{Fault, is_fault, is_refused};
-use crate::marks::{begin, end, say_out_of_memory};
 use std::alloc::{AllocError, Global};
 use std::io::Print;
 use std::test::Fail;
 use subst::Error;
 use subst::toml::Error as ReadError;
+use subst_marks::{begin, end, say_out_of_memory};
 use toml::Value;
 
 /// A document with a tree of each kind of values.

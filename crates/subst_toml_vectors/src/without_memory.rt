@@ -2,13 +2,13 @@
 //! and there must be none.
 
 use crate::calls::tree;
-use crate::marks::{begin, end};
 use std::alloc::AllocError;
 use std::io::Print;
 use std::str;
 use subst::Error;
 use subst::error::MissingClosingBrace;
 use subst::toml::Error as ReadError;
+use subst_marks::{begin, end};
 
 fn are_of_reading_refusal_and_memory(errors: &(ReadError, ReadError, ReadError)) -> bool {
     match errors {

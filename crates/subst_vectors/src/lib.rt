@@ -19,8 +19,6 @@ mod escapes;
 #[cfg(test)]
 mod faults;
 #[cfg(test)]
-mod marks;
-#[cfg(test)]
 mod names;
 #[cfg(test)]
 mod optional;

@@ -4,7 +4,6 @@
 //! So the call returns its answer, or out of memory. Then the test says so, looks whether what the call was
 //! lent is as before, and calls again, which has to give the answer.
 
-use crate::marks::{begin, end, say_out_of_memory};
 use crate::rows::{Answer, Filled, Map, map_of, states};
 use Answer::{Absent, BadEscape, Gives};
 use std::alloc::{AllocError, Global};
@@ -13,6 +12,7 @@ use std::test::Fail;
 use subst::error::{CharOrByte, ExpandError, NoSuchVariable, ParseError};
 use subst::steps::{Reads, Turns};
 use subst::{ByteTemplate, Error, substitute_bytes};
+use subst_marks::{begin, end, say_out_of_memory};
 
 /// A default in a default, escapes, and a variable.
 const SENTENCE: &[u8] = b"Hi ${hi:\\{${who:you}\\}} and $name!";
@@ -80,13 +80,7 @@ fn parsed_counted<'a>(
 }
 
 /// Returns what a template gives, from a second call where memory ran out and what was lent is as before.
-fn expanded(
-    alloc: Global,
-    rt: &impl Print,
-    call: &str,
-    source: &[u8],
-    variables: &Map,
-) -> Filled {
+fn expanded(alloc: Global, rt: &impl Print, call: &str, source: &[u8], variables: &Map) -> Filled {
     let template = ByteTemplate::from_slice(alloc, source)?;
     begin(rt, call);
     let expanded = template.expand(alloc, variables);
@@ -101,12 +95,7 @@ fn expanded(
 }
 
 /// The same with the turns counted.
-fn expanded_counted(
-    alloc: Global,
-    rt: &impl Print,
-    source: &[u8],
-    variables: &Map,
-) -> Filled {
+fn expanded_counted(alloc: Global, rt: &impl Print, source: &[u8], variables: &Map) -> Filled {
     let template = ByteTemplate::from_slice(alloc, source)?;
     let mut turns = Turns::new();
     begin(rt, "ByteTemplate::expand_counted of a sentence");

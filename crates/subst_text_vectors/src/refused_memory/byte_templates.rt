@@ -2,12 +2,12 @@
 
 use crate::byte_calls as calls;
 use crate::byte_calls::Bytes;
-use crate::marks::{begin, end, say_out_of_memory};
 use std::alloc::{AllocError, Global};
 use std::io::Print;
 use std::test::Fail;
 use subst::error::{ExpandError, ParseError};
 use subst::{ByteTemplate, ByteTemplateBuf};
+use subst_marks::{begin, end, say_out_of_memory};
 
 /// A default in a default, escapes, and a variable.
 const SENTENCE: &[u8] = b"Hi ${hi:\\{${who:you}\\}} and $name!";

@@ -1,8 +1,8 @@
 //! Escaping a text.
 
-use crate::marks::{begin, end, say_out_of_memory};
 use crate::text_calls::escaped;
 use std::test::Fail;
+use subst_marks::{begin, end, say_out_of_memory};
 
 #[test]
 fn escaping(rt: HostRuntime) -> Result<(), Fail> {

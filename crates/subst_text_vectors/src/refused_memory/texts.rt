@@ -1,6 +1,5 @@
 //! Out of memory in `substitute` and in templates of texts.
 
-use crate::marks::{begin, end, say_out_of_memory};
 use crate::text_calls as calls;
 use crate::text_calls::Texts;
 use std::alloc::{AllocError, Global};
@@ -8,6 +7,7 @@ use std::io::Print;
 use std::test::Fail;
 use subst::error::{ExpandError, ParseError};
 use subst::{Error, Template, TemplateBuf};
+use subst_marks::{begin, end, say_out_of_memory};
 
 /// A default in a default, escapes, and a variable.
 const SENTENCE: &str = "Hé ${hi:\\{${who:❤}\\}} and $name!";

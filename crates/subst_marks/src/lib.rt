@@ -1,4 +1,5 @@
 //! The lines that tests of memory print for `tools/refuse-memory.sh`.
+#![tactic(auto)]
 
 use std::io::Print;
 
