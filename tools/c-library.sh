@@ -89,8 +89,8 @@ block() {
   sed -n "/^\`\`\`$1\$/,/^\`\`\`\$/{/^\`\`\`/!p}" docs/C.md
 }
 
-# The commands of the document, each with what it prints.
-session() {
+# Runs the commands of the document, and prints each with what it printed.
+run_commands() {
   local line
   while IFS= read -r line; do
     case $line in '$ '*)
@@ -106,7 +106,7 @@ examples_print_what_is_written() {
   block c >"$folder/examples/greet.c"
   block python >"$folder/examples/greet.py"
   block console >"$folder/wanted"
-  PREFIX=$folder/prefix session <"$folder/wanted" >"$folder/printed"
+  PREFIX=$folder/prefix run_commands <"$folder/wanted" >"$folder/printed"
   diff "$folder/wanted" "$folder/printed" >"$output" || return
   printf '%d commands\n' "$(grep -c '^\$ ' "$folder/wanted")" >"$output"
   [ -s "$folder/wanted" ]
