@@ -40,6 +40,9 @@ pub fn refuse(e: &Error, fault: &mut FaultRecord) -> u32
     ensures refused { result ≡ REFUSED → IsToldOf (λ f. error_fault e.now ≡ Some f) fault.new }
     ensures kept { result ≢ REFUSED → fault.new ≡ fault.old }
     ensures others { result ≢ REFUSED → result ≡ OUT_OF_MEMORY }
+
+    // A fault that is stated is told.
+    ensures memory { result ≢ REFUSED → error_fault e.now ≡ None }
 {
     let Some(kind) = kind(e) else {
         return OUT_OF_MEMORY;

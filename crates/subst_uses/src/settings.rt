@@ -71,9 +71,9 @@ fn place(source: &str, offset: usize) -> (usize, usize) {
     (line, column)
 }
 
-/// Returns the report of a string that is refused, with the first line of the file that is refused for the same
-/// reason, underlined. There is none where the string spells its placeholder with escapes of TOML, or over
-/// several lines; then the report names the fault alone.
+/// Returns the report of a string that is refused, with the first line of the file that is refused for the
+/// same reason, underlined. There is none where the string spells its placeholder with escapes of TOML, or
+/// over several lines; then the report names the fault alone.
 fn refused(
     alloc: Global,
     file: &str,
