@@ -114,7 +114,10 @@ where
     M::Value: AsStr + Drop,
     ensures ok { ByLookUp M.Value.text M.see (M.look_up variables.now)
         (λ look. IfOk result (λ tree. ReadsAsTree source.now (λ d. IsMapped look d (view tree)))) }
+
+    // The strings of a tree are filled in only where the bytes are UTF-8, and one is refused only there.
     ensures utf8 { OnOk result (IsUtf8 source.now) }
+    ensures refused_utf8 { OnSubst result (λ f. IsUtf8 source.now) }
     ensures json { OnJson result (IsUtf8 source.now → read source.now ≡ None) }
     ensures subst { ByLookUp M.Value.text M.see (M.look_up variables.now)
         (λ look. OnSubst result
@@ -168,7 +171,10 @@ where
     M::Value: AsStr + Drop,
     ensures ok { ByLookUp M.Value.text M.see (M.look_up variables.now)
         (λ look. OnOk result (ReadsAsTree source.now (λ d. (e : Data) × IsMapped look d e))) }
+
+    // The strings of a tree are filled in only where the bytes are UTF-8, and one is refused only there.
     ensures utf8 { OnOk result (IsUtf8 source.now) }
+    ensures refused_utf8 { OnSubst result (λ f. IsUtf8 source.now) }
     ensures subst { ByLookUp M.Value.text M.see (M.look_up variables.now)
         (λ look. OnSubst result
         (λ f. ReadsAsTree source.now (λ d. IsFirstRefusal look (strings d) f))) }
