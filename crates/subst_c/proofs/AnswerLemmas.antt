@@ -3,18 +3,18 @@ use Rattle.std.proofs.Common.{◌≡◌, ◌≢◌, ◌≤◌, ℕ, List, length
 use Rattle.std.specs.Global.{Global}
 use Rattle.std.specs.Option.{option_map}
 use Rattle.std.specs.declared.alloc.AllocError.{AllocError}
-use Rattle.subst.specs.Calls.Outcome.{answer_of}
-use Rattle.subst.specs.Language.Answer.{Answer, Answers, Refuses}
-use Rattle.subst.specs.Language.BadItem.{HasFault}
-use Rattle.subst.specs.Language.LookUp.{LookUp}
-use Rattle.subst.specs.Display.{display_of_error}
-use Rattle.subst.specs.ErrorFault.{error_fault}
-use Rattle.subst.specs.Fault.{Fault}
-use Rattle.subst.specs.Highlighting.{highlighting_of}
-use Rattle.subst.specs.Range.{range_of}
-use Rattle.subst.specs.Errors.{Error}
-use Rattle.subst.specs.Errors.error.{OutOfMemory}
-use Rattle.subst.proofs.Calling.{range_in_source}
+use Rattle.subst_language.specs.Calls.Outcome.{answer_of}
+use Rattle.subst_language.specs.Language.Answer.{Answer, Answers, Refuses}
+use Rattle.subst_language.specs.Language.BadItem.{HasFault}
+use Rattle.subst_language.specs.Language.LookUp.{LookUp}
+use Rattle.subst_error.specs.Display.{display_of_error}
+use Rattle.subst_error.specs.ErrorFault.{error_fault}
+use Rattle.subst_error.specs.Fault.{Fault}
+use Rattle.subst_error.specs.Highlighting.{highlighting_of}
+use Rattle.subst_error.specs.Range.{range_of}
+use Rattle.subst_error.specs.declared.Error.{Error}
+use Rattle.subst_error.specs.declared.Error.TheVariants.{OutOfMemory}
+use Rattle.subst_language.proofs.CallingLemmas.{range_in_source}
 use Rattle.subst_c.specs.Fault.{IsToldOf}
 use Rattle.subst_c.specs.Text.{IsHighlighting, IsText, SaysOf}
 use Rattle.subst_c.specs.declared.fault.FaultRecord.{FaultRecord}

@@ -4,17 +4,18 @@ use Rattle.std.proofs.lemmas.List.{take_more}
 use Rattle.std.proofs.lemmas.List.Folds.{concat-append}
 use Rattle.std.specs.List.{concat}
 use Rattle.std.specs.Result.{IsErrAnd}
-use Rattle.subst.proofs.Calling.{range_in_source, same_look_up}
-use Rattle.subst.specs.Calls.VariableMap.{look_up_of}
-use Rattle.subst.specs.ErrorFault.{error_fault, expand_fault}
-use Rattle.subst.specs.Errors.{Error, ExpandError}
-use Rattle.subst.specs.Fault.{Fault}
-use Rattle.subst.specs.Language.Answer.{Answers, Gives, IsMissing, Refuses}
-use Rattle.subst.specs.Language.LookUp.{LookUp}
-use Rattle.subst.specs.Language.Sentence.{Spells}
-use Rattle.subst.specs.Language.Tree.{Tree}
-use Rattle.subst.specs.Language.Value.{Bytes, value}
-use Rattle.subst.specs.Range.{range_of}
+use Rattle.subst_language.proofs.CallingLemmas.{range_in_source, same_look_up}
+use Rattle.subst_language.specs.Calls.VariableMap.{look_up_of}
+use Rattle.subst_error.specs.ErrorFault.{error_fault, expand_fault}
+use Rattle.subst_error.specs.declared.Error.{Error}
+use Rattle.subst_error.specs.declared.ExpandError.{ExpandError}
+use Rattle.subst_error.specs.Fault.{Fault}
+use Rattle.subst_language.specs.Language.Answer.{Answers, Gives, IsMissing, Refuses}
+use Rattle.subst_language.specs.Language.LookUp.{LookUp}
+use Rattle.subst_language.specs.Language.Sentence.{Spells}
+use Rattle.subst_language.specs.Language.Tree.{Tree}
+use Rattle.subst_language.specs.Language.Value.{Bytes, value}
+use Rattle.subst_error.specs.Range.{range_of}
 use Rattle.subst_c.specs.Each.{AreOutputs, EachGives, ends_from, IsRefusedIn}
 use Rattle.subst_c.specs.Pairs.{first_value}
 use Rattle.subst_c.specs.declared.pairs.Row.{Row}

@@ -4,10 +4,10 @@ use Rattle.std.proofs.lemmas.Str.{IsUtf8-from_is_utf8, is_utf8-from_IsUtf8}
 use Rattle.std.specs.List.{list_all}
 use Rattle.std.specs.Option.{option_map}
 use Rattle.std.specs.Str.{IsUtf8, bytes_eq, is_utf8}
-use Rattle.subst.specs.Language.Answer.{Answers, Gives}
-use Rattle.subst.specs.Language.LookUp.{LookUp, GivesTexts}
-use Rattle.subst.specs.Language.Sentence.{ByTree}
-use Rattle.subst.specs.Language.Value.{value, Bytes}
+use Rattle.subst_language.specs.Language.Answer.{Answers, Gives}
+use Rattle.subst_language.specs.Language.LookUp.{LookUp, GivesTexts}
+use Rattle.subst_language.specs.Language.Sentence.{ByTree}
+use Rattle.subst_language.specs.Language.Value.{value, Bytes}
 use Rattle.subst_c.specs.Pairs.{first_value}
 use Rattle.subst_c.specs.Room.{IsPut}
 use Rattle.subst_c.specs.Text.{are_texts}

@@ -1,9 +1,9 @@
 -- What a source gives under each of several rows of pairs.
 use Rattle.std.specs.Prelude.{◌≡◌, ◌⊎◌, ℕ, ◌+◌, List, [], ◌∷◌, ◌++◌, length}
 use Rattle.std.specs.List.{concat}
-use Rattle.subst.specs.Fault.{Fault}
-use Rattle.subst.specs.Language.Answer.{Answers, Gives, Refuses}
-use Rattle.subst.specs.Language.BadItem.{HasFault}
+use Rattle.subst_error.specs.Fault.{Fault}
+use Rattle.subst_language.specs.Language.Answer.{Answers, Gives, Refuses}
+use Rattle.subst_language.specs.Language.BadItem.{HasFault}
 use Rattle.subst_c.specs.Pairs.{first_value}
 use Rattle.subst_c.specs.declared.pairs.Row.{Row}
 

@@ -1,7 +1,7 @@
 -- What a caller in C is told of a fault.
 use Rattle.std.specs.Prelude.{◌≡◌, ℕ, ◌-◌, Some}
-use Rattle.subst.specs.Fault.{Fault, InvalidEscapeSequence, MissingVariableName, UnexpectedCharacter, MissingClosingBrace, NoSuchVariable}
-use Rattle.subst.specs.Range.{range_of}
+use Rattle.subst_error.specs.Fault.{Fault, InvalidEscapeSequence, MissingVariableName, UnexpectedCharacter, MissingClosingBrace, NoSuchVariable}
+use Rattle.subst_error.specs.Range.{range_of}
 use Rattle.subst_c.specs.declared.fault.FaultRecord.{FaultRecord}
 
 -- the number of its kind

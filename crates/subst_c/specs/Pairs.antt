@@ -2,7 +2,7 @@
 use Rattle.std.specs.Prelude.{List, find}
 use Rattle.std.specs.Option.{option_map}
 use Rattle.std.specs.Str.{bytes_eq}
-use Rattle.subst.specs.Language.LookUp.{LookUp}
+use Rattle.subst_language.specs.Language.LookUp.{LookUp}
 use Rattle.subst_c.specs.declared.pairs.Pair.{Pair}
 
 -- the value of the first pair with this name

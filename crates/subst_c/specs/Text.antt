@@ -2,10 +2,10 @@
 use Rattle.std.specs.Prelude.{◌≡◌, ℕ, Bool, ◌&&◌, List, [], Some, IfSome}
 use Rattle.std.specs.List.{list_all}
 use Rattle.std.specs.Str.{is_utf8}
-use Rattle.subst.specs.Display.{display_of_fault}
-use Rattle.subst.specs.Fault.{Fault}
-use Rattle.subst.specs.Highlighting.{highlighting_of}
-use Rattle.subst.specs.Language.Answer.{Answer, Gives, Refuses}
+use Rattle.subst_error.specs.Display.{display_of_fault}
+use Rattle.subst_error.specs.Fault.{Fault}
+use Rattle.subst_error.specs.Highlighting.{highlighting_of}
+use Rattle.subst_language.specs.Language.Answer.{Answer, Gives, Refuses}
 use Rattle.subst_c.specs.declared.pairs.Pair.{Pair}
 
 -- the text says what the fault is, where there is one text for that

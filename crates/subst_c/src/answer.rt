@@ -3,16 +3,17 @@
 ghost use Rattle.std.specs.Prelude.{◌≡◌, ◌≤◌, IfErr, IfOk, IfSome, length, string_bytes};
 ghost use Rattle.std.specs.List.{list_all};
 ghost use Rattle.std.specs.Str.{is_utf8};
-ghost use Rattle.subst.specs.Calls.Outcome.{answer_of};
-ghost use Rattle.subst.specs.Language.Answer.{Answers};
-ghost use Rattle.subst.specs.ErrorFault.{error_fault};
-ghost use Rattle.subst.specs.Range.{range_of};
+ghost use Rattle.subst_language.specs.Calls.Outcome.{answer_of};
+ghost use Rattle.subst_language.specs.Language.Answer.{Answers};
+ghost use Rattle.subst_error.specs.ErrorFault.{error_fault};
+ghost use Rattle.subst_error.specs.Range.{range_of};
 ghost use Rattle.subst_c.specs.Pairs.{first_value};
 ghost use Rattle.subst_c.specs.Text.{IsHighlighting, IsText, SaysOf, are_texts as all_are_texts};
 
 use crate::pairs::{Pair, Pairs};
 use std::alloc::{AllocError, Global};
-use subst::{Error, substitute_bytes};
+use subst_core::substitute_bytes;
+use subst_error::Error;
 
 /// Returns the bytes of the source with its variables filled in from the pairs.
 ///

@@ -1,8 +1,8 @@
 //! One source filled in again and again: it is parsed once.
 
 ghost use Rattle.std.specs.Prelude.{◌≡◌, ◌≢◌, ◌⊎◌, ◌<◌, ℕ, List, ◌++◌, ◌∷◌, [], IfErr, IfOk, IfSome, OnOk, drop, length};
-ghost use Rattle.subst.specs.ErrorFault.{error_fault, expand_fault};
-ghost use Rattle.subst.specs.Language.Answer.{Answers, Gives, Refuses};
+ghost use Rattle.subst_error.specs.ErrorFault.{error_fault, expand_fault};
+ghost use Rattle.subst_language.specs.Language.Answer.{Answers, Gives, Refuses};
 ghost use Rattle.subst_c.specs.Each.{AreOutputs, IsRefusedIn};
 ghost use Rattle.subst_c.specs.Pairs.{first_value};
 ghost use Rattle.subst_c.specs.declared.outcome.TheConstants.{DONE, ROOM_TOO_SMALL};
@@ -11,8 +11,8 @@ use crate::outcome::{DONE, ROOM_TOO_SMALL};
 use crate::pairs::{Pairs, Row};
 use crate::room;
 use std::alloc::Global;
-use subst::error::ExpandError;
-use subst::{ByteTemplate, Error};
+use subst_core::ByteTemplate;
+use subst_error::{Error, ExpandError};
 
 /// What a source gives under each of several rows of pairs.
 #[derive(Drop)]

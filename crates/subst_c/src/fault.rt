@@ -2,13 +2,13 @@
 
 ghost use Rattle.std.specs.Prelude.{◌≡◌, ◌≢◌, ◌^◌, ◌<◌, None, Some};
 ghost use Rattle.std.specs.Option.{option_map};
-ghost use Rattle.subst.specs.ErrorFault.{error_fault};
-ghost use Rattle.subst.specs.Range.{range_of};
+ghost use Rattle.subst_error.specs.ErrorFault.{error_fault};
+ghost use Rattle.subst_error.specs.Range.{range_of};
 ghost use Rattle.subst_c.specs.Fault.{IsToldOf, record_of, kind_of};
 ghost use Rattle.subst_c.specs.declared.outcome.TheConstants.{REFUSED, OUT_OF_MEMORY};
 
 use crate::outcome::{OUT_OF_MEMORY, REFUSED};
-use subst::Error;
+use subst_error::Error;
 
 /// A backslash before a character that can't be escaped, or at the end of the source.
 pub const INVALID_ESCAPE_SEQUENCE: u32 = 1;

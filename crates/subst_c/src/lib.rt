@@ -7,9 +7,9 @@
 
 ghost use Rattle.std.specs.Prelude.{◌≡◌, ◌≢◌, ◌⊎◌, ◌<◌, ◌++◌, ℕ, List, drop, length, true, false};
 ghost use Rattle.std.specs.Str.{IsUtf8};
-ghost use Rattle.subst.specs.Language.Answer.{Answers, Gives, Refuses};
-ghost use Rattle.subst.specs.Language.BadItem.{HasFault};
-ghost use Rattle.subst.specs.Language.Sentence.{IsSentence};
+ghost use Rattle.subst_language.specs.Language.Answer.{Answers, Gives, Refuses};
+ghost use Rattle.subst_language.specs.Language.BadItem.{HasFault};
+ghost use Rattle.subst_language.specs.Language.Sentence.{IsSentence};
 ghost use Rattle.subst_c.specs.Each.{AreOutputs, IsRefusedIn};
 ghost use Rattle.subst_c.specs.Fault.{IsToldOf};
 ghost use Rattle.subst_c.specs.Pairs.{first_value};
@@ -21,7 +21,9 @@ pub use fault::FaultRecord;
 use outcome::{DONE, NOT_UTF8, OUT_OF_MEMORY, REFUSED};
 pub use pairs::{Pair, Row};
 use std::alloc::Global;
-use subst::{ByteTemplate, Error, laws};
+use subst_core::ByteTemplate;
+use subst_error::Error;
+use subst_language::laws;
 
 mod answer;
 mod each;

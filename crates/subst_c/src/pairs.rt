@@ -1,6 +1,6 @@
 //! Pairs of names and values, as C passes them, as a map of variables.
 
-use subst::VariableMap;
+use subst_map::VariableMap;
 
 /// A name and a value.
 #[repr(C)]

@@ -1,6 +1,6 @@
 -- What is delivered is what the source gives, and what is told is the fault that it is refused for.
-use Rattle.subst.specs.Language.Answer.{Answers}
-use Rattle.subst.specs.ErrorFault.{error_fault}
+use Rattle.subst_language.specs.Language.Answer.{Answers}
+use Rattle.subst_error.specs.ErrorFault.{error_fault}
 use Rattle.subst_c.specs.Pairs.{first_value}
 use Rattle.subst_c.proofs.AnswerLemmas.{refused_for, told_of_refusal}
 use Rattle.subst_c.proofs.RoomLemmas.{is_put, is_too_long}

@@ -1,6 +1,6 @@
 -- The fault is one of the source, so its range ends within it.
 use Rattle.std.proofs.Common.{arith}
-use Rattle.subst.specs.ErrorFault.{parse_fault}
+use Rattle.subst_error.specs.ErrorFault.{parse_fault}
 use Rattle.subst_c.proofs.AnswerLemmas.{fault_within}
 use Rattle.subst_c.proofs.subst_check.Goals as goal
 

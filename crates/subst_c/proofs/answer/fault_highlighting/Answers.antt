@@ -1,6 +1,6 @@
 -- The range of the fault is in the text, and the fault is the one that the source is refused for.
-use Rattle.subst.proofs.Calling.{range_in_text}
-use Rattle.subst.specs.Language.Answer.{Answers, Gives}
+use Rattle.subst_language.proofs.CallingLemmas.{range_in_text}
+use Rattle.subst_language.specs.Language.Answer.{Answers, Gives}
 use Rattle.subst_c.specs.Pairs.{first_value}
 use Rattle.subst_c.proofs.AnswerLemmas.{highlighting_of_error}
 use Rattle.subst_c.proofs.answer.fault_highlighting.Goals as goal

@@ -1,5 +1,5 @@
 -- An error that isn't out of memory states the fault that the source is refused for.
-use Rattle.subst.specs.Language.Answer.{Answers, Gives}
+use Rattle.subst_language.specs.Language.Answer.{Answers, Gives}
 use Rattle.subst_c.specs.Pairs.{first_value}
 use Rattle.subst_c.proofs.AnswerLemmas.{text_of_error}
 use Rattle.subst_c.proofs.answer.fault_text.Goals as goal

@@ -1,6 +1,6 @@
 -- The values are the bytes, and the range of an error ends within the source.
 use Rattle.std.proofs.Common.{refl}
-use Rattle.subst.proofs.Calling.{answer_as_read}
+use Rattle.subst_language.proofs.CallingLemmas.{answer_as_read}
 use Rattle.subst_c.specs.Pairs.{first_value}
 use Rattle.subst_c.proofs.AnswerLemmas.{error_within}
 use Rattle.subst_c.proofs.answer.fill_in.Goals as goal
