@@ -1,6 +1,6 @@
 -- Outputs of rows, one after the other.
 use Rattle.std.proofs.Common.{◌≡◌, ℕ, zero, suc, ◌+◌, ◌<◌, ◌≤◌, List, [], ◌∷◌, ◌++◌, take, drop, get_or, length, Option, Some, None, IfSome, Result, Ok, Err, IfErr, option_map, inl, inr, refl, sym, ap, ◌∙◌, subst, arith, append-nil, length-append}
-use Rattle.std.proofs.lemmas.List.{take_more}
+use Rattle.std.proofs.lemmas.List.{drop_more, take-append-drop, take_more}
 use Rattle.std.proofs.lemmas.List.Folds.{concat-append}
 use Rattle.std.specs.List.{concat}
 use Rattle.std.specs.Result.{IsErrAnd}
@@ -83,18 +83,6 @@ one_more s rows i d bytes ends output new_bytes new_ends h are given joined ende
       ended = ends_are ∙ sym (ends_from-append 0 all output);
     })
 
--- rows, cut at an index
-parts_at : (rows : List Row) (i : ℕ) (d : Row) → i < length rows
-    → rows ≡ take i rows ++ get_or rows i d ∷ drop (suc i) rows
-parts_at [] i d h = absurd (omega arith)
-parts_at (r ∷ rows) zero d h = refl
-parts_at (r ∷ rows) (suc i) d h = ap (λ l. r ∷ l) (parts_at rows i d (omega arith))
-
-length-take : (rows : List Row) (i : ℕ) → i < length rows → length (take i rows) ≡ i
-length-take [] i h = absurd (omega arith)
-length-take (r ∷ rows) zero h = refl
-length-take (r ∷ rows) (suc i) h = ap suc (length-take rows i (omega arith))
-
 -- the row at an index is refused, after outputs of the rows before it
 pub refused_at : (s : List ℕ) (rows : List Row) (i : ℕ) (d : Row)
     (bytes ends new_ends : List ℕ) (e o : Option Fault) → i < length rows → AreOutputs s (take i rows) bytes ends → new_ends ≡ ends → e ≡ o
@@ -113,8 +101,8 @@ refused_at s rows i d bytes ends new_ends e o h are same states refused =
     of (Some f) r = inr (record {
       before = take i rows;
       row = get_or rows i d;
-      after = drop (suc i) rows;
-      parts = parts_at rows i d h;
+      after = drop (i + 1) rows;
+      parts = sym (take-append-drop i rows) ∙ ap (λ rest. take i rows ++ rest) (drop_more rows i d h);
       place = counted;
       given = (are.outputs, are.given);
       refused = r;
