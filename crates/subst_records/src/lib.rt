@@ -48,8 +48,6 @@ mod place;
 pub mod process;
 mod record;
 pub mod run;
-#[cfg(test)]
-mod tests;
 mod text;
 mod toml_document;
 mod toml_tree;

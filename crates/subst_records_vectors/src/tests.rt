@@ -1,7 +1,7 @@
 //! What is printed, and which failure ends a run.
 
-use crate::failure::Failure;
-use crate::run::answer_records;
+use subst_records::failure::Failure;
+use subst_records::run::answer_records;
 use std::alloc::{AllocError, Global};
 use std::io;
 use std::io::{BufReader, Read, Write};
