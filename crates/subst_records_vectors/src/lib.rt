@@ -1,6 +1,16 @@
 //! Tests of the program of records, over the public items of `subst_records`: what its runs print, and how
 //! they end.
+//!
+//! The expected values were worked out by hand. The call under test is in a function without a contract, and
+//! small functions own what they drop: so little is known and alive at each line of a test, and its proof
+//! takes a second.
 #![tactic(auto)]
 
 #[cfg(test)]
-mod tests;
+mod answers;
+#[cfg(test)]
+mod devices;
+#[cfg(test)]
+mod malformed;
+#[cfg(test)]
+mod runs;
