@@ -4,7 +4,6 @@ use crate::byte_calls as calls;
 use crate::byte_calls::Bytes;
 use std::alloc::{AllocError, Global};
 use std::io::Print;
-use std::test::Fail;
 use subst::error::{ExpandError, ParseError};
 use subst::{ByteTemplate, ByteTemplateBuf};
 use subst_marks::{begin, end, say_out_of_memory};
@@ -26,6 +25,16 @@ const VALUE: &[u8] = b"the whole round world with all that is in it";
 
 fn variables(alloc: Global) -> Result<Bytes, AllocError> {
     calls::one_variable(alloc, "name", VALUE)
+}
+
+/// The template of [`SENTENCE`].
+fn template(alloc: Global) -> Result<ByteTemplate<'static>, ParseError> {
+    calls::parse(alloc, SENTENCE)
+}
+
+/// The same, which owns a copy.
+fn owner(alloc: Global) -> Result<ByteTemplateBuf, ParseError> {
+    calls::own(alloc, SENTENCE)
 }
 
 /// Whether the variables are those that were made.
@@ -66,13 +75,17 @@ fn expanded_by_owner(
     begin(rt, "ByteTemplateBuf::expand of a sentence");
     let expanded = calls::expand_owner(alloc, template, variables);
     end(rt);
-    if let Err(ExpandError::OutOfMemory(_)) = expanded {
-        say_out_of_memory(rt);
-        if calls::are_equal(template.source(), SENTENCE) && are_as_before(variables) {
-            return calls::expand_owner(alloc, template, variables);
+    match expanded {
+        Err(ExpandError::OutOfMemory(e)) => {
+            say_out_of_memory(rt);
+            if calls::are_equal(template.source(), SENTENCE) && are_as_before(variables) {
+                calls::expand_owner(alloc, template, variables)
+            } else {
+                Err(ExpandError::OutOfMemory(e))
+            }
         }
+        answer => answer,
     }
-    expanded
 }
 
 /// Returns a clone of a template, from a second call where memory ran out.
@@ -108,6 +121,14 @@ fn cloned_owner(
         }
         copy => copy,
     }
+}
+
+/// Returns a clone of a lent template, which is dropped here.
+fn cloned_lent<'a>(
+    rt: &impl Print,
+    lent: ByteTemplate<'a>,
+) -> Result<ByteTemplate<'a>, AllocError> {
+    cloned(rt, "ByteTemplate::clone of a lent one", &lent)
 }
 
 /// Returns an owned copy of a template, from a second call where memory ran out.
@@ -149,118 +170,204 @@ fn copied_of(
     }
 }
 
-fn is_expanded(output: &Result<Vec<u8>, ExpandError>, variables: &Bytes) -> bool {
+fn is_expanded(output: Result<Vec<u8>, ExpandError>, variables: &Bytes) -> bool {
     match output {
         Ok(output) => calls::are_equal(output.as_slice(), GIVEN) && are_as_before(variables),
         Err(_) => false,
     }
 }
 
-/// Whether a template has the source [`SENTENCE`] and gives [`GIVEN`].
-fn is_whole(alloc: Global, template: &ByteTemplate<'_>) -> bool {
+/// Whether a template gives [`GIVEN`].
+fn gives(alloc: Global, template: &ByteTemplate<'_>) -> bool {
     match variables(alloc) {
-        Ok(variables) => {
-            let output = calls::expand(alloc, template, &variables);
-            is_expanded(&output, &variables) && calls::are_equal(template.source(), SENTENCE)
-        }
+        Ok(variables) => is_expanded(calls::expand(alloc, template, &variables), &variables),
         Err(_) => false,
     }
 }
 
-fn is_whole_owner(alloc: Global, template: &ByteTemplateBuf) -> bool {
-    is_whole(alloc, &calls::lend(template))
+/// Whether a template, which is dropped here, gives [`GIVEN`] and has the source [`SENTENCE`].
+fn is_whole(alloc: Global, template: ByteTemplate<'_>) -> bool {
+    gives(alloc, &template) && calls::are_equal(template.source(), SENTENCE)
 }
 
-fn is_refused(parsed: &Result<ByteTemplateBuf, ParseError>) -> bool {
+/// Whether a clone was made, and is whole.
+fn is_clone_whole(alloc: Global, copy: Result<ByteTemplate<'_>, AllocError>) -> bool {
+    match copy {
+        Ok(copy) => is_whole(alloc, copy),
+        Err(_) => false,
+    }
+}
+
+fn is_whole_owner(alloc: Global, template: ByteTemplateBuf) -> bool {
+    is_whole(alloc, calls::lend(&template))
+}
+
+/// Whether an owned copy was made, and is whole.
+fn is_copy_whole(alloc: Global, copy: Result<ByteTemplateBuf, AllocError>) -> bool {
+    match copy {
+        Ok(copy) => is_whole_owner(alloc, copy),
+        Err(_) => false,
+    }
+}
+
+/// Whether a template took over a source, and is whole.
+fn is_owned_whole(alloc: Global, owned: Result<ByteTemplateBuf, ParseError>) -> bool {
+    match owned {
+        Ok(owned) => is_whole_owner(alloc, owned),
+        Err(_) => false,
+    }
+}
+
+fn is_refused(parsed: Result<ByteTemplateBuf, ParseError>) -> bool {
     match parsed {
         Err(ParseError::InvalidEscapeSequence(e)) => e.position == BAD_ESCAPE,
         _ => false,
     }
 }
 
-#[test]
-fn clone_of_a_template(rt: HostRuntime) -> Result<(), Fail> {
-    let template = calls::parse(rt.alloc(), SENTENCE)?;
-    let copy = cloned(&rt, "ByteTemplate::clone", &template)?;
-    assert!(rt; is_whole(rt.alloc(), &copy) && is_whole(rt.alloc(), &template));
-    Ok(())
+/// Whether a clone and its original are whole.
+fn is_cloned(alloc: Global, rt: &impl Print, original: Result<ByteTemplate<'_>, ParseError>) -> bool {
+    match original {
+        Ok(original) => {
+            let copy = cloned(rt, "ByteTemplate::clone", &original);
+            let is_clone_whole = is_clone_whole(alloc, copy);
+            is_whole(alloc, original) && is_clone_whole
+        }
+        Err(_) => false,
+    }
 }
 
 #[test]
-fn clone_of_a_lent_template(rt: HostRuntime) -> Result<(), Fail> {
-    let owner = calls::own(rt.alloc(), SENTENCE)?;
-    let copy = cloned(
-        &rt,
-        "ByteTemplate::clone of a lent one",
-        &calls::lend(&owner),
-    )?;
-    assert!(rt; is_whole(rt.alloc(), &copy));
-    Ok(())
+fn clone_of_a_template(rt: HostRuntime) {
+    assert!(rt; is_cloned(rt.alloc(), &rt, template(rt.alloc())));
+}
+
+/// Whether a clone of a template is whole that another one lends.
+fn is_lent_cloned(alloc: Global, rt: &impl Print, owner: Result<ByteTemplateBuf, ParseError>) -> bool {
+    match owner {
+        Ok(owner) => is_clone_whole(alloc, cloned_lent(rt, calls::lend(&owner))),
+        Err(_) => false,
+    }
 }
 
 #[test]
-fn from_vec(rt: HostRuntime) -> Result<(), Fail> {
-    let owner = owned(
-        rt.alloc(),
-        &rt,
-        "ByteTemplateBuf::from_vec of a sentence",
-        SENTENCE,
-    )?;
-    assert!(rt; is_whole_owner(rt.alloc(), &owner));
-    Ok(())
+fn clone_of_a_lent_template(rt: HostRuntime) {
+    assert!(rt; is_lent_cloned(rt.alloc(), &rt, owner(rt.alloc())));
+}
+
+#[test]
+fn from_vec(rt: HostRuntime) {
+    let call = "ByteTemplateBuf::from_vec of a sentence";
+    assert!(rt; is_owned_whole(rt.alloc(), owned(rt.alloc(), &rt, call, SENTENCE)));
 }
 
 #[test]
 fn from_vec_of_a_refused_source(rt: HostRuntime) {
-    let owner = owned(
-        rt.alloc(),
-        &rt,
-        "ByteTemplateBuf::from_vec of a bad escape",
-        REFUSED,
-    );
-    assert!(rt; is_refused(&owner));
+    let call = "ByteTemplateBuf::from_vec of a bad escape";
+    assert!(rt; is_refused(owned(rt.alloc(), &rt, call, REFUSED)));
+}
+
+/// Whether a template that owns its source gives [`GIVEN`], between two marks.
+fn is_filled_by_owner(
+    alloc: Global,
+    rt: &impl Print,
+    owner: Result<ByteTemplateBuf, ParseError>,
+    variables: &Bytes,
+) -> bool {
+    match owner {
+        Ok(owner) => is_expanded(expanded_by_owner(alloc, rt, &owner, variables), variables),
+        Err(_) => false,
+    }
+}
+
+fn is_sentence_filled_by_owner(alloc: Global, rt: &impl Print) -> bool {
+    match variables(alloc) {
+        Ok(variables) => is_filled_by_owner(alloc, rt, owner(alloc), &variables),
+        Err(_) => false,
+    }
 }
 
 #[test]
-fn expand_by_an_owner(rt: HostRuntime) -> Result<(), Fail> {
-    let variables = variables(rt.alloc())?;
-    let owner = calls::own(rt.alloc(), SENTENCE)?;
-    let filled = expanded_by_owner(rt.alloc(), &rt, &owner, &variables);
-    assert!(rt; is_expanded(&filled, &variables));
-    Ok(())
+fn expand_by_an_owner(rt: HostRuntime) {
+    assert!(rt; is_sentence_filled_by_owner(rt.alloc(), &rt));
+}
+
+/// Whether a clone and its original, which owns its source, are whole.
+fn is_owner_cloned(alloc: Global, rt: &impl Print, owner: Result<ByteTemplateBuf, ParseError>) -> bool {
+    match owner {
+        Ok(owner) => {
+            let is_copy_whole = is_copy_whole(alloc, cloned_owner(rt, &owner));
+            is_whole_owner(alloc, owner) && is_copy_whole
+        }
+        Err(_) => false,
+    }
 }
 
 #[test]
-fn clone_of_an_owner(rt: HostRuntime) -> Result<(), Fail> {
-    let owner = calls::own(rt.alloc(), SENTENCE)?;
-    let copy = cloned_owner(&rt, &owner)?;
-    assert!(rt; is_whole_owner(rt.alloc(), &copy) && is_whole_owner(rt.alloc(), &owner));
-    Ok(())
+fn clone_of_an_owner(rt: HostRuntime) {
+    assert!(rt; is_owner_cloned(rt.alloc(), &rt, owner(rt.alloc())));
+}
+
+/// Whether an owned copy and its original are whole.
+fn is_copied(alloc: Global, rt: &impl Print, original: Result<ByteTemplate<'_>, ParseError>) -> bool {
+    match original {
+        Ok(original) => {
+            let is_copy_whole = is_copy_whole(alloc, copied(alloc, rt, &original));
+            is_whole(alloc, original) && is_copy_whole
+        }
+        Err(_) => false,
+    }
 }
 
 #[test]
-fn from_template(rt: HostRuntime) -> Result<(), Fail> {
-    let template = calls::parse(rt.alloc(), SENTENCE)?;
-    let copy = copied(rt.alloc(), &rt, &template)?;
-    assert!(rt; is_whole_owner(rt.alloc(), &copy) && is_whole(rt.alloc(), &template));
-    Ok(())
+fn from_template(rt: HostRuntime) {
+    assert!(rt; is_copied(rt.alloc(), &rt, template(rt.alloc())));
 }
 
-#[test]
-fn of_template(rt: HostRuntime) -> Result<(), Fail> {
-    let owner = calls::own(rt.alloc(), SENTENCE)?;
-    let template = calls::parse(rt.alloc(), SENTENCE)?;
+/// Whether the owned copy of a template, which is given away, is whole.
+fn is_given_away(
+    alloc: Global,
+    rt: &impl Print,
+    original: Result<ByteTemplate<'_>, ParseError>,
+    again: &ByteTemplateBuf,
+) -> bool {
     let call = "ByteTemplateBuf::of_template";
-    let copy = copied_of(rt.alloc(), &rt, call, template, &owner)?;
-    assert!(rt; is_whole_owner(rt.alloc(), &copy));
-    Ok(())
+    match original {
+        Ok(original) => is_copy_whole(alloc, copied_of(alloc, rt, call, original, again)),
+        Err(_) => false,
+    }
+}
+
+fn is_template_given_away(
+    alloc: Global,
+    rt: &impl Print,
+    owner: Result<ByteTemplateBuf, ParseError>,
+) -> bool {
+    match owner {
+        Ok(owner) => is_given_away(alloc, rt, template(alloc), &owner),
+        Err(_) => false,
+    }
 }
 
 #[test]
-fn of_a_lent_template(rt: HostRuntime) -> Result<(), Fail> {
-    let owner = calls::own(rt.alloc(), SENTENCE)?;
+fn of_template(rt: HostRuntime) {
+    assert!(rt; is_template_given_away(rt.alloc(), &rt, owner(rt.alloc())));
+}
+
+/// Whether the owned copy of a template that another one lends is whole, and the other one.
+fn is_lent_copied(alloc: Global, rt: &impl Print, owner: Result<ByteTemplateBuf, ParseError>) -> bool {
     let call = "ByteTemplateBuf::of_template of a lent one";
-    let copy = copied_of(rt.alloc(), &rt, call, calls::lend(&owner), &owner)?;
-    assert!(rt; is_whole_owner(rt.alloc(), &copy) && is_whole_owner(rt.alloc(), &owner));
-    Ok(())
+    match owner {
+        Ok(owner) => {
+            let copy = copied_of(alloc, rt, call, calls::lend(&owner), &owner);
+            let is_copy_whole = is_copy_whole(alloc, copy);
+            is_whole_owner(alloc, owner) && is_copy_whole
+        }
+        Err(_) => false,
+    }
+}
+
+#[test]
+fn of_a_lent_template(rt: HostRuntime) {
+    assert!(rt; is_lent_copied(rt.alloc(), &rt, owner(rt.alloc())));
 }

@@ -4,7 +4,6 @@ use crate::text_calls as calls;
 use crate::text_calls::Texts;
 use std::alloc::{AllocError, Global};
 use std::io::Print;
-use std::test::Fail;
 use subst::error::{ExpandError, ParseError};
 use subst::{Error, Template, TemplateBuf};
 use subst_marks::{begin, end, say_out_of_memory};
@@ -34,6 +33,16 @@ fn variables(alloc: Global) -> Result<Texts, AllocError> {
     calls::texts(alloc, "name=the whole round world with all that is in it")
 }
 
+/// The template of [`SENTENCE`].
+fn template(alloc: Global) -> Result<Template<'static>, ParseError> {
+    calls::parse(alloc, SENTENCE)
+}
+
+/// The same, which owns a copy.
+fn owner(alloc: Global) -> Result<TemplateBuf, ParseError> {
+    calls::own(alloc, SENTENCE)
+}
+
 /// Whether the variables are those that were made.
 fn are_as_before(variables: &Texts) -> bool {
     match variables.get("name") {
@@ -53,13 +62,17 @@ fn substituted(
     begin(rt, call);
     let filled = calls::fill_in(alloc, source, variables);
     end(rt);
-    if let Err(Error::OutOfMemory(_)) = filled {
-        say_out_of_memory(rt);
-        if are_as_before(variables) {
-            return calls::fill_in(alloc, source, variables);
+    match filled {
+        Err(Error::OutOfMemory(e)) => {
+            say_out_of_memory(rt);
+            if are_as_before(variables) {
+                calls::fill_in(alloc, source, variables)
+            } else {
+                Err(Error::OutOfMemory(e))
+            }
         }
+        answer => answer,
     }
-    filled
 }
 
 /// Returns the template of a text, from a second call where memory ran out.
@@ -108,13 +121,17 @@ fn expanded(
     begin(rt, call);
     let expanded = calls::expand(alloc, template, variables);
     end(rt);
-    if let Err(ExpandError::OutOfMemory(_)) = expanded {
-        say_out_of_memory(rt);
-        if calls::are_equal(template.source(), source) && are_as_before(variables) {
-            return calls::expand(alloc, template, variables);
+    match expanded {
+        Err(ExpandError::OutOfMemory(e)) => {
+            say_out_of_memory(rt);
+            if calls::are_equal(template.source(), source) && are_as_before(variables) {
+                calls::expand(alloc, template, variables)
+            } else {
+                Err(ExpandError::OutOfMemory(e))
+            }
         }
+        answer => answer,
     }
-    expanded
 }
 
 /// The same by a template that owns its source.
@@ -127,13 +144,17 @@ fn expanded_by_owner(
     begin(rt, "TemplateBuf::expand of a sentence");
     let expanded = calls::expand_owner(alloc, template, variables);
     end(rt);
-    if let Err(ExpandError::OutOfMemory(_)) = expanded {
-        say_out_of_memory(rt);
-        if calls::are_equal(template.source(), SENTENCE) && are_as_before(variables) {
-            return calls::expand_owner(alloc, template, variables);
+    match expanded {
+        Err(ExpandError::OutOfMemory(e)) => {
+            say_out_of_memory(rt);
+            if calls::are_equal(template.source(), SENTENCE) && are_as_before(variables) {
+                calls::expand_owner(alloc, template, variables)
+            } else {
+                Err(ExpandError::OutOfMemory(e))
+            }
         }
+        answer => answer,
     }
-    expanded
 }
 
 /// Returns a clone of a template, from a second call where memory ran out.
@@ -166,6 +187,14 @@ fn cloned_owner(rt: &impl Print, template: &TemplateBuf) -> Result<TemplateBuf, 
         }
         copy => copy,
     }
+}
+
+/// Returns a clone of a lent template, which is dropped here.
+fn cloned_lent<'a>(
+    rt: &impl Print,
+    lent: Template<'a>,
+) -> Result<Template<'a>, AllocError> {
+    cloned(rt, "Template::clone of a lent one", &lent)
 }
 
 /// Returns an owned copy of a template, from a second call where memory ran out.
@@ -207,45 +236,81 @@ fn copied_of(
     }
 }
 
-fn is_expanded(output: &Result<String, ExpandError>, variables: &Texts) -> bool {
+fn is_expanded(output: Result<String, ExpandError>, variables: &Texts) -> bool {
     match output {
         Ok(output) => calls::are_equal(output.as_str(), GIVEN) && are_as_before(variables),
         Err(_) => false,
     }
 }
 
-/// Whether a template has the source [`SENTENCE`] and gives [`GIVEN`].
-fn is_whole(alloc: Global, template: &Template<'_>) -> bool {
+/// Whether a template gives [`GIVEN`].
+fn gives(alloc: Global, template: &Template<'_>) -> bool {
     match variables(alloc) {
-        Ok(variables) => {
-            let output = calls::expand(alloc, template, &variables);
-            is_expanded(&output, &variables) && calls::are_equal(template.source(), SENTENCE)
-        }
+        Ok(variables) => is_expanded(calls::expand(alloc, template, &variables), &variables),
         Err(_) => false,
     }
 }
 
-fn is_whole_owner(alloc: Global, template: &TemplateBuf) -> bool {
-    is_whole(alloc, &calls::lend(template))
+/// Whether a template, which is dropped here, gives [`GIVEN`] and has the source [`SENTENCE`].
+fn is_whole(alloc: Global, template: Template<'_>) -> bool {
+    gives(alloc, &template) && calls::are_equal(template.source(), SENTENCE)
 }
 
-fn is_given(filled: &Result<String, Error>, variables: &Texts) -> bool {
+/// Whether a clone was made, and is whole.
+fn is_clone_whole(alloc: Global, copy: Result<Template<'_>, AllocError>) -> bool {
+    match copy {
+        Ok(copy) => is_whole(alloc, copy),
+        Err(_) => false,
+    }
+}
+
+fn is_whole_owner(alloc: Global, template: TemplateBuf) -> bool {
+    is_whole(alloc, calls::lend(&template))
+}
+
+/// Whether an owned copy was made, and is whole.
+fn is_copy_whole(alloc: Global, copy: Result<TemplateBuf, AllocError>) -> bool {
+    match copy {
+        Ok(copy) => is_whole_owner(alloc, copy),
+        Err(_) => false,
+    }
+}
+
+/// Whether a template took over a source, and is whole.
+fn is_owned_whole(alloc: Global, owned: Result<TemplateBuf, ParseError>) -> bool {
+    match owned {
+        Ok(owned) => is_whole_owner(alloc, owned),
+        Err(_) => false,
+    }
+}
+
+/// Whether a text is a template, which is whole.
+fn is_parsed_whole(alloc: Global, parsed: Result<Template<'_>, ParseError>) -> bool {
+    match parsed {
+        Ok(parsed) => is_whole(alloc, parsed),
+        Err(_) => false,
+    }
+}
+
+fn is_given(filled: Result<String, Error>, variables: &Texts) -> bool {
     match filled {
         Ok(output) => calls::are_equal(output.as_str(), GIVEN) && are_as_before(variables),
         Err(_) => false,
     }
 }
 
-fn is_missing(filled: &Result<String, Error>, variables: &Texts) -> bool {
+fn is_missing(filled: Result<String, Error>, variables: &Texts) -> bool {
     match filled {
         Err(Error::NoSuchVariable(e)) => {
-            e.position == MISSING_AT && e.name.as_str() == "absent" && are_as_before(variables)
+            e.position == MISSING_AT
+                && calls::are_equal(e.name.as_str(), "absent")
+                && are_as_before(variables)
         }
         _ => false,
     }
 }
 
-fn is_bad_escape(filled: &Result<String, Error>, variables: &Texts) -> bool {
+fn is_bad_escape(filled: Result<String, Error>, variables: &Texts) -> bool {
     match filled {
         Err(Error::InvalidEscapeSequence(e)) => {
             e.position == BAD_ESCAPE && are_as_before(variables)
@@ -254,146 +319,264 @@ fn is_bad_escape(filled: &Result<String, Error>, variables: &Texts) -> bool {
     }
 }
 
-fn is_refused(parsed: &Result<TemplateBuf, ParseError>) -> bool {
+fn is_refused(parsed: Result<TemplateBuf, ParseError>) -> bool {
     match parsed {
         Err(ParseError::InvalidEscapeSequence(e)) => e.position == BAD_ESCAPE,
         _ => false,
     }
 }
 
-#[test]
-fn substitute_of_a_sentence(rt: HostRuntime) -> Result<(), Fail> {
-    let variables = variables(rt.alloc())?;
+fn is_sentence_filled_in(alloc: Global, rt: &impl Print) -> bool {
     let call = "substitute of a sentence";
-    let filled = substituted(rt.alloc(), &rt, call, SENTENCE, &variables);
-    assert!(rt; is_given(&filled, &variables));
-    Ok(())
+    match variables(alloc) {
+        Ok(variables) => {
+            is_given(substituted(alloc, rt, call, SENTENCE, &variables), &variables)
+        }
+        Err(_) => false,
+    }
 }
 
 #[test]
-fn substitute_of_a_missing_variable(rt: HostRuntime) -> Result<(), Fail> {
-    let variables = variables(rt.alloc())?;
+fn substitute_of_a_sentence(rt: HostRuntime) {
+    assert!(rt; is_sentence_filled_in(rt.alloc(), &rt));
+}
+
+fn is_variable_missing(alloc: Global, rt: &impl Print) -> bool {
     let call = "substitute of a missing variable";
-    let filled = substituted(rt.alloc(), &rt, call, MISSING, &variables);
-    assert!(rt; is_missing(&filled, &variables));
-    Ok(())
+    match variables(alloc) {
+        Ok(variables) => {
+            is_missing(substituted(alloc, rt, call, MISSING, &variables), &variables)
+        }
+        Err(_) => false,
+    }
 }
 
 #[test]
-fn substitute_of_a_refused_text(rt: HostRuntime) -> Result<(), Fail> {
-    let variables = variables(rt.alloc())?;
+fn substitute_of_a_missing_variable(rt: HostRuntime) {
+    assert!(rt; is_variable_missing(rt.alloc(), &rt));
+}
+
+fn is_text_refused(alloc: Global, rt: &impl Print) -> bool {
     let call = "substitute of a bad escape";
-    let filled = substituted(rt.alloc(), &rt, call, REFUSED, &variables);
-    assert!(rt; is_bad_escape(&filled, &variables));
-    Ok(())
+    match variables(alloc) {
+        Ok(variables) => {
+            is_bad_escape(substituted(alloc, rt, call, REFUSED, &variables), &variables)
+        }
+        Err(_) => false,
+    }
 }
 
 #[test]
-fn from_str(rt: HostRuntime) -> Result<(), Fail> {
-    let template = parsed(rt.alloc(), &rt, SENTENCE)?;
-    assert!(rt; is_whole(rt.alloc(), &template));
-    Ok(())
+fn substitute_of_a_refused_text(rt: HostRuntime) {
+    assert!(rt; is_text_refused(rt.alloc(), &rt));
 }
 
 #[test]
-fn expand(rt: HostRuntime) -> Result<(), Fail> {
-    let variables = variables(rt.alloc())?;
-    let template = calls::parse(rt.alloc(), SENTENCE)?;
+fn from_str(rt: HostRuntime) {
+    assert!(rt; is_parsed_whole(rt.alloc(), parsed(rt.alloc(), &rt, SENTENCE)));
+}
+
+/// Whether a template gives [`GIVEN`], between two marks.
+fn is_filled(
+    alloc: Global,
+    rt: &impl Print,
+    template: Result<Template<'_>, ParseError>,
+    variables: &Texts,
+) -> bool {
     let call = "Template::expand of a sentence";
-    let filled = expanded(rt.alloc(), &rt, call, &template, SENTENCE, &variables);
-    assert!(rt; is_expanded(&filled, &variables));
-    Ok(())
+    match template {
+        Ok(template) => {
+            let filled = expanded(alloc, rt, call, &template, SENTENCE, variables);
+            is_expanded(filled, variables)
+        }
+        Err(_) => false,
+    }
+}
+
+fn is_sentence_filled(alloc: Global, rt: &impl Print) -> bool {
+    match variables(alloc) {
+        Ok(variables) => is_filled(alloc, rt, template(alloc), &variables),
+        Err(_) => false,
+    }
 }
 
 #[test]
-fn expand_to_a_missing_variable(rt: HostRuntime) -> Result<(), Fail> {
-    let variables = variables(rt.alloc())?;
-    let template = calls::parse(rt.alloc(), MISSING)?;
+fn expand(rt: HostRuntime) {
+    assert!(rt; is_sentence_filled(rt.alloc(), &rt));
+}
+
+/// Whether a template lacks the variable of [`MISSING`], between two marks.
+fn is_unfilled(
+    alloc: Global,
+    rt: &impl Print,
+    template: Result<Template<'_>, ParseError>,
+    variables: &Texts,
+) -> bool {
     let call = "Template::expand of a missing variable";
-    let filled = expanded(rt.alloc(), &rt, call, &template, MISSING, &variables);
-    assert!(rt; is_missing(&filled.map_err(Error::from), &variables));
-    Ok(())
+    match template {
+        Ok(template) => {
+            let filled = expanded(alloc, rt, call, &template, MISSING, variables);
+            is_missing(filled.map_err(Error::from), variables)
+        }
+        Err(_) => false,
+    }
+}
+
+fn is_sentence_unfilled(alloc: Global, rt: &impl Print) -> bool {
+    match variables(alloc) {
+        Ok(variables) => is_unfilled(alloc, rt, calls::parse(alloc, MISSING), &variables),
+        Err(_) => false,
+    }
 }
 
 #[test]
-fn clone_of_a_template(rt: HostRuntime) -> Result<(), Fail> {
-    let template = calls::parse(rt.alloc(), SENTENCE)?;
-    let copy = cloned(&rt, "Template::clone", &template)?;
-    assert!(rt; is_whole(rt.alloc(), &copy) && is_whole(rt.alloc(), &template));
-    Ok(())
+fn expand_to_a_missing_variable(rt: HostRuntime) {
+    assert!(rt; is_sentence_unfilled(rt.alloc(), &rt));
+}
+
+/// Whether a clone and its original are whole.
+fn is_cloned(alloc: Global, rt: &impl Print, original: Result<Template<'_>, ParseError>) -> bool {
+    match original {
+        Ok(original) => {
+            let copy = cloned(rt, "Template::clone", &original);
+            let is_clone_whole = is_clone_whole(alloc, copy);
+            is_whole(alloc, original) && is_clone_whole
+        }
+        Err(_) => false,
+    }
 }
 
 #[test]
-fn clone_of_a_lent_template(rt: HostRuntime) -> Result<(), Fail> {
-    let owner = calls::own(rt.alloc(), SENTENCE)?;
-    let copy = cloned(&rt, "Template::clone of a lent one", &calls::lend(&owner))?;
-    assert!(rt; is_whole(rt.alloc(), &copy));
-    Ok(())
+fn clone_of_a_template(rt: HostRuntime) {
+    assert!(rt; is_cloned(rt.alloc(), &rt, template(rt.alloc())));
+}
+
+/// Whether a clone of a template is whole that another one lends.
+fn is_lent_cloned(alloc: Global, rt: &impl Print, owner: Result<TemplateBuf, ParseError>) -> bool {
+    match owner {
+        Ok(owner) => is_clone_whole(alloc, cloned_lent(rt, calls::lend(&owner))),
+        Err(_) => false,
+    }
 }
 
 #[test]
-fn from_string(rt: HostRuntime) -> Result<(), Fail> {
-    let owner = owned(
-        rt.alloc(),
-        &rt,
-        "TemplateBuf::from_string of a sentence",
-        SENTENCE,
-    )?;
-    assert!(rt; is_whole_owner(rt.alloc(), &owner));
-    Ok(())
+fn clone_of_a_lent_template(rt: HostRuntime) {
+    assert!(rt; is_lent_cloned(rt.alloc(), &rt, owner(rt.alloc())));
+}
+
+#[test]
+fn from_string(rt: HostRuntime) {
+    let call = "TemplateBuf::from_string of a sentence";
+    assert!(rt; is_owned_whole(rt.alloc(), owned(rt.alloc(), &rt, call, SENTENCE)));
 }
 
 #[test]
 fn from_string_of_a_refused_source(rt: HostRuntime) {
-    let owner = owned(
-        rt.alloc(),
-        &rt,
-        "TemplateBuf::from_string of a bad escape",
-        REFUSED,
-    );
-    assert!(rt; is_refused(&owner));
+    let call = "TemplateBuf::from_string of a bad escape";
+    assert!(rt; is_refused(owned(rt.alloc(), &rt, call, REFUSED)));
+}
+
+/// Whether a template that owns its source gives [`GIVEN`], between two marks.
+fn is_filled_by_owner(
+    alloc: Global,
+    rt: &impl Print,
+    owner: Result<TemplateBuf, ParseError>,
+    variables: &Texts,
+) -> bool {
+    match owner {
+        Ok(owner) => is_expanded(expanded_by_owner(alloc, rt, &owner, variables), variables),
+        Err(_) => false,
+    }
+}
+
+fn is_sentence_filled_by_owner(alloc: Global, rt: &impl Print) -> bool {
+    match variables(alloc) {
+        Ok(variables) => is_filled_by_owner(alloc, rt, owner(alloc), &variables),
+        Err(_) => false,
+    }
 }
 
 #[test]
-fn expand_by_an_owner(rt: HostRuntime) -> Result<(), Fail> {
-    let variables = variables(rt.alloc())?;
-    let owner = calls::own(rt.alloc(), SENTENCE)?;
-    let filled = expanded_by_owner(rt.alloc(), &rt, &owner, &variables);
-    assert!(rt; is_expanded(&filled, &variables));
-    Ok(())
+fn expand_by_an_owner(rt: HostRuntime) {
+    assert!(rt; is_sentence_filled_by_owner(rt.alloc(), &rt));
+}
+
+/// Whether a clone and its original, which owns its source, are whole.
+fn is_owner_cloned(alloc: Global, rt: &impl Print, owner: Result<TemplateBuf, ParseError>) -> bool {
+    match owner {
+        Ok(owner) => {
+            let is_copy_whole = is_copy_whole(alloc, cloned_owner(rt, &owner));
+            is_whole_owner(alloc, owner) && is_copy_whole
+        }
+        Err(_) => false,
+    }
 }
 
 #[test]
-fn clone_of_an_owner(rt: HostRuntime) -> Result<(), Fail> {
-    let owner = calls::own(rt.alloc(), SENTENCE)?;
-    let copy = cloned_owner(&rt, &owner)?;
-    assert!(rt; is_whole_owner(rt.alloc(), &copy) && is_whole_owner(rt.alloc(), &owner));
-    Ok(())
+fn clone_of_an_owner(rt: HostRuntime) {
+    assert!(rt; is_owner_cloned(rt.alloc(), &rt, owner(rt.alloc())));
+}
+
+/// Whether an owned copy and its original are whole.
+fn is_copied(alloc: Global, rt: &impl Print, original: Result<Template<'_>, ParseError>) -> bool {
+    match original {
+        Ok(original) => {
+            let is_copy_whole = is_copy_whole(alloc, copied(alloc, rt, &original));
+            is_whole(alloc, original) && is_copy_whole
+        }
+        Err(_) => false,
+    }
 }
 
 #[test]
-fn from_template(rt: HostRuntime) -> Result<(), Fail> {
-    let template = calls::parse(rt.alloc(), SENTENCE)?;
-    let copy = copied(rt.alloc(), &rt, &template)?;
-    assert!(rt; is_whole_owner(rt.alloc(), &copy) && is_whole(rt.alloc(), &template));
-    Ok(())
+fn from_template(rt: HostRuntime) {
+    assert!(rt; is_copied(rt.alloc(), &rt, template(rt.alloc())));
 }
 
-#[test]
-fn of_template(rt: HostRuntime) -> Result<(), Fail> {
-    let owner = calls::own(rt.alloc(), SENTENCE)?;
-    let template = calls::parse(rt.alloc(), SENTENCE)?;
+/// Whether the owned copy of a template, which is given away, is whole.
+fn is_given_away(
+    alloc: Global,
+    rt: &impl Print,
+    original: Result<Template<'_>, ParseError>,
+    again: &TemplateBuf,
+) -> bool {
     let call = "TemplateBuf::of_template";
-    let copy = copied_of(rt.alloc(), &rt, call, template, &owner)?;
-    assert!(rt; is_whole_owner(rt.alloc(), &copy));
-    Ok(())
+    match original {
+        Ok(original) => is_copy_whole(alloc, copied_of(alloc, rt, call, original, again)),
+        Err(_) => false,
+    }
+}
+
+fn is_template_given_away(
+    alloc: Global,
+    rt: &impl Print,
+    owner: Result<TemplateBuf, ParseError>,
+) -> bool {
+    match owner {
+        Ok(owner) => is_given_away(alloc, rt, template(alloc), &owner),
+        Err(_) => false,
+    }
 }
 
 #[test]
-fn of_a_lent_template(rt: HostRuntime) -> Result<(), Fail> {
-    let owner = calls::own(rt.alloc(), SENTENCE)?;
+fn of_template(rt: HostRuntime) {
+    assert!(rt; is_template_given_away(rt.alloc(), &rt, owner(rt.alloc())));
+}
+
+/// Whether the owned copy of a template that another one lends is whole, and the other one.
+fn is_lent_copied(alloc: Global, rt: &impl Print, owner: Result<TemplateBuf, ParseError>) -> bool {
     let call = "TemplateBuf::of_template of a lent one";
-    let copy = copied_of(rt.alloc(), &rt, call, calls::lend(&owner), &owner)?;
-    assert!(rt; is_whole_owner(rt.alloc(), &copy) && is_whole_owner(rt.alloc(), &owner));
-    Ok(())
+    match owner {
+        Ok(owner) => {
+            let copy = copied_of(alloc, rt, call, calls::lend(&owner), &owner);
+            let is_copy_whole = is_copy_whole(alloc, copy);
+            is_whole_owner(alloc, owner) && is_copy_whole
+        }
+        Err(_) => false,
+    }
+}
+
+#[test]
+fn of_a_lent_template(rt: HostRuntime) {
+    assert!(rt; is_lent_copied(rt.alloc(), &rt, owner(rt.alloc())));
 }
