@@ -5,7 +5,7 @@ use crate::byte_calls::{
     of_template, one_variable, own, parse, take_apart,
 };
 use std::alloc::{AllocError, Global};
-use subst::error::{ExpandError, ParseError};
+use subst::error::ExpandError;
 use subst::{ByteTemplate, ByteTemplateBuf};
 
 const SOURCE: &[u8] = b"Hello ${name}!";
@@ -28,9 +28,9 @@ fn is_given(alloc: Global, template: &ByteTemplate<'_>) -> bool {
     }
 }
 
-/// Whether a template has kept [`SOURCE`], and gives [`GIVEN`].
-fn is_whole(alloc: Global, template: &ByteTemplate<'_>) -> bool {
-    are_equal(template.source(), SOURCE) && is_given(alloc, template)
+/// Whether a template, which is dropped here, has kept [`SOURCE`], and gives [`GIVEN`].
+fn is_whole(alloc: Global, template: ByteTemplate<'_>) -> bool {
+    are_equal(template.source(), SOURCE) && is_given(alloc, &template)
 }
 
 /// Whether a template that owns its source gives `want` under one variable.
@@ -75,8 +75,8 @@ fn clone_alone(original: ByteTemplateBuf) -> Result<ByteTemplateBuf, AllocError>
     copy
 }
 
-fn is_clone_alone_whole(alloc: Global, original: Result<ByteTemplateBuf, ParseError>) -> bool {
-    match original {
+fn is_clone_alone_whole(alloc: Global) -> bool {
+    match own(alloc, SOURCE) {
         Ok(original) => is_whole_copy(alloc, clone_alone(original)),
         Err(_) => false,
     }
@@ -84,17 +84,17 @@ fn is_clone_alone_whole(alloc: Global, original: Result<ByteTemplateBuf, ParseEr
 
 #[test]
 fn a_clone_outlives_its_original(rt: HostRuntime) {
-    assert!(rt; is_clone_alone_whole(rt.alloc(), own(rt.alloc(), SOURCE)));
+    assert!(rt; is_clone_alone_whole(rt.alloc()));
 }
 
 /// Whether a template that is handed over is whole, and gives back its source.
 fn is_whole_when_moved(alloc: Global, template: ByteTemplateBuf) -> bool {
-    let whole = is_whole_owner(alloc, &template);
-    are_equal(take_apart(template).as_slice(), SOURCE) && whole
+    let is_whole = is_whole_owner(alloc, &template);
+    are_equal(take_apart(template).as_slice(), SOURCE) && is_whole
 }
 
-fn is_moved_whole(alloc: Global, template: Result<ByteTemplateBuf, ParseError>) -> bool {
-    match template {
+fn is_moved_whole(alloc: Global) -> bool {
+    match own(alloc, SOURCE) {
         Ok(template) => is_whole_when_moved(alloc, template),
         Err(_) => false,
     }
@@ -102,7 +102,7 @@ fn is_moved_whole(alloc: Global, template: Result<ByteTemplateBuf, ParseError>) 
 
 #[test]
 fn a_template_can_be_moved(rt: HostRuntime) {
-    assert!(rt; is_moved_whole(rt.alloc(), own(rt.alloc(), SOURCE)));
+    assert!(rt; is_moved_whole(rt.alloc()));
 }
 
 /// The owned copy of a template that another one lends, which is then dropped.
@@ -118,8 +118,8 @@ fn is_copy_given(alloc: Global, copy: Result<ByteTemplateBuf, AllocError>) -> bo
     }
 }
 
-fn is_copy_of_lent_given(alloc: Global, owner: Result<ByteTemplateBuf, ParseError>) -> bool {
-    match owner {
+fn is_copy_of_lent_given(alloc: Global) -> bool {
+    match own(alloc, b"${a:$b}") {
         Ok(owner) => is_copy_given(alloc, copy_of_lent(alloc, owner)),
         Err(_) => false,
     }
@@ -127,30 +127,28 @@ fn is_copy_of_lent_given(alloc: Global, owner: Result<ByteTemplateBuf, ParseErro
 
 #[test]
 fn an_owned_copy_outlives_what_lent(rt: HostRuntime) {
-    assert!(rt; is_copy_of_lent_given(rt.alloc(), own(rt.alloc(), b"${a:$b}")));
+    assert!(rt; is_copy_of_lent_given(rt.alloc()));
 }
 
 fn is_clone_whole(alloc: Global, template: &ByteTemplate<'_>) -> bool {
     match clone(template) {
-        Ok(copy) => is_whole(alloc, &copy),
+        Ok(copy) => is_whole(alloc, copy),
         Err(_) => false,
     }
 }
 
+/// Whether what is lent is whole, and a clone of it.
 fn is_lent_whole(alloc: Global, lent: ByteTemplate<'_>) -> bool {
-    is_whole(alloc, &lent) && is_clone_whole(alloc, &lent)
-}
-
-fn is_lent_by_from_whole(alloc: Global, lent: ByteTemplate<'_>) -> bool {
-    is_whole(alloc, &lent)
+    let is_clone_whole = is_clone_whole(alloc, &lent);
+    is_whole(alloc, lent) && is_clone_whole
 }
 
 fn are_lent_whole(alloc: Global, owner: &ByteTemplateBuf) -> bool {
-    is_lent_whole(alloc, lend(owner)) && is_lent_by_from_whole(alloc, lend_by_from(owner))
+    is_lent_whole(alloc, lend(owner)) && is_whole(alloc, lend_by_from(owner))
 }
 
-fn lends_whole(alloc: Global, owner: Result<ByteTemplateBuf, ParseError>) -> bool {
-    match owner {
+fn lends_whole(alloc: Global) -> bool {
+    match own(alloc, SOURCE) {
         Ok(owner) => are_lent_whole(alloc, &owner),
         Err(_) => false,
     }
@@ -158,18 +156,18 @@ fn lends_whole(alloc: Global, owner: Result<ByteTemplateBuf, ParseError>) -> boo
 
 #[test]
 fn lent_templates_give_the_same(rt: HostRuntime) {
-    assert!(rt; lends_whole(rt.alloc(), own(rt.alloc(), SOURCE)));
+    assert!(rt; lends_whole(rt.alloc()));
 }
 
 /// Whether a clone and each owned copy is whole.
 fn are_copies_whole(alloc: Global, lender: ByteTemplate<'_>) -> bool {
-    let are_whole =
-        is_clone_whole(alloc, &lender) && is_whole_copy(alloc, from_template(alloc, &lender));
+    let are_whole = is_clone_whole(alloc, &lender)
+        && is_whole_copy(alloc, from_template(alloc, &lender));
     is_whole_copy(alloc, of_template(alloc, lender)) && are_whole
 }
 
-fn gives_whole_copies(alloc: Global, lender: Result<ByteTemplate<'_>, ParseError>) -> bool {
-    match lender {
+fn gives_whole_copies(alloc: Global) -> bool {
+    match parse(alloc, SOURCE) {
         Ok(lender) => are_copies_whole(alloc, lender),
         Err(_) => false,
     }
@@ -177,5 +175,5 @@ fn gives_whole_copies(alloc: Global, lender: Result<ByteTemplate<'_>, ParseError
 
 #[test]
 fn copies_give_the_same(rt: HostRuntime) {
-    assert!(rt; gives_whole_copies(rt.alloc(), parse(rt.alloc(), SOURCE)));
+    assert!(rt; gives_whole_copies(rt.alloc()));
 }

@@ -1,35 +1,54 @@
 //! Texts that are escaped, and what they give.
 
-use crate::text_calls::{escaped, texts};
+use crate::text_calls::{are_equal, escaped};
 use crate::ways::all_give;
-use std::test::Fail;
+use std::alloc::{AllocError, Global};
+
+/// Whether what a text is escaped to is `want`.
+pub fn is_escaped(found: Result<String, AllocError>, want: &str) -> bool {
+    match found {
+        Ok(found) => are_equal(found.as_str(), want),
+        Err(_) => false,
+    }
+}
+
+/// The first of these rows, each a text and what it is escaped to, that is wrong.
+fn wrong_escape(alloc: Global, rows: &[(&str, &str)]) -> Option<usize> {
+    for (row, &(text, want)) in rows.iter().enumerate() {
+        if !is_escaped(escaped(alloc, text), want) {
+            return Some(row);
+        }
+    }
+    None
+}
 
 #[test]
-fn special_bytes_are_escaped(rt: HostRuntime) -> Result<(), Fail> {
-    let rows = [
+fn special_bytes_are_escaped(rt: HostRuntime) {
+    let rows: &[(&str, &str)] = &[
         ("", ""),
         ("a$b{c}:\\", "a\\$b\\{c\\}\\:\\\\"),
         ("é?\"", "é?\""),
         ("::", "\\:\\:"),
     ];
-    for (text, want) in rows {
-        let found = escaped(rt.alloc(), text)?;
-        assert_eq!(rt; found.as_str(), want);
+    assert_eq!(rt; wrong_escape(rt.alloc(), rows), None);
+}
+
+/// The first of these rows, each a source and variables, that doesn't give `want` by some way.
+fn wrong_output(alloc: Global, rows: &[(&str, &str)], want: &str) -> Option<usize> {
+    for (row, &(source, pairs)) in rows.iter().enumerate() {
+        if !all_give(alloc, source, pairs, want) {
+            return Some(row);
+        }
     }
-    Ok(())
+    None
 }
 
 #[test]
-fn escaped_texts_stay_as_they_were(rt: HostRuntime) -> Result<(), Fail> {
-    let text = "a$b{c}:\\";
-    let rows = [
+fn escaped_texts_stay_as_they_were(rt: HostRuntime) {
+    let rows: &[(&str, &str)] = &[
         ("a\\$b\\{c\\}\\:\\\\", "b=1,a=2"),
         ("a\\$b\\{c\\}\\:\\\\", ""),
         ("${z:a\\$b\\{c\\}\\:\\\\}", ""),
     ];
-    for (source, pairs) in rows {
-        let variables = texts(rt.alloc(), pairs)?;
-        assert!(rt; all_give(rt.alloc(), source, &variables, text), "{source}");
-    }
-    Ok(())
+    assert_eq!(rt; wrong_output(rt.alloc(), rows, "a$b{c}:\\"), None);
 }

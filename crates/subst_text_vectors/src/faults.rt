@@ -1,9 +1,9 @@
 //! Texts that are no sentences, and variables that are missing.
 
-use crate::text_calls::{own, texts};
+use crate::text_calls::{Texts, own, texts};
 use crate::ways::all_refuse;
 use std::alloc::{AllocError, Global};
-use std::test::Fail;
+use subst::TemplateBuf;
 use subst::error::{
     CharOrByte, Error, ExpectedCharacter, InvalidEscapeSequence, MissingClosingBrace,
     MissingVariableName, NoSuchVariable, ParseError, UnexpectedCharacter,
@@ -38,115 +38,136 @@ fn absent(alloc: Global, position: usize, name: &str) -> Result<Error, AllocErro
     Ok(Error::NoSuchVariable(NoSuchVariable { position, name }))
 }
 
-#[test]
-fn bad_escapes(rt: HostRuntime) -> Result<(), Fail> {
-    let variables = texts(rt.alloc(), "a=1")?;
-    let rows: &[(&str, usize, Option<char>)] = &[
-        ("Hello \\world!", 6, Some('w')),
-        ("Hello \\❤❤", 6, Some('❤')),
-        ("Hello world!\\", 12, None),
-        ("emoticon: \\\u{ff08} ^▽^ \u{ff09}/", 10, Some('\u{ff08}')),
-        ("é${a:\\x}", 6, Some('x')),
-    ];
-    for &(source, position, character) in rows {
-        let want = escape(position, character);
-        assert!(rt;
-            all_refuse(rt.alloc(), source, &variables, &want),
-            "{source}"
-        );
+/// A fault, as rows name it.
+#[derive(Clone, Copy)]
+enum Fault {
+    Escape(usize, Option<char>),
+    NoName(usize, usize),
+    Unexpected(usize, char, &'static str),
+    Unclosed(usize),
+    Absent(usize, &'static str),
+}
+
+/// The error that says so.
+fn error_of(alloc: Global, fault: Fault) -> Result<Error, AllocError> {
+    match fault {
+        Fault::Escape(position, character) => Ok(escape(position, character)),
+        Fault::NoName(position, len) => Ok(no_name(position, len)),
+        Fault::Unexpected(position, character, expected) => {
+            Ok(unexpected(position, character, expected))
+        }
+        Fault::Unclosed(position) => Ok(unclosed(position)),
+        Fault::Absent(position, name) => absent(alloc, position, name),
     }
-    Ok(())
+}
+
+/// Whether a text is refused with this fault, by each way.
+fn is_refused(alloc: Global, source: &str, variables: &Texts, fault: Fault) -> bool {
+    match error_of(alloc, fault) {
+        Ok(want) => all_refuse(alloc, source, variables, &want),
+        Err(_) => false,
+    }
+}
+
+/// Whether it is where `a` alone has a value.
+fn has_fault(alloc: Global, source: &str, fault: Fault) -> bool {
+    match texts(alloc, "a=1") {
+        Ok(variables) => is_refused(alloc, source, &variables, fault),
+        Err(_) => false,
+    }
+}
+
+/// The first of these rows, each a text and its fault, that is wrong by some way.
+fn wrong_fault(alloc: Global, rows: &[(&str, Fault)]) -> Option<usize> {
+    for (row, &(source, fault)) in rows.iter().enumerate() {
+        if !has_fault(alloc, source, fault) {
+            return Some(row);
+        }
+    }
+    None
 }
 
 #[test]
-fn missing_names(rt: HostRuntime) -> Result<(), Fail> {
-    let variables = texts(rt.alloc(), "a=1")?;
-    let rows: &[(&str, usize, usize)] = &[
-        ("$", 0, 1),
-        ("Hello $!", 6, 1),
-        ("Hello ${}!", 6, 2),
-        ("Hello ${:fallback}!", 6, 2),
-        ("Hello \u{3000}$❤", 9, 1),
-        ("Hello \u{3000}$", 9, 1),
-        ("$é", 0, 1),
-        ("é${❤}", 2, 2),
+fn bad_escapes(rt: HostRuntime) {
+    let rows: &[(&str, Fault)] = &[
+        ("Hello \\world!", Fault::Escape(6, Some('w'))),
+        ("Hello \\❤❤", Fault::Escape(6, Some('❤'))),
+        ("Hello world!\\", Fault::Escape(12, None)),
+        (
+            "emoticon: \\\u{ff08} ^▽^ \u{ff09}/",
+            Fault::Escape(10, Some('\u{ff08}')),
+        ),
+        ("é${a:\\x}", Fault::Escape(6, Some('x'))),
     ];
-    for &(source, position, len) in rows {
-        let want = no_name(position, len);
-        assert!(rt;
-            all_refuse(rt.alloc(), source, &variables, &want),
-            "{source}"
-        );
-    }
-    Ok(())
+    assert_eq!(rt; wrong_fault(rt.alloc(), rows), None);
 }
 
 #[test]
-fn characters_that_are_unexpected(rt: HostRuntime) -> Result<(), Fail> {
-    let variables = texts(rt.alloc(), "a=1")?;
-    let rows: &[(&str, usize, char)] = &[
-        ("Hello ${name)!", 12, ')'),
-        ("Hello ${name❤", 12, '❤'),
-        ("${aé}", 3, 'é'),
-        ("❤${a-b}", 6, '-'),
+fn missing_names(rt: HostRuntime) {
+    let rows: &[(&str, Fault)] = &[
+        ("$", Fault::NoName(0, 1)),
+        ("Hello $!", Fault::NoName(6, 1)),
+        ("Hello ${}!", Fault::NoName(6, 2)),
+        ("Hello ${:fallback}!", Fault::NoName(6, 2)),
+        ("Hello \u{3000}$❤", Fault::NoName(9, 1)),
+        ("Hello \u{3000}$", Fault::NoName(9, 1)),
+        ("$é", Fault::NoName(0, 1)),
+        ("é${❤}", Fault::NoName(2, 2)),
     ];
-    let expected = "a closing brace ('}'), colon (':') or question mark ('?')";
-    for &(source, position, character) in rows {
-        let want = unexpected(position, character, expected);
-        assert!(rt;
-            all_refuse(rt.alloc(), source, &variables, &want),
-            "{source}"
-        );
-    }
-    let want = unexpected(5, 'é', "a closing brace ('}')");
-    assert!(rt; all_refuse(rt.alloc(), "é${?é}", &variables, &no_name(2, 2)));
-    assert!(rt; all_refuse(rt.alloc(), "${ab?é}", &variables, &want));
-    Ok(())
+    assert_eq!(rt; wrong_fault(rt.alloc(), rows), None);
+}
+
+/// What is expected after a name.
+const AFTER_A_NAME: &str = "a closing brace ('}'), colon (':') or question mark ('?')";
+
+#[test]
+fn characters_that_are_unexpected(rt: HostRuntime) {
+    let rows: &[(&str, Fault)] = &[
+        ("Hello ${name)!", Fault::Unexpected(12, ')', AFTER_A_NAME)),
+        ("Hello ${name❤", Fault::Unexpected(12, '❤', AFTER_A_NAME)),
+        ("${aé}", Fault::Unexpected(3, 'é', AFTER_A_NAME)),
+        ("❤${a-b}", Fault::Unexpected(6, '-', AFTER_A_NAME)),
+        ("é${?é}", Fault::NoName(2, 2)),
+        (
+            "${ab?é}",
+            Fault::Unexpected(5, 'é', "a closing brace ('}')"),
+        ),
+    ];
+    assert_eq!(rt; wrong_fault(rt.alloc(), rows), None);
 }
 
 #[test]
-fn braces_that_are_open(rt: HostRuntime) -> Result<(), Fail> {
-    let variables = texts(rt.alloc(), "a=1")?;
-    let rows: &[(&str, usize)] = &[
-        ("Hello ${name", 7),
-        ("Hello ${name:fallback", 7),
-        ("❤${a:\\x", 4),
+fn braces_that_are_open(rt: HostRuntime) {
+    let rows: &[(&str, Fault)] = &[
+        ("Hello ${name", Fault::Unclosed(7)),
+        ("Hello ${name:fallback", Fault::Unclosed(7)),
+        ("❤${a:\\x", Fault::Unclosed(4)),
     ];
-    for &(source, position) in rows {
-        let want = unclosed(position);
-        assert!(rt;
-            all_refuse(rt.alloc(), source, &variables, &want),
-            "{source}"
-        );
-    }
-    Ok(())
+    assert_eq!(rt; wrong_fault(rt.alloc(), rows), None);
 }
 
 #[test]
-fn variables_that_are_missing(rt: HostRuntime) -> Result<(), Fail> {
-    let variables = texts(rt.alloc(), "a=1")?;
-    let rows: &[(&str, usize, &str)] = &[
-        ("Hello ${name}!", 8, "name"),
-        ("Hello $name!", 7, "name"),
-        ("é❤${b:$z}", 10, "z"),
+fn variables_that_are_missing(rt: HostRuntime) {
+    let rows: &[(&str, Fault)] = &[
+        ("Hello ${name}!", Fault::Absent(8, "name")),
+        ("Hello $name!", Fault::Absent(7, "name")),
+        ("é❤${b:$z}", Fault::Absent(10, "z")),
     ];
-    for &(source, position, name) in rows {
-        let want = absent(rt.alloc(), position, name)?;
-        assert!(rt;
-            all_refuse(rt.alloc(), source, &variables, &want),
-            "{source}"
-        );
+    assert_eq!(rt; wrong_fault(rt.alloc(), rows), None);
+}
+
+fn is_no_template(refused: Result<TemplateBuf, ParseError>, want: ParseError) -> bool {
+    match refused {
+        Ok(_) => false,
+        Err(fault) => fault == want,
     }
-    Ok(())
 }
 
 #[test]
-fn from_string_of_a_dollar(rt: HostRuntime) -> Result<(), Fail> {
-    let refused = own(rt.alloc(), "$");
+fn from_string_of_a_dollar(rt: HostRuntime) {
     let want = ParseError::MissingVariableName(MissingVariableName {
         position: 0,
         len: 1,
     });
-    assert!(rt; matches!(refused, Err(fault) if fault == want));
-    Ok(())
+    assert!(rt; is_no_template(own(rt.alloc(), "$"), want));
 }

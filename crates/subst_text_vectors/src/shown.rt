@@ -1,67 +1,75 @@
 //! How templates are shown.
 
-use crate::{byte_calls, text_calls};
+use crate::byte_calls;
+use crate::text_calls::{are_equal, own, parse};
 use std::alloc::{AllocError, Global};
 use std::fmt;
-use std::test::Fail;
+use subst::error::ParseError;
 
 /// How a template is shown, which is dropped here.
 fn shown_once<T: fmt::Debug + Drop>(alloc: Global, template: T) -> Result<String, AllocError> {
     format!(in alloc; "{template:?}")
 }
 
-fn shown(alloc: Global, source: &str) -> Result<String, Fail> {
-    Ok(shown_once(alloc, text_calls::parse(alloc, source)?)?)
+fn is_text(shown: Result<String, AllocError>, want: &str) -> bool {
+    match shown {
+        Ok(shown) => are_equal(shown.as_str(), want),
+        Err(_) => false,
+    }
 }
 
-fn shown_owner(alloc: Global, source: &str) -> Result<String, Fail> {
-    Ok(shown_once(alloc, text_calls::own(alloc, source)?)?)
+/// Whether a template was made, and is shown as `want`.
+fn is_shown<T: fmt::Debug + Drop>(
+    alloc: Global,
+    template: Result<T, ParseError>,
+    want: &str,
+) -> bool {
+    match template {
+        Ok(template) => is_text(shown_once(alloc, template), want),
+        Err(_) => false,
+    }
 }
 
-fn shown_bytes(alloc: Global, source: &[u8]) -> Result<String, Fail> {
-    Ok(shown_once(alloc, byte_calls::parse(alloc, source)?)?)
+fn is_lender_shown(alloc: Global, source: &str, want: &str) -> bool {
+    is_shown(alloc, parse(alloc, source), want)
 }
 
-fn shown_byte_owner(alloc: Global, source: &[u8]) -> Result<String, Fail> {
-    Ok(shown_once(alloc, byte_calls::own(alloc, source)?)?)
+fn is_owner_shown(alloc: Global, source: &str, want: &str) -> bool {
+    is_shown(alloc, own(alloc, source), want)
 }
 
-#[test]
-fn templates_of_texts(rt: HostRuntime) -> Result<(), Fail> {
-    assert_eq!(rt; shown(rt.alloc(), "a")?.as_str(), "Template(\"a\")");
-    assert_eq!(rt;
-        shown_owner(rt.alloc(), "a")?.as_str(),
-        "TemplateBuf(\"a\")"
-    );
-    assert_eq!(rt;
-        shown_owner(rt.alloc(), "a\"❤")?.as_str(),
-        "TemplateBuf(\"a\\\"❤\")"
-    );
-    Ok(())
+fn is_byte_lender_shown(alloc: Global, source: &[u8], want: &str) -> bool {
+    is_shown(alloc, byte_calls::parse(alloc, source), want)
 }
 
-#[test]
-fn templates_of_bytes(rt: HostRuntime) -> Result<(), Fail> {
-    assert_eq!(rt;
-        shown_bytes(rt.alloc(), b"a")?.as_str(),
-        "ByteTemplate(b\"a\")"
-    );
-    assert_eq!(rt;
-        shown_byte_owner(rt.alloc(), b"a")?.as_str(),
-        "ByteTemplateBuf(b\"a\")"
-    );
-    Ok(())
+fn is_byte_owner_shown(alloc: Global, source: &[u8], want: &str) -> bool {
+    is_shown(alloc, byte_calls::own(alloc, source), want)
 }
 
 #[test]
-fn templates_of_bytes_that_are_no_text(rt: HostRuntime) -> Result<(), Fail> {
-    assert_eq!(rt;
-        shown_bytes(rt.alloc(), b"\xFF")?.as_str(),
-        "ByteTemplate([255])"
+fn templates_of_texts(rt: HostRuntime) {
+    let alloc = rt.alloc();
+    assert!(rt;
+        is_lender_shown(alloc, "a", "Template(\"a\")")
+            && is_owner_shown(alloc, "a", "TemplateBuf(\"a\")")
+            && is_owner_shown(alloc, "a\"❤", "TemplateBuf(\"a\\\"❤\")")
     );
-    assert_eq!(rt;
-        shown_byte_owner(rt.alloc(), b"a\x80")?.as_str(),
-        "ByteTemplateBuf([97, 128])"
+}
+
+#[test]
+fn templates_of_bytes(rt: HostRuntime) {
+    let alloc = rt.alloc();
+    assert!(rt;
+        is_byte_lender_shown(alloc, b"a", "ByteTemplate(b\"a\")")
+            && is_byte_owner_shown(alloc, b"a", "ByteTemplateBuf(b\"a\")")
     );
-    Ok(())
+}
+
+#[test]
+fn templates_of_bytes_that_are_no_text(rt: HostRuntime) {
+    let alloc = rt.alloc();
+    assert!(rt;
+        is_byte_lender_shown(alloc, b"\xFF", "ByteTemplate([255])")
+            && is_byte_owner_shown(alloc, b"a\x80", "ByteTemplateBuf([97, 128])")
+    );
 }

@@ -5,17 +5,12 @@ use crate::text_calls::{
     of_template, own, parse, take_apart, texts,
 };
 use std::alloc::{AllocError, Global};
-use subst::error::{ExpandError, ParseError};
+use subst::error::ExpandError;
 use subst::{Template, TemplateBuf};
 
 const SOURCE: &str = "Hello ${name}!";
 
 const GIVEN: &str = "Hello world!";
-
-/// A template that owns a copy of [`SOURCE`].
-fn owner(alloc: Global) -> Result<TemplateBuf, ParseError> {
-    own(alloc, SOURCE)
-}
 
 /// Whether what a template gives is `want`.
 fn is_output(output: Result<String, ExpandError>, want: &str) -> bool {
@@ -73,8 +68,8 @@ fn clone_alone(original: TemplateBuf) -> Result<TemplateBuf, AllocError> {
     copy
 }
 
-fn is_clone_alone_whole(alloc: Global, original: Result<TemplateBuf, ParseError>) -> bool {
-    match original {
+fn is_clone_alone_whole(alloc: Global) -> bool {
+    match own(alloc, SOURCE) {
         Ok(original) => is_whole_copy(alloc, clone_alone(original)),
         Err(_) => false,
     }
@@ -82,7 +77,7 @@ fn is_clone_alone_whole(alloc: Global, original: Result<TemplateBuf, ParseError>
 
 #[test]
 fn a_clone_outlives_its_original(rt: HostRuntime) {
-    assert!(rt; is_clone_alone_whole(rt.alloc(), owner(rt.alloc())));
+    assert!(rt; is_clone_alone_whole(rt.alloc()));
 }
 
 /// Whether a template that is handed over is whole, and gives back its source.
@@ -116,8 +111,8 @@ fn is_copy_given(alloc: Global, copy: Result<TemplateBuf, AllocError>) -> bool {
     }
 }
 
-fn is_copy_of_lent_given(alloc: Global, owner: Result<TemplateBuf, ParseError>) -> bool {
-    match owner {
+fn is_copy_of_lent_given(alloc: Global) -> bool {
+    match own(alloc, "${a:$b}") {
         Ok(owner) => is_copy_given(alloc, copy_of_lent(alloc, owner)),
         Err(_) => false,
     }
@@ -125,7 +120,7 @@ fn is_copy_of_lent_given(alloc: Global, owner: Result<TemplateBuf, ParseError>) 
 
 #[test]
 fn an_owned_copy_outlives_what_lent(rt: HostRuntime) {
-    assert!(rt; is_copy_of_lent_given(rt.alloc(), own(rt.alloc(), "${a:$b}")));
+    assert!(rt; is_copy_of_lent_given(rt.alloc()));
 }
 
 fn is_clone_whole(alloc: Global, template: &Template<'_>) -> bool {
@@ -145,8 +140,8 @@ fn are_lent_whole(alloc: Global, owner: &TemplateBuf) -> bool {
     is_lent_whole(alloc, lend(owner)) && is_whole(alloc, lend_by_from(owner))
 }
 
-fn lends_whole(alloc: Global, owner: Result<TemplateBuf, ParseError>) -> bool {
-    match owner {
+fn lends_whole(alloc: Global) -> bool {
+    match own(alloc, SOURCE) {
         Ok(owner) => are_lent_whole(alloc, &owner),
         Err(_) => false,
     }
@@ -154,13 +149,13 @@ fn lends_whole(alloc: Global, owner: Result<TemplateBuf, ParseError>) -> bool {
 
 #[test]
 fn lent_templates_give_the_same(rt: HostRuntime) {
-    assert!(rt; lends_whole(rt.alloc(), owner(rt.alloc())));
+    assert!(rt; lends_whole(rt.alloc()));
 }
 
 /// Whether a clone and each owned copy is whole.
 fn are_copies_whole(alloc: Global, lender: Template<'_>) -> bool {
-    let are_whole =
-        is_clone_whole(alloc, &lender) && is_whole_copy(alloc, from_template(alloc, &lender));
+    let are_whole = is_clone_whole(alloc, &lender)
+        && is_whole_copy(alloc, from_template(alloc, &lender));
     is_whole_copy(alloc, of_template(alloc, lender)) && are_whole
 }
 

@@ -1,6 +1,6 @@
-//! The ways from a text to what it gives.
+//! The ways from a text to what it gives, and rows that are tried in each of them.
 
-use crate::text_calls::{Texts, expand, expand_owner, fill_in, own, parse};
+use crate::text_calls::{Texts, are_equal, expand, expand_owner, fill_in, own, parse, texts};
 use std::alloc::Global;
 use subst::error::ExpandError;
 use subst::{Error, Template, TemplateBuf};
@@ -33,30 +33,48 @@ fn by_owner(alloc: Global, source: &str, variables: &Texts) -> Filled {
     Ok(expand_once(alloc, own(alloc, source)?, variables)?)
 }
 
-fn is_output(filled: &Filled, want: &str) -> bool {
+/// Whether what a text gives is `want`.
+pub fn is_output(filled: Filled, want: &str) -> bool {
     match filled {
-        Ok(output) => output.as_str() == want,
+        Ok(output) => are_equal(output.as_str(), want),
         Err(_) => false,
     }
 }
 
-/// Whether a text gives `want`, by each way.
-pub fn all_give(alloc: Global, source: &str, variables: &Texts, want: &str) -> bool {
-    is_output(&fill_in(alloc, source, variables), want)
-        && is_output(&by_lender(alloc, source, variables), want)
-        && is_output(&by_owner(alloc, source, variables), want)
+fn all_ways_give(alloc: Global, source: &str, variables: &Texts, want: &str) -> bool {
+    is_output(fill_in(alloc, source, variables), want)
+        && is_output(by_lender(alloc, source, variables), want)
+        && is_output(by_owner(alloc, source, variables), want)
 }
 
-fn is_fault(filled: &Filled, want: &Error) -> bool {
+/// Whether a text gives `want` under the variables of pairs as `a=1,b=2`, by each way.
+pub fn all_give(alloc: Global, source: &str, pairs: &str, want: &str) -> bool {
+    match texts(alloc, pairs) {
+        Ok(variables) => all_ways_give(alloc, source, &variables, want),
+        Err(_) => false,
+    }
+}
+
+/// The first of these rows, each a text and what it gives, that is wrong by some way.
+pub fn wrong_output(alloc: Global, pairs: &str, rows: &[(&str, &str)]) -> Option<usize> {
+    for (row, &(source, want)) in rows.iter().enumerate() {
+        if !all_give(alloc, source, pairs, want) {
+            return Some(row);
+        }
+    }
+    None
+}
+
+fn is_fault(filled: Filled, want: &Error) -> bool {
     match filled {
         Ok(_) => false,
-        Err(fault) => fault == want,
+        Err(fault) => fault == *want,
     }
 }
 
 /// Whether a text is refused with the fault `want`, by each way.
 pub fn all_refuse(alloc: Global, source: &str, variables: &Texts, want: &Error) -> bool {
-    is_fault(&fill_in(alloc, source, variables), want)
-        && is_fault(&by_lender(alloc, source, variables), want)
-        && is_fault(&by_owner(alloc, source, variables), want)
+    is_fault(fill_in(alloc, source, variables), want)
+        && is_fault(by_lender(alloc, source, variables), want)
+        && is_fault(by_owner(alloc, source, variables), want)
 }

@@ -75,17 +75,13 @@ fn expanded_by_owner(
     begin(rt, "ByteTemplateBuf::expand of a sentence");
     let expanded = calls::expand_owner(alloc, template, variables);
     end(rt);
-    match expanded {
-        Err(ExpandError::OutOfMemory(e)) => {
-            say_out_of_memory(rt);
-            if calls::are_equal(template.source(), SENTENCE) && are_as_before(variables) {
-                calls::expand_owner(alloc, template, variables)
-            } else {
-                Err(ExpandError::OutOfMemory(e))
-            }
+    if let Err(ExpandError::OutOfMemory(_)) = expanded {
+        say_out_of_memory(rt);
+        if calls::are_equal(template.source(), SENTENCE) && are_as_before(variables) {
+            return calls::expand_owner(alloc, template, variables);
         }
-        answer => answer,
     }
+    expanded
 }
 
 /// Returns a clone of a template, from a second call where memory ran out.
@@ -226,8 +222,8 @@ fn is_refused(parsed: Result<ByteTemplateBuf, ParseError>) -> bool {
 }
 
 /// Whether a clone and its original are whole.
-fn is_cloned(alloc: Global, rt: &impl Print, original: Result<ByteTemplate<'_>, ParseError>) -> bool {
-    match original {
+fn is_cloned(alloc: Global, rt: &impl Print) -> bool {
+    match template(alloc) {
         Ok(original) => {
             let copy = cloned(rt, "ByteTemplate::clone", &original);
             let is_clone_whole = is_clone_whole(alloc, copy);
@@ -239,12 +235,12 @@ fn is_cloned(alloc: Global, rt: &impl Print, original: Result<ByteTemplate<'_>, 
 
 #[test]
 fn clone_of_a_template(rt: HostRuntime) {
-    assert!(rt; is_cloned(rt.alloc(), &rt, template(rt.alloc())));
+    assert!(rt; is_cloned(rt.alloc(), &rt));
 }
 
 /// Whether a clone of a template is whole that another one lends.
-fn is_lent_cloned(alloc: Global, rt: &impl Print, owner: Result<ByteTemplateBuf, ParseError>) -> bool {
-    match owner {
+fn is_lent_cloned(alloc: Global, rt: &impl Print) -> bool {
+    match owner(alloc) {
         Ok(owner) => is_clone_whole(alloc, cloned_lent(rt, calls::lend(&owner))),
         Err(_) => false,
     }
@@ -252,7 +248,7 @@ fn is_lent_cloned(alloc: Global, rt: &impl Print, owner: Result<ByteTemplateBuf,
 
 #[test]
 fn clone_of_a_lent_template(rt: HostRuntime) {
-    assert!(rt; is_lent_cloned(rt.alloc(), &rt, owner(rt.alloc())));
+    assert!(rt; is_lent_cloned(rt.alloc(), &rt));
 }
 
 #[test]
@@ -268,13 +264,8 @@ fn from_vec_of_a_refused_source(rt: HostRuntime) {
 }
 
 /// Whether a template that owns its source gives [`GIVEN`], between two marks.
-fn is_filled_by_owner(
-    alloc: Global,
-    rt: &impl Print,
-    owner: Result<ByteTemplateBuf, ParseError>,
-    variables: &Bytes,
-) -> bool {
-    match owner {
+fn is_filled_by_owner(alloc: Global, rt: &impl Print, variables: &Bytes) -> bool {
+    match owner(alloc) {
         Ok(owner) => is_expanded(expanded_by_owner(alloc, rt, &owner, variables), variables),
         Err(_) => false,
     }
@@ -282,7 +273,7 @@ fn is_filled_by_owner(
 
 fn is_sentence_filled_by_owner(alloc: Global, rt: &impl Print) -> bool {
     match variables(alloc) {
-        Ok(variables) => is_filled_by_owner(alloc, rt, owner(alloc), &variables),
+        Ok(variables) => is_filled_by_owner(alloc, rt, &variables),
         Err(_) => false,
     }
 }
@@ -293,8 +284,8 @@ fn expand_by_an_owner(rt: HostRuntime) {
 }
 
 /// Whether a clone and its original, which owns its source, are whole.
-fn is_owner_cloned(alloc: Global, rt: &impl Print, owner: Result<ByteTemplateBuf, ParseError>) -> bool {
-    match owner {
+fn is_owner_cloned(alloc: Global, rt: &impl Print) -> bool {
+    match owner(alloc) {
         Ok(owner) => {
             let is_copy_whole = is_copy_whole(alloc, cloned_owner(rt, &owner));
             is_whole_owner(alloc, owner) && is_copy_whole
@@ -305,12 +296,12 @@ fn is_owner_cloned(alloc: Global, rt: &impl Print, owner: Result<ByteTemplateBuf
 
 #[test]
 fn clone_of_an_owner(rt: HostRuntime) {
-    assert!(rt; is_owner_cloned(rt.alloc(), &rt, owner(rt.alloc())));
+    assert!(rt; is_owner_cloned(rt.alloc(), &rt));
 }
 
 /// Whether an owned copy and its original are whole.
-fn is_copied(alloc: Global, rt: &impl Print, original: Result<ByteTemplate<'_>, ParseError>) -> bool {
-    match original {
+fn is_copied(alloc: Global, rt: &impl Print) -> bool {
+    match template(alloc) {
         Ok(original) => {
             let is_copy_whole = is_copy_whole(alloc, copied(alloc, rt, &original));
             is_whole(alloc, original) && is_copy_whole
@@ -321,43 +312,34 @@ fn is_copied(alloc: Global, rt: &impl Print, original: Result<ByteTemplate<'_>, 
 
 #[test]
 fn from_template(rt: HostRuntime) {
-    assert!(rt; is_copied(rt.alloc(), &rt, template(rt.alloc())));
+    assert!(rt; is_copied(rt.alloc(), &rt));
 }
 
 /// Whether the owned copy of a template, which is given away, is whole.
-fn is_given_away(
-    alloc: Global,
-    rt: &impl Print,
-    original: Result<ByteTemplate<'_>, ParseError>,
-    again: &ByteTemplateBuf,
-) -> bool {
+fn is_given_away(alloc: Global, rt: &impl Print, again: &ByteTemplateBuf) -> bool {
     let call = "ByteTemplateBuf::of_template";
-    match original {
+    match template(alloc) {
         Ok(original) => is_copy_whole(alloc, copied_of(alloc, rt, call, original, again)),
         Err(_) => false,
     }
 }
 
-fn is_template_given_away(
-    alloc: Global,
-    rt: &impl Print,
-    owner: Result<ByteTemplateBuf, ParseError>,
-) -> bool {
-    match owner {
-        Ok(owner) => is_given_away(alloc, rt, template(alloc), &owner),
+fn is_template_given_away(alloc: Global, rt: &impl Print) -> bool {
+    match owner(alloc) {
+        Ok(owner) => is_given_away(alloc, rt, &owner),
         Err(_) => false,
     }
 }
 
 #[test]
 fn of_template(rt: HostRuntime) {
-    assert!(rt; is_template_given_away(rt.alloc(), &rt, owner(rt.alloc())));
+    assert!(rt; is_template_given_away(rt.alloc(), &rt));
 }
 
 /// Whether the owned copy of a template that another one lends is whole, and the other one.
-fn is_lent_copied(alloc: Global, rt: &impl Print, owner: Result<ByteTemplateBuf, ParseError>) -> bool {
+fn is_lent_copied(alloc: Global, rt: &impl Print) -> bool {
     let call = "ByteTemplateBuf::of_template of a lent one";
-    match owner {
+    match owner(alloc) {
         Ok(owner) => {
             let copy = copied_of(alloc, rt, call, calls::lend(&owner), &owner);
             let is_copy_whole = is_copy_whole(alloc, copy);
@@ -369,5 +351,5 @@ fn is_lent_copied(alloc: Global, rt: &impl Print, owner: Result<ByteTemplateBuf,
 
 #[test]
 fn of_a_lent_template(rt: HostRuntime) {
-    assert!(rt; is_lent_copied(rt.alloc(), &rt, owner(rt.alloc())));
+    assert!(rt; is_lent_copied(rt.alloc(), &rt));
 }

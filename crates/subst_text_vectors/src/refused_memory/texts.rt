@@ -62,17 +62,13 @@ fn substituted(
     begin(rt, call);
     let filled = calls::fill_in(alloc, source, variables);
     end(rt);
-    match filled {
-        Err(Error::OutOfMemory(e)) => {
-            say_out_of_memory(rt);
-            if are_as_before(variables) {
-                calls::fill_in(alloc, source, variables)
-            } else {
-                Err(Error::OutOfMemory(e))
-            }
+    if let Err(Error::OutOfMemory(_)) = filled {
+        say_out_of_memory(rt);
+        if are_as_before(variables) {
+            return calls::fill_in(alloc, source, variables);
         }
-        answer => answer,
     }
+    filled
 }
 
 /// Returns the template of a text, from a second call where memory ran out.
@@ -121,17 +117,13 @@ fn expanded(
     begin(rt, call);
     let expanded = calls::expand(alloc, template, variables);
     end(rt);
-    match expanded {
-        Err(ExpandError::OutOfMemory(e)) => {
-            say_out_of_memory(rt);
-            if calls::are_equal(template.source(), source) && are_as_before(variables) {
-                calls::expand(alloc, template, variables)
-            } else {
-                Err(ExpandError::OutOfMemory(e))
-            }
+    if let Err(ExpandError::OutOfMemory(_)) = expanded {
+        say_out_of_memory(rt);
+        if calls::are_equal(template.source(), source) && are_as_before(variables) {
+            return calls::expand(alloc, template, variables);
         }
-        answer => answer,
     }
+    expanded
 }
 
 /// The same by a template that owns its source.
@@ -144,17 +136,13 @@ fn expanded_by_owner(
     begin(rt, "TemplateBuf::expand of a sentence");
     let expanded = calls::expand_owner(alloc, template, variables);
     end(rt);
-    match expanded {
-        Err(ExpandError::OutOfMemory(e)) => {
-            say_out_of_memory(rt);
-            if calls::are_equal(template.source(), SENTENCE) && are_as_before(variables) {
-                calls::expand_owner(alloc, template, variables)
-            } else {
-                Err(ExpandError::OutOfMemory(e))
-            }
+    if let Err(ExpandError::OutOfMemory(_)) = expanded {
+        say_out_of_memory(rt);
+        if calls::are_equal(template.source(), SENTENCE) && are_as_before(variables) {
+            return calls::expand_owner(alloc, template, variables);
         }
-        answer => answer,
     }
+    expanded
 }
 
 /// Returns a clone of a template, from a second call where memory ran out.
@@ -190,10 +178,7 @@ fn cloned_owner(rt: &impl Print, template: &TemplateBuf) -> Result<TemplateBuf, 
 }
 
 /// Returns a clone of a lent template, which is dropped here.
-fn cloned_lent<'a>(
-    rt: &impl Print,
-    lent: Template<'a>,
-) -> Result<Template<'a>, AllocError> {
+fn cloned_lent<'a>(rt: &impl Print, lent: Template<'a>) -> Result<Template<'a>, AllocError> {
     cloned(rt, "Template::clone of a lent one", &lent)
 }
 
@@ -330,7 +315,10 @@ fn is_sentence_filled_in(alloc: Global, rt: &impl Print) -> bool {
     let call = "substitute of a sentence";
     match variables(alloc) {
         Ok(variables) => {
-            is_given(substituted(alloc, rt, call, SENTENCE, &variables), &variables)
+            is_given(
+                substituted(alloc, rt, call, SENTENCE, &variables),
+                &variables,
+            )
         }
         Err(_) => false,
     }
@@ -345,7 +333,10 @@ fn is_variable_missing(alloc: Global, rt: &impl Print) -> bool {
     let call = "substitute of a missing variable";
     match variables(alloc) {
         Ok(variables) => {
-            is_missing(substituted(alloc, rt, call, MISSING, &variables), &variables)
+            is_missing(
+                substituted(alloc, rt, call, MISSING, &variables),
+                &variables,
+            )
         }
         Err(_) => false,
     }
@@ -360,7 +351,10 @@ fn is_text_refused(alloc: Global, rt: &impl Print) -> bool {
     let call = "substitute of a bad escape";
     match variables(alloc) {
         Ok(variables) => {
-            is_bad_escape(substituted(alloc, rt, call, REFUSED, &variables), &variables)
+            is_bad_escape(
+                substituted(alloc, rt, call, REFUSED, &variables),
+                &variables,
+            )
         }
         Err(_) => false,
     }
@@ -377,14 +371,9 @@ fn from_str(rt: HostRuntime) {
 }
 
 /// Whether a template gives [`GIVEN`], between two marks.
-fn is_filled(
-    alloc: Global,
-    rt: &impl Print,
-    template: Result<Template<'_>, ParseError>,
-    variables: &Texts,
-) -> bool {
+fn is_filled(alloc: Global, rt: &impl Print, variables: &Texts) -> bool {
     let call = "Template::expand of a sentence";
-    match template {
+    match template(alloc) {
         Ok(template) => {
             let filled = expanded(alloc, rt, call, &template, SENTENCE, variables);
             is_expanded(filled, variables)
@@ -395,7 +384,7 @@ fn is_filled(
 
 fn is_sentence_filled(alloc: Global, rt: &impl Print) -> bool {
     match variables(alloc) {
-        Ok(variables) => is_filled(alloc, rt, template(alloc), &variables),
+        Ok(variables) => is_filled(alloc, rt, &variables),
         Err(_) => false,
     }
 }
@@ -406,14 +395,9 @@ fn expand(rt: HostRuntime) {
 }
 
 /// Whether a template lacks the variable of [`MISSING`], between two marks.
-fn is_unfilled(
-    alloc: Global,
-    rt: &impl Print,
-    template: Result<Template<'_>, ParseError>,
-    variables: &Texts,
-) -> bool {
+fn is_unfilled(alloc: Global, rt: &impl Print, variables: &Texts) -> bool {
     let call = "Template::expand of a missing variable";
-    match template {
+    match calls::parse(alloc, MISSING) {
         Ok(template) => {
             let filled = expanded(alloc, rt, call, &template, MISSING, variables);
             is_missing(filled.map_err(Error::from), variables)
@@ -424,7 +408,7 @@ fn is_unfilled(
 
 fn is_sentence_unfilled(alloc: Global, rt: &impl Print) -> bool {
     match variables(alloc) {
-        Ok(variables) => is_unfilled(alloc, rt, calls::parse(alloc, MISSING), &variables),
+        Ok(variables) => is_unfilled(alloc, rt, &variables),
         Err(_) => false,
     }
 }
@@ -435,8 +419,8 @@ fn expand_to_a_missing_variable(rt: HostRuntime) {
 }
 
 /// Whether a clone and its original are whole.
-fn is_cloned(alloc: Global, rt: &impl Print, original: Result<Template<'_>, ParseError>) -> bool {
-    match original {
+fn is_cloned(alloc: Global, rt: &impl Print) -> bool {
+    match template(alloc) {
         Ok(original) => {
             let copy = cloned(rt, "Template::clone", &original);
             let is_clone_whole = is_clone_whole(alloc, copy);
@@ -448,12 +432,12 @@ fn is_cloned(alloc: Global, rt: &impl Print, original: Result<Template<'_>, Pars
 
 #[test]
 fn clone_of_a_template(rt: HostRuntime) {
-    assert!(rt; is_cloned(rt.alloc(), &rt, template(rt.alloc())));
+    assert!(rt; is_cloned(rt.alloc(), &rt));
 }
 
 /// Whether a clone of a template is whole that another one lends.
-fn is_lent_cloned(alloc: Global, rt: &impl Print, owner: Result<TemplateBuf, ParseError>) -> bool {
-    match owner {
+fn is_lent_cloned(alloc: Global, rt: &impl Print) -> bool {
+    match owner(alloc) {
         Ok(owner) => is_clone_whole(alloc, cloned_lent(rt, calls::lend(&owner))),
         Err(_) => false,
     }
@@ -461,7 +445,7 @@ fn is_lent_cloned(alloc: Global, rt: &impl Print, owner: Result<TemplateBuf, Par
 
 #[test]
 fn clone_of_a_lent_template(rt: HostRuntime) {
-    assert!(rt; is_lent_cloned(rt.alloc(), &rt, owner(rt.alloc())));
+    assert!(rt; is_lent_cloned(rt.alloc(), &rt));
 }
 
 #[test]
@@ -477,13 +461,8 @@ fn from_string_of_a_refused_source(rt: HostRuntime) {
 }
 
 /// Whether a template that owns its source gives [`GIVEN`], between two marks.
-fn is_filled_by_owner(
-    alloc: Global,
-    rt: &impl Print,
-    owner: Result<TemplateBuf, ParseError>,
-    variables: &Texts,
-) -> bool {
-    match owner {
+fn is_filled_by_owner(alloc: Global, rt: &impl Print, variables: &Texts) -> bool {
+    match owner(alloc) {
         Ok(owner) => is_expanded(expanded_by_owner(alloc, rt, &owner, variables), variables),
         Err(_) => false,
     }
@@ -491,7 +470,7 @@ fn is_filled_by_owner(
 
 fn is_sentence_filled_by_owner(alloc: Global, rt: &impl Print) -> bool {
     match variables(alloc) {
-        Ok(variables) => is_filled_by_owner(alloc, rt, owner(alloc), &variables),
+        Ok(variables) => is_filled_by_owner(alloc, rt, &variables),
         Err(_) => false,
     }
 }
@@ -502,8 +481,8 @@ fn expand_by_an_owner(rt: HostRuntime) {
 }
 
 /// Whether a clone and its original, which owns its source, are whole.
-fn is_owner_cloned(alloc: Global, rt: &impl Print, owner: Result<TemplateBuf, ParseError>) -> bool {
-    match owner {
+fn is_owner_cloned(alloc: Global, rt: &impl Print) -> bool {
+    match owner(alloc) {
         Ok(owner) => {
             let is_copy_whole = is_copy_whole(alloc, cloned_owner(rt, &owner));
             is_whole_owner(alloc, owner) && is_copy_whole
@@ -514,12 +493,12 @@ fn is_owner_cloned(alloc: Global, rt: &impl Print, owner: Result<TemplateBuf, Pa
 
 #[test]
 fn clone_of_an_owner(rt: HostRuntime) {
-    assert!(rt; is_owner_cloned(rt.alloc(), &rt, owner(rt.alloc())));
+    assert!(rt; is_owner_cloned(rt.alloc(), &rt));
 }
 
 /// Whether an owned copy and its original are whole.
-fn is_copied(alloc: Global, rt: &impl Print, original: Result<Template<'_>, ParseError>) -> bool {
-    match original {
+fn is_copied(alloc: Global, rt: &impl Print) -> bool {
+    match template(alloc) {
         Ok(original) => {
             let is_copy_whole = is_copy_whole(alloc, copied(alloc, rt, &original));
             is_whole(alloc, original) && is_copy_whole
@@ -530,43 +509,34 @@ fn is_copied(alloc: Global, rt: &impl Print, original: Result<Template<'_>, Pars
 
 #[test]
 fn from_template(rt: HostRuntime) {
-    assert!(rt; is_copied(rt.alloc(), &rt, template(rt.alloc())));
+    assert!(rt; is_copied(rt.alloc(), &rt));
 }
 
 /// Whether the owned copy of a template, which is given away, is whole.
-fn is_given_away(
-    alloc: Global,
-    rt: &impl Print,
-    original: Result<Template<'_>, ParseError>,
-    again: &TemplateBuf,
-) -> bool {
+fn is_given_away(alloc: Global, rt: &impl Print, again: &TemplateBuf) -> bool {
     let call = "TemplateBuf::of_template";
-    match original {
+    match template(alloc) {
         Ok(original) => is_copy_whole(alloc, copied_of(alloc, rt, call, original, again)),
         Err(_) => false,
     }
 }
 
-fn is_template_given_away(
-    alloc: Global,
-    rt: &impl Print,
-    owner: Result<TemplateBuf, ParseError>,
-) -> bool {
-    match owner {
-        Ok(owner) => is_given_away(alloc, rt, template(alloc), &owner),
+fn is_template_given_away(alloc: Global, rt: &impl Print) -> bool {
+    match owner(alloc) {
+        Ok(owner) => is_given_away(alloc, rt, &owner),
         Err(_) => false,
     }
 }
 
 #[test]
 fn of_template(rt: HostRuntime) {
-    assert!(rt; is_template_given_away(rt.alloc(), &rt, owner(rt.alloc())));
+    assert!(rt; is_template_given_away(rt.alloc(), &rt));
 }
 
 /// Whether the owned copy of a template that another one lends is whole, and the other one.
-fn is_lent_copied(alloc: Global, rt: &impl Print, owner: Result<TemplateBuf, ParseError>) -> bool {
+fn is_lent_copied(alloc: Global, rt: &impl Print) -> bool {
     let call = "TemplateBuf::of_template of a lent one";
-    match owner {
+    match owner(alloc) {
         Ok(owner) => {
             let copy = copied_of(alloc, rt, call, calls::lend(&owner), &owner);
             let is_copy_whole = is_copy_whole(alloc, copy);
@@ -578,5 +548,5 @@ fn is_lent_copied(alloc: Global, rt: &impl Print, owner: Result<TemplateBuf, Par
 
 #[test]
 fn of_a_lent_template(rt: HostRuntime) {
-    assert!(rt; is_lent_copied(rt.alloc(), &rt, owner(rt.alloc())));
+    assert!(rt; is_lent_copied(rt.alloc(), &rt));
 }
