@@ -27,6 +27,14 @@ pub fn are_equal(a: &[u8], b: &[u8]) -> bool {
     a == b
 }
 
+/// Whether a call gave the bytes `want`.
+pub fn are_bytes<E: Drop>(given: Result<Vec<u8>, E>, want: &[u8]) -> bool {
+    match given {
+        Ok(bytes) => are_equal(bytes.as_slice(), want),
+        Err(_) => false,
+    }
+}
+
 pub fn parse(alloc: Global, source: &[u8]) -> Result<ByteTemplate<'_>, ParseError> {
     ByteTemplate::from_slice(alloc, source)
 }

@@ -1,29 +1,20 @@
 //! Templates of bytes that own their sources, what they lend, and copies.
 
 use crate::byte_calls::{
-    are_equal, clone, clone_owner, expand, expand_owner, from_template, lend, lend_by_from,
-    of_template, one_variable, own, parse, take_apart,
+    are_bytes, are_equal, clone, clone_owner, expand, expand_owner, from_template, lend,
+    lend_by_from, of_template, one_variable, own, parse, take_apart,
 };
 use std::alloc::{AllocError, Global};
-use subst::error::ExpandError;
 use subst::{ByteTemplate, ByteTemplateBuf};
 
 const SOURCE: &[u8] = b"Hello ${name}!";
 
 const GIVEN: &[u8] = b"Hello world!";
 
-/// Whether what a template gives is `want`.
-fn is_output(output: Result<Vec<u8>, ExpandError>, want: &[u8]) -> bool {
-    match output {
-        Ok(output) => are_equal(output.as_slice(), want),
-        Err(_) => false,
-    }
-}
-
 /// Whether a template gives [`GIVEN`].
 fn is_given(alloc: Global, template: &ByteTemplate<'_>) -> bool {
     match one_variable(alloc, "name", b"world") {
-        Ok(variables) => is_output(expand(alloc, template, &variables), GIVEN),
+        Ok(variables) => are_bytes(expand(alloc, template, &variables), GIVEN),
         Err(_) => false,
     }
 }
@@ -42,7 +33,7 @@ fn is_given_by_owner(
     want: &[u8],
 ) -> bool {
     match one_variable(alloc, name, value) {
-        Ok(variables) => is_output(expand_owner(alloc, template, &variables), want),
+        Ok(variables) => are_bytes(expand_owner(alloc, template, &variables), want),
         Err(_) => false,
     }
 }

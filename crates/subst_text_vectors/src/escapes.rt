@@ -1,21 +1,13 @@
 //! Texts that are escaped, and what they give.
 
-use crate::text_calls::{are_equal, escaped};
+use crate::text_calls::{escaped, is_text};
 use crate::ways::all_give;
-use std::alloc::{AllocError, Global};
-
-/// Whether what a text is escaped to is `want`.
-pub fn is_escaped(found: Result<String, AllocError>, want: &str) -> bool {
-    match found {
-        Ok(found) => are_equal(found.as_str(), want),
-        Err(_) => false,
-    }
-}
+use std::alloc::Global;
 
 /// The first of these rows, each a text and what it is escaped to, that is wrong.
 fn wrong_escape(alloc: Global, rows: &[(&str, &str)]) -> Option<usize> {
     for (row, &(text, want)) in rows.iter().enumerate() {
-        if !is_escaped(escaped(alloc, text), want) {
+        if !is_text(escaped(alloc, text), want) {
             return Some(row);
         }
     }

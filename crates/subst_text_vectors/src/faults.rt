@@ -117,16 +117,14 @@ fn missing_names(rt: HostRuntime) {
     assert_eq!(rt; wrong_fault(rt.alloc(), rows), None);
 }
 
-/// What is expected after a name.
-const AFTER_A_NAME: &str = "a closing brace ('}'), colon (':') or question mark ('?')";
-
 #[test]
 fn characters_that_are_unexpected(rt: HostRuntime) {
+    let expected = "a closing brace ('}'), colon (':') or question mark ('?')";
     let rows: &[(&str, Fault)] = &[
-        ("Hello ${name)!", Fault::Unexpected(12, ')', AFTER_A_NAME)),
-        ("Hello ${name❤", Fault::Unexpected(12, '❤', AFTER_A_NAME)),
-        ("${aé}", Fault::Unexpected(3, 'é', AFTER_A_NAME)),
-        ("❤${a-b}", Fault::Unexpected(6, '-', AFTER_A_NAME)),
+        ("Hello ${name)!", Fault::Unexpected(12, ')', expected)),
+        ("Hello ${name❤", Fault::Unexpected(12, '❤', expected)),
+        ("${aé}", Fault::Unexpected(3, 'é', expected)),
+        ("❤${a-b}", Fault::Unexpected(6, '-', expected)),
         ("é${?é}", Fault::NoName(2, 2)),
         (
             "${ab?é}",

@@ -1,7 +1,7 @@
 //! How templates are shown.
 
 use crate::byte_calls;
-use crate::text_calls::{are_equal, own, parse};
+use crate::text_calls::{is_text, own, parse};
 use std::alloc::{AllocError, Global};
 use std::fmt;
 use subst::error::ParseError;
@@ -9,13 +9,6 @@ use subst::error::ParseError;
 /// How a template is shown, which is dropped here.
 fn shown_once<T: fmt::Debug + Drop>(alloc: Global, template: T) -> Result<String, AllocError> {
     format!(in alloc; "{template:?}")
-}
-
-fn is_text(shown: Result<String, AllocError>, want: &str) -> bool {
-    match shown {
-        Ok(shown) => are_equal(shown.as_str(), want),
-        Err(_) => false,
-    }
 }
 
 /// Whether a template was made, and is shown as `want`.

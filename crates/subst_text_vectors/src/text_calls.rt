@@ -25,6 +25,14 @@ pub fn are_equal(a: &str, b: &str) -> bool {
     a == b
 }
 
+/// Whether a call gave the text `want`.
+pub fn is_text<E: Drop>(given: Result<String, E>, want: &str) -> bool {
+    match given {
+        Ok(text) => are_equal(text.as_str(), want),
+        Err(_) => false,
+    }
+}
+
 pub fn escaped(alloc: Global, text: &str) -> Result<String, AllocError> {
     laws::escaped(alloc, text)
 }

@@ -1,29 +1,20 @@
 //! Templates of texts that own their sources, what they lend, and copies.
 
 use crate::text_calls::{
-    are_equal, clone, clone_owner, expand, expand_owner, from_template, lend, lend_by_from,
-    of_template, own, parse, take_apart, texts,
+    are_equal, clone, clone_owner, expand, expand_owner, from_template, is_text, lend,
+    lend_by_from, of_template, own, parse, take_apart, texts,
 };
 use std::alloc::{AllocError, Global};
-use subst::error::ExpandError;
 use subst::{Template, TemplateBuf};
 
 const SOURCE: &str = "Hello ${name}!";
 
 const GIVEN: &str = "Hello world!";
 
-/// Whether what a template gives is `want`.
-fn is_output(output: Result<String, ExpandError>, want: &str) -> bool {
-    match output {
-        Ok(output) => are_equal(output.as_str(), want),
-        Err(_) => false,
-    }
-}
-
 /// Whether a template gives [`GIVEN`].
 fn is_given(alloc: Global, template: &Template<'_>) -> bool {
     match texts(alloc, "name=world") {
-        Ok(variables) => is_output(expand(alloc, template, &variables), GIVEN),
+        Ok(variables) => is_text(expand(alloc, template, &variables), GIVEN),
         Err(_) => false,
     }
 }
@@ -36,7 +27,7 @@ fn is_whole(alloc: Global, template: Template<'_>) -> bool {
 /// Whether a template that owns its source gives `want` under variables as `a=1,b=2`.
 fn is_given_by_owner(alloc: Global, template: &TemplateBuf, pairs: &str, want: &str) -> bool {
     match texts(alloc, pairs) {
-        Ok(variables) => is_output(expand_owner(alloc, template, &variables), want),
+        Ok(variables) => is_text(expand_owner(alloc, template, &variables), want),
         Err(_) => false,
     }
 }

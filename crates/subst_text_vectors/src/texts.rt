@@ -1,10 +1,10 @@
 //! What texts give.
 
-use crate::text_calls::{are_equal, expand, parse, texts};
-use crate::ways::{is_output, wrong_output};
+use crate::text_calls::{expand, is_text, parse, texts};
+use crate::ways::wrong_output;
 use std::alloc::{AllocError, Global};
 use std::collections::BTreeMap;
-use subst::error::{ExpandError, ParseError};
+use subst::error::ParseError;
 use subst::{Error, Template, substitute};
 
 #[test]
@@ -47,17 +47,9 @@ fn characters_past_ascii_stay_whole(rt: HostRuntime) {
     assert_eq!(rt; wrong_output(rt.alloc(), "a=é,b=❤,empty=", rows), None);
 }
 
-/// Whether what a template gives is `want`.
-fn is_expanded(output: Result<String, ExpandError>, want: &str) -> bool {
-    match output {
-        Ok(output) => are_equal(output.as_str(), want),
-        Err(_) => false,
-    }
-}
-
 fn expands_to(alloc: Global, template: &Template<'_>, pairs: &str, want: &str) -> bool {
     match texts(alloc, pairs) {
-        Ok(variables) => is_expanded(expand(alloc, template, &variables), want),
+        Ok(variables) => is_text(expand(alloc, template, &variables), want),
         Err(_) => false,
     }
 }
@@ -114,5 +106,5 @@ fn fill_in_lent(alloc: Global, source: &str, name: &str, value: &str) -> Result<
 
 #[test]
 fn values_may_be_lent(rt: HostRuntime) {
-    assert!(rt; is_output(fill_in_lent(rt.alloc(), "❤$name", "name", "é"), "❤é"));
+    assert!(rt; is_text(fill_in_lent(rt.alloc(), "❤$name", "name", "é"), "❤é"));
 }

@@ -1,6 +1,6 @@
 //! The ways from a text to what it gives, and rows that are tried in each of them.
 
-use crate::text_calls::{Texts, are_equal, expand, expand_owner, fill_in, own, parse, texts};
+use crate::text_calls::{Texts, expand, expand_owner, fill_in, is_text, own, parse, texts};
 use std::alloc::Global;
 use subst::error::ExpandError;
 use subst::{Error, Template, TemplateBuf};
@@ -33,18 +33,10 @@ fn by_owner(alloc: Global, source: &str, variables: &Texts) -> Filled {
     Ok(expand_once(alloc, own(alloc, source)?, variables)?)
 }
 
-/// Whether what a text gives is `want`.
-pub fn is_output(filled: Filled, want: &str) -> bool {
-    match filled {
-        Ok(output) => are_equal(output.as_str(), want),
-        Err(_) => false,
-    }
-}
-
 fn all_ways_give(alloc: Global, source: &str, variables: &Texts, want: &str) -> bool {
-    is_output(fill_in(alloc, source, variables), want)
-        && is_output(by_lender(alloc, source, variables), want)
-        && is_output(by_owner(alloc, source, variables), want)
+    is_text(fill_in(alloc, source, variables), want)
+        && is_text(by_lender(alloc, source, variables), want)
+        && is_text(by_owner(alloc, source, variables), want)
 }
 
 /// Whether a text gives `want` under the variables of pairs as `a=1,b=2`, by each way.

@@ -167,10 +167,7 @@ fn copied_of(
 }
 
 fn is_expanded(output: Result<Vec<u8>, ExpandError>, variables: &Bytes) -> bool {
-    match output {
-        Ok(output) => calls::are_equal(output.as_slice(), GIVEN) && are_as_before(variables),
-        Err(_) => false,
-    }
+    calls::are_bytes(output, GIVEN) && are_as_before(variables)
 }
 
 /// Whether a template gives [`GIVEN`].
@@ -198,16 +195,8 @@ fn is_whole_owner(alloc: Global, template: ByteTemplateBuf) -> bool {
     is_whole(alloc, calls::lend(&template))
 }
 
-/// Whether an owned copy was made, and is whole.
-fn is_copy_whole(alloc: Global, copy: Result<ByteTemplateBuf, AllocError>) -> bool {
-    match copy {
-        Ok(copy) => is_whole_owner(alloc, copy),
-        Err(_) => false,
-    }
-}
-
-/// Whether a template took over a source, and is whole.
-fn is_owned_whole(alloc: Global, owned: Result<ByteTemplateBuf, ParseError>) -> bool {
+/// Whether a template that owns its source was made, and is whole.
+fn is_owned_whole<E: Drop>(alloc: Global, owned: Result<ByteTemplateBuf, E>) -> bool {
     match owned {
         Ok(owned) => is_whole_owner(alloc, owned),
         Err(_) => false,
@@ -287,7 +276,7 @@ fn expand_by_an_owner(rt: HostRuntime) {
 fn is_owner_cloned(alloc: Global, rt: &impl Print) -> bool {
     match owner(alloc) {
         Ok(owner) => {
-            let is_copy_whole = is_copy_whole(alloc, cloned_owner(rt, &owner));
+            let is_copy_whole = is_owned_whole(alloc, cloned_owner(rt, &owner));
             is_whole_owner(alloc, owner) && is_copy_whole
         }
         Err(_) => false,
@@ -303,7 +292,7 @@ fn clone_of_an_owner(rt: HostRuntime) {
 fn is_copied(alloc: Global, rt: &impl Print) -> bool {
     match template(alloc) {
         Ok(original) => {
-            let is_copy_whole = is_copy_whole(alloc, copied(alloc, rt, &original));
+            let is_copy_whole = is_owned_whole(alloc, copied(alloc, rt, &original));
             is_whole(alloc, original) && is_copy_whole
         }
         Err(_) => false,
@@ -319,7 +308,7 @@ fn from_template(rt: HostRuntime) {
 fn is_given_away(alloc: Global, rt: &impl Print, again: &ByteTemplateBuf) -> bool {
     let call = "ByteTemplateBuf::of_template";
     match template(alloc) {
-        Ok(original) => is_copy_whole(alloc, copied_of(alloc, rt, call, original, again)),
+        Ok(original) => is_owned_whole(alloc, copied_of(alloc, rt, call, original, again)),
         Err(_) => false,
     }
 }
@@ -342,7 +331,7 @@ fn is_lent_copied(alloc: Global, rt: &impl Print) -> bool {
     match owner(alloc) {
         Ok(owner) => {
             let copy = copied_of(alloc, rt, call, calls::lend(&owner), &owner);
-            let is_copy_whole = is_copy_whole(alloc, copy);
+            let is_copy_whole = is_owned_whole(alloc, copy);
             is_whole_owner(alloc, owner) && is_copy_whole
         }
         Err(_) => false,

@@ -1,7 +1,7 @@
 //! Escaping a text.
 
-use crate::escapes::is_escaped;
 use crate::text_calls;
+use crate::text_calls::is_text;
 use std::alloc::{AllocError, Global};
 use std::io::Print;
 use subst_marks::{begin, end, say_out_of_memory};
@@ -23,5 +23,5 @@ fn escaped(alloc: Global, rt: &impl Print, text: &str) -> Result<String, AllocEr
 #[test]
 fn escaping(rt: HostRuntime) {
     let want = "a\\$b\\{c\\}\\:\\\\";
-    assert!(rt; is_escaped(escaped(rt.alloc(), &rt, "a$b{c}:\\"), want));
+    assert!(rt; is_text(escaped(rt.alloc(), &rt, "a$b{c}:\\"), want));
 }

@@ -222,10 +222,7 @@ fn copied_of(
 }
 
 fn is_expanded(output: Result<String, ExpandError>, variables: &Texts) -> bool {
-    match output {
-        Ok(output) => calls::are_equal(output.as_str(), GIVEN) && are_as_before(variables),
-        Err(_) => false,
-    }
+    calls::is_text(output, GIVEN) && are_as_before(variables)
 }
 
 /// Whether a template gives [`GIVEN`].
@@ -241,10 +238,10 @@ fn is_whole(alloc: Global, template: Template<'_>) -> bool {
     gives(alloc, &template) && calls::are_equal(template.source(), SENTENCE)
 }
 
-/// Whether a clone was made, and is whole.
-fn is_clone_whole(alloc: Global, copy: Result<Template<'_>, AllocError>) -> bool {
-    match copy {
-        Ok(copy) => is_whole(alloc, copy),
+/// Whether a template was made, and is whole.
+fn is_made_whole<E: Drop>(alloc: Global, made: Result<Template<'_>, E>) -> bool {
+    match made {
+        Ok(made) => is_whole(alloc, made),
         Err(_) => false,
     }
 }
@@ -253,35 +250,16 @@ fn is_whole_owner(alloc: Global, template: TemplateBuf) -> bool {
     is_whole(alloc, calls::lend(&template))
 }
 
-/// Whether an owned copy was made, and is whole.
-fn is_copy_whole(alloc: Global, copy: Result<TemplateBuf, AllocError>) -> bool {
-    match copy {
-        Ok(copy) => is_whole_owner(alloc, copy),
-        Err(_) => false,
-    }
-}
-
-/// Whether a template took over a source, and is whole.
-fn is_owned_whole(alloc: Global, owned: Result<TemplateBuf, ParseError>) -> bool {
+/// Whether a template that owns its source was made, and is whole.
+fn is_owned_whole<E: Drop>(alloc: Global, owned: Result<TemplateBuf, E>) -> bool {
     match owned {
         Ok(owned) => is_whole_owner(alloc, owned),
         Err(_) => false,
     }
 }
 
-/// Whether a text is a template, which is whole.
-fn is_parsed_whole(alloc: Global, parsed: Result<Template<'_>, ParseError>) -> bool {
-    match parsed {
-        Ok(parsed) => is_whole(alloc, parsed),
-        Err(_) => false,
-    }
-}
-
 fn is_given(filled: Result<String, Error>, variables: &Texts) -> bool {
-    match filled {
-        Ok(output) => calls::are_equal(output.as_str(), GIVEN) && are_as_before(variables),
-        Err(_) => false,
-    }
+    calls::is_text(filled, GIVEN) && are_as_before(variables)
 }
 
 fn is_missing(filled: Result<String, Error>, variables: &Texts) -> bool {
@@ -367,7 +345,7 @@ fn substitute_of_a_refused_text(rt: HostRuntime) {
 
 #[test]
 fn from_str(rt: HostRuntime) {
-    assert!(rt; is_parsed_whole(rt.alloc(), parsed(rt.alloc(), &rt, SENTENCE)));
+    assert!(rt; is_made_whole(rt.alloc(), parsed(rt.alloc(), &rt, SENTENCE)));
 }
 
 /// Whether a template gives [`GIVEN`], between two marks.
@@ -423,7 +401,7 @@ fn is_cloned(alloc: Global, rt: &impl Print) -> bool {
     match template(alloc) {
         Ok(original) => {
             let copy = cloned(rt, "Template::clone", &original);
-            let is_clone_whole = is_clone_whole(alloc, copy);
+            let is_clone_whole = is_made_whole(alloc, copy);
             is_whole(alloc, original) && is_clone_whole
         }
         Err(_) => false,
@@ -438,7 +416,7 @@ fn clone_of_a_template(rt: HostRuntime) {
 /// Whether a clone of a template is whole that another one lends.
 fn is_lent_cloned(alloc: Global, rt: &impl Print) -> bool {
     match owner(alloc) {
-        Ok(owner) => is_clone_whole(alloc, cloned_lent(rt, calls::lend(&owner))),
+        Ok(owner) => is_made_whole(alloc, cloned_lent(rt, calls::lend(&owner))),
         Err(_) => false,
     }
 }
@@ -484,7 +462,7 @@ fn expand_by_an_owner(rt: HostRuntime) {
 fn is_owner_cloned(alloc: Global, rt: &impl Print) -> bool {
     match owner(alloc) {
         Ok(owner) => {
-            let is_copy_whole = is_copy_whole(alloc, cloned_owner(rt, &owner));
+            let is_copy_whole = is_owned_whole(alloc, cloned_owner(rt, &owner));
             is_whole_owner(alloc, owner) && is_copy_whole
         }
         Err(_) => false,
@@ -500,7 +478,7 @@ fn clone_of_an_owner(rt: HostRuntime) {
 fn is_copied(alloc: Global, rt: &impl Print) -> bool {
     match template(alloc) {
         Ok(original) => {
-            let is_copy_whole = is_copy_whole(alloc, copied(alloc, rt, &original));
+            let is_copy_whole = is_owned_whole(alloc, copied(alloc, rt, &original));
             is_whole(alloc, original) && is_copy_whole
         }
         Err(_) => false,
@@ -516,7 +494,7 @@ fn from_template(rt: HostRuntime) {
 fn is_given_away(alloc: Global, rt: &impl Print, again: &TemplateBuf) -> bool {
     let call = "TemplateBuf::of_template";
     match template(alloc) {
-        Ok(original) => is_copy_whole(alloc, copied_of(alloc, rt, call, original, again)),
+        Ok(original) => is_owned_whole(alloc, copied_of(alloc, rt, call, original, again)),
         Err(_) => false,
     }
 }
@@ -539,7 +517,7 @@ fn is_lent_copied(alloc: Global, rt: &impl Print) -> bool {
     match owner(alloc) {
         Ok(owner) => {
             let copy = copied_of(alloc, rt, call, calls::lend(&owner), &owner);
-            let is_copy_whole = is_copy_whole(alloc, copy);
+            let is_copy_whole = is_owned_whole(alloc, copy);
             is_whole_owner(alloc, owner) && is_copy_whole
         }
         Err(_) => false,
