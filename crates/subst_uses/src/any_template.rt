@@ -13,9 +13,6 @@ use subst::error::ExpandError;
 use subst::steps::Turns;
 use subst::{ByteTemplate, VariableMap, laws};
 
-#[cfg(test)]
-mod tests;
-
 /// Returns what a template gives: its source has a tree, and the output is the value of that tree.
 ///
 /// # Errors

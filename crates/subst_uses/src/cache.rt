@@ -13,9 +13,6 @@ use std::collections::BTreeMap;
 use subst::error::ExpandError;
 use subst::{ByteTemplate, laws};
 
-#[cfg(test)]
-mod tests;
-
 /// Returns what a template gives under new variables, where `names` are the names in the template, and
 /// `output` is what it gave under the old variables. It isn't expanded again where the old and the new have
 /// the same for each of the names.

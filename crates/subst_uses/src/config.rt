@@ -11,9 +11,6 @@ use std::collections::BTreeMap;
 use subst::json;
 use subst::json::Error;
 
-#[cfg(test)]
-mod tests;
-
 /// A configuration, or why there is none.
 #[derive(Drop)]
 pub enum Loaded {

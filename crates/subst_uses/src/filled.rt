@@ -11,9 +11,6 @@ use std::collections::BTreeMap;
 use std::convert::AsSlice;
 use subst::{Error, substitute_bytes};
 
-#[cfg(test)]
-mod tests;
-
 /// Returns the source filled in from byte strings.
 pub fn by_vectors(
     alloc: Global,

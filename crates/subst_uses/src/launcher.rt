@@ -9,9 +9,6 @@ use std::alloc::Global;
 use std::collections::BTreeMap;
 use subst::Error;
 
-#[cfg(test)]
-mod tests;
-
 /// Returns the words of a command line, each filled in from the variables. A value is never split into words.
 ///
 /// # Errors

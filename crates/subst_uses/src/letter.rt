@@ -9,9 +9,6 @@ use std::alloc::{AllocError, Global};
 use std::marker::Model;
 use subst::{ByteTemplate, VariableMap};
 
-#[cfg(test)]
-mod tests;
-
 /// Whom a letter is for. As a map it has the variable `name`, where the name is known.
 #[derive(Drop)]
 pub struct Recipient<'a> {

@@ -6,8 +6,6 @@
 pub mod any_template;
 pub mod cache;
 pub mod config;
-#[cfg(test)]
-mod expected;
 pub mod filled;
 pub mod launcher;
 pub mod letter;

@@ -10,9 +10,6 @@ use std::alloc::{AllocError, Global};
 use subst::error::ParseError;
 use subst::{Template, laws};
 
-#[cfg(test)]
-mod tests;
-
 /// Returns the fault of a text of which only the first lines have come, if the whole text has it whatever the
 /// rest is; or `None` if the lines have no fault, or one that the rest may mend.
 ///

@@ -10,9 +10,6 @@ use crate::memory;
 use std::alloc::{AllocError, Global};
 use subst::{Error, VariableMap, substitute_bytes};
 
-#[cfg(test)]
-mod tests;
-
 /// The variables `red`, `bold` and `reset`: the codes for a terminal, or nothing where the colours are off.
 pub struct Colours {
     pub on: bool,

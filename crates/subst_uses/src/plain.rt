@@ -11,9 +11,6 @@ use std::alloc::Global;
 use std::convert::AsSlice;
 use subst::{Error, VariableMap, laws, substitute_bytes};
 
-#[cfg(test)]
-mod tests;
-
 /// Returns a source that has no dollar and no backslash: itself, under every map.
 ///
 /// # Errors

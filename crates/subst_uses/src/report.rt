@@ -12,9 +12,6 @@ use std::alloc::{AllocError, Global};
 use std::collections::BTreeMap;
 use subst::{Error, substitute};
 
-#[cfg(test)]
-mod tests;
-
 /// A text filled in, or why it isn't.
 #[derive(Debug, PartialEq, Eq, Drop)]
 pub enum Outcome {

@@ -9,9 +9,6 @@ use subst::toml::{Error, value_from_str};
 use subst::{Env, substitute};
 use toml::Value;
 
-#[cfg(test)]
-mod tests;
-
 /// Settings, or why there are none.
 #[derive(Drop)]
 pub enum Settings {

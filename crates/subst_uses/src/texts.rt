@@ -14,9 +14,6 @@ use std::collections::BTreeMap;
 use subst::error::{ExpandError, ParseError};
 use subst::{ByteTemplate, ByteTemplateBuf, Error, Template, TemplateBuf, substitute};
 
-#[cfg(test)]
-mod tests;
-
 /// Returns a text filled in.
 pub fn at_once(
     alloc: Global,

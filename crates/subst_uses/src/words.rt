@@ -11,9 +11,6 @@ use std::collections::BTreeMap;
 use std::convert::AsStr;
 use subst::{Error, VariableMap, laws, substitute};
 
-#[cfg(test)]
-mod tests;
-
 /// Returns a text, escaped and then filled in: itself, under every map.
 ///
 /// # Errors

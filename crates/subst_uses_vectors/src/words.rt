@@ -1,7 +1,9 @@
-use super::*;
+//! Words that stay as they are.
+
 use crate::expected::{expect_text, one_variable};
 use std::test::Fail;
 use subst::NoSubstitution;
+use subst_uses::words::{around_word, escaped_and_filled_in};
 
 #[test]
 fn gives_the_text_back(rt: HostRuntime) -> Result<(), Fail> {

@@ -1,5 +1,7 @@
-use super::*;
+//! One letter to many people.
+
 use std::test::Fail;
+use subst_uses::letter::{Recipient, letters};
 
 #[test]
 fn writes_to_each(rt: HostRuntime) -> Result<(), Fail> {

@@ -1,6 +1,8 @@
-use super::*;
+//! Sources without variables.
+
 use std::collections::BTreeMap;
 use std::test::Fail;
+use subst_uses::plain::unchanged;
 
 #[test]
 fn leaves_a_source_without_variables(rt: HostRuntime) -> Result<(), Fail> {

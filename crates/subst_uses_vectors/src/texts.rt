@@ -1,6 +1,13 @@
-use super::*;
+//! Texts, and templates that own their sources.
+
 use crate::expected::{expect_text, one_variable};
+use std::alloc::Global;
+use std::collections::BTreeMap;
 use std::test::Fail;
+use subst::{ByteTemplateBuf, TemplateBuf};
+use subst_uses::texts::{
+    at_once, by_lent, by_owner, bytes_by_owner, bytes_checked, bytes_copied, checked, copied,
+};
 
 const SOURCE: &str = "Hello ${name:nobody}❤";
 

@@ -1,6 +1,11 @@
-use super::*;
+//! A cache of what a template gave.
+
 use crate::expected::one_variable;
+use std::alloc::Global;
+use std::collections::BTreeMap;
 use std::test::Fail;
+use subst::ByteTemplate;
+use subst_uses::cache::refilled;
 
 // Two sets of variables that differ at `b`.
 fn variables(alloc: Global, b: &str) -> Result<BTreeMap<String, String>, Fail> {

@@ -1,6 +1,10 @@
-use super::*;
+//! A command line of templates.
+
 use crate::expected::one_variable;
+use std::alloc::Global;
+use std::collections::BTreeMap;
 use std::test::Fail;
+use subst_uses::launcher::command_line;
 
 fn variables(alloc: Global) -> Result<BTreeMap<String, String>, Fail> {
     one_variable(alloc, "file", String::from_str(alloc, "a b.txt")?)

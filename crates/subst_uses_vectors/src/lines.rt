@@ -1,5 +1,7 @@
-use super::*;
+//! A reader of lines.
+
 use std::test::Fail;
+use subst_uses::lines::early_fault;
 
 #[test]
 fn reports_only_faults_that_stay(rt: HostRuntime) -> Result<(), Fail> {

@@ -1,5 +1,10 @@
-use super::*;
+//! A loader of TOML.
+
+use std::alloc::{AllocError, Global};
 use std::test::Fail;
+use subst::Env;
+use subst_uses::settings::{Settings, load};
+use toml::Value;
 
 /// An environment of one variable.
 fn environment(alloc: Global) -> Result<Env, AllocError> {

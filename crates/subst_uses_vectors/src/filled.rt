@@ -1,6 +1,8 @@
-use super::*;
+//! Sources filled in from each type of values.
+
 use crate::expected::{expect_bytes, one_variable};
 use std::test::Fail;
+use subst_uses::filled::{by_arrays, by_slices, by_strings, by_texts, by_values, by_vectors};
 
 const SOURCE: &[u8] = b"Hello $name!";
 

@@ -1,6 +1,11 @@
-use super::*;
+//! Templates that are handed in.
+
+use std::alloc::Global;
 use std::collections::BTreeMap;
 use std::test::Fail;
+use subst::ByteTemplate;
+use subst::steps::Turns;
+use subst_uses::any_template::{expanded, expanded_in_few_turns};
 
 fn variables(alloc: Global) -> BTreeMap<String, Vec<u8>> {
     BTreeMap::new(alloc)

@@ -1,5 +1,7 @@
-use super::*;
+//! The colours of a terminal.
+
 use std::test::Fail;
+use subst_uses::own_map::{Colours, coloured, warning};
 
 #[test]
 fn colours_a_source(rt: HostRuntime) -> Result<(), Fail> {

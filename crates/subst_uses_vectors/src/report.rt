@@ -1,6 +1,8 @@
-use super::*;
+//! Texts filled in, or reports of what is wrong with them.
+
 use crate::expected::one_variable;
 use std::test::Fail;
+use subst_uses::report::{Outcome, filled};
 
 #[test]
 fn reports_a_fault(rt: HostRuntime) -> Result<(), Fail> {

@@ -1,9 +1,11 @@
-use super::{bytes, texts};
+//! Sources filled in from each kind of map.
+
 use crate::expected::{expect_bytes, expect_text, one_variable};
 use indexmap::IndexMap;
 use std::collections::{BTreeMap, HashMap};
 use std::test::Fail;
 use subst::Env;
+use subst_uses::maps::{bytes, texts};
 
 const SOURCE: &str = "Hello ${name:nobody}!";
 

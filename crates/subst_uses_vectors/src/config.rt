@@ -1,5 +1,9 @@
-use super::*;
+//! A loader of JSON.
+
+use std::alloc::{AllocError, Global};
+use std::collections::BTreeMap;
 use std::test::Fail;
+use subst_uses::config::{Loaded, load};
 
 fn texts(alloc: Global, name: &str, value: &str) -> Result<BTreeMap<String, String>, AllocError> {
     let mut variables = BTreeMap::new(alloc);

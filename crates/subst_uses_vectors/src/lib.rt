@@ -1,0 +1,33 @@
+//! Tests of `subst_uses`, which run its callers: one file for each of its modules.
+#![tactic(auto)]
+
+#[cfg(test)]
+mod any_template;
+#[cfg(test)]
+mod cache;
+#[cfg(test)]
+mod config;
+#[cfg(test)]
+mod expected;
+#[cfg(test)]
+mod filled;
+#[cfg(test)]
+mod launcher;
+#[cfg(test)]
+mod letter;
+#[cfg(test)]
+mod lines;
+#[cfg(test)]
+mod maps;
+#[cfg(test)]
+mod own_map;
+#[cfg(test)]
+mod plain;
+#[cfg(test)]
+mod report;
+#[cfg(test)]
+mod settings;
+#[cfg(test)]
+mod texts;
+#[cfg(test)]
+mod words;
