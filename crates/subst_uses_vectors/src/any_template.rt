@@ -1,9 +1,10 @@
 //! Templates that are handed in.
 
+use crate::expected::{are_bytes, is_text};
 use std::alloc::Global;
 use std::collections::BTreeMap;
-use std::test::Fail;
 use subst::ByteTemplate;
+use subst::error::ExpandError;
 use subst::steps::Turns;
 use subst_uses::any_template::{expanded, expanded_in_few_turns};
 
@@ -11,37 +12,50 @@ fn variables(alloc: Global) -> BTreeMap<String, Vec<u8>> {
     BTreeMap::new(alloc)
 }
 
-/// The text of the error of a template that lacks a variable.
-fn fault_text(alloc: Global, template: &ByteTemplate<'_>) -> Result<String, Fail> {
-    match expanded(alloc, template, &variables(alloc)) {
-        Ok(_output) => Ok(String::from_str(alloc, "no fault")?),
-        Err(e) => Ok(format!(in alloc; "{e}")?),
+fn output(alloc: Global, template: &ByteTemplate<'_>) -> Result<Vec<u8>, ExpandError> {
+    expanded(alloc, template, &variables(alloc))
+}
+
+fn output_in_few_turns(alloc: Global, template: &ByteTemplate<'_>) -> Result<Vec<u8>, ExpandError> {
+    let mut turns = Turns::new();
+    expanded_in_few_turns(alloc, template, &variables(alloc), &mut turns)
+}
+
+/// Whether the template of a source gives this, also where its turns are counted.
+fn is_expanded(alloc: Global, source: &[u8], want: &[u8]) -> bool {
+    match ByteTemplate::from_slice(alloc, source) {
+        Ok(template) => {
+            are_bytes(output(alloc, &template), want)
+                && are_bytes(output_in_few_turns(alloc, &template), want)
+        }
+        Err(_) => false,
     }
 }
 
-fn output(alloc: Global, template: &ByteTemplate<'_>) -> Result<Vec<u8>, Fail> {
-    Ok(expanded(alloc, template, &variables(alloc))?)
+/// Whether an output is an error with this text.
+fn is_fault(alloc: Global, output: Result<Vec<u8>, ExpandError>, want: &str) -> bool {
+    match output {
+        Ok(_) => false,
+        Err(e) => is_text(format!(in alloc; "{e}"), want),
+    }
 }
 
-fn output_in_few_turns(alloc: Global, template: &ByteTemplate<'_>) -> Result<Vec<u8>, Fail> {
-    let mut turns = Turns::new();
-    Ok(expanded_in_few_turns(alloc, template, &variables(alloc), &mut turns)?)
+/// Whether the template of a source is refused with an error that has this text.
+fn is_refused(alloc: Global, source: &[u8], want: &str) -> bool {
+    match ByteTemplate::from_slice(alloc, source) {
+        Ok(template) => is_fault(alloc, output(alloc, &template), want),
+        Err(_) => false,
+    }
 }
 
 #[test]
-fn returns_the_first_missing_variable(rt: HostRuntime) -> Result<(), Fail> {
-    let template = ByteTemplate::from_slice(rt.alloc(), b"Hello ${name:$other${last:!}}")?;
-    let text = fault_text(rt.alloc(), &template)?;
-    assert_eq!(rt; text.as_str(), "No such variable: $other");
-    Ok(())
+fn returns_the_first_missing_variable(rt: HostRuntime) {
+    let source = b"Hello ${name:$other${last:!}}";
+    assert!(rt; is_refused(rt.alloc(), source, "No such variable: $other"));
 }
 
 #[test]
-fn expands_a_template_that_is_handed_in(rt: HostRuntime) -> Result<(), Fail> {
-    let template = ByteTemplate::from_slice(rt.alloc(), b"Hello ${name:${last:world}!}")?;
-    let whole = output(rt.alloc(), &template)?;
-    assert_eq!(rt; whole.as_slice(), b"Hello world!".as_slice());
-    let counted = output_in_few_turns(rt.alloc(), &template)?;
-    assert_eq!(rt; counted.as_slice(), b"Hello world!".as_slice());
-    Ok(())
+fn expands_a_template_that_is_handed_in(rt: HostRuntime) {
+    let source = b"Hello ${name:${last:world}!}";
+    assert!(rt; is_expanded(rt.alloc(), source, b"Hello world!"));
 }

@@ -1,33 +1,64 @@
 //! A cache of what a template gave.
 
-use crate::expected::one_variable;
-use std::alloc::Global;
-use std::collections::BTreeMap;
+use crate::expected::{Texts, are_bytes, one_text};
+use std::alloc::{AllocError, Global};
 use std::test::Fail;
 use subst::ByteTemplate;
 use subst_uses::cache::refilled;
 
 // Two sets of variables that differ at `b`.
-fn variables(alloc: Global, b: &str) -> Result<BTreeMap<String, String>, Fail> {
-    let mut variables = one_variable(alloc, "a", String::from_str(alloc, "1")?)?;
-    variables.insert(String::from_str(alloc, "b")?, String::from_str(alloc, b)?)?;
+fn variables(alloc: Global, b: &str) -> Result<Texts, AllocError> {
+    let mut variables = one_text(alloc, "a", "1")?;
+    let b = String::from_str(alloc, b)?;
+    let _ = variables.insert(String::from_str(alloc, "b")?, b)?;
     Ok(variables)
 }
 
-// What is got for a template that gave `output` where `b` was 2, and is 3 now.
-fn after_change(alloc: Global, source: &str, name: &str, output: &str) -> Result<Vec<u8>, Fail> {
-    let (old, new) = (variables(alloc, "2")?, variables(alloc, "3")?);
-    let template = ByteTemplate::from_slice(alloc, source.as_bytes())?;
-    let output = Vec::from_slice(alloc, output.as_bytes())?;
-    Ok(refilled(alloc, &template, &[name], &old, output, &new)?)
+// Whether a template that gave `output` under the old variables gives this under the new ones.
+fn gives(
+    alloc: Global,
+    template: &ByteTemplate<'_>,
+    name: &str,
+    variables: (&Texts, &Texts),
+    output: &str,
+    want: &str,
+) -> bool {
+    let (old, new) = variables;
+    match Vec::from_slice(alloc, output.as_bytes()) {
+        Ok(output) => are_bytes(
+            refilled(alloc, template, &[name], old, output, new),
+            want.as_bytes(),
+        ),
+        Err(_) => false,
+    }
+}
+
+// The number of the first row that is wrong: a source, its name, what it gave where `b` was 2, and what it
+// gives where `b` is 3.
+fn wrong_row(
+    alloc: Global,
+    variables: (&Texts, &Texts),
+    rows: &[(&str, &str, &str, &str)],
+) -> Option<usize> {
+    for (row, &(source, name, output, want)) in rows.iter().enumerate() {
+        match ByteTemplate::from_slice(alloc, source.as_bytes()) {
+            Ok(template) => {
+                if !gives(alloc, &template, name, variables, output, want) {
+                    return Some(row);
+                }
+            }
+            Err(_) => return Some(row),
+        }
+    }
+    None
 }
 
 #[test]
 fn fills_in_again_where_a_name_of_the_template_changed(rt: HostRuntime) -> Result<(), Fail> {
     let alloc = rt.alloc();
-    for (source, name, output, want) in [("$a?", "a", "1?", "1?"), ("$b?", "b", "2?", "3?")] {
-        let output = after_change(alloc, source, name, output)?;
-        assert_eq!(rt; output.as_slice(), want.as_bytes());
-    }
+    let rows = [("$a?", "a", "1?", "1?"), ("$b?", "b", "2?", "3?")];
+    let old = variables(alloc, "2")?;
+    let new = variables(alloc, "3")?;
+    assert_eq!(rt; wrong_row(alloc, (&old, &new), rows.as_slice()), None);
     Ok(())
 }

@@ -1,10 +1,9 @@
 //! Sources filled in from each kind of map.
 
-use crate::expected::{expect_bytes, expect_text, one_variable};
+use crate::expected::{expect_both, expect_text, one_pair, one_variable};
 use indexmap::IndexMap;
 use std::collections::{BTreeMap, HashMap};
 use std::test::Fail;
-use subst::Env;
 use subst_uses::maps::{bytes, texts};
 
 const SOURCE: &str = "Hello ${name:nobody}!";
@@ -15,8 +14,7 @@ const GIVEN: &str = "Hello world!";
 fn fills_in_from_a_btree_map(rt: HostRuntime) -> Result<(), Fail> {
     let alloc = rt.alloc();
     let variables = one_variable(alloc, "name", "world")?;
-    expect_text(&rt, texts::btree_map(alloc, SOURCE, &variables), GIVEN)?;
-    Ok(())
+    expect_text(&rt, texts::btree_map(alloc, SOURCE, &variables), GIVEN)
 }
 
 #[test]
@@ -24,15 +22,11 @@ fn fills_in_from_a_btree_map_of_lent_keys(rt: HostRuntime) -> Result<(), Fail> {
     let alloc = rt.alloc();
     let mut variables = BTreeMap::new(alloc);
     variables.insert("name", "world")?;
-    expect_text(
+    expect_both(
         &rt,
         texts::btree_map_of_lent(alloc, SOURCE, &variables),
-        GIVEN,
-    )?;
-    expect_bytes(
-        &rt,
         bytes::btree_map_of_lent(alloc, SOURCE.as_bytes(), &variables),
-        GIVEN.as_bytes(),
+        GIVEN,
     )
 }
 
@@ -41,11 +35,11 @@ fn fills_in_from_a_hash_map(rt: HostRuntime) -> Result<(), Fail> {
     let alloc = rt.alloc();
     let mut variables = HashMap::new(alloc);
     variables.insert(String::from_str(alloc, "name")?, "world")?;
-    expect_text(&rt, texts::hash_map(alloc, SOURCE, &variables), GIVEN)?;
-    expect_bytes(
+    expect_both(
         &rt,
+        texts::hash_map(alloc, SOURCE, &variables),
         bytes::hash_map(alloc, SOURCE.as_bytes(), &variables),
-        GIVEN.as_bytes(),
+        GIVEN,
     )
 }
 
@@ -54,15 +48,11 @@ fn fills_in_from_a_hash_map_of_lent_keys(rt: HostRuntime) -> Result<(), Fail> {
     let alloc = rt.alloc();
     let mut variables = HashMap::new(alloc);
     variables.insert("name", "world")?;
-    expect_text(
+    expect_both(
         &rt,
         texts::hash_map_of_lent(alloc, SOURCE, &variables),
-        GIVEN,
-    )?;
-    expect_bytes(
-        &rt,
         bytes::hash_map_of_lent(alloc, SOURCE.as_bytes(), &variables),
-        GIVEN.as_bytes(),
+        GIVEN,
     )
 }
 
@@ -71,11 +61,11 @@ fn fills_in_from_an_index_map(rt: HostRuntime) -> Result<(), Fail> {
     let alloc = rt.alloc();
     let mut variables = IndexMap::new(alloc);
     variables.insert(String::from_str(alloc, "name")?, "world")?;
-    expect_text(&rt, texts::index_map(alloc, SOURCE, &variables), GIVEN)?;
-    expect_bytes(
+    expect_both(
         &rt,
+        texts::index_map(alloc, SOURCE, &variables),
         bytes::index_map(alloc, SOURCE.as_bytes(), &variables),
-        GIVEN.as_bytes(),
+        GIVEN,
     )
 }
 
@@ -84,41 +74,33 @@ fn fills_in_from_an_index_map_of_lent_keys(rt: HostRuntime) -> Result<(), Fail> 
     let alloc = rt.alloc();
     let mut variables = IndexMap::new(alloc);
     variables.insert("name", "world")?;
-    expect_text(
+    expect_both(
         &rt,
         texts::index_map_of_lent(alloc, SOURCE, &variables),
-        GIVEN,
-    )?;
-    expect_bytes(
-        &rt,
         bytes::index_map_of_lent(alloc, SOURCE.as_bytes(), &variables),
-        GIVEN.as_bytes(),
+        GIVEN,
     )
 }
 
 #[test]
 fn fills_in_without_variables(rt: HostRuntime) -> Result<(), Fail> {
     let alloc = rt.alloc();
-    expect_text(&rt, texts::no_substitution(alloc, SOURCE), "Hello nobody!")?;
-    expect_bytes(
+    expect_both(
         &rt,
+        texts::no_substitution(alloc, SOURCE),
         bytes::no_substitution(alloc, SOURCE.as_bytes()),
-        b"Hello nobody!".as_slice(),
+        "Hello nobody!",
     )
 }
 
 #[test]
 fn fills_in_from_pairs(rt: HostRuntime) -> Result<(), Fail> {
     let alloc = rt.alloc();
-    let name = String::from_str(alloc, "name")?;
-    let value = String::from_str(alloc, "world")?;
-    let mut pairs = Vec::new(alloc);
-    pairs.push((name, value))?;
-    let variables = Env::from_pairs(pairs);
-    expect_text(&rt, texts::env(alloc, SOURCE, &variables), GIVEN)?;
-    expect_bytes(
+    let variables = one_pair(alloc, "name", "world")?;
+    expect_both(
         &rt,
+        texts::env(alloc, SOURCE, &variables),
         bytes::env(alloc, SOURCE.as_bytes(), &variables),
-        GIVEN.as_bytes(),
+        GIVEN,
     )
 }

@@ -1,25 +1,36 @@
 //! The colours of a terminal.
 
-use std::test::Fail;
+use crate::expected::are_bytes;
+use std::alloc::Global;
 use subst_uses::own_map::{Colours, coloured, warning};
 
-#[test]
-fn colours_a_source(rt: HostRuntime) -> Result<(), Fail> {
-    let alloc = rt.alloc();
-    let source = b"${bold}a$reset${red}b${blue:}".as_slice();
-    let on = coloured(alloc, source, &Colours { on: true })?;
-    assert_eq!(rt; on.as_slice(), b"\x1B[1ma\x1B[0m\x1B[31mb".as_slice());
-    let off = coloured(alloc, source, &Colours { on: false })?;
-    assert_eq!(rt; off.as_slice(), b"ab".as_slice());
-    Ok(())
+fn is_coloured(alloc: Global, source: &[u8], colours: &Colours, want: &[u8]) -> bool {
+    are_bytes(coloured(alloc, source, colours), want)
+}
+
+fn is_warning(alloc: Global, colours: &Colours, want: &[u8]) -> bool {
+    are_bytes(warning(alloc, colours), want)
 }
 
 #[test]
-fn warns_in_red(rt: HostRuntime) -> Result<(), Fail> {
+fn colours_a_source(rt: HostRuntime) {
     let alloc = rt.alloc();
-    let on = warning(alloc, &Colours { on: true })?;
-    assert_eq!(rt; on.as_slice(), b"\x1B[31mWarning: \x1B[0m".as_slice());
-    let off = warning(alloc, &Colours { on: false })?;
-    assert_eq!(rt; off.as_slice(), b"Warning: ".as_slice());
-    Ok(())
+    let source = b"${bold}a$reset${red}b${blue:}".as_slice();
+    let on = b"\x1B[1ma\x1B[0m\x1B[31mb".as_slice();
+    let found = (
+        is_coloured(alloc, source, &Colours { on: true }, on),
+        is_coloured(alloc, source, &Colours { on: false }, b"ab"),
+    );
+    assert_eq!(rt; found, (true, true));
+}
+
+#[test]
+fn warns_in_red(rt: HostRuntime) {
+    let alloc = rt.alloc();
+    let on = b"\x1B[31mWarning: \x1B[0m".as_slice();
+    let found = (
+        is_warning(alloc, &Colours { on: true }, on),
+        is_warning(alloc, &Colours { on: false }, b"Warning: "),
+    );
+    assert_eq!(rt; found, (true, true));
 }

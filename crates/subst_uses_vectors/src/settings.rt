@@ -1,20 +1,11 @@
 //! A loader of TOML.
 
-use std::alloc::{AllocError, Global};
+use crate::expected::one_pair;
+use std::alloc::Global;
 use std::test::Fail;
 use subst::Env;
 use subst_uses::settings::{Settings, load};
 use toml::Value;
-
-/// An environment of one variable.
-fn environment(alloc: Global) -> Result<Env, AllocError> {
-    let mut pairs = Vec::new(alloc);
-    pairs.push((
-        String::from_str(alloc, "HOST")?,
-        String::from_str(alloc, "db \"1\"")?,
-    ))?;
-    Ok(Env::from_pairs(pairs))
-}
 
 /// The text of the settings, or the report.
 fn shown(alloc: Global, settings: &Settings) -> Option<String> {
@@ -26,19 +17,27 @@ fn shown(alloc: Global, settings: &Settings) -> Option<String> {
 }
 
 /// Whether these settings are loaded so.
-fn is_loaded(alloc: Global, source: &str, want: &str) -> bool {
-    let Ok(variables) = environment(alloc) else {
-        return false;
-    };
-    let Ok(settings) = load(alloc, "app.toml", source, &variables) else {
-        return false;
-    };
-    shown(alloc, &settings).is_some_and(|text| text.as_str() == want)
+fn is_loaded(alloc: Global, variables: &Env, source: &str, want: &str) -> bool {
+    match load(alloc, "app.toml", source, variables) {
+        Ok(settings) => shown(alloc, &settings).is_some_and(|text| text.as_str() == want),
+        Err(_) => false,
+    }
+}
+
+/// The number of the first row that is wrong.
+fn wrong_row(alloc: Global, variables: &Env, rows: &[(&str, &str)]) -> Option<usize> {
+    for (row, &(source, want)) in rows.iter().enumerate() {
+        if !is_loaded(alloc, variables, source, want) {
+            return Some(row);
+        }
+    }
+    None
 }
 
 #[test]
 fn loads_settings_and_shows_faults(rt: HostRuntime) -> Result<(), Fail> {
-    let rows = &[
+    let variables = one_pair(rt.alloc(), "HOST", "db \"1\"")?;
+    let rows = [
         (
             "[db]\nurl = \"http://${HOST}/\"\nport = 80\n",
             "[db]\nport = 80\nurl = 'http://db \"1\"/'\n",
@@ -53,10 +52,6 @@ fn loads_settings_and_shows_faults(rt: HostRuntime) -> Result<(), Fail> {
             "app.toml:2:4: invalid value, expected a string, number, boolean, date-time, array or inline table",
         ),
     ];
-    for (index, &(source, want)) in rows.iter().enumerate() {
-        if !is_loaded(rt.alloc(), source, want) {
-            assert_eq!(rt; index, rows.len());
-        }
-    }
+    assert_eq!(rt; wrong_row(rt.alloc(), &variables, rows.as_slice()), None);
     Ok(())
 }

@@ -1,10 +1,9 @@
 //! Texts, and templates that own their sources.
 
-use crate::expected::{expect_text, one_variable};
-use std::alloc::Global;
-use std::collections::BTreeMap;
+use crate::expected::{Texts, are_bytes, expect_text, is_text, one_text};
+use std::alloc::{AllocError, Global};
 use std::test::Fail;
-use subst::{ByteTemplateBuf, TemplateBuf};
+use subst::TemplateBuf;
 use subst_uses::texts::{
     at_once, by_lent, by_owner, bytes_by_owner, bytes_checked, bytes_copied, checked, copied,
 };
@@ -13,8 +12,8 @@ const SOURCE: &str = "Hello ${name:nobody}❤";
 
 const GIVEN: &str = "Hello é❤";
 
-fn variables(alloc: Global) -> Result<BTreeMap<String, String>, Fail> {
-    one_variable(alloc, "name", String::from_str(alloc, "é")?)
+fn variables(alloc: Global) -> Result<Texts, AllocError> {
+    one_text(alloc, "name", "é")
 }
 
 #[test]
@@ -23,36 +22,48 @@ fn fills_in_a_text_at_once(rt: HostRuntime) -> Result<(), Fail> {
     expect_text(&rt, at_once(rt.alloc(), SOURCE, &variables), GIVEN)
 }
 
-/// What the template expands to, and then what another one expands to that it lends.
-fn expanded_twice(alloc: Global, template: &TemplateBuf) -> Result<(String, String), Fail> {
-    let variables = variables(alloc)?;
-    let output = by_owner(alloc, template, &variables)?;
-    let lent = by_lent(alloc, &template.as_template(), &variables)?;
-    Ok((output, lent))
+/// Whether the template expands to this, and then another one that it lends.
+fn is_expanded(alloc: Global, template: &TemplateBuf, variables: &Texts, want: &str) -> bool {
+    is_text(by_owner(alloc, template, variables), want)
+        && is_text(by_lent(alloc, &template.as_template(), variables), want)
+}
+
+/// Whether the template of a text expands to this, and whether it has the text as its source.
+fn text_calls(alloc: Global, variables: &Texts, source: &str, want: &str) -> (bool, bool) {
+    match copied(alloc, source) {
+        Ok(template) => (
+            is_expanded(alloc, &template, variables, want),
+            is_text(checked(template.into_source()), source),
+        ),
+        Err(_) => (false, false),
+    }
 }
 
 #[test]
 fn fills_in_a_text(rt: HostRuntime) -> Result<(), Fail> {
-    let template = copied(rt.alloc(), SOURCE)?;
-    let (output, lent) = expanded_twice(rt.alloc(), &template)?;
-    assert_eq!(rt; output.as_str(), GIVEN);
-    assert_eq!(rt; lent.as_str(), GIVEN);
-    let source = checked(template.into_source())?;
-    assert_eq!(rt; source.as_str(), SOURCE);
+    let variables = variables(rt.alloc())?;
+    assert_eq!(rt;
+        text_calls(rt.alloc(), &variables, SOURCE, GIVEN),
+        (true, true)
+    );
     Ok(())
 }
 
-fn expanded(alloc: Global, template: &ByteTemplateBuf) -> Result<Vec<u8>, Fail> {
-    let variables = variables(alloc)?;
-    Ok(bytes_by_owner(alloc, template, &variables)?)
+/// Whether the template of bytes expands to this, and whether it has the bytes as its source.
+fn byte_calls(alloc: Global, variables: &Texts, source: &[u8], want: &[u8]) -> (bool, bool) {
+    match bytes_copied(alloc, source) {
+        Ok(template) => (
+            are_bytes(bytes_by_owner(alloc, &template, variables), want),
+            are_bytes(bytes_checked(template.into_source()), source),
+        ),
+        Err(_) => (false, false),
+    }
 }
 
 #[test]
 fn fills_in_bytes(rt: HostRuntime) -> Result<(), Fail> {
-    let template = bytes_copied(rt.alloc(), SOURCE.as_bytes())?;
-    let output = expanded(rt.alloc(), &template)?;
-    assert_eq!(rt; output.as_slice(), GIVEN.as_bytes());
-    let source = bytes_checked(template.into_source())?;
-    assert_eq!(rt; source.as_slice(), SOURCE.as_bytes());
+    let variables = variables(rt.alloc())?;
+    let found = byte_calls(rt.alloc(), &variables, SOURCE.as_bytes(), GIVEN.as_bytes());
+    assert_eq!(rt; found, (true, true));
     Ok(())
 }
