@@ -1,7 +1,7 @@
 -- Lists of words that sources give.
 use Rattle.std.proofs.Common.{◌≡◌, ℕ, zero, suc, ◌+◌, ◌<◌, List, [], ◌∷◌, ◌++◌, map, take, drop, get_or, length, Option, Some, None, option_map, Result, Ok, Err, IfErr, IfSome, refl, sym, ap, ◌∙◌, subst, arith}
 use Rattle.std.specs.Result.{IsErrAnd}
-use Rattle.std.proofs.lemmas.List.{map_push, take_more}
+use Rattle.std.proofs.lemmas.List.{drop_more, map-append, map_push, take-append-drop, take_more}
 use Rattle.subst.specs.Errors.{Error}
 use Rattle.subst.specs.ErrorFault.{error_fault}
 use Rattle.subst.specs.Fault.{Fault}
@@ -21,10 +21,10 @@ each_more look (s ∷ sources) [] source word each given = absurd each
 
 -- the element at an index, between those before it and those after it
 parts_at : {X Y : Type 0} (f : X → Y) (xs : List X) (i : ℕ) (d : X) → i < length xs
-    → map f xs ≡ map f (take i xs) ++ f (get_or xs i d) ∷ map f (drop (suc i) xs)
-parts_at f [] i d h = absurd (omega arith)
-parts_at f (x ∷ xs) zero d h = refl
-parts_at f (x ∷ xs) (suc i) d h = ap (λ l. f x ∷ l) (parts_at f xs i d (omega arith))
+    → map f xs ≡ map f (take i xs) ++ f (get_or xs i d) ∷ map f (drop (i + 1) xs)
+parts_at f xs i d h =
+    ap (map f) (sym (take-append-drop i xs) ∙ ap (λ rest. take i xs ++ rest) (drop_more xs i d h))
+    ∙ map-append f (take i xs) (get_or xs i d ∷ drop (i + 1) xs)
 
 -- the word that the source at an index gives, after those of the sources before it
 pub word_added : {X W : Type 0} (look : LookUp) (text : X → List ℕ) (bytes : W → List ℕ)
@@ -57,7 +57,7 @@ refused_at look text xs i d words source (Err x) e same h each is refused =
     by_fault (Some f) r = record {
       before = map text (take i xs);
       source = text (get_or xs i d);
-      after = map text (drop (suc i) xs);
+      after = map text (drop (i + 1) xs);
       parts = parts_at text xs i d h;
       given = (words, each);
       refused = subst (λ s. Answers s look (Refuses f)) is r;
