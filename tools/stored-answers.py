@@ -1,15 +1,18 @@
 #!/usr/bin/env python3
-"""stored-answers.py [--check]   Makes the stored run of subst_answers from the files of answers in tests/data.
+"""stored-answers.py [--check | --run]   Makes the stored run of subst_answers from the files of answers in tests/data.
 
 Writes crates/subst_answers/stdin, each record of the answers to bytes as a record of the kind `bytes`, after these each
 whose source and values are UTF-8 once more, of the kind `text`, and then those to documents, each of its own kind; and
 crates/subst_answers/stdout, the answer that the files have for each, with all its columns. With --check it writes nothing,
-and fails where one of the two isn't what it would write.
+and fails where one of the two isn't what it would write. With --run it runs the built program, and shows each record
+whose answer is another one, with what was expected and what came. The last line of both is 'N passed, M failed'.
 """
 import itertools
 import pathlib
 import re
+import subprocess
 import sys
+import urllib.parse
 
 TOP = pathlib.Path(__file__).resolve().parent.parent
 DATA = TOP / 'tests' / 'data'
@@ -46,6 +49,39 @@ def records(name):
                 if len(answer) != COLUMNS[answer[0]]:
                     sys.exit(f'{name}: an answer with another number of columns: {line!r}')
                 yield source, pairs, answer
+
+
+def hexadecimal(text):
+    """The column of a text in which bytes may be written as %XX."""
+    return urllib.parse.unquote_to_bytes(text).hex() or '-'
+
+
+def rows_by_hand():
+    """The source, the pairs and the columns of the answer of each row that was worked out by hand, as of a record."""
+    for line in (DATA / 'rows.tsv').read_text(encoding='utf-8').split('\n'):
+        if line and not line.startswith('#'):
+            kind, *columns = line.split('\t')
+            if kind != 'bytes' or len(columns) - 2 != COLUMNS[columns[2]]:
+                sys.exit(f'rows.tsv: a row of another form: {line!r}')
+            source, pairs, *answer = columns
+            yield hexadecimal_of(source), pairs_in_hexadecimal(pairs), answer_in_hexadecimal(answer)
+
+
+def hexadecimal_of(column):
+    """An empty text is written as a dash."""
+    return '-' if column == '-' else hexadecimal(column)
+
+
+def pairs_in_hexadecimal(pairs):
+    if pairs == '-':
+        return pairs
+    return ','.join('='.join(hexadecimal_of(word) for word in pair.split('=')) for pair in pairs.split(','))
+
+
+def answer_in_hexadecimal(answer):
+    """The columns that are texts are written so; the name of a missing variable is one of them."""
+    texts = {1} if answer[0] == 'ok' else {4, 5, 7, 8} | ({3} if answer[1] == 'NoSuchVariable' else set())
+    return [hexadecimal_of(column) if at in texts and column != '.' else column for at, column in enumerate(answer)]
 
 
 def is_text(column):
@@ -96,6 +132,37 @@ def check(run):
     return failed == 0
 
 
+def readable(column):
+    """A column in hexadecimal as a person reads it."""
+    is_hexadecimal = column != '-' and re.fullmatch('(?:[0-9a-f]{2})+', column)
+    return repr(bytes.fromhex(column).decode('utf-8', 'backslashreplace')) if is_hexadecimal else column
+
+
+def shown(line):
+    """The columns of an answer as a person reads them."""
+    texts = {1, 3, 4, 5, 7, 8}
+    return ' '.join(readable(column) if at in texts else column for at, column in enumerate(line.split('\t')))
+
+
+def run_and_compare(run):
+    """Runs the built program over the records, and shows those whose answers are others."""
+    program = TOP / CRATE / 'out' / 'subst_answers'
+    ran = subprocess.run([program], input=run['stdin'].encode('ascii'), stdout=subprocess.PIPE, timeout=600)
+    asked, wanted = run['stdin'].splitlines(), run['stdout'].splitlines()
+    came = ran.stdout.decode('ascii', 'backslashreplace').splitlines()
+    failed = 0
+    for record, want, is_ in itertools.zip_longest(asked, wanted, came, fillvalue='nothing'):
+        if want != is_:
+            failed += 1
+            kind, source, pairs = record.split('\t')
+            with_pairs = ','.join('='.join(map(readable, pair.split('='))) for pair in pairs.split(','))
+            print(f'{kind} {readable(source)} with {with_pairs}:\n  expected {shown(want)}\n  came     {shown(is_)}')
+    is_well = failed == 0 and ran.returncode == 0
+    print(f'{len(asked)} records, {failed} answered otherwise; the status is {ran.returncode}')
+    print('1 passed, 0 failed' if is_well else '0 passed, 1 failed')
+    return is_well
+
+
 def said(what, rows, kept):
     """Says how many rows there are, and how many of them the departures change."""
     changed = len(kept) - sum(row in rows for row in kept)
@@ -103,21 +170,23 @@ def said(what, rows, kept):
 
 
 def main():
-    if sys.argv[1:] not in ([], ['--check']):
+    if sys.argv[1:] not in ([], ['--check'], ['--run']):
         sys.exit(__doc__)
     rust = list(records('answers.tsv'))
     kept = list(with_optional_variables(rust))
     optional = list(records('answers-optional.tsv'))
     said('records of the Rust crate', rust, kept)
     print(f'{len(optional)} with optional variables')
+    by_hand = list(rows_by_hand())
+    print(f'{len(by_hand)} worked out by hand')
     documents = {}
     for kind in DOCUMENTS:
         rows = list(records(f'{kind}.tsv'))
         documents[kind] = list(with_optional_variables(rows))
         said(f'{kind} documents', rows, documents[kind])
-    run = stored_run(kept + optional, documents)
+    run = stored_run(kept + optional + by_hand, documents)
     if sys.argv[1:]:
-        sys.exit(0 if check(run) else 1)
+        sys.exit(0 if {'--check': check, '--run': run_and_compare}[sys.argv[1]](run) else 1)
     for file, text in run.items():
         (TOP / CRATE / file).write_text(text, encoding='ascii')
 

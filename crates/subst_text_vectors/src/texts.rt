@@ -1,51 +1,10 @@
-//! What texts give.
+//! One template under several maps, and values that are lent.
 
 use crate::text_calls::{expand, is_text, parse, texts};
-use crate::ways::wrong_output;
 use std::alloc::{AllocError, Global};
 use std::collections::BTreeMap;
 use subst::error::ParseError;
 use subst::{Error, Template, substitute};
-
-#[test]
-fn fills_in_a_name(rt: HostRuntime) {
-    let rows: &[(&str, &str)] = &[
-        ("Hello $name!", "Hello world!"),
-        ("Hello ${name}!", "Hello world!"),
-        ("Hello ${name:not-world}!", "Hello world!"),
-        ("Hello ${not_name:world}!", "Hello world!"),
-    ];
-    assert_eq!(rt; wrong_output(rt.alloc(), "name=world", rows), None);
-}
-
-#[test]
-fn defaults_are_templates(rt: HostRuntime) {
-    let rows: &[(&str, &str)] = &[
-        ("Hello ${not_name:cruel $name}!", "Hello cruel world!"),
-        ("Hello ${a:cruel ${b:world}}!", "Hello cruel world!"),
-        (
-            "Hello ${a:cruel ${b:round ${c:world}}}!",
-            "Hello cruel round planet!",
-        ),
-        ("${d:$name/.config}/my-app", "world/.config/my-app"),
-        ("${name:$missing}", "world"),
-    ];
-    assert_eq!(rt; wrong_output(rt.alloc(), "name=world,c=planet", rows), None);
-}
-
-#[test]
-fn characters_past_ascii_stay_whole(rt: HostRuntime) {
-    let rows: &[(&str, &str)] = &[
-        ("${c:é}$b", "é❤"),
-        ("é$a❤${b:é}\\\\é", "éé❤❤\\é"),
-        ("❤${c?}❤", "❤❤"),
-        ("𝄞${c:${d:❤}é}𝄞", "𝄞❤é𝄞"),
-        ("$aé", "éé"),
-        ("$empty${empty}", ""),
-        ("", ""),
-    ];
-    assert_eq!(rt; wrong_output(rt.alloc(), "a=é,b=❤,empty=", rows), None);
-}
 
 fn expands_to(alloc: Global, template: &Template<'_>, pairs: &str, want: &str) -> bool {
     match texts(alloc, pairs) {

@@ -1,4 +1,4 @@
-//! The ways from a text to what it gives, and rows that are tried in each of them.
+//! The ways from a text to what it gives.
 
 use crate::text_calls::{Texts, expand, expand_owner, fill_in, is_text, own, parse, texts};
 use std::alloc::Global;
@@ -45,28 +45,4 @@ pub fn all_give(alloc: Global, source: &str, pairs: &str, want: &str) -> bool {
         Ok(variables) => all_ways_give(alloc, source, &variables, want),
         Err(_) => false,
     }
-}
-
-/// The first of these rows, each a text and what it gives, that is wrong by some way.
-pub fn wrong_output(alloc: Global, pairs: &str, rows: &[(&str, &str)]) -> Option<usize> {
-    for (row, &(source, want)) in rows.iter().enumerate() {
-        if !all_give(alloc, source, pairs, want) {
-            return Some(row);
-        }
-    }
-    None
-}
-
-fn is_fault(filled: Filled, want: &Error) -> bool {
-    match filled {
-        Ok(_) => false,
-        Err(fault) => fault == *want,
-    }
-}
-
-/// Whether a text is refused with the fault `want`, by each way.
-pub fn all_refuse(alloc: Global, source: &str, variables: &Texts, want: &Error) -> bool {
-    is_fault(fill_in(alloc, source, variables), want)
-        && is_fault(by_lender(alloc, source, variables), want)
-        && is_fault(by_owner(alloc, source, variables), want)
 }

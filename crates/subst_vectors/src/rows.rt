@@ -1,4 +1,4 @@
-//! Rows: the answer of a source and its variables, by each way to it.
+//! Answers, variables of pairs, and the ways to an answer.
 
 use Answer::{Absent, BadEscape, Gives, NoName, Unclosed, Unexpected};
 use std::alloc::{AllocError, Global};
@@ -83,14 +83,6 @@ fn insert(map: &mut Map, alloc: Global, name: &str, value: Vec<u8>) -> Result<()
     Ok(())
 }
 
-/// The map of one name.
-pub fn one_variable(alloc: Global, name: &str, value: &[u8]) -> Result<Map, AllocError> {
-    let value = Vec::from_slice(alloc, value)?;
-    let mut map = BTreeMap::new(alloc);
-    insert(&mut map, alloc, name, value)?;
-    Ok(map)
-}
-
 /// What a source gives at once.
 pub fn at_once(alloc: Global, source: &[u8], map: &Map) -> Filled {
     substitute_bytes(alloc, source, map)
@@ -139,98 +131,10 @@ pub fn expand_counted(
     template.expand_counted(alloc, map, &mut Turns::new())
 }
 
-/// The same by the calls that count.
-fn by_counted_calls(alloc: Global, source: &[u8], map: &Map) -> Filled {
-    Ok(expand_counted(alloc, parse_counted(alloc, source)?, map)?)
-}
-
-fn all_ways_state(alloc: Global, source: &[u8], map: &Map, want: Answer<'_>) -> bool {
-    states(at_once(alloc, source, map), want)
-        && states(by_template(alloc, source, map), want)
-        && states(by_counted_calls(alloc, source, map), want)
-}
-
-/// Whether a source has this answer where the variables are those of pairs, by each way.
-pub fn has_answer(alloc: Global, source: &[u8], pairs: &str, want: Answer<'_>) -> bool {
-    match map_of(alloc, pairs) {
-        Ok(map) => all_ways_state(alloc, source, &map, want),
-        Err(_) => false,
-    }
-}
-
-/// The first of these rows, each a source, its variables and the bytes that it gives, that is wrong.
-pub fn wrong_output(alloc: Global, rows: &[(&[u8], &str, &[u8])]) -> Option<usize> {
-    for (row, &(source, pairs, want)) in rows.iter().enumerate() {
-        if !has_answer(alloc, source, pairs, Gives(want)) {
-            return Some(row);
-        }
-    }
-    None
-}
-
-/// The first of these rows, each a source and what it gives without variables, that is wrong.
-pub fn wrong_default(alloc: Global, rows: &[(&[u8], &[u8])]) -> Option<usize> {
-    for (row, &(source, want)) in rows.iter().enumerate() {
-        if !has_answer(alloc, source, "", Gives(want)) {
-            return Some(row);
-        }
-    }
-    None
-}
-
-/// Whether a source has this fault, with some variables and with none.
-pub fn has_fault(alloc: Global, source: &[u8], want: Answer<'_>) -> bool {
-    has_answer(alloc, source, "", want) && has_answer(alloc, source, "a=1,x=}", want)
-}
-
-/// The first of these rows, each a source and its fault, that is wrong.
-pub fn wrong_fault(alloc: Global, rows: &[(&[u8], Answer<'_>)]) -> Option<usize> {
-    for (row, &(source, want)) in rows.iter().enumerate() {
-        if !has_fault(alloc, source, want) {
-            return Some(row);
-        }
-    }
-    None
-}
-
-/// The first of these rows, each a source and the position and the name of the variable that it lacks where
-/// `b` alone has a value, that is wrong.
-pub fn wrong_absence(alloc: Global, rows: &[(&[u8], usize, &str)]) -> Option<usize> {
-    for (row, &(source, position, name)) in rows.iter().enumerate() {
-        if !has_answer(alloc, source, "b=1", Absent(position, name)) {
-            return Some(row);
-        }
-    }
-    None
-}
-
-/// Whether a call was refused with a fault of this text.
-pub fn is_described(alloc: Global, filled: Filled, want: &str) -> bool {
-    match filled {
-        Ok(_) => false,
-        Err(fault) => is_text(fault.to_string(alloc), want),
-    }
-}
-
 /// Whether this text was made.
 pub fn is_text(made: Result<String, AllocError>, want: &str) -> bool {
     match made {
         Ok(text) => text.as_str() == want,
         Err(_) => false,
     }
-}
-
-/// Whether this is the text of the fault of a source, with no variables.
-pub fn has_text(alloc: Global, source: &[u8], want: &str) -> bool {
-    is_described(alloc, at_once(alloc, source, &BTreeMap::new(alloc)), want)
-}
-
-/// The first of these rows, each a source and the text of its fault, that is wrong.
-pub fn wrong_text(alloc: Global, rows: &[(&[u8], &str)]) -> Option<usize> {
-    for (row, &(source, want)) in rows.iter().enumerate() {
-        if !has_text(alloc, source, want) {
-            return Some(row);
-        }
-    }
-    None
 }
