@@ -1,7 +1,8 @@
 #!/usr/bin/env bash
 # Makes a repository in a folder of its own, with the library in it as README.md says, and README's example as a
 # program, and runs that with `rt try`, which proves nothing and so takes half a minute. The lines of crates.txt and the
-# example are taken from README.md as they are there. The last line is 'N passed, M failed'.
+# example are taken from README.md as they are there. Then a program that uses a lent template after its owner was taken
+# apart has to be refused for that. The last line is 'N passed, M failed'.
 set -euo pipefail
 cd "$(dirname "$0")/.."
 
@@ -45,6 +46,24 @@ write_program() {
   { library_lines && printf 'greeting: subst anyhow\n'; } >"$folder/crates.txt"
 }
 
+# The same program, which now lends a template, takes its owner apart, and then uses what was lent.
+write_use_after_taking_apart() {
+  cat >"$folder/crates/greeting/src/main.rt" <<'PROGRAM'
+//! Uses a lent template after its owner was taken apart.
+#![tactic(auto)]
+
+use subst::TemplateBuf;
+
+fn main(rt: HostRuntime) -> anyhow::Result<()> {
+    let owner = TemplateBuf::from_string(String::from_str(rt.alloc(), "lent")?).map_err(subst::Error::from)?;
+    let lent = owner.as_template();
+    let source = owner.into_source();
+    println!(rt; "{} {}", source, lent.source())?;
+    Ok(())
+}
+PROGRAM
+}
+
 try() {
   (cd "$folder/crates/greeting" && rt try) >"$folder/output" 2>"$folder/errors"
 }
@@ -57,4 +76,11 @@ if ! stoppable try; then
   fail 'the program of another repository does not run'
 fi
 [ "$(cat "$folder/output")" = 'Hello world!' ] || fail "it printed: $(cat "$folder/output")"
-printf 'a program of another repository printed: %s\n1 passed, 0 failed\n' "$(cat "$folder/output")"
+printf 'a program of another repository printed: %s\n' "$(cat "$folder/output")"
+write_use_after_taking_apart
+refusal='cannot move out of `owner` because it is borrowed'
+if stoppable try || ! grep -qF "$refusal" "$folder/errors" "$folder/output"; then
+  cat "$folder/errors"
+  fail 'a lent template can be used after its owner was taken apart'
+fi
+printf 'a lent template used after its owner was taken apart is refused: %s\n2 passed, 0 failed\n' "$refusal"
