@@ -27,7 +27,7 @@ import tempfile
 TOP = pathlib.Path(__file__).resolve().parent.parent
 PARTS = ('src', 'specs', 'proofs')
 LANES = int(os.environ.get('RT_JOBS') or len(os.sched_getaffinity(0)))
-# How many edits share a check at most, in the first round and in the second.
+# How many edits share a check at most, in each round.
 ROUNDS = (16, 16, 1)
 # The file in a crate's out/ that says of which files all edits were refused.
 STAMP = 'out/edits-refused'
