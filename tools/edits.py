@@ -108,7 +108,7 @@ def name_of(block):
     return ''.join(word[0].upper() + word[1:] if word else 'Ref' for word in words if word not in parameters)
 
 
-# Proofs of the crates themselves
+# Copies, and proofs of the crates themselves
 
 
 def libraries():
@@ -133,35 +133,6 @@ def rt(crate, *words):
                           stderr=subprocess.STDOUT, encoding='utf-8', errors='replace')
 
 
-def prove(name, is_used):
-    """Proves a crate over what is kept, and builds the library that those above it need."""
-    for verb in ['check', 'lib'] if is_used else ['check']:
-        ran = rt(TOP / 'crates' / name, verb)
-        if ran.returncode != 0:
-            raise Wrong(f'{name} is not proved, so no edit of it can be tried:\n{ran.stdout[-3000:]}')
-
-
-def prove_all(names, uses):
-    """Proves crates, each once those that it uses are proved."""
-    wanted = with_those_below(names, uses)
-    used = {below for name in wanted for below in uses[name]}
-    with concurrent.futures.ThreadPoolExecutor(LANES) as lanes:
-        running, done = {}, set()
-        while len(done) < len(wanted):
-            for name in wanted:
-                if name not in running and done.issuperset(uses[name]):
-                    running[name] = lanes.submit(prove, name, name in used)
-            left = [it for name, it in running.items() if name not in done]
-            concurrent.futures.wait(left, return_when=concurrent.futures.FIRST_COMPLETED)
-            for name, it in running.items():
-                if it.done() and name not in done:
-                    it.result()
-                    done.add(name)
-
-
-# Checks of edits
-
-
 def copy_of(name, room, uses):
     """A copy of a crate over its kept work, with links to the files that a check leaves as they are."""
     (room / 'crates').mkdir()
@@ -178,6 +149,41 @@ def copy_of(name, room, uses):
             shutil.rmtree(crate / part)
             shutil.copytree(TOP / 'crates' / name / part, crate / part)
     return crate
+
+
+def prove(name, is_used, uses):
+    """Proves a crate over what is kept, and builds the library that those above it need. It does so in a copy, since no
+    two runs of `rt` work over one library at a time, and puts the work in the place of what was kept."""
+    with tempfile.TemporaryDirectory() as room:
+        crate, kept = copy_of(name, pathlib.Path(room), uses), TOP / 'crates' / name / 'out'
+        for verb in ['check', 'lib'] if is_used else ['check']:
+            ran = rt(crate, verb)
+            if ran.returncode != 0:
+                raise Wrong(f'{name} is not proved, so no edit of it can be tried:\n{ran.stdout[-3000:]}')
+        if kept.is_dir():
+            shutil.move(kept, pathlib.Path(room) / 'before')
+        shutil.move(crate / 'out', kept)
+
+
+def prove_all(names, uses):
+    """Proves crates, each once those that it uses are proved."""
+    wanted = with_those_below(names, uses)
+    used = {below for name in wanted for below in uses[name]}
+    with concurrent.futures.ThreadPoolExecutor(LANES) as lanes:
+        running, done = {}, set()
+        while len(done) < len(wanted):
+            for name in wanted:
+                if name not in running and done.issuperset(uses[name]):
+                    running[name] = lanes.submit(prove, name, name in used, uses)
+            left = [it for name, it in running.items() if name not in done]
+            concurrent.futures.wait(left, return_when=concurrent.futures.FIRST_COMPLETED)
+            for name, it in running.items():
+                if it.done() and name not in done:
+                    it.result()
+                    done.add(name)
+
+
+# Checks of edits
 
 
 def check(edits, uses):
