@@ -57,14 +57,16 @@ def hexadecimal(text):
 
 
 def rows_by_hand():
-    """The source, the pairs and the columns of the answer of each row that was worked out by hand, as of a record."""
+    """The rows that were worked out by hand, by their kind: each the source, the pairs and the columns of the answer, as
+    of a record."""
+    rows = {kind: [] for kind in ['bytes'] + DOCUMENTS}
     for line in (DATA / 'rows.tsv').read_text(encoding='utf-8').split('\n'):
         if line and not line.startswith('#'):
-            kind, *columns = line.split('\t')
-            if kind != 'bytes' or len(columns) - 2 != COLUMNS[columns[2]]:
+            kind, source, pairs, *answer = line.split('\t')
+            if kind not in rows or len(answer) != COLUMNS[answer[0]]:
                 sys.exit(f'rows.tsv: a row of another form: {line!r}')
-            source, pairs, *answer = columns
-            yield hexadecimal_of(source), pairs_in_hexadecimal(pairs), answer_in_hexadecimal(answer)
+            rows[kind].append((hexadecimal_of(source), pairs_in_hexadecimal(pairs), answer_in_hexadecimal(answer)))
+    return rows
 
 
 def hexadecimal_of(column):
@@ -177,14 +179,15 @@ def main():
     optional = list(records('answers-optional.tsv'))
     said('records of the Rust crate', rust, kept)
     print(f'{len(optional)} with optional variables')
-    by_hand = list(rows_by_hand())
-    print(f'{len(by_hand)} worked out by hand')
+    by_hand = rows_by_hand()
+    print(', '.join(f'{len(rows)} {kind}' for kind, rows in by_hand.items()) + ' worked out by hand')
     documents = {}
     for kind in DOCUMENTS:
         rows = list(records(f'{kind}.tsv'))
         documents[kind] = list(with_optional_variables(rows))
         said(f'{kind} documents', rows, documents[kind])
-    run = stored_run(kept + optional + by_hand, documents)
+        documents[kind] += by_hand[kind]
+    run = stored_run(kept + optional + by_hand['bytes'], documents)
     if sys.argv[1:]:
         sys.exit(0 if {'--check': check, '--run': run_and_compare}[sys.argv[1]](run) else 1)
     for file, text in run.items():

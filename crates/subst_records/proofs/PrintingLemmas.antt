@@ -8,7 +8,7 @@ use Rattle.std.specs.declared.io.Error.{Error}
 use Rattle.subst_records.specs.Failure.{IsFailureAt}
 use Rattle.subst_records.specs.Record.{IsMalformed}
 use Rattle.subst_records.specs.declared.failure.Failure.{Failure}
-use Rattle.subst_records.specs.declared.failure.Failure.TheVariants.{Malformed, Read, Write, OutOfMemory}
+use Rattle.subst_records.specs.declared.failure.Failure.TheVariants.{Malformed, Differs, Read, Write, OutOfMemory}
 use Rattle.subst_records.specs.Printing.{is_comment, newline, AppendsPart, AreAnswered, ArePrinted, EndsBetween, EndsWithin, FailsBy, IsAnswered, Prints, ReadsAtMostALine, ReadsLine}
 use Rattle.subst_records.specs.Printing.ArePrinted.{nothing, comment, answer}
 
@@ -127,6 +127,8 @@ fails_at (Some known) (Some text) next old new line count (Malformed number colu
       malformed = subst (λ (l : List ℕ). IsMalformed l column) reads.1 fails.1;
       read = reads.2;
     }
+fails_at first now next old new line count (Differs number) so reads most is fails =
+    ends_between first now next old new count so most
 fails_at first now next old new line count (Read e) so reads most is fails = absurd fails
 fails_at first now next old new line count (Write e) so reads most is fails = absurd fails
 fails_at first now next old new line count OutOfMemory so reads most is fails =

@@ -2,11 +2,12 @@
 use Rattle.std.specs.Prelude.{◌≡◌, ℕ, List, ◌++◌, Option, Some, None, codes, decimal, ℤ, pos, ⊤}
 use Rattle.subst_records.specs.Record.{column_word, IsMalformed}
 use Rattle.subst_records.specs.declared.failure.Failure.{Failure}
-use Rattle.subst_records.specs.declared.failure.Failure.TheVariants.{Malformed, Read, Write, OutOfMemory}
+use Rattle.subst_records.specs.declared.failure.Failure.TheVariants.{Malformed, Differs, Read, Write, OutOfMemory}
 
 -- the status that the program ends with if a run ends with this failure
 abbrev pub status_of : Failure → ℕ
 status_of (Malformed number column) = 1
+status_of (Differs number) = 2
 status_of (Read e) = 3
 status_of (Write e) = 3
 status_of OutOfMemory = 4
@@ -19,13 +20,15 @@ ENOMEM = pos 12
 abbrev pub text_of : Failure → Option (List ℕ)
 text_of (Malformed number column) =
     Some (codes "record " ++ (decimal number ++ (codes ": malformed column " ++ column_word column)))
+text_of (Differs number) = Some (codes "record " ++ (decimal number ++ codes ": the ways to its answer differ"))
 text_of (Read e) = None
 text_of (Write e) = None
 text_of OutOfMemory = Some (codes "out of memory")
 
--- the line of the record of this number is malformed, or memory ran out
+-- The line of the record of this number is malformed, or the ways to its answer differ, or memory ran out.
 abbrev pub IsFailureAt : ℕ → List ℕ → Failure → Type 0
 IsFailureAt number line (Malformed n column) = (n ≡ number) × IsMalformed line column
+IsFailureAt number line (Differs n) = n ≡ number
 IsFailureAt number line (Read e) = ⊥
 IsFailureAt number line (Write e) = ⊥
 IsFailureAt number line OutOfMemory = ⊤

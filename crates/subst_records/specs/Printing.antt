@@ -13,7 +13,7 @@ use Rattle.subst_records.specs.Agreement.{IsTrueAnswer, values_of}
 use Rattle.subst_records.specs.declared.answer.Answer.{Answer}
 use Rattle.subst_records.specs.declared.document.DocumentAnswer.{DocumentAnswer}
 use Rattle.subst_records.specs.declared.failure.Failure.{Failure}
-use Rattle.subst_records.specs.declared.failure.Failure.TheVariants.{Malformed, Read, Write, OutOfMemory}
+use Rattle.subst_records.specs.declared.failure.Failure.TheVariants.{Malformed, Differs, Read, Write, OutOfMemory}
 use Rattle.subst_records.specs.declared.record.Column.{Column}
 use Rattle.subst_records.specs.declared.record.Record.{Record}
 use Rattle.subst_records.specs.declared.record.Record.TheVariants as records
@@ -130,6 +130,7 @@ pub record EndsWithin (text : List ℕ) (rest old new : Option (List ℕ)) : Typ
 abbrev pub FailsBy : (text rest old new : Option (List ℕ)) → Failure → Type 0
 FailsBy text rest old new (Malformed number column) =
     IfSome text (λ known. IsMalformedAt known rest old new number column)
+FailsBy text rest old new (Differs number) = IfSome text (λ known. EndsBetween known rest old new)
 FailsBy text rest old new (Read e) = IfSome text (λ known. EndsBetween known rest old new)
 FailsBy text rest old new (Write e) = IfSome text (λ known. EndsWithin known rest old new)
 FailsBy text rest old new OutOfMemory = IfSome text (λ known. EndsBetween known rest old new)

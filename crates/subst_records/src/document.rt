@@ -9,7 +9,7 @@ use std::alloc::{AllocError, Global};
 use subst::Error;
 
 /// The answer of a record whose source is a document.
-#[derive(Debug, Drop)]
+#[derive(Debug, PartialEq, Drop)]
 pub enum DocumentAnswer {
     /// The text of the document's tree with its strings filled in.
     Gives(String),

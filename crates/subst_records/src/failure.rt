@@ -18,6 +18,11 @@ pub enum Failure {
         /// The first column that is malformed.
         column: Column,
     },
+    /// The ways to the answer of a document don't give the same.
+    Differs {
+        /// The number of the record, from 1.
+        number: u64,
+    },
     /// The input can't be read.
     Read(io::Error),
     /// An answer can't be printed, whatever the cause.
@@ -46,6 +51,7 @@ impl Failure {
     {
         match self {
             Failure::Malformed { .. } => 1,
+            Failure::Differs { .. } => 2,
             Failure::Read(_) | Failure::Write(_) => 3,
             Failure::OutOfMemory => 4,
         }
@@ -61,6 +67,9 @@ impl fmt::Display for Failure {
         match self {
             Failure::Malformed { number, column } => {
                 write!(f, "record {number}: malformed column {column}")
+            }
+            Failure::Differs { number } => {
+                write!(f, "record {number}: the ways to its answer differ")
             }
             Failure::Read(e) | Failure::Write(e) => write!(f, "{e}"),
             Failure::OutOfMemory => write!(f, "out of memory"),

@@ -7,7 +7,7 @@ ghost use Rattle.subst_records.specs.Printing.{is_comment, AppendsPart, FailsBy,
 
 use crate::failure::Failure;
 use crate::record::Record;
-use crate::{bytes, json_document, text, toml_document};
+use crate::{bytes, json_document, json_ways, text, toml_document, toml_ways};
 use std::alloc::{AllocError, Global};
 use std::io;
 use std::io::{BufRead, ErrorKind, Write};
@@ -72,7 +72,19 @@ fn answer_line(alloc: Global, number: u64, line: &[u8]) -> Result<String, Failur
     ensures err { IfErr result (IsFailureAt number line.now) }
 {
     let asked = Record::read(alloc, line).map_err(|e| Failure::at_record(number, e))?;
+    if !ways_agree(alloc, &asked)? {
+        return Err(Failure::Differs { number });
+    }
     Ok(line_for(alloc, &asked)?)
+}
+
+/// Whether the ways to the answer of a document agree. Those to other answers are compared for their line.
+fn ways_agree(alloc: Global, asked: &Record) -> Result<bool, AllocError> {
+    match asked {
+        Record::Bytes(_) | Record::Text(_) => Ok(true),
+        Record::Json(asked) => json_ways::agree(alloc, asked),
+        Record::Toml(asked) => toml_ways::agree(alloc, asked),
+    }
 }
 
 /// The line of the answer to a record.
