@@ -6,10 +6,10 @@ use Rattle.std.specs.Io.KnownBytes.{Appends}
 use Rattle.std.specs.Prelude.{IfOk, IfSome, IsSomeAnd, MatchResult, OnErr}
 use Rattle.std.specs.declared.io.Error.{Error}
 use Rattle.subst_records.specs.Failure.{IsFailureAt}
-use Rattle.subst_records.specs.Record.{IsMalformed}
+use Rattle.subst_records.specs.Record.{HoldsDocument, IsMalformed}
 use Rattle.subst_records.specs.declared.failure.Failure.{Failure}
 use Rattle.subst_records.specs.declared.failure.Failure.TheVariants.{Malformed, Differs, Read, Write, OutOfMemory}
-use Rattle.subst_records.specs.Printing.{is_comment, newline, AppendsPart, AreAnswered, ArePrinted, EndsBetween, EndsWithin, FailsBy, IsAnswered, Prints, ReadsAtMostALine, ReadsLine}
+use Rattle.subst_records.specs.Printing.{is_comment, newline, AppendsPart, AreAnswered, ArePrinted, EndsAt, EndsBetween, EndsWithin, FailsBy, IsAnswered, Prints, ReadsAtMostALine, ReadsLine}
 use Rattle.subst_records.specs.Printing.ArePrinted.{nothing, comment, answer}
 
 -- what has been printed for a prefix of a text with so many records, after which these lines are left
@@ -109,26 +109,31 @@ read_fails first now next old new count P Q e failure so reads (inl memory) =
 read_fails first now next old new count P Q e failure so reads (inr read) =
     rw read.1 (ends_between first now next old new count so reads)
 
+-- at a record of some kind, which is the next one
+ends_at : (Is : List ℕ → Type 0) (first now next old new : Option (List ℕ)) (line : List ℕ) (count number : ℕ)
+    → PrintedSoFar first now old new count → ReadsLine true now next line → is_comment line ≡ false
+    → (number ≡ count + 1) × Is line → IfSome first (λ known. EndsAt Is known next old new number)
+ends_at Is None now next old new line count number so reads is fails = tt
+ends_at Is (Some known) None next old new line count number so reads is fails = absurd so
+ends_at Is (Some known) (Some text) next old new line count number so reads is fails = record {
+  left = text;
+  count = count;
+  before = answered_before known text old new count so;
+  next = fails.0 ∙ omega arith;
+  begins = reads.0;
+  is_record = ap is_comment (sym reads.1) ∙ is;
+  is = subst Is reads.1 fails.1;
+  read = reads.2;
+}
+
 -- at a record for which there is no answer
 pub fails_at : (first now next old new : Option (List ℕ)) (line : List ℕ) (count : ℕ) (failure : Failure)
     → PrintedSoFar first now old new count → ReadsLine true now next line → ReadsAtMostALine now next
     → is_comment line ≡ false → IsFailureAt (count + 1) line failure → FailsBy first next old new failure
-fails_at None now next old new line count (Malformed number column) so reads most is fails = tt
-fails_at (Some known) None next old new line count (Malformed number column) so reads most is fails =
-    absurd so
-fails_at (Some known) (Some text) next old new line count (Malformed number column) so reads most is fails =
-    record {
-      left = text;
-      count = count;
-      before = answered_before known text old new count so;
-      next = fails.0 ∙ omega arith;
-      begins = reads.0;
-      is_record = ap is_comment (sym reads.1) ∙ is;
-      malformed = subst (λ (l : List ℕ). IsMalformed l column) reads.1 fails.1;
-      read = reads.2;
-    }
+fails_at first now next old new line count (Malformed number column) so reads most is fails =
+    ends_at (λ (l : List ℕ). IsMalformed l column) first now next old new line count number so reads is fails
 fails_at first now next old new line count (Differs number) so reads most is fails =
-    ends_between first now next old new count so most
+    ends_at HoldsDocument first now next old new line count number so reads is fails
 fails_at first now next old new line count (Read e) so reads most is fails = absurd fails
 fails_at first now next old new line count (Write e) so reads most is fails = absurd fails
 fails_at first now next old new line count OutOfMemory so reads most is fails =

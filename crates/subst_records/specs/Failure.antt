@@ -1,6 +1,6 @@
 -- Why the program ends early.
 use Rattle.std.specs.Prelude.{◌≡◌, ℕ, List, ◌++◌, Option, Some, None, codes, decimal, ℤ, pos, ⊤}
-use Rattle.subst_records.specs.Record.{column_word, IsMalformed}
+use Rattle.subst_records.specs.Record.{column_word, HoldsDocument, IsMalformed}
 use Rattle.subst_records.specs.declared.failure.Failure.{Failure}
 use Rattle.subst_records.specs.declared.failure.Failure.TheVariants.{Malformed, Differs, Read, Write, OutOfMemory}
 
@@ -25,10 +25,11 @@ text_of (Read e) = None
 text_of (Write e) = None
 text_of OutOfMemory = Some (codes "out of memory")
 
--- The line of the record of this number is malformed, or the ways to its answer differ, or memory ran out.
+-- The line of the record of this number is malformed, or that of a document to whose answer the ways differ, or
+-- memory ran out.
 abbrev pub IsFailureAt : ℕ → List ℕ → Failure → Type 0
 IsFailureAt number line (Malformed n column) = (n ≡ number) × IsMalformed line column
-IsFailureAt number line (Differs n) = n ≡ number
+IsFailureAt number line (Differs n) = (n ≡ number) × HoldsDocument line
 IsFailureAt number line (Read e) = ⊥
 IsFailureAt number line (Write e) = ⊥
 IsFailureAt number line OutOfMemory = ⊤

@@ -8,13 +8,12 @@ use Rattle.subst_records.specs.AnswerLine.{IsLineOf}
 use Rattle.subst_records.specs.DocumentLine.{IsDocumentLine}
 use Rattle.subst_records.specs.JsonAnswer.{IsJsonAnswer}
 use Rattle.subst_records.specs.TomlAnswer.{IsTomlAnswer}
-use Rattle.subst_records.specs.Record.{IsMalformed, IsRecord}
+use Rattle.subst_records.specs.Record.{HoldsDocument, IsMalformed, IsRecord}
 use Rattle.subst_records.specs.Agreement.{IsTrueAnswer, values_of}
 use Rattle.subst_records.specs.declared.answer.Answer.{Answer}
 use Rattle.subst_records.specs.declared.document.DocumentAnswer.{DocumentAnswer}
 use Rattle.subst_records.specs.declared.failure.Failure.{Failure}
 use Rattle.subst_records.specs.declared.failure.Failure.TheVariants.{Malformed, Differs, Read, Write, OutOfMemory}
-use Rattle.subst_records.specs.declared.record.Column.{Column}
 use Rattle.subst_records.specs.declared.record.Record.{Record}
 use Rattle.subst_records.specs.declared.record.Record.TheVariants as records
 
@@ -85,9 +84,9 @@ pub record AreAnswered (text left : List ℕ) (old new : Option (List ℕ)) (cou
 abbrev pub Prints : Option (List ℕ) → Option (List ℕ) → Option (List ℕ) → Type 0
 Prints text old new = IfSome text (λ known. (count : ℕ) × AreAnswered known [] old new count)
 
--- The lines before the record of this number have been answered. The record is malformed in this column, and
--- was the last line to be read.
-pub record IsMalformedAt (text : List ℕ) (rest old new : Option (List ℕ)) (number : ℕ) (c : Column)
+-- The lines before the record of this number have been answered. The record is of this kind, and was the last
+-- line to be read.
+pub record EndsAt (Is : List ℕ → Type 0) (text : List ℕ) (rest old new : Option (List ℕ)) (number : ℕ)
     : Type 0 where
   pub left : List ℕ
   pub count : ℕ
@@ -95,7 +94,7 @@ pub record IsMalformedAt (text : List ℕ) (rest old new : Option (List ℕ)) (n
   pub next : number ≡ suc count
   pub begins : 0 < length left
   pub is_record : is_comment (first_piece newline left) ≡ false
-  pub malformed : IsMalformed (first_piece newline left) c
+  pub is : Is (first_piece newline left)
   pub read : rest ≡ Some (drop_through newline left)
 
 -- at most one line was read of what was left, with or without the newline that ends it
@@ -125,12 +124,12 @@ pub record EndsWithin (text : List ℕ) (rest old new : Option (List ℕ)) : Typ
   pub begun : AppendsPart between new answer
   pub read : rest ≡ Some (drop_through newline left)
 
--- How a run over a text ended that failed, if the text was known. A malformed record is as the failure says,
+-- How a run over a text ended that failed, if the text was known. A record is as the failure says,
 -- and only where a write failed, an answer was printed in part.
 abbrev pub FailsBy : (text rest old new : Option (List ℕ)) → Failure → Type 0
 FailsBy text rest old new (Malformed number column) =
-    IfSome text (λ known. IsMalformedAt known rest old new number column)
-FailsBy text rest old new (Differs number) = IfSome text (λ known. EndsBetween known rest old new)
+    IfSome text (λ known. EndsAt (λ line. IsMalformed line column) known rest old new number)
+FailsBy text rest old new (Differs number) = IfSome text (λ known. EndsAt HoldsDocument known rest old new number)
 FailsBy text rest old new (Read e) = IfSome text (λ known. EndsBetween known rest old new)
 FailsBy text rest old new (Write e) = IfSome text (λ known. EndsWithin known rest old new)
 FailsBy text rest old new OutOfMemory = IfSome text (λ known. EndsBetween known rest old new)

@@ -145,6 +145,19 @@ IsRecord line (records.Json asked) =
 IsRecord line (records.Toml asked) =
     IsLineOfRecord line kind.Toml asked.source.items (values_of (λ v. string_bytes v) asked.pairs)
 
+-- the source of the record is a document
+abbrev pub IsOfDocument : Record → Type 0
+IsOfDocument (records.Bytes asked) = ⊥
+IsOfDocument (records.Text asked) = ⊥
+IsOfDocument (records.Json asked) = ⊤
+IsOfDocument (records.Toml asked) = ⊤
+
+-- the line is that of a record whose source is a document
+pub record HoldsDocument (line : List ℕ) : Type 0 where
+  pub asked : Record
+  pub is : IsRecord line asked
+  pub document : IsOfDocument asked
+
 -- there are no columns, or they begin with that of no source of the form
 abbrev pub HasNoSource : Form → Option (List ℕ) → Type 0
 HasNoSource form None = ⊤

@@ -6,7 +6,8 @@
 //! A record is three columns, separated by tabs: `KIND`, `SOURCE` and `PAIRS`.
 //!
 //! - `KIND` says how the source is filled in: `bytes` is by `substitute_bytes`, `text` by `substitute`, and
-//!   `json` and `toml` are by `value_from_slice` of these modules.
+//!   `json` and `toml` are by `value_from_slice` of these modules. The other ways to an answer are compared
+//!   with it: templates, the calls that count, and of a document `value_from_str` and its tree filled in.
 //! - `SOURCE` is the source, in lower-case hexadecimal. An empty byte string is `-`, here and everywhere. The
 //!   source of a text is UTF-8.
 //! - `PAIRS` is `-`, or `NAME=VALUE` for each variable, separated by commas, with names and values in
@@ -32,9 +33,10 @@
 //! A line that begins with `#` is a comment: it gets no answer and isn't counted. An empty line isn't a
 //! record.
 //!
-//! The status is 0 on success, 1 if a record is malformed, 3 if the input can't be read or an answer can't be
-//! printed, and 4 if memory runs out. Each of the last three prints one line on standard error; the answers
-//! of the records before it are printed, or as much of them as can be.
+//! The status is 0 on success, 1 if a record is malformed, 2 if the ways to the answer of a document differ,
+//! 3 if the input can't be read or an answer can't be printed, and 4 if memory runs out. Each of the last
+//! four prints one line on standard error; the answers of the records before it are printed, or as much of
+//! them as can be.
 #![tactic(auto)]
 
 mod answer;

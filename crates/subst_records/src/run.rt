@@ -1,9 +1,10 @@
 //! The run over all records.
 
-ghost use Rattle.std.specs.Prelude.{◌≡◌, IfErr, IfOk, OnErr, OnOk, string_bytes};
+ghost use Rattle.std.specs.Prelude.{◌≡◌, false, IfErr, IfOk, OnErr, OnOk, string_bytes};
 ghost use Rattle.std.specs.Io.KnownBytes.{Appends};
 ghost use Rattle.subst_records.specs.Failure.{IsFailureAt};
 ghost use Rattle.subst_records.specs.Printing.{is_comment, AppendsPart, FailsBy, IsAnswered, IsLineFor, Prints, ReadsAtMostALine, ReadsLine};
+ghost use Rattle.subst_records.specs.Record.{IsOfDocument};
 
 use crate::failure::Failure;
 use crate::record::Record;
@@ -79,7 +80,9 @@ fn answer_line(alloc: Global, number: u64, line: &[u8]) -> Result<String, Failur
 }
 
 /// Whether the ways to the answer of a document agree. Those to other answers are compared for their line.
-fn ways_agree(alloc: Global, asked: &Record) -> Result<bool, AllocError> {
+fn ways_agree(alloc: Global, asked: &Record) -> Result<bool, AllocError>
+    ensures { IfOk result (λ agree. agree ≡ false → IsOfDocument asked.now) }
+{
     match asked {
         Record::Bytes(_) | Record::Text(_) => Ok(true),
         Record::Json(asked) => json_ways::agree(alloc, asked),
