@@ -1,0 +1,216 @@
+//! Types that are read from a tree once it is filled in.
+
+use crate::rows::{Call, first_wrong};
+use serde::Deserialize;
+use std::alloc::{AllocError, Global};
+use std::collections::BTreeMap;
+use std::fmt::Debug;
+use subst::{NoSubstitution, json, toml as toml_of_subst};
+use subst_testing::variables::texts;
+use toml::value::Datetime;
+
+#[derive(Debug, Drop, Deserialize)]
+struct Config {
+    bar: String,
+    baz: String,
+    #[serde(default)]
+    ports: Vec<u16>,
+}
+
+const PAIRS: &str = "bar=aap,baz=noot,port=80,day=2024-05-01";
+
+/// The text of a value that was read from JSON, or what kind of error came.
+fn of_json<T: Debug + Drop>(
+    alloc: Global,
+    read: Result<T, json::Error>,
+) -> Result<String, AllocError> {
+    match read {
+        Ok(value) => format!(in alloc; "{value:?}"),
+        Err(json::Error::Json(_)) => String::from_str(alloc, "no JSON"),
+        Err(json::Error::Subst(fault)) => fault.to_string(alloc),
+        Err(json::Error::OutOfMemory(e)) => Err(e),
+    }
+}
+
+/// The same of TOML.
+fn of_toml<T: Debug + Drop>(
+    alloc: Global,
+    read: Result<T, toml_of_subst::Error>,
+) -> Result<String, AllocError> {
+    match read {
+        Ok(value) => format!(in alloc; "{value:?}"),
+        Err(toml_of_subst::Error::InvalidUtf8(_)) => String::from_str(alloc, "no text"),
+        Err(toml_of_subst::Error::Toml(_)) => String::from_str(alloc, "no TOML"),
+        Err(toml_of_subst::Error::Subst(fault)) => fault.to_string(alloc),
+        Err(toml_of_subst::Error::OutOfMemory(e)) => Err(e),
+    }
+}
+
+/// What the text of a source and its bytes both give.
+fn both(alloc: Global, of_text: String, of_bytes: String) -> Result<String, AllocError> {
+    if of_text == of_bytes {
+        Ok(of_text)
+    } else {
+        format!(in alloc; "{of_text}, and of bytes {of_bytes}")
+    }
+}
+
+struct JsonConfig;
+
+impl Call for JsonConfig {
+    fn told(alloc: Global, source: &str) -> Result<String, AllocError> {
+        let variables = texts(alloc, PAIRS)?;
+        let of_text = json::from_str::<Config, _>(alloc, source, &variables);
+        let of_bytes = json::from_slice::<Config, _>(alloc, source.as_bytes(), &variables);
+        both(alloc, of_json(alloc, of_text)?, of_json(alloc, of_bytes)?)
+    }
+}
+
+#[test]
+fn a_struct_of_json(rt: HostRuntime) {
+    let rows: &[(&str, &str)] = &[
+        (
+            "{\"bar\":\"$bar\",\"baz\":\"$baz/with/stuff\",\"ports\":[80,8080]}",
+            "Config { bar: \"aap\", baz: \"noot/with/stuff\", ports: [80, 8080] }",
+        ),
+        (
+            "{\"bar\":\"\",\"baz\":\"\",\"more\":1}",
+            "Config { bar: \"\", baz: \"\", ports: [] }",
+        ),
+        ("{\"bar\":1}", "no JSON"),
+        ("{\"bar\":\"\",\"baz\":null}", "no JSON"),
+        ("[]", "no JSON"),
+        ("{}", "no JSON"),
+        // A string that is refused comes before the type, and what is no JSON before both.
+        ("{\"bar\":\"$x\"}", "No such variable: $x"),
+        ("{\"bar\":\"$x\"", "no JSON"),
+        // A string that is filled in is no number.
+        (
+            "{\"bar\":\"\",\"baz\":\"\",\"ports\":[\"$port\"]}",
+            "no JSON",
+        ),
+    ];
+    assert_eq!(rt; first_wrong::<JsonConfig>(rt.alloc(), rows), Ok(None));
+}
+
+struct TomlConfig;
+
+impl Call for TomlConfig {
+    fn told(alloc: Global, source: &str) -> Result<String, AllocError> {
+        let variables = texts(alloc, PAIRS)?;
+        let of_text = toml_of_subst::from_str::<Config, _>(alloc, source, &variables);
+        let of_bytes = toml_of_subst::from_slice::<Config, _>(alloc, source.as_bytes(), &variables);
+        both(alloc, of_toml(alloc, of_text)?, of_toml(alloc, of_bytes)?)
+    }
+}
+
+#[test]
+fn a_struct_of_toml(rt: HostRuntime) {
+    let rows: &[(&str, &str)] = &[
+        (
+            "bar = '$bar'\nbaz = '$baz/with/stuff'\nports = [80, 8080]\n",
+            "Config { bar: \"aap\", baz: \"noot/with/stuff\", ports: [80, 8080] }",
+        ),
+        (
+            "bar = ''\nbaz = ''\nmore = 1",
+            "Config { bar: \"\", baz: \"\", ports: [] }",
+        ),
+        ("bar = 1\nbaz = ''", "no TOML"),
+        ("bar = ''\nbaz = 1979-05-27", "no TOML"),
+        ("", "no TOML"),
+        ("bar = '$x'", "No such variable: $x"),
+        ("bar = '$x'\nbaz =", "no TOML"),
+        ("bar = ''\nbaz = ''\nports = ['$port']", "no TOML"),
+    ];
+    assert_eq!(rt; first_wrong::<TomlConfig>(rt.alloc(), rows), Ok(None));
+}
+
+struct UnfilledJson;
+
+impl Call for UnfilledJson {
+    fn told(alloc: Global, source: &str) -> Result<String, AllocError> {
+        of_json(alloc, json::from_str::<Config, _>(alloc, source, &NoSubstitution))
+    }
+}
+
+struct UnfilledToml;
+
+impl Call for UnfilledToml {
+    fn told(alloc: Global, source: &str) -> Result<String, AllocError> {
+        of_toml(alloc, toml_of_subst::from_str::<Config, _>(alloc, source, &NoSubstitution))
+    }
+}
+
+#[test]
+fn a_struct_without_substitution_and_with_a_default(rt: HostRuntime) {
+    let want = "Config { bar: \"aap\", baz: \"noot/with/stuff\", ports: [] }";
+    let json = ("{\"bar\":\"aap\",\"baz\":\"noot/with/stuff\"}", want);
+    assert_eq!(rt; first_wrong::<UnfilledJson>(rt.alloc(), &[json]), Ok(None));
+    let toml = ("bar = \"aap\"\nbaz = \"noot/with/stuff\"\n", want);
+    assert_eq!(rt; first_wrong::<UnfilledToml>(rt.alloc(), &[toml]), Ok(None));
+}
+
+fn is_no_text(alloc: Global, source: &[u8]) -> bool {
+    let read = toml_of_subst::from_slice::<Config, _>(alloc, source, &NoSubstitution);
+    matches!(read, Err(toml_of_subst::Error::InvalidUtf8(_)))
+}
+
+#[test]
+fn bytes_that_are_no_text_come_before_the_strings(rt: HostRuntime) {
+    assert!(rt; is_no_text(rt.alloc(), b"bar = '$x'\nbaz = \xFF"));
+}
+
+type Owners = BTreeMap<String, Option<String>>;
+
+struct JsonOwners;
+
+impl Call for JsonOwners {
+    fn told(alloc: Global, source: &str) -> Result<String, AllocError> {
+        let variables = texts(alloc, PAIRS)?;
+        of_json(alloc, json::from_str::<Owners, _>(alloc, source, &variables))
+    }
+}
+
+#[test]
+fn a_map_of_json_keeps_its_keys(rt: HostRuntime) {
+    let row = (
+        "{\"$baz\":\"$baz\",\"b\":null}",
+        "{\"$baz\": Some(\"noot\"), \"b\": None}",
+    );
+    assert_eq!(rt; first_wrong::<JsonOwners>(rt.alloc(), &[row]), Ok(None));
+}
+
+/// The name and the time of each, one after the other.
+fn shown(alloc: Global, times: &BTreeMap<String, Datetime>) -> Result<String, AllocError> {
+    let mut text = String::new(alloc);
+    for (name, time) in times.iter() {
+        text.push_str(format!(in alloc; "{name} {time};")?.as_str())?;
+    }
+    Ok(text)
+}
+
+struct TomlTimes;
+
+impl Call for TomlTimes {
+    fn told(alloc: Global, source: &str) -> Result<String, AllocError> {
+        let variables = texts(alloc, PAIRS)?;
+        let read = toml_of_subst::from_str::<BTreeMap<String, Datetime>, _>(alloc, source, &variables);
+        match read {
+            Ok(times) => shown(alloc, &times),
+            Err(e) => of_toml::<u8>(alloc, Err(e)),
+        }
+    }
+}
+
+#[test]
+fn a_map_of_toml_keeps_its_keys_and_times(rt: HostRuntime) {
+    let rows: &[(&str, &str)] = &[
+        (
+            "'$day' = 07:30:00\nend = 2024-05-01T08:00:00Z\n",
+            "$day 07:30:00;end 2024-05-01T08:00:00Z;",
+        ),
+        // A string that is filled in is no date.
+        ("day = '$day'", "no TOML"),
+    ];
+    assert_eq!(rt; first_wrong::<TomlTimes>(rt.alloc(), rows), Ok(None));
+}
