@@ -14,7 +14,7 @@ pub fn told<T: Display + Drop, E: Display + Drop>(
     read: Result<T, E>,
 ) -> Result<String, AllocError> {
     match read {
-        Ok(tree) => format!(in alloc; "gives {tree}"),
+        Ok(tree) => format!(in alloc; "{tree}"),
         Err(error) => format!(in alloc; "{error}"),
     }
 }

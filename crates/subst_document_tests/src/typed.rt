@@ -5,7 +5,7 @@ use serde::Deserialize;
 use std::alloc::{AllocError, Global};
 use std::collections::BTreeMap;
 use std::fmt::Debug;
-use subst::{NoSubstitution, json, toml as toml_of_subst};
+use subst::{NoSubstitution, json, toml as filled};
 use subst_testing::variables::texts;
 use toml::value::Datetime;
 
@@ -19,7 +19,7 @@ struct Config {
 
 const PAIRS: &str = "bar=aap,baz=noot,port=80,day=2024-05-01";
 
-/// The text of a value that was read from JSON, or what kind of error came.
+/// The text of a value that was read from JSON, or of the error, but for what a type is told of it.
 fn of_json<T: Debug + Drop>(
     alloc: Global,
     read: Result<T, json::Error>,
@@ -27,22 +27,19 @@ fn of_json<T: Debug + Drop>(
     match read {
         Ok(value) => format!(in alloc; "{value:?}"),
         Err(json::Error::Json(_)) => String::from_str(alloc, "no JSON"),
-        Err(json::Error::Subst(fault)) => fault.to_string(alloc),
-        Err(json::Error::OutOfMemory(e)) => Err(e),
+        Err(error) => format!(in alloc; "{error}"),
     }
 }
 
 /// The same of TOML.
 fn of_toml<T: Debug + Drop>(
     alloc: Global,
-    read: Result<T, toml_of_subst::Error>,
+    read: Result<T, filled::Error>,
 ) -> Result<String, AllocError> {
     match read {
         Ok(value) => format!(in alloc; "{value:?}"),
-        Err(toml_of_subst::Error::InvalidUtf8(_)) => String::from_str(alloc, "no text"),
-        Err(toml_of_subst::Error::Toml(_)) => String::from_str(alloc, "no TOML"),
-        Err(toml_of_subst::Error::Subst(fault)) => fault.to_string(alloc),
-        Err(toml_of_subst::Error::OutOfMemory(e)) => Err(e),
+        Err(filled::Error::Toml(_)) => String::from_str(alloc, "no TOML"),
+        Err(error) => format!(in alloc; "{error}"),
     }
 }
 
@@ -98,8 +95,8 @@ struct TomlConfig;
 impl Call for TomlConfig {
     fn told(alloc: Global, source: &str) -> Result<String, AllocError> {
         let variables = texts(alloc, PAIRS)?;
-        let of_text = toml_of_subst::from_str::<Config, _>(alloc, source, &variables);
-        let of_bytes = toml_of_subst::from_slice::<Config, _>(alloc, source.as_bytes(), &variables);
+        let of_text = filled::from_str::<Config, _>(alloc, source, &variables);
+        let of_bytes = filled::from_slice::<Config, _>(alloc, source.as_bytes(), &variables);
         both(alloc, of_toml(alloc, of_text)?, of_toml(alloc, of_bytes)?)
     }
 }
@@ -137,7 +134,7 @@ struct UnfilledToml;
 
 impl Call for UnfilledToml {
     fn told(alloc: Global, source: &str) -> Result<String, AllocError> {
-        of_toml(alloc, toml_of_subst::from_str::<Config, _>(alloc, source, &NoSubstitution))
+        of_toml(alloc, filled::from_str::<Config, _>(alloc, source, &NoSubstitution))
     }
 }
 
@@ -151,8 +148,8 @@ fn a_struct_without_substitution_and_with_a_default(rt: HostRuntime) {
 }
 
 fn is_no_text(alloc: Global, source: &[u8]) -> bool {
-    let read = toml_of_subst::from_slice::<Config, _>(alloc, source, &NoSubstitution);
-    matches!(read, Err(toml_of_subst::Error::InvalidUtf8(_)))
+    let read = filled::from_slice::<Config, _>(alloc, source, &NoSubstitution);
+    matches!(read, Err(filled::Error::InvalidUtf8(_)))
 }
 
 #[test]
@@ -180,25 +177,14 @@ fn a_map_of_json_keeps_its_keys(rt: HostRuntime) {
     assert_eq!(rt; first_wrong::<JsonOwners>(rt.alloc(), &[row]), Ok(None));
 }
 
-/// The name and the time of each, one after the other.
-fn shown(alloc: Global, times: &BTreeMap<String, Datetime>) -> Result<String, AllocError> {
-    let mut text = String::new(alloc);
-    for (name, time) in times.iter() {
-        text.push_str(format!(in alloc; "{name} {time};")?.as_str())?;
-    }
-    Ok(text)
-}
+type Times = BTreeMap<String, Datetime>;
 
 struct TomlTimes;
 
 impl Call for TomlTimes {
     fn told(alloc: Global, source: &str) -> Result<String, AllocError> {
         let variables = texts(alloc, PAIRS)?;
-        let read = toml_of_subst::from_str::<BTreeMap<String, Datetime>, _>(alloc, source, &variables);
-        match read {
-            Ok(times) => shown(alloc, &times),
-            Err(e) => of_toml::<u8>(alloc, Err(e)),
-        }
+        of_toml(alloc, filled::from_str::<Times, _>(alloc, source, &variables))
     }
 }
 
@@ -206,8 +192,14 @@ impl Call for TomlTimes {
 fn a_map_of_toml_keeps_its_keys_and_times(rt: HostRuntime) {
     let rows: &[(&str, &str)] = &[
         (
-            "'$day' = 07:30:00\nend = 2024-05-01T08:00:00Z\n",
-            "$day 07:30:00;end 2024-05-01T08:00:00Z;",
+            "'$day' = 07:30:00",
+            "{\"$day\": Datetime { date: None, time: \
+             Some(Time { hour: 7, minute: 30, second: Some(0), nanosecond: None }), offset: None }}",
+        ),
+        (
+            "end = 2024-05-01T08:00:00Z",
+            "{\"end\": Datetime { date: Some(Date { year: 2024, month: 5, day: 1 }), time: \
+             Some(Time { hour: 8, minute: 0, second: Some(0), nanosecond: None }), offset: Some(Z) }}",
         ),
         // A string that is filled in is no date.
         ("day = '$day'", "no TOML"),

@@ -1,22 +1,38 @@
 //! Documents that are read without substitution: a default is used, and each name is absent.
 
 use crate::rows::{Call, first_wrong, told};
+use serde_json::Value;
 use std::alloc::{AllocError, Global};
-use subst::{NoSubstitution, json, toml};
+use std::fmt::Display;
+use std::str::from_utf8;
+use subst::{NoSubstitution, json, toml as filled};
+use toml::table_from_str;
+
+/// What is told of an error whose text is the reader's.
+const BY_READER: &str = "what the reader says";
+
+/// What was told, unless it is the text of the reader's error.
+fn unless_by_reader<T: Drop, E: Display + Drop>(
+    alloc: Global,
+    told: String,
+    reader: Result<T, E>,
+) -> Result<String, AllocError> {
+    let Err(error) = reader else {
+        return Ok(told);
+    };
+    if told == format!(in alloc; "{error}")? {
+        String::from_str(alloc, BY_READER)
+    } else {
+        Ok(told)
+    }
+}
 
 struct Json;
 
 impl Call for Json {
     fn told(alloc: Global, source: &str) -> Result<String, AllocError> {
-        told(alloc, json::value_from_str(alloc, source, &NoSubstitution))
-    }
-}
-
-struct Toml;
-
-impl Call for Toml {
-    fn told(alloc: Global, source: &str) -> Result<String, AllocError> {
-        told(alloc, toml::value_from_str(alloc, source, &NoSubstitution))
+        let told = told(alloc, json::value_from_str(alloc, source, &NoSubstitution))?;
+        unless_by_reader(alloc, told, Value::from_str(alloc, source))
     }
 }
 
@@ -25,18 +41,28 @@ fn json_without_substitution(rt: HostRuntime) {
     let rows: &[(&str, &str)] = &[
         (
             "{\"bar\":\"aap\",\"baz\":\"${noot:noot}/with/stuff\"}",
-            "gives {\"bar\":\"aap\",\"baz\":\"noot/with/stuff\"}",
+            "{\"bar\":\"aap\",\"baz\":\"noot/with/stuff\"}",
         ),
+        // An error has the text of the one inside.
         ("[\"$x\"]", "No such variable: $x"),
         ("[\"\\\\x\"]", "Invalid escape sequence: \\x"),
         ("[\"${\"]", "Missing variable name"),
         ("[\"${a\"]", "Missing closing brace"),
-        (
-            "{\"b\":\"$\",\"a\":\"$x\"}",
-            "No such variable: $x",
-        ),
+        ("{\"b\":\"$\",\"a\":\"$x\"}", "No such variable: $x"),
+        ("[\n\"$a\"", BY_READER),
+        ("[\"$x\",]", BY_READER),
+        ("{\"a\":1e999}", BY_READER),
     ];
     assert_eq!(rt; first_wrong::<Json>(rt.alloc(), rows), Ok(None));
+}
+
+struct Toml;
+
+impl Call for Toml {
+    fn told(alloc: Global, source: &str) -> Result<String, AllocError> {
+        let told = told(alloc, filled::value_from_str(alloc, source, &NoSubstitution))?;
+        unless_by_reader(alloc, told, table_from_str(alloc, source))
+    }
 }
 
 #[test]
@@ -44,13 +70,31 @@ fn toml_without_substitution(rt: HostRuntime) {
     let rows: &[(&str, &str)] = &[
         (
             "bar = \"aap\"\nbaz = \"${noot:noot}/with/stuff\"\n",
-            "gives { bar = \"aap\", baz = \"noot/with/stuff\" }",
+            "{ bar = \"aap\", baz = \"noot/with/stuff\" }",
         ),
         ("k = '$x'", "No such variable: $x"),
         ("k = ['\\x']", "Invalid escape sequence: \\x"),
         ("k = '${'", "Missing variable name"),
         ("k = '${a'", "Missing closing brace"),
         ("b = '$'\na = '$x'", "No such variable: $x"),
+        ("x =", BY_READER),
+        ("k = '$x'\nk = 1", BY_READER),
+        ("d = 1979-13-01", BY_READER),
     ];
     assert_eq!(rt; first_wrong::<Toml>(rt.alloc(), rows), Ok(None));
+}
+
+/// What is told of bytes; the reader of which they come short is that of UTF-8.
+fn told_of_bytes(alloc: Global, source: &[u8]) -> Result<String, AllocError> {
+    let told = told(alloc, filled::value_from_slice(alloc, source, &NoSubstitution))?;
+    unless_by_reader(alloc, told, from_utf8(source))
+}
+
+fn is_by_reader(told: Result<String, AllocError>) -> bool {
+    matches!(told, Ok(text) if text.as_str() == BY_READER)
+}
+
+#[test]
+fn how_far_bytes_are_text_is_told(rt: HostRuntime) {
+    assert!(rt; is_by_reader(told_of_bytes(rt.alloc(), b"x =\xFF")));
 }
