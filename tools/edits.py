@@ -3,7 +3,8 @@
 
 An edit, crates/X/must-fail/Y.edit or Y.edit.md, is a wrong program that the prover has to refuse. Without words these
 are the edits that `rt ci` leaves out, Y.edit.md, with --all all of them, or those that are named, by their files or by
-their crates. With --quick a crate is left out if its files are as they were when all its edits were last refused.
+their crates. With --quick a crate is left out if its files are as they were when all its edits were last refused, and
+the others are taken to be proved.
 
 The crates are proved first, or kept work of `rt check` is trusted; nothing else may run over the tree meanwhile. Then
 edits of different functions are put into one copy of their crate, which is checked once. An edit is refused if the
@@ -302,7 +303,7 @@ def main():
     sums = {name: sum_of(name) for name in uses}
     edits = [Edit(path) for path in chosen(options, uses)]
     try:
-        prove_all(dict.fromkeys(edit.crate for edit in edits), uses)
+        prove_all([] if options.quick else dict.fromkeys(edit.crate for edit in edits), uses)
     except Wrong as wrong:
         sys.exit(f'{wrong}\n0 passed, 1 failed')
     found = try_all(edits, uses)
