@@ -19,8 +19,9 @@ import time
 import tty
 
 sys.dont_write_bytecode = True
-from running import (GIB, KIB, MIB, PROGRAMS, SECONDS, End, Wrong, column, expect, expect_that, fill, in_memory,
-                     left_in, limited, path_of, pipe, preloading, run, run_tests, shown, unread_pipe, without)
+from running import (GIB, KIB, MIB, PROGRAMS, SECONDS, End, Wrong, builds_of, column, expect, expect_that, fill,
+                     in_memory, left_in, limited, path_of, pipe, preloading, run, run_tests, shown, unread_pipe,
+                     without)
 
 NOT_UTF8 = b'subst: input is not UTF-8\n'
 USAGE = b'usage: subst_filter bytes|text|env [NAME=VALUE]...\n'
@@ -214,6 +215,19 @@ def test_filter_fills_texts_in():
            heart + b' x=y ' + heart)
     expect(fill_text_in([], heart + b'\x00 {}:\n'), 0, heart + b'\x00 {}:\n')
     expect(fill_text_in([]), 0)
+
+
+def test_filter_built_by_either_compiler_has_each_word():
+    letter = ('Dear $name,\n${greeting:Grüße aus ${town:Köln}}! ${title?}You owe ${sum}${empty}\\: \\$name, \\{\\}, \\\\ '
+              'and ❤.\n')
+    written = 'Dear Zoë,\nGrüße aus Köln! You owe 12 €: $name, {}, \\ and ❤.\n'
+    lines = '$LANG, ${LANG?}, ${LANG:none}\n${PATH:none}\n${ABSENT:default of $LANG}, ${ABSENT?}.\n'
+    given = 'C.UTF-8, C.UTF-8, C.UTF-8\n/usr/bin:/bin\ndefault of C.UTF-8, .\n'
+    for build in builds_of('subst_filter'):
+        words, variables = ['text', 'name=Zoë', 'sum=12 €', 'empty='], {'LANG': 'C.UTF-8', 'PATH': '/usr/bin:/bin'}
+        expect(run('subst_filter', ['bytes', 'name=world'], b'Hello $name!', executable=build), 0, b'Hello world!')
+        expect(run('subst_filter', words, letter.encode(), executable=build), 0, written.encode())
+        expect(run('subst_filter', ['env'], lines.encode(), executable=build, env=variables), 0, given.encode())
 
 
 def test_filter_refuses_input_that_is_no_text():
@@ -543,6 +557,10 @@ def test_filter_reads_200000_nested_defaults():
     expect(fill_in([], opened + b'\\x' + closed), 1, errors=b'subst: Invalid escape sequence: \\x\n')
     expect(fill_in([], opened + b'$b' + closed), 1, errors=b'subst: No such variable: $b\n')
     expect(fill_in([], opened + closed[1:]), 1, errors=b'subst: Missing closing brace\n')
+
+
+def test_filter_refuses_100000_levels_of_which_one_is_not_closed():
+    expect(fill_text_in([], 100000 * b'${a:' + 99999 * b'}'), 1, errors=b'subst: Missing closing brace\n')
 
 
 def test_filter_reads_1000000_levels_on_a_stack_of_64_kib():

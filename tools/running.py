@@ -49,6 +49,13 @@ def path_of(program):
     return CRATES / program / 'out' / program
 
 
+def builds_of(program):
+    """A program as each of the two compilers of `rt ci` builds it; where only the first has, or anew, that one alone."""
+    other = path_of(program).with_suffix('.by-rattle')
+    has_other = other.exists() and other.stat().st_mtime >= newest_source()
+    return [path_of(program), other] if has_other else [path_of(program)]
+
+
 def build(program):
     """Proves and builds a program, unless it is newer than the sources. Returns whether it is there."""
     path = path_of(program)

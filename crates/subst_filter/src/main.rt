@@ -1,7 +1,6 @@
 //! Fills in shell-like variables from standard input to standard output. All of it is in `subst_program`.
 //!
-//! The stored run beside it is of the word `bytes`; `subst_filter_text` and `subst_filter_env` are this
-//! program again, with runs of the other two words.
+//! The stored run beside it is of the word `bytes`; `tools/programs.py` runs the other two words.
 #![tactic(auto)]
 
 use std::process::ExitCode;
