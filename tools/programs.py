@@ -218,8 +218,8 @@ def test_filter_fills_texts_in():
 
 
 def test_filter_built_by_either_compiler_has_each_word():
-    letter = ('Dear $name,\n${greeting:Grüße aus ${town:Köln}}! ${title?}You owe ${sum}${empty}\\: \\$name, \\{\\}, \\\\ '
-              'and ❤.\n')
+    letter = ('Dear $name,\n${greeting:Grüße aus ${town:Köln}}! ${title?}You owe ${sum}${empty}\\: '
+              '\\$name, \\{\\}, \\\\ and ❤.\n')
     written = 'Dear Zoë,\nGrüße aus Köln! You owe 12 €: $name, {}, \\ and ❤.\n'
     lines = '$LANG, ${LANG?}, ${LANG:none}\n${PATH:none}\n${ABSENT:default of $LANG}, ${ABSENT?}.\n'
     given = 'C.UTF-8, C.UTF-8, C.UTF-8\n/usr/bin:/bin\ndefault of C.UTF-8, .\n'
@@ -657,12 +657,67 @@ def test_answers_ignores_its_words():
         expect(run('subst_answers', words, record(b'a')), 0, given(b'a'))
 
 
+# Records with their answers, by the kind of the source.
+NO_NAME = b'fault\tMissingVariableName\t0\t1\t-\t%b\t0..1\t' % column(b'Missing variable name')
+NO_CHARACTER = b'fault\tInvalidEscapeSequence\t0\tnone\t-\t%b\t0..1\t' % column(
+    b'Invalid escape sequence: missing escape character')
+ANSWERS = (
+    (b'bytes\t-\t-', b'ok\t-'),
+    (b'bytes\t2461\t61=2d,62=-', b'ok\t2d'),
+    (b'bytes\t2461\t-=31,61=-', b'ok\t-'),
+    (b'bytes\t80\t61=80', b'ok\t80'),
+    (b'text\t-\t-', b'ok\t-'),
+    (b'text\tc3a92461\t61=c3a9', b'ok\tc3a9c3a9'),
+    (b'text\t24\t-', NO_NAME + b'24\t' + column(b'  $\n  ^\n')),
+    (b'bytes\t24\t-', NO_NAME + b'24\t' + column(b'  $\n  ^\n')),
+    (b'bytes\t5c\t-', NO_CHARACTER + b'5c\t' + column(b'  \\\n  ^\n')),
+    (b'json\t-\t-', b'refused\tJson'),
+    (b'json\t80\t-', b'refused\tJson'),
+    (b'json\t%b\t61=22' % column(b'{"b": ["$a"], "$a": 1}'), b'ok\t' + column(b'{"$a":1,"b":["\\""]}')),
+    (b'json\t%b\t-' % column(b'["a", "$"]'), NO_NAME + b'.\t.'),
+    (b'toml\t-\t-', b'ok\t' + column(b'{}')),
+    (b'toml\t61\t-', b'refused\tToml'),
+    (b'toml\t613d80\t-', b'refused\tInvalidUtf8'),
+    # JSON has no NaN, no infinity and no dates.
+    (b'toml\t%b\t61=22' % column(b'"b" = [1.5, nan, -inf, 1979-05-27, 1979-05-27 07:32:00.50-07:00, 07:32:00]\n'
+                                 b'"$a" = "$a"\n'),
+     b'ok\t' + column(b'{"$a":"\\"","b":[1.5,null,null,["date",null,"1979-05-27"],'
+                      b'["date",null,"1979-05-27T07:32:00.5-07:00"],["date",null,"07:32:00"]]}')),
+)
+
+
+def test_answers_to_each_kind_of_source():
+    for line, answer_line in ANSWERS:
+        expect(answer(line), 0, answer_line + b'\n')
+        expect(answer(line + b'\n'), 0, answer_line + b'\n')
+    expect(answer(b'\n'.join(line for line, _ in ANSWERS)), 0, b''.join(it + b'\n' for _, it in ANSWERS))
+
+
+def test_answers_gives_comments_none():
+    expect(answer(b'# one\nbytes\t-\t-\n#\n#bytes\n'), 0, b'ok\t-\n')
+    expect(answer(b'# one\n#\n\n'), 1, errors=b'subst_answers: record 1: malformed column kind\n')
+
+
+# Records that are malformed, by the first column that is.
+KINDS = ('', 'byte', 'Bytes', 'bytes ', ' bytes', 'bytes\r', '-', 'texts', 'Text', 'Json')
+SOURCES = ('', '0', '2A', '2g', '--', ' 24', '24 ', 'é')
+PAIRS = ('', '61', '61=', '=31', '61=31,', ',61=31', '61=3', '61=31=32', '61=31,61=32', 'ff=31', '-\t-', '-\r', '61=4A')
+MALFORMED = {
+    'kind': [f'{kind}\t-\t-' for kind in KINDS],
+    'source': [f'bytes\t{source}\t-' for source in SOURCES] + ['bytes', 'text\t80\t-'],
+    'pairs': [f'bytes\t-\t{pairs}' for pairs in PAIRS]
+    + ['bytes\t-', 'text\t-\t61=80', 'json\t-\t61=80', 'toml\t-\t61=80'],
+}
+
+
 def test_answers_ends_at_a_malformed_record():
-    rows = [(b'byte\t-\t-\n', b'kind'), (b'\n', b'kind'), (b'bytes\t2g\t-\n', b'source'), (b'bytes\t-\n', b'pairs')]
+    good = b'bytes\t30\t-\n'
+    for name, lines in MALFORMED.items():
+        for line in lines:
+            errors = b'subst_answers: record 2: malformed column %b\n' % name.encode()
+            expect(answer(good + line.encode() + b'\n' + good), 1, b'ok\t30\n', errors)
     before, printed = b'# comment\n' + 1000 * record(b'\\$'), 1000 * given(b'$')
-    for line, name in rows:
-        errors = b'subst_answers: record 1001: malformed column %b\n' % name
-        expect(answer(before + line + before), 1, printed, errors)
+    expect(answer(before + b'\n' + before), 1, printed, b'subst_answers: record 1001: malformed column kind\n')
 
 
 def test_answers_reads_long_lines():
