@@ -36,7 +36,7 @@ fn repeated(
     end: &str,
 ) -> Result<String, AllocError> {
     let parts = part.repeat(alloc, times)?;
-    format!(in alloc; "{start}{parts}{end}")
+    [start, parts.as_str(), end].concat(alloc)
 }
 
 /// A text in an array in an array, and so on, between two ends.
@@ -111,14 +111,23 @@ fn deep(alloc: Global, depth: usize, text: &str) -> Result<Value, AllocError> {
     Ok(tree)
 }
 
-/// Whether a string in this many arrays is filled in there.
-fn is_filled_in(alloc: Global, depth: usize) -> Result<bool, Error> {
-    let mut tree = deep(alloc, depth, "$a")?;
+fn filled(alloc: Global, mut tree: Value) -> Result<Value, Error> {
     json::substitute_string_values(alloc, &mut tree, &texts(alloc, "a=1")?)?;
-    Ok(told::<Value, Error>(alloc, Ok(tree))? == nested(alloc, "", depth, "\"1\"", "")?)
+    Ok(tree)
+}
+
+struct InPlace;
+
+impl Call for InPlace {
+    fn told(alloc: Global, source: &str) -> Result<String, AllocError> {
+        told(alloc, filled(alloc, deep(alloc, 1_000, source)?))
+    }
 }
 
 #[test]
 fn deeper_trees_of_a_caller_are_filled_in(rt: HostRuntime) {
-    assert_eq!(rt; is_filled_in(rt.alloc(), 1_000), Ok(true));
+    let alloc = rt.alloc();
+    let source = nested(alloc, "", 0, "$a", "");
+    let want = nested(alloc, "", 1_000, "\"1\"", "");
+    assert_eq!(rt; gives::<InPlace>(alloc, source, want), Ok(true));
 }

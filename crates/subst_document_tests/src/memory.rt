@@ -1,6 +1,6 @@
 //! Errors that are out of memory, whatever was out of it.
 
-use crate::rows::told;
+use crate::rows::shown;
 use std::alloc::{AllocError, Global};
 use subst::{Error, json, toml as filled};
 
@@ -20,13 +20,15 @@ fn out_of_memory_inside_is_out_of_memory(rt: HostRuntime) {
 }
 
 fn is_said(alloc: Global, json: json::Error, toml: filled::Error) -> Result<bool, AllocError> {
-    let json = told::<u8, _>(alloc, Err(json))?;
-    let toml = told::<u8, _>(alloc, Err(toml))?;
-    Ok(json.as_str() == "out of memory" && toml.as_str() == "out of memory")
+    let said = shown(alloc, &json)?;
+    Ok(said.as_str() == "out of memory" && said == shown(alloc, &toml)?)
 }
 
 #[test]
 fn out_of_memory_is_said(rt: HostRuntime) {
     let json = json::Error::from(AllocError);
-    assert_eq!(rt; is_said(rt.alloc(), json, filled::Error::from(AllocError)), Ok(true));
+    assert_eq!(rt;
+        is_said(rt.alloc(), json, filled::Error::from(AllocError)),
+        Ok(true)
+    );
 }

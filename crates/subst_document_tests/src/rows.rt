@@ -8,14 +8,19 @@ pub trait Call {
     fn told(alloc: Global, source: &str) -> Result<String, AllocError>;
 }
 
+/// How a value is shown.
+pub fn shown<T: Display>(alloc: Global, value: &T) -> Result<String, AllocError> {
+    format!(in alloc; "{value}")
+}
+
 /// The text of a tree, or of an error.
 pub fn told<T: Display + Drop, E: Display + Drop>(
     alloc: Global,
     read: Result<T, E>,
 ) -> Result<String, AllocError> {
     match read {
-        Ok(tree) => format!(in alloc; "{tree}"),
-        Err(error) => format!(in alloc; "{error}"),
+        Ok(tree) => shown(alloc, &tree),
+        Err(error) => shown(alloc, &error),
     }
 }
 

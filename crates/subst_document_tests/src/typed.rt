@@ -11,13 +11,12 @@ use toml::value::Datetime;
 
 #[derive(Debug, Drop, Deserialize)]
 struct Config {
-    bar: String,
-    baz: String,
+    home: String,
     #[serde(default)]
     ports: Vec<u16>,
 }
 
-const PAIRS: &str = "bar=aap,baz=noot,port=80,day=2024-05-01";
+const PAIRS: &str = "user=ann,port=80,day=2024-05-01";
 
 /// The text of a value that was read from JSON, or of the error, but for what a type is told of it.
 fn of_json<T: Debug + Drop>(
@@ -67,25 +66,22 @@ impl Call for JsonConfig {
 fn a_struct_of_json(rt: HostRuntime) {
     let rows: &[(&str, &str)] = &[
         (
-            "{\"bar\":\"$bar\",\"baz\":\"$baz/with/stuff\",\"ports\":[80,8080]}",
-            "Config { bar: \"aap\", baz: \"noot/with/stuff\", ports: [80, 8080] }",
+            "{\"home\":\"/home/$user\",\"ports\":[80,8080]}",
+            "Config { home: \"/home/ann\", ports: [80, 8080] }",
         ),
         (
-            "{\"bar\":\"\",\"baz\":\"\",\"more\":1}",
-            "Config { bar: \"\", baz: \"\", ports: [] }",
+            "{\"home\":\"\",\"more\":1}",
+            "Config { home: \"\", ports: [] }",
         ),
-        ("{\"bar\":1}", "no JSON"),
-        ("{\"bar\":\"\",\"baz\":null}", "no JSON"),
+        ("{\"home\":1}", "no JSON"),
+        ("{\"home\":null}", "no JSON"),
         ("[]", "no JSON"),
         ("{}", "no JSON"),
         // A string that is refused comes before the type, and what is no JSON before both.
-        ("{\"bar\":\"$x\"}", "No such variable: $x"),
-        ("{\"bar\":\"$x\"", "no JSON"),
+        ("{\"ports\":\"$x\"}", "No such variable: $x"),
+        ("{\"home\":\"$x\"", "no JSON"),
         // A string that is filled in is no number.
-        (
-            "{\"bar\":\"\",\"baz\":\"\",\"ports\":[\"$port\"]}",
-            "no JSON",
-        ),
+        ("{\"home\":\"\",\"ports\":[\"$port\"]}", "no JSON"),
     ];
     assert_eq!(rt; first_wrong::<JsonConfig>(rt.alloc(), rows), Ok(None));
 }
@@ -105,19 +101,16 @@ impl Call for TomlConfig {
 fn a_struct_of_toml(rt: HostRuntime) {
     let rows: &[(&str, &str)] = &[
         (
-            "bar = '$bar'\nbaz = '$baz/with/stuff'\nports = [80, 8080]\n",
-            "Config { bar: \"aap\", baz: \"noot/with/stuff\", ports: [80, 8080] }",
+            "home = '/home/$user'\nports = [80, 8080]\n",
+            "Config { home: \"/home/ann\", ports: [80, 8080] }",
         ),
-        (
-            "bar = ''\nbaz = ''\nmore = 1",
-            "Config { bar: \"\", baz: \"\", ports: [] }",
-        ),
-        ("bar = 1\nbaz = ''", "no TOML"),
-        ("bar = ''\nbaz = 1979-05-27", "no TOML"),
+        ("home = ''\nmore = 1", "Config { home: \"\", ports: [] }"),
+        ("home = 1", "no TOML"),
+        ("home = 1979-05-27", "no TOML"),
         ("", "no TOML"),
-        ("bar = '$x'", "No such variable: $x"),
-        ("bar = '$x'\nbaz =", "no TOML"),
-        ("bar = ''\nbaz = ''\nports = ['$port']", "no TOML"),
+        ("ports = '$x'", "No such variable: $x"),
+        ("home = '$x'\nports =", "no TOML"),
+        ("home = ''\nports = ['$port']", "no TOML"),
     ];
     assert_eq!(rt; first_wrong::<TomlConfig>(rt.alloc(), rows), Ok(None));
 }
@@ -126,7 +119,10 @@ struct UnfilledJson;
 
 impl Call for UnfilledJson {
     fn told(alloc: Global, source: &str) -> Result<String, AllocError> {
-        of_json(alloc, json::from_str::<Config, _>(alloc, source, &NoSubstitution))
+        of_json(
+            alloc,
+            json::from_str::<Config, _>(alloc, source, &NoSubstitution),
+        )
     }
 }
 
@@ -134,16 +130,19 @@ struct UnfilledToml;
 
 impl Call for UnfilledToml {
     fn told(alloc: Global, source: &str) -> Result<String, AllocError> {
-        of_toml(alloc, filled::from_str::<Config, _>(alloc, source, &NoSubstitution))
+        of_toml(
+            alloc,
+            filled::from_str::<Config, _>(alloc, source, &NoSubstitution),
+        )
     }
 }
 
 #[test]
 fn a_struct_without_substitution_and_with_a_default(rt: HostRuntime) {
-    let want = "Config { bar: \"aap\", baz: \"noot/with/stuff\", ports: [] }";
-    let json = ("{\"bar\":\"aap\",\"baz\":\"noot/with/stuff\"}", want);
+    let want = "Config { home: \"/home/ann\", ports: [] }";
+    let json = ("{\"home\":\"/home/${user:ann}\"}", want);
     assert_eq!(rt; first_wrong::<UnfilledJson>(rt.alloc(), &[json]), Ok(None));
-    let toml = ("bar = \"aap\"\nbaz = \"noot/with/stuff\"\n", want);
+    let toml = ("home = '/home/${user:ann}'", want);
     assert_eq!(rt; first_wrong::<UnfilledToml>(rt.alloc(), &[toml]), Ok(None));
 }
 
@@ -154,7 +153,7 @@ fn is_no_text(alloc: Global, source: &[u8]) -> bool {
 
 #[test]
 fn bytes_that_are_no_text_come_before_the_strings(rt: HostRuntime) {
-    assert!(rt; is_no_text(rt.alloc(), b"bar = '$x'\nbaz = \xFF"));
+    assert!(rt; is_no_text(rt.alloc(), b"home = '$x'\nports = \xFF"));
 }
 
 type Owners = BTreeMap<String, Option<String>>;
@@ -164,15 +163,18 @@ struct JsonOwners;
 impl Call for JsonOwners {
     fn told(alloc: Global, source: &str) -> Result<String, AllocError> {
         let variables = texts(alloc, PAIRS)?;
-        of_json(alloc, json::from_str::<Owners, _>(alloc, source, &variables))
+        of_json(
+            alloc,
+            json::from_str::<Owners, _>(alloc, source, &variables),
+        )
     }
 }
 
 #[test]
 fn a_map_of_json_keeps_its_keys(rt: HostRuntime) {
     let row = (
-        "{\"$baz\":\"$baz\",\"b\":null}",
-        "{\"$baz\": Some(\"noot\"), \"b\": None}",
+        "{\"$user\":\"$user\",\"b\":null}",
+        "{\"$user\": Some(\"ann\"), \"b\": None}",
     );
     assert_eq!(rt; first_wrong::<JsonOwners>(rt.alloc(), &[row]), Ok(None));
 }
@@ -184,7 +186,10 @@ struct TomlTimes;
 impl Call for TomlTimes {
     fn told(alloc: Global, source: &str) -> Result<String, AllocError> {
         let variables = texts(alloc, PAIRS)?;
-        of_toml(alloc, filled::from_str::<Times, _>(alloc, source, &variables))
+        of_toml(
+            alloc,
+            filled::from_str::<Times, _>(alloc, source, &variables),
+        )
     }
 }
 

@@ -1,6 +1,6 @@
 //! Documents that are read without substitution: a default is used, and each name is absent.
 
-use crate::rows::{Call, first_wrong, told};
+use crate::rows::{Call, first_wrong, shown, told};
 use serde_json::Value;
 use std::alloc::{AllocError, Global};
 use std::fmt::Display;
@@ -20,7 +20,7 @@ fn unless_by_reader<T: Drop, E: Display + Drop>(
     let Err(error) = reader else {
         return Ok(told);
     };
-    if told == format!(in alloc; "{error}")? {
+    if told == shown(alloc, &error)? {
         String::from_str(alloc, BY_READER)
     } else {
         Ok(told)
@@ -60,7 +60,10 @@ struct Toml;
 
 impl Call for Toml {
     fn told(alloc: Global, source: &str) -> Result<String, AllocError> {
-        let told = told(alloc, filled::value_from_str(alloc, source, &NoSubstitution))?;
+        let told = told(
+            alloc,
+            filled::value_from_str(alloc, source, &NoSubstitution),
+        )?;
         unless_by_reader(alloc, told, table_from_str(alloc, source))
     }
 }
@@ -86,7 +89,10 @@ fn toml_without_substitution(rt: HostRuntime) {
 
 /// What is told of bytes; the reader of which they come short is that of UTF-8.
 fn told_of_bytes(alloc: Global, source: &[u8]) -> Result<String, AllocError> {
-    let told = told(alloc, filled::value_from_slice(alloc, source, &NoSubstitution))?;
+    let told = told(
+        alloc,
+        filled::value_from_slice(alloc, source, &NoSubstitution),
+    )?;
     unless_by_reader(alloc, told, from_utf8(source))
 }
 
