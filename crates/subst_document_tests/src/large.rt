@@ -1,9 +1,11 @@
 //! Large trees.
 
 use crate::rows::{Call, told};
+use crate::unfilled;
+use crate::unfilled::BY_READER;
 use serde_json::Value;
 use std::alloc::{AllocError, Global};
-use subst::{Error, NoSubstitution, json, toml};
+use subst::{Error, json, toml};
 use subst_testing::variables::texts;
 
 /// How many strings are in one array.
@@ -81,23 +83,15 @@ fn as_deep_as_the_reader_goes(rt: HostRuntime) {
     assert_eq!(rt; gives::<Toml>(alloc, source, want), Ok(true));
 }
 
-fn is_no_json(alloc: Global, source: Result<String, AllocError>) -> Result<bool, AllocError> {
-    let read = json::value_from_str(alloc, source?.as_str(), &NoSubstitution);
-    Ok(matches!(read, Err(json::Error::Json(_))))
-}
-
-fn is_no_toml(alloc: Global, source: Result<String, AllocError>) -> Result<bool, AllocError> {
-    let read = toml::value_from_str(alloc, source?.as_str(), &NoSubstitution);
-    Ok(matches!(read, Err(toml::Error::Toml(_))))
-}
-
 #[test]
 fn nested_deeper_than_the_reader_goes(rt: HostRuntime) {
     let alloc = rt.alloc();
     let source = nested(alloc, "", 128, "\"${a?}\"", "");
-    assert_eq!(rt; is_no_json(alloc, source), Ok(true));
+    let want = nested(alloc, BY_READER, 0, "", "");
+    assert_eq!(rt; gives::<unfilled::Json>(alloc, source, want), Ok(true));
     let source = nested(alloc, "k = ", 81, "\"${a?}\"", "");
-    assert_eq!(rt; is_no_toml(alloc, source), Ok(true));
+    let want = nested(alloc, BY_READER, 0, "", "");
+    assert_eq!(rt; gives::<unfilled::Toml>(alloc, source, want), Ok(true));
 }
 
 /// A string in this many arrays, one in the other.

@@ -16,7 +16,7 @@ struct Config {
     ports: Vec<u16>,
 }
 
-const PAIRS: &str = "user=ann,port=80,day=2024-05-01";
+const PAIRS: &str = "user=ann,port=80";
 
 /// The text of a value that was read from JSON, or of the error, but for what a type is told of it.
 fn of_json<T: Debug + Drop>(
@@ -115,37 +115,6 @@ fn a_struct_of_toml(rt: HostRuntime) {
     assert_eq!(rt; first_wrong::<TomlConfig>(rt.alloc(), rows), Ok(None));
 }
 
-struct UnfilledJson;
-
-impl Call for UnfilledJson {
-    fn told(alloc: Global, source: &str) -> Result<String, AllocError> {
-        of_json(
-            alloc,
-            json::from_str::<Config, _>(alloc, source, &NoSubstitution),
-        )
-    }
-}
-
-struct UnfilledToml;
-
-impl Call for UnfilledToml {
-    fn told(alloc: Global, source: &str) -> Result<String, AllocError> {
-        of_toml(
-            alloc,
-            filled::from_str::<Config, _>(alloc, source, &NoSubstitution),
-        )
-    }
-}
-
-#[test]
-fn a_struct_without_substitution_and_with_a_default(rt: HostRuntime) {
-    let want = "Config { home: \"/home/ann\", ports: [] }";
-    let json = ("{\"home\":\"/home/${user:ann}\"}", want);
-    assert_eq!(rt; first_wrong::<UnfilledJson>(rt.alloc(), &[json]), Ok(None));
-    let toml = ("home = '/home/${user:ann}'", want);
-    assert_eq!(rt; first_wrong::<UnfilledToml>(rt.alloc(), &[toml]), Ok(None));
-}
-
 fn is_no_text(alloc: Global, source: &[u8]) -> bool {
     let read = filled::from_slice::<Config, _>(alloc, source, &NoSubstitution);
     matches!(read, Err(filled::Error::InvalidUtf8(_)))
@@ -162,18 +131,17 @@ struct JsonOwners;
 
 impl Call for JsonOwners {
     fn told(alloc: Global, source: &str) -> Result<String, AllocError> {
-        let variables = texts(alloc, PAIRS)?;
         of_json(
             alloc,
-            json::from_str::<Owners, _>(alloc, source, &variables),
+            json::from_str::<Owners, _>(alloc, source, &NoSubstitution),
         )
     }
 }
 
 #[test]
-fn a_map_of_json_keeps_its_keys(rt: HostRuntime) {
+fn a_map_of_json_without_substitution(rt: HostRuntime) {
     let row = (
-        "{\"$user\":\"$user\",\"b\":null}",
+        "{\"$user\":\"${user:ann}\",\"b\":null}",
         "{\"$user\": Some(\"ann\"), \"b\": None}",
     );
     assert_eq!(rt; first_wrong::<JsonOwners>(rt.alloc(), &[row]), Ok(None));
@@ -185,20 +153,19 @@ struct TomlTimes;
 
 impl Call for TomlTimes {
     fn told(alloc: Global, source: &str) -> Result<String, AllocError> {
-        let variables = texts(alloc, PAIRS)?;
         of_toml(
             alloc,
-            filled::from_str::<Times, _>(alloc, source, &variables),
+            filled::from_str::<Times, _>(alloc, source, &NoSubstitution),
         )
     }
 }
 
 #[test]
-fn a_map_of_toml_keeps_its_keys_and_times(rt: HostRuntime) {
+fn a_map_of_toml_without_substitution(rt: HostRuntime) {
     let rows: &[(&str, &str)] = &[
         (
-            "'$day' = 07:30:00",
-            "{\"$day\": Datetime { date: None, time: \
+            "'$start' = 07:30:00",
+            "{\"$start\": Datetime { date: None, time: \
              Some(Time { hour: 7, minute: 30, second: Some(0), nanosecond: None }), offset: None }}",
         ),
         (
@@ -207,7 +174,7 @@ fn a_map_of_toml_keeps_its_keys_and_times(rt: HostRuntime) {
              Some(Time { hour: 8, minute: 0, second: Some(0), nanosecond: None }), offset: Some(Z) }}",
         ),
         // A string that is filled in is no date.
-        ("day = '$day'", "no TOML"),
+        ("day = '${day:2024-05-01}'", "no TOML"),
     ];
     assert_eq!(rt; first_wrong::<TomlTimes>(rt.alloc(), rows), Ok(None));
 }

@@ -9,7 +9,7 @@ use subst::{NoSubstitution, json, toml as filled};
 use toml::table_from_str;
 
 /// What is told of an error whose text is the reader's.
-const BY_READER: &str = "what the reader says";
+pub const BY_READER: &str = "what the reader says";
 
 /// What was told, unless it is the text of the reader's error.
 fn unless_by_reader<T: Drop, E: Display + Drop>(
@@ -27,7 +27,7 @@ fn unless_by_reader<T: Drop, E: Display + Drop>(
     }
 }
 
-struct Json;
+pub struct Json;
 
 impl Call for Json {
     fn told(alloc: Global, source: &str) -> Result<String, AllocError> {
@@ -56,7 +56,7 @@ fn json_without_substitution(rt: HostRuntime) {
     assert_eq!(rt; first_wrong::<Json>(rt.alloc(), rows), Ok(None));
 }
 
-struct Toml;
+pub struct Toml;
 
 impl Call for Toml {
     fn told(alloc: Global, source: &str) -> Result<String, AllocError> {
@@ -87,20 +87,16 @@ fn toml_without_substitution(rt: HostRuntime) {
     assert_eq!(rt; first_wrong::<Toml>(rt.alloc(), rows), Ok(None));
 }
 
-/// What is told of bytes; the reader of which they come short is that of UTF-8.
-fn told_of_bytes(alloc: Global, source: &[u8]) -> Result<String, AllocError> {
+/// Whether bytes are refused with the text of the error that tells how far they are UTF-8.
+fn is_told_by_utf8(alloc: Global, source: &[u8]) -> Result<bool, AllocError> {
     let told = told(
         alloc,
         filled::value_from_slice(alloc, source, &NoSubstitution),
     )?;
-    unless_by_reader(alloc, told, from_utf8(source))
-}
-
-fn is_by_reader(told: Result<String, AllocError>) -> bool {
-    matches!(told, Ok(text) if text.as_str() == BY_READER)
+    Ok(unless_by_reader(alloc, told, from_utf8(source))?.as_str() == BY_READER)
 }
 
 #[test]
 fn how_far_bytes_are_text_is_told(rt: HostRuntime) {
-    assert!(rt; is_by_reader(told_of_bytes(rt.alloc(), b"x =\xFF")));
+    assert_eq!(rt; is_told_by_utf8(rt.alloc(), b"x =\xFF"), Ok(true));
 }
