@@ -18,7 +18,7 @@ struct Config {
 
 const PAIRS: &str = "user=ann,port=80";
 
-/// The text of a value that was read from JSON, or of the error, but for what a type is told of it.
+/// The text of a value that is read from JSON, or of the error; `no JSON` stands for the reader's words.
 fn of_json<T: Debug + Drop>(
     alloc: Global,
     read: Result<T, json::Error>,
@@ -30,7 +30,7 @@ fn of_json<T: Debug + Drop>(
     }
 }
 
-/// The same of TOML.
+/// The same of TOML, with `no TOML`.
 fn of_toml<T: Debug + Drop>(
     alloc: Global,
     read: Result<T, filled::Error>,
