@@ -5,6 +5,8 @@
 #![tactic(auto)]
 
 #[cfg(test)]
+mod dates;
+#[cfg(test)]
 mod large;
 #[cfg(test)]
 mod memory;

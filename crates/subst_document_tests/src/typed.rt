@@ -11,12 +11,13 @@ use toml::value::Datetime;
 
 #[derive(Debug, Drop, Deserialize)]
 struct Config {
-    home: String,
+    bar: String,
+    baz: String,
     #[serde(default)]
     ports: Vec<u16>,
 }
 
-const PAIRS: &str = "user=ann,port=80";
+const PAIRS: &str = "bar=aap,baz=noot,port=80,verbatim=$bar${a:x}\\\"";
 
 /// The text of a value that is read from JSON, or of the error; `no JSON` stands for the reader's words.
 fn of_json<T: Debug + Drop>(
@@ -66,22 +67,26 @@ impl Call for JsonConfig {
 fn a_struct_of_json(rt: HostRuntime) {
     let rows: &[(&str, &str)] = &[
         (
-            "{\"home\":\"/home/$user\",\"ports\":[80,8080]}",
-            "Config { home: \"/home/ann\", ports: [80, 8080] }",
+            "{\"bar\":\"$bar\",\"baz\":\"$baz/with/stuff\",\"ports\":[80,8080]}",
+            "Config { bar: \"aap\", baz: \"noot/with/stuff\", ports: [80, 8080] }",
         ),
+        // A value is no template.
         (
-            "{\"home\":\"\",\"more\":1}",
-            "Config { home: \"\", ports: [] }",
+            "{\"bar\":\"$verbatim\",\"baz\":\"${x:$verbatim}\",\"more\":1}",
+            "Config { bar: \"$bar${a:x}\\\\\\\"\", baz: \"$bar${a:x}\\\\\\\"\", ports: [] }",
         ),
-        ("{\"home\":1}", "no JSON"),
-        ("{\"home\":null}", "no JSON"),
+        ("{\"bar\":1}", "no JSON"),
+        ("{\"bar\":\"\",\"baz\":null}", "no JSON"),
         ("[]", "no JSON"),
         ("{}", "no JSON"),
         // A string that is refused comes before the type, and what is no JSON before both.
-        ("{\"ports\":\"$x\"}", "No such variable: $x"),
-        ("{\"home\":\"$x\"", "no JSON"),
+        ("{\"bar\":\"$x\"}", "No such variable: $x"),
+        ("{\"bar\":\"$x\"", "no JSON"),
         // A string that is filled in is no number.
-        ("{\"home\":\"\",\"ports\":[\"$port\"]}", "no JSON"),
+        (
+            "{\"bar\":\"\",\"baz\":\"\",\"ports\":[\"$port\"]}",
+            "no JSON",
+        ),
     ];
     assert_eq!(rt; first_wrong::<JsonConfig>(rt.alloc(), rows), Ok(None));
 }
@@ -101,18 +106,48 @@ impl Call for TomlConfig {
 fn a_struct_of_toml(rt: HostRuntime) {
     let rows: &[(&str, &str)] = &[
         (
-            "home = '/home/$user'\nports = [80, 8080]\n",
-            "Config { home: \"/home/ann\", ports: [80, 8080] }",
+            "bar = \"$bar\"\nbaz = \"$baz/with/stuff\"\nports = [80, 8080]\n",
+            "Config { bar: \"aap\", baz: \"noot/with/stuff\", ports: [80, 8080] }",
         ),
-        ("home = ''\nmore = 1", "Config { home: \"\", ports: [] }"),
-        ("home = 1", "no TOML"),
-        ("home = 1979-05-27", "no TOML"),
+        (
+            "bar = '$verbatim'\nbaz = '${x:$verbatim}'\nmore = 1",
+            "Config { bar: \"$bar${a:x}\\\\\\\"\", baz: \"$bar${a:x}\\\\\\\"\", ports: [] }",
+        ),
+        ("bar = 1", "no TOML"),
+        ("bar = ''\nbaz = 1979-05-27", "no TOML"),
         ("", "no TOML"),
-        ("ports = '$x'", "No such variable: $x"),
-        ("home = '$x'\nports =", "no TOML"),
-        ("home = ''\nports = ['$port']", "no TOML"),
+        ("bar = '$x'", "No such variable: $x"),
+        ("bar = '$x'\nports =", "no TOML"),
+        ("bar = ''\nbaz = ''\nports = ['$port']", "no TOML"),
     ];
     assert_eq!(rt; first_wrong::<TomlConfig>(rt.alloc(), rows), Ok(None));
+}
+
+struct Unfilled;
+
+impl Call for Unfilled {
+    fn told(alloc: Global, source: &str) -> Result<String, AllocError> {
+        let of_json = of_json::<Config>(alloc, json::from_str(alloc, source, &NoSubstitution))?;
+        let of_toml = of_toml::<Config>(alloc, filled::from_str(alloc, source, &NoSubstitution))?;
+        format!(in alloc; "{of_json}; {of_toml}")
+    }
+}
+
+#[test]
+fn a_struct_without_substitution(rt: HostRuntime) {
+    let rows: &[(&str, &str)] = &[
+        (
+            "{\"bar\":\"aap\",\"baz\":\"noot/with/stuff\"}",
+            "Config { bar: \"aap\", baz: \"noot/with/stuff\", ports: [] }; no TOML",
+        ),
+        (
+            "bar = \"aap\"\nbaz = \"noot/with/stuff\"\n",
+            "no JSON; Config { bar: \"aap\", baz: \"noot/with/stuff\", ports: [] }",
+        ),
+        ("{\"bar\":1}", "no JSON; no TOML"),
+        ("bar = 1", "no JSON; no TOML"),
+    ];
+    assert_eq!(rt; first_wrong::<Unfilled>(rt.alloc(), rows), Ok(None));
 }
 
 fn is_no_text(alloc: Global, source: &[u8]) -> bool {
@@ -122,7 +157,35 @@ fn is_no_text(alloc: Global, source: &[u8]) -> bool {
 
 #[test]
 fn bytes_that_are_no_text_come_before_the_strings(rt: HostRuntime) {
-    assert!(rt; is_no_text(rt.alloc(), b"home = '$x'\nports = \xFF"));
+    assert!(rt; is_no_text(rt.alloc(), b"bar = '$x'\nbaz = \xFF"));
+}
+
+#[derive(Debug, Drop, Deserialize)]
+#[serde(rename_all = "lowercase")]
+enum Level {
+    Quiet,
+    Loud,
+    Custom(String),
+}
+
+struct JsonLevel;
+
+impl Call for JsonLevel {
+    fn told(alloc: Global, source: &str) -> Result<String, AllocError> {
+        let variables = texts(alloc, "level=loud,user=noot")?;
+        of_json(alloc, json::from_str::<Level, _>(alloc, source, &variables))
+    }
+}
+
+#[test]
+fn variants_by_name_and_with_a_text(rt: HostRuntime) {
+    let rows: &[(&str, &str)] = &[
+        ("\"quiet\"", "Quiet"),
+        ("\"$level\"", "Loud"),
+        ("{\"custom\":\"${name:$user}\"}", "Custom(\"noot\")"),
+        ("\"$user\"", "no JSON"),
+    ];
+    assert_eq!(rt; first_wrong::<JsonLevel>(rt.alloc(), rows), Ok(None));
 }
 
 type Owners = BTreeMap<String, Option<String>>;
