@@ -1,78 +1,80 @@
 //! Nested defaults and nested braces, a hundred thousand deep.
 
-use crate::rows::Answer::{self, BadEscape, Gives, Unclosed};
-use crate::rows::{Map, at_once, by_template, states};
+use crate::expect::{Testing, expect};
 use std::alloc::{AllocError, Global};
-use std::collections::BTreeMap;
-use subst::error::CharOrByte::Char;
+use std::test::Fail;
+use subst::steps::{Reads, Turns};
+use subst::{ByteTemplate, Error, NoSubstitution, Template, substitute, substitute_bytes};
+use subst_testing::answers::{told_bytes, told_text};
 
 /// A text, repeated so many times.
-type Part<'a> = (usize, &'a [u8]);
+type Part<'a> = (usize, &'a str);
+
+const DEPTH: usize = 100_000;
 
 /// The parts, concatenated.
-fn repeated(alloc: Global, parts: &[Part<'_>]) -> Result<Vec<u8>, AllocError> {
-    let mut all = Vec::new(alloc);
-    for (count, text) in parts {
-        for _ in 0..*count {
-            all.extend_from_slice(text)?;
-        }
+fn repeated(alloc: Global, parts: &[Part<'_>]) -> Result<String, AllocError> {
+    let mut all = String::new(alloc);
+    for &(count, text) in parts {
+        all.push_str(&text.repeat(alloc, count)?)?;
     }
     Ok(all)
 }
 
-/// Whether both ways return `want`, with no variables.
-fn both_state(alloc: Global, source: &[u8], want: Answer<'_>) -> bool {
-    let map: Map = BTreeMap::new(alloc);
-    states(at_once(alloc, source, &map), want) && states(by_template(alloc, source, &map), want)
+fn by_template(alloc: Global, source: &str) -> Result<String, Error> {
+    Ok(Template::from_str(alloc, source)?.expand(alloc, &NoSubstitution)?)
 }
 
-/// Whether the parts, concatenated, are a source with this answer.
-fn has_answer(alloc: Global, parts: &[Part<'_>], want: Answer<'_>) -> bool {
-    match repeated(alloc, parts) {
-        Ok(source) => both_state(alloc, &source, want),
-        Err(_) => false,
-    }
+fn by_byte_template(alloc: Global, source: &[u8]) -> Result<Vec<u8>, Error> {
+    Ok(ByteTemplate::from_slice(alloc, source)?.expand(alloc, &NoSubstitution)?)
 }
 
-#[test]
-fn deep_defaults_are_filled_in(rt: HostRuntime) {
-    let opened: Part<'_> = (100_000, b"${a:");
-    let closed: Part<'_> = (100_000, b"}");
-    let one_fewer: Part<'_> = (99_999, b"}");
-    assert!(rt; has_answer(rt.alloc(), &[opened, closed], Gives(b"")));
-    assert!(rt; has_answer(rt.alloc(), &[opened, one_fewer], Unclosed(1)));
+fn by_counted_calls(alloc: Global, source: &[u8]) -> Result<Vec<u8>, Error> {
+    let template = ByteTemplate::from_slice_counted(alloc, source, &mut Reads::new())?;
+    Ok(template.expand_counted(alloc, &NoSubstitution, &mut Turns::new())?)
 }
 
-#[test]
-fn fault_in_deep_defaults_is_found(rt: HostRuntime) {
-    let opened: Part<'_> = (100_000, b"${a:");
-    let escape: Part<'_> = (1, b"\\x");
-    let closed: Part<'_> = (100_000, b"}");
-    let one_fewer: Part<'_> = (99_999, b"}");
-    let bad = BadEscape(400_000, Some(Char('x')));
-    assert!(rt; has_answer(rt.alloc(), &[opened, escape, closed], bad));
-    assert!(rt; has_answer(rt.alloc(), &[opened, escape, one_fewer], Unclosed(1)));
+/// The parts, concatenated, have this answer without variables, by each way.
+fn expect_answer(rt: &impl Testing, parts: &[Part<'_>], want: &str) -> Result<(), AllocError> {
+    let alloc = rt.alloc();
+    let source = repeated(alloc, parts)?;
+    let bytes = source.as_bytes();
+    let text = substitute(alloc, &source, &NoSubstitution);
+    expect(rt, "substitute", told_text(alloc, text), want);
+    let given = substitute_bytes(alloc, bytes, &NoSubstitution);
+    expect(rt, "substitute_bytes", told_bytes(alloc, given), want);
+    let text = by_template(alloc, &source);
+    expect(rt, "Template", told_text(alloc, text), want);
+    let given = by_byte_template(alloc, bytes);
+    expect(rt, "ByteTemplate", told_bytes(alloc, given), want);
+    let given = by_counted_calls(alloc, bytes);
+    expect(rt, "from_slice_counted", told_bytes(alloc, given), want);
+    Ok(())
 }
 
 #[test]
-fn outermost_of_many_unclosed_defaults_is_the_fault(rt: HostRuntime) {
-    assert!(rt; has_answer(rt.alloc(), &[(100_000, b"${a:\\x")], Unclosed(1)));
-}
-
-/// Whether these parts give those braces.
-fn gives_braces(alloc: Global, parts: &[Part<'_>], braces: &[Part<'_>]) -> bool {
-    match repeated(alloc, braces) {
-        Ok(want) => has_answer(alloc, parts, Gives(&want)),
-        Err(_) => false,
-    }
+fn deep_defaults(rt: HostRuntime) -> Result<(), Fail> {
+    let (opened, escape) = ((DEPTH, "${a:"), (1, "\\x"));
+    let (closed, one_fewer) = ((DEPTH, "}"), (DEPTH - 1, "}"));
+    let unclosed = "1..2: Missing closing brace";
+    let refused = "400000..400002: Invalid escape sequence: \\x";
+    expect_answer(&rt, &[opened, closed], "gives ")?;
+    expect_answer(&rt, &[opened, one_fewer], unclosed)?;
+    expect_answer(&rt, &[opened, escape, closed], refused)?;
+    expect_answer(&rt, &[opened, escape, one_fewer], unclosed)?;
+    expect_answer(&rt, &[(DEPTH, "${a:\\x")], unclosed)?;
+    Ok(())
 }
 
 #[test]
-fn deep_braces_are_literal_in_a_default(rt: HostRuntime) {
-    let opened: Part<'_> = (100_000, b"{");
-    let closed: Part<'_> = (100_000, b"}");
-    let default: Part<'_> = (1, b"${a:");
-    let parts = [default, opened, closed, (1, b"}")];
-    assert!(rt; gives_braces(rt.alloc(), &parts, &[opened, closed]));
-    assert!(rt; has_answer(rt.alloc(), &[default, opened, closed], Unclosed(1)));
+fn deep_braces_in_a_default(rt: HostRuntime) -> Result<(), Fail> {
+    let (default, opened, closed) = ((1, "${a:"), (DEPTH, "{"), (DEPTH, "}"));
+    let given = repeated(rt.alloc(), &[(1, "gives "), opened, closed])?;
+    expect_answer(&rt, &[default, opened, closed, (1, "}")], &given)?;
+    expect_answer(
+        &rt,
+        &[default, opened, closed],
+        "1..2: Missing closing brace",
+    )?;
+    Ok(())
 }

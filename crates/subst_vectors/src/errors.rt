@@ -1,448 +1,295 @@
-//! Errors: their texts, equality, conversions and clones.
+//! Errors: their texts, what `{:?}` shows, equality, conversions and clones.
 
-ghost use Rattle.std.specs.Prelude.{◌≡◌, ◌↔◌, IsTrue, IfOk};
-ghost use Rattle.subst.specs.ErrorFault.{error_fault};
-
+use crate::expect::{Testing, expect, expect_debug, expect_shown};
+use CharOrByte::{Byte, Char};
 use std::alloc::{AllocError, AllocFailed, Global};
-use std::fmt::Display;
+use std::fmt::{Debug, Display};
+use std::test::Fail;
 use subst::error::{
     CharOrByte, Error, ExpandError, ExpectedCharacter, InvalidEscapeSequence, MissingClosingBrace,
     MissingVariableName, NoSuchVariable, ParseError, UnexpectedCharacter,
 };
+use subst::{ByteTemplate, NoSubstitution};
 
+#[test]
+fn characters_and_bytes(rt: HostRuntime) {
+    // Each with its length in a source, its text, and its quoted form.
+    let rows: &[(CharOrByte, usize, &str, &str)] = &[
+        (Char('w'), 1, "w", "'w'"),
+        (Char('y'), 1, "y", "'y'"),
+        (Char('\0'), 1, "\0", "'\\0'"),
+        (Char('\t'), 1, "\t", "'\\t'"),
+        (Char('\n'), 1, "\n", "'\\n'"),
+        (Char('"'), 1, "\"", "'\"'"),
+        (Char('\''), 1, "'", "'\\''"),
+        (Char('\\'), 1, "\\", "'\\\\'"),
+        (Char('é'), 2, "é", "'é'"),
+        (Char('❤'), 3, "❤", "'❤'"),
+        (Char('😀'), 4, "😀", "'😀'"),
+        (Char('\u{85}'), 2, "\u{85}", "'\\u{85}'"),
+        (Char('\u{301}'), 2, "\u{301}", "'\\u{301}'"),
+        (Char('\u{200b}'), 3, "\u{200b}", "'\\u{200b}'"),
+        (Char('\u{10ffff}'), 4, "\u{10ffff}", "'\\u{10ffff}'"),
+        (Byte(0x00), 1, "\0", "'\\0'"),
+        (Byte(0x01), 1, "\x01", "'\\u{1}'"),
+        (Byte(0x09), 1, "\t", "'\\t'"),
+        (Byte(0x0A), 1, "\n", "'\\n'"),
+        (Byte(0x0D), 1, "\r", "'\\r'"),
+        (Byte(0x1B), 1, "\x1B", "'\\u{1b}'"),
+        (Byte(0x41), 1, "A", "'A'"),
+        (Byte(0x79), 1, "y", "'y'"),
+        (Byte(0x7F), 1, "\x7F", "'\\u{7f}'"),
+        (Byte(0x80), 1, "0x80", "'\\x80'"),
+        (Byte(0x81), 1, "0x81", "'\\x81'"),
+        (Byte(0xE2), 1, "0xE2", "'\\xE2'"),
+        (Byte(0xFF), 1, "0xFF", "'\\xFF'"),
+    ];
+    for &(character, len, shown, quoted) in rows {
+        assert_eq!(rt; character.source_len(), len, "{character:?}");
+        expect_shown(&rt, &character, shown);
+        expect_shown(&rt, &character.quoted_printable(), quoted);
+    }
+}
+
+#[test]
+fn characters_are_quoted_as_debug_does(rt: HostRuntime) -> Result<(), Fail> {
+    for number in (0..0x110000).step_by(13) {
+        if let Some(c) = char::from_u32(number) {
+            let debug = format!(in rt.alloc(); "{c:?}")?;
+            let quoted = format!(in rt.alloc(); "{}", Char(c).quoted_printable())?;
+            assert_eq!(rt; quoted, debug);
+        }
+    }
+    Ok(())
+}
+
+/// What may come after a name in braces.
 const AFTER_NAME: &str = "a closing brace ('}'), colon (':') or question mark ('?')";
 
+#[test]
+fn long_messages_are_cut(rt: HostRuntime) {
+    let long = "a letter, a digit, an underscore, a brace, a colon, a dollar or a backslash";
+    let cut = "a letter, a digit, an underscore, a brace, a colon, a dollar ...";
+    for (text, want) in [(AFTER_NAME, AFTER_NAME), (long, cut)] {
+        let message = ExpectedCharacter::new(text);
+        assert_eq!(rt; message.message(), want);
+        assert!(rt; message == ExpectedCharacter::new(text));
+    }
+}
+
 fn escape(position: usize, character: Option<CharOrByte>) -> ParseError {
-    ParseError::InvalidEscapeSequence(InvalidEscapeSequence {
+    ParseError::from(InvalidEscapeSequence {
         position,
         character,
     })
 }
 
-fn missing_name(position: usize, len: usize) -> ParseError {
-    ParseError::MissingVariableName(MissingVariableName { position, len })
+fn no_name(position: usize, len: usize) -> ParseError {
+    ParseError::from(MissingVariableName { position, len })
 }
 
 fn unexpected(position: usize, character: CharOrByte, expected: &'static str) -> ParseError {
-    ParseError::UnexpectedCharacter(UnexpectedCharacter {
+    let expected = ExpectedCharacter::new(expected);
+    ParseError::from(UnexpectedCharacter {
         position,
         character,
-        expected: ExpectedCharacter::new(expected),
+        expected,
     })
 }
 
-fn no_brace(position: usize) -> ParseError {
-    ParseError::MissingClosingBrace(MissingClosingBrace { position })
+fn unclosed(position: usize) -> ParseError {
+    ParseError::from(MissingClosingBrace { position })
 }
 
-fn no_variable(alloc: Global, position: usize, name: &str) -> Result<ExpandError, AllocError> {
-    let name = String::from_str(alloc, name)?;
-    Ok(ExpandError::NoSuchVariable(NoSuchVariable { position, name }))
+/// A fault has this text, in two parts, and so has the error that it becomes.
+fn expect_text(rt: &impl Testing, fault: ParseError, text: (&str, &str)) -> Result<(), AllocError> {
+    let text = format!(in rt.alloc(); "{}{}", text.0, text.1)?;
+    expect_shown(rt, &fault, &text);
+    expect_shown(rt, &Error::from(fault), &text);
+    Ok(())
 }
 
-// Errors are equal where they state equal faults: the same case and fields, a text by its bytes.
-fn is_same(a: &Error, b: &Error) -> bool
-    ensures { IsTrue result ↔ (error_fault a.now ≡ error_fault b.now) }
+/// Faults are equal as this says, and so are the errors that they become.
+fn expect_equality(rt: &impl Testing, one: ParseError, other: ParseError, are_equal: bool) {
+    assert_eq!(rt; one == other, are_equal, "{one:?} and {other:?}");
+    let are_errors_equal = Error::from(one) == Error::from(other);
+    assert_eq!(rt; are_errors_equal, are_equal, "{one:?} and {other:?}");
+}
+
+#[test]
+fn texts_and_equality_of_faults(rt: HostRuntime) -> Result<(), Fail> {
+    const ESCAPE: &str = "Invalid escape sequence: ";
+    const UNEXPECTED: &str = "Unexpected character: ";
+    let rows: &[(ParseError, (&str, &str))] = &[
+        (escape(6, None), (ESCAPE, "missing escape character")),
+        (escape(12, None), (ESCAPE, "missing escape character")),
+        (escape(6, Some(Char('w'))), (ESCAPE, "\\w")),
+        (escape(6, Some(Char('y'))), (ESCAPE, "\\y")),
+        (escape(6, Some(Byte(0x79))), (ESCAPE, "\\y")),
+        (escape(6, Some(Char('❤'))), (ESCAPE, "\\❤")),
+        (escape(10, Some(Char('（'))), (ESCAPE, "\\（")),
+        (escape(0, Some(Byte(0x80))), (ESCAPE, "\\0x80")),
+        (no_name(6, 1), ("Missing variable name", "")),
+        (no_name(6, 2), ("Missing variable name", "")),
+        (no_name(7, 1), ("Missing variable name", "")),
+        (
+            unexpected(6, Char(')'), "a dot"),
+            (UNEXPECTED, "')', expected a dot"),
+        ),
+        (
+            unexpected(6, Char(')'), "a tab"),
+            (UNEXPECTED, "')', expected a tab"),
+        ),
+        (
+            unexpected(6, Char('❤'), "a dot"),
+            (UNEXPECTED, "'❤', expected a dot"),
+        ),
+        (
+            unexpected(6, Byte(0xE2), "a dot"),
+            (UNEXPECTED, "'\\xE2', expected a dot"),
+        ),
+        (
+            unexpected(7, Byte(0xE2), "a dot"),
+            (UNEXPECTED, "'\\xE2', expected a dot"),
+        ),
+        (unclosed(6), ("Missing closing brace", "")),
+        (unclosed(7), ("Missing closing brace", "")),
+        (ParseError::from(AllocError), ("out of memory", "")),
+    ];
+    for (row, &(fault, text)) in rows.iter().enumerate() {
+        expect_text(&rt, fault, text)?;
+        for (other_row, &(other, _)) in rows.iter().enumerate() {
+            expect_equality(&rt, fault, other, row == other_row);
+        }
+    }
+    Ok(())
+}
+
+/// `{:?}` shows this of a fault, and of an error that it becomes the same in parentheses after its name.
+fn expect_fault<F: Copy + Debug>(rt: &impl Testing, fault: F, want: &str) -> Result<(), AllocError>
+where
+    ParseError: From<F>,
+    Error: From<F>,
 {
-    a == b
-}
-
-// A clone states the fault that the error states.
-fn copy_of(e: &Error) -> Result<Error, AllocError>
-    ensures { IfOk result (λ copy. error_fault copy ≡ error_fault e.now) }
-{
-    e.clone()
-}
-
-/// Whether this text was shown.
-fn is_text(shown: Result<String, AllocError>, want: &str) -> bool {
-    match shown {
-        Ok(shown) => shown.as_str() == want,
-        Err(_) => false,
-    }
-}
-
-/// Whether a value is shown as this text.
-fn is_shown<D: Display>(alloc: Global, value: &D, want: &str) -> bool {
-    is_text(format!(in alloc; "{value}"), want)
-}
-
-/// The first of these rows, each a character and its text, that is wrong.
-fn wrongly_shown(alloc: Global, rows: &[(CharOrByte, &str)]) -> Option<usize> {
-    for (row, &(character, want)) in rows.iter().enumerate() {
-        if !is_shown(alloc, &character, want) {
-            return Some(row);
-        }
-    }
-    None
+    expect_debug(rt, &fault, want);
+    let (name, _) = want.split_once(' ').unwrap_or(("", ""));
+    let around = format!(in rt.alloc(); "{name}({want})")?;
+    expect_debug(rt, &Error::from(fault), &around);
+    let fault: ParseError = fault.into();
+    expect_debug(rt, &fault, &around);
+    Ok(())
 }
 
 #[test]
-fn shows_characters(rt: HostRuntime) {
-    let rows: &[(CharOrByte, &str)] = &[
-        (CharOrByte::Char('w'), "w"),
-        (CharOrByte::Char('\n'), "\n"),
-        (CharOrByte::Char('❤'), "❤"),
-        (CharOrByte::Byte(0x0A), "\n"),
-        (CharOrByte::Byte(0x79), "y"),
-        (CharOrByte::Byte(0x7F), "\x7F"),
-        (CharOrByte::Byte(0x80), "0x80"),
-        (CharOrByte::Byte(0xFF), "0xFF"),
-    ];
-    assert_eq!(rt; wrongly_shown(rt.alloc(), rows), None);
-}
-
-/// The first of these rows, each a character and its quoted form, that is wrong.
-fn wrongly_quoted(alloc: Global, rows: &[(CharOrByte, &str)]) -> Option<usize> {
-    for (row, &(character, want)) in rows.iter().enumerate() {
-        if !is_shown(alloc, &character.quoted_printable(), want) {
-            return Some(row);
-        }
-    }
-    None
-}
-
-#[test]
-fn quotes_characters(rt: HostRuntime) {
-    let rows: &[(CharOrByte, &str)] = &[
-        (CharOrByte::Byte(0x00), "'\\0'"),
-        (CharOrByte::Char('\0'), "'\\0'"),
-        (CharOrByte::Byte(0x01), "'\\u{1}'"),
-        (CharOrByte::Byte(0x09), "'\\t'"),
-        (CharOrByte::Byte(0x0A), "'\\n'"),
-        (CharOrByte::Byte(0x0D), "'\\r'"),
-        (CharOrByte::Byte(0x1B), "'\\u{1b}'"),
-        (CharOrByte::Char('"'), "'\"'"),
-        (CharOrByte::Char('\''), "'\\''"),
-        (CharOrByte::Char('\\'), "'\\\\'"),
-        (CharOrByte::Byte(0x79), "'y'"),
-        (CharOrByte::Char('y'), "'y'"),
-        (CharOrByte::Byte(0x7F), "'\\u{7f}'"),
-        (CharOrByte::Byte(0x81), "'\\x81'"),
-        (CharOrByte::Byte(0xE2), "'\\xE2'"),
-        (CharOrByte::Char('é'), "'é'"),
-        (CharOrByte::Char('❤'), "'❤'"),
-        (CharOrByte::Char('\u{85}'), "'\\u{85}'"),
-        (CharOrByte::Char('\u{301}'), "'\\u{301}'"),
-        (CharOrByte::Char('\u{200b}'), "'\\u{200b}'"),
-        (CharOrByte::Char('\u{10ffff}'), "'\\u{10ffff}'"),
-    ];
-    assert_eq!(rt; wrongly_quoted(rt.alloc(), rows), None);
-}
-
-fn is_quoted_as_debug(alloc: Global, c: char) -> bool {
-    match format!(in alloc; "{c:?}") {
-        Ok(debug) => is_shown(
-            alloc,
-            &CharOrByte::Char(c).quoted_printable(),
-            debug.as_str(),
-        ),
-        Err(_) => false,
-    }
-}
-
-/// The first of every thirteenth character that isn't quoted as `Debug` does.
-fn quoted_otherwise(alloc: Global) -> Option<char> {
-    for number in (0..0x110000).step_by(13) {
-        if let Some(c) = char::from_u32(number) {
-            if !is_quoted_as_debug(alloc, c) {
-                return Some(c);
-            }
-        }
-    }
-    None
-}
-
-#[test]
-fn quotes_characters_as_debug_does(rt: HostRuntime) {
-    assert_eq!(rt; quoted_otherwise(rt.alloc()), None);
-}
-
-/// The first of these rows, each a fault and its text, that is wrong, as it is or as an `Error`.
-fn wrongly_described(alloc: Global, rows: &[(ParseError, &str)]) -> Option<usize> {
-    for (row, &(fault, want)) in rows.iter().enumerate() {
-        if !is_shown(alloc, &fault, want) || !is_shown(alloc, &Error::from(fault), want) {
-            return Some(row);
-        }
-    }
-    None
-}
-
-#[test]
-fn describes_each_fault(rt: HostRuntime) {
-    let rows: &[(ParseError, &str)] = &[
-        (
-            escape(6, Some(CharOrByte::Char('w'))),
-            "Invalid escape sequence: \\w",
-        ),
-        (
-            escape(6, Some(CharOrByte::Char('❤'))),
-            "Invalid escape sequence: \\❤",
-        ),
-        (
-            escape(10, Some(CharOrByte::Char('（'))),
-            "Invalid escape sequence: \\（",
-        ),
-        (
-            escape(0, Some(CharOrByte::Byte(0x80))),
-            "Invalid escape sequence: \\0x80",
-        ),
-        (
-            escape(12, None),
-            "Invalid escape sequence: missing escape character",
-        ),
-        (missing_name(6, 1), "Missing variable name"),
-        (missing_name(6, 2), "Missing variable name"),
-        (
-            unexpected(12, CharOrByte::Char(')'), AFTER_NAME),
-            "Unexpected character: ')', expected a closing brace ('}'), colon (':') or question mark ('?')",
-        ),
-        (
-            unexpected(14, CharOrByte::Byte(0xE2), AFTER_NAME),
-            "Unexpected character: '\\xE2', expected a closing brace ('}'), colon (':') or question mark ('?')",
-        ),
-        (
-            unexpected(12, CharOrByte::Char('❤'), AFTER_NAME),
-            "Unexpected character: '❤', expected a closing brace ('}'), colon (':') or question mark ('?')",
-        ),
-        (no_brace(7), "Missing closing brace"),
-        (ParseError::OutOfMemory(AllocError), "out of memory"),
-    ];
-    assert_eq!(rt; wrongly_described(rt.alloc(), rows), None);
-}
-
-/// Whether an error that could be made has this text, as it is and as an `Error`.
-fn is_described(alloc: Global, made: Result<ExpandError, AllocError>, want: &str) -> bool {
-    match made {
-        Ok(made) => is_shown(alloc, &made, want) && is_shown(alloc, &Error::from(made), want),
-        Err(_) => false,
-    }
-}
-
-#[test]
-fn describes_a_missing_variable(rt: HostRuntime) {
-    let missing = no_variable(rt.alloc(), 8, "name");
-    assert!(rt; is_described(rt.alloc(), missing, "No such variable: $name"));
-}
-
-#[test]
-fn refused_pushes_are_out_of_memory(rt: HostRuntime) {
-    let parsing = ParseError::from(AllocFailed { value: 7u8 }) == ParseError::from(AllocError);
-    let whole = Error::from(AllocFailed { value: 7u8 }) == Error::from(AllocError);
-    let full = ExpandError::from(AllocFailed { value: 7u8 });
-    let expanding = is_described(rt.alloc(), Ok(full), "out of memory");
-    assert_eq!(rt; (parsing, whole, expanding), (true, true, true));
-}
-
-/// Whether the text of a value is this, whatever options it is formatted with.
-fn is_always<D: Display>(alloc: Global, value: &D, want: &str) -> bool {
-    is_text(format!(in alloc; "{value:>90}"), want)
-        && is_text(format!(in alloc; "{value:<90}"), want)
-        && is_text(format!(in alloc; "{value:*^90}"), want)
-        && is_text(format!(in alloc; "{value:.2}"), want)
-        && is_text(format!(in alloc; "{value:+#090.2}"), want)
-}
-
-/// The first of these rows, each a fault and its text, whose text depends on options.
-fn wrongly_formatted(alloc: Global, rows: &[(ParseError, &str)]) -> Option<usize> {
-    for (row, &(fault, want)) in rows.iter().enumerate() {
-        if !is_always(alloc, &fault, want) || !is_always(alloc, &Error::from(fault), want) {
-            return Some(row);
-        }
-    }
-    None
-}
-
-/// Whether the text of an error that could be made is always this.
-fn is_always_described(alloc: Global, made: Result<ExpandError, AllocError>, want: &str) -> bool {
-    match made {
-        Ok(made) => is_always(alloc, &made, want) && is_always(alloc, &Error::from(made), want),
-        Err(_) => false,
-    }
-}
-
-#[test]
-fn formats_of_errors_have_no_width(rt: HostRuntime) {
-    let rows: &[(ParseError, &str)] = &[
-        (
-            escape(6, Some(CharOrByte::Char('❤'))),
-            "Invalid escape sequence: \\❤",
-        ),
-        (
-            escape(12, None),
-            "Invalid escape sequence: missing escape character",
-        ),
-        (missing_name(6, 2), "Missing variable name"),
-        (
-            unexpected(12, CharOrByte::Char(')'), "a brace"),
-            "Unexpected character: ')', expected a brace",
-        ),
-        (
-            unexpected(12, CharOrByte::Char('❤'), "a brace"),
-            "Unexpected character: '❤', expected a brace",
-        ),
-        (no_brace(7), "Missing closing brace"),
-        (ParseError::OutOfMemory(AllocError), "out of memory"),
-    ];
-    assert_eq!(rt; wrongly_formatted(rt.alloc(), rows), None);
-}
-
-#[test]
-fn formats_of_a_missing_variable_have_no_width(rt: HostRuntime) {
-    let missing = no_variable(rt.alloc(), 8, "name");
-    assert!(rt; is_always_described(rt.alloc(), missing, "No such variable: $name"));
-}
-
-/// The first of these rows, each a character, its text and its quoted form, one of which depends on options.
-fn wrong_character(alloc: Global, rows: &[(CharOrByte, &str, &str)]) -> Option<usize> {
-    for (row, &(character, shown, quoted)) in rows.iter().enumerate() {
-        if !is_always(alloc, &character, shown)
-            || !is_always(alloc, &character.quoted_printable(), quoted)
-        {
-            return Some(row);
-        }
-    }
-    None
-}
-
-#[test]
-fn formats_of_characters_have_no_width(rt: HostRuntime) {
-    let rows: &[(CharOrByte, &str, &str)] = &[
-        (CharOrByte::Char('w'), "w", "'w'"),
-        (CharOrByte::Char('\t'), "\t", "'\\t'"),
-        (CharOrByte::Char('❤'), "❤", "'❤'"),
-        (CharOrByte::Char('\u{200b}'), "\u{200b}", "'\\u{200b}'"),
-        (CharOrByte::Byte(0x79), "y", "'y'"),
-        (CharOrByte::Byte(0xE2), "0xE2", "'\\xE2'"),
-    ];
-    assert_eq!(rt; wrong_character(rt.alloc(), rows), None);
-}
-
-/// Whether faults are equal as this says, and so are the errors that they become.
-fn are_told(a: ParseError, b: ParseError, equal: bool) -> bool {
-    (a == b) == equal && is_same(&Error::from(a), &Error::from(b)) == equal
-}
-
-/// The indexes of the first two of these faults that are equal, or of one that isn't equal to itself.
-fn confused(faults: &[ParseError]) -> Option<(usize, usize)> {
-    for (i, &a) in faults.iter().enumerate() {
-        for (j, &b) in faults.iter().enumerate() {
-            if !are_told(a, b, i == j) {
-                return Some((i, j));
-            }
-        }
-    }
-    None
-}
-
-#[test]
-fn tells_faults_apart(rt: HostRuntime) {
-    let faults: &[ParseError] = &[
-        escape(6, None),
-        escape(7, None),
-        escape(6, Some(CharOrByte::Char('y'))),
-        escape(6, Some(CharOrByte::Byte(0x79))),
-        missing_name(6, 1),
-        missing_name(6, 2),
-        missing_name(7, 1),
-        unexpected(6, CharOrByte::Char('y'), "a brace"),
-        unexpected(6, CharOrByte::Char('y'), "a colon"),
-        unexpected(6, CharOrByte::Char('z'), "a brace"),
-        no_brace(6),
-        no_brace(7),
-        ParseError::OutOfMemory(AllocError),
-    ];
-    assert_eq!(rt; confused(faults), None);
-}
-
-/// Whether a copy of an error is equal to another as this says.
-fn is_copy_told(error: &Error, other: &Error, equal: bool) -> bool {
-    match copy_of(error) {
-        Ok(copy) => is_same(&copy, other) == equal,
-        Err(_) => false,
-    }
-}
-
-/// Whether an error that could be copied and another become errors that are equal as this says.
-fn are_errors_told(
-    missing: Result<ExpandError, AllocError>,
-    other: ExpandError,
-    equal: bool,
-) -> bool {
-    match missing {
-        Ok(missing) => {
-            let error = Error::from(missing);
-            is_copy_told(&error, &Error::from(other), equal)
-                && error != Error::from(missing_name(8, 4))
-        }
-        Err(_) => false,
-    }
-}
-
-/// Whether a missing variable and another one are equal as this says.
-fn are_names_told(missing: ExpandError, other: ExpandError, equal: bool) -> bool {
-    (missing == other) == equal
-        && missing != ExpandError::from(AllocError)
-        && are_errors_told(missing.clone(), other, equal)
-}
-
-/// Whether a missing `name` at 8 is equal to this missing variable as this says.
-fn is_name_told(alloc: Global, position: usize, name: &str, equal: bool) -> bool {
-    match (
-        no_variable(alloc, 8, "name"),
-        no_variable(alloc, position, name),
-    ) {
-        (Ok(missing), Ok(other)) => are_names_told(missing, other, equal),
-        _ => false,
-    }
-}
-
-/// The first of these rows, each a position, a name, and whether a missing `name` at 8 is equal to that one,
-/// that is wrong.
-fn wrong_name(alloc: Global, rows: &[(usize, &str, bool)]) -> Option<usize> {
-    for (row, &(position, name, equal)) in rows.iter().enumerate() {
-        if !is_name_told(alloc, position, name, equal) {
-            return Some(row);
-        }
-    }
-    None
-}
-
-#[test]
-fn tells_names_apart(rt: HostRuntime) {
-    let rows: &[(usize, &str, bool)] = &[
-        (8, "name", true),
-        (7, "name", false),
-        (8, "game", false),
-        (8, "", false),
-    ];
-    assert_eq!(rt; wrong_name(rt.alloc(), rows), None);
-}
-
-/// Whether the message of what was expected is kept so.
-fn is_message(text: &'static str, want: &str) -> bool {
-    ExpectedCharacter::new(text).message() == want
-}
-
-fn is_equal_to_itself(text: &'static str) -> bool {
-    ExpectedCharacter::new(text) == ExpectedCharacter::new(text)
-}
-
-fn is_debug(alloc: Global, text: &'static str, want: &str) -> bool {
-    is_text(
-        format!(in alloc; "{:?}", ExpectedCharacter::new(text)),
+fn debug_texts_of_faults(rt: HostRuntime) -> Result<(), Fail> {
+    let (position, character) = (6, Some(Byte(0x80)));
+    let want = "InvalidEscapeSequence { position: 6, character: Some(Byte(128)) }";
+    expect_fault(
+        &rt,
+        InvalidEscapeSequence {
+            position,
+            character,
+        },
         want,
-    )
+    )?;
+    let want = "MissingVariableName { position: 6, len: 2 }";
+    expect_fault(&rt, MissingVariableName { position, len: 2 }, want)?;
+    let (character, expected) = (Char(')'), ExpectedCharacter::new("a dot"));
+    let want = "UnexpectedCharacter { position: 6, character: Char(')'), \
+        expected: ExpectedCharacter { message: \"a dot\" } }";
+    expect_fault(
+        &rt,
+        UnexpectedCharacter {
+            position,
+            character,
+            expected,
+        },
+        want,
+    )?;
+    let want = "MissingClosingBrace { position: 6 }";
+    expect_fault(&rt, MissingClosingBrace { position }, want)?;
+    let want = "QuotedPrintable { character: Char(')') }";
+    expect_debug(&rt, &character.quoted_printable(), want);
+    Ok(())
 }
 
 #[test]
-fn keeps_the_message(rt: HostRuntime) {
-    let is_kept = is_message(AFTER_NAME, AFTER_NAME) && is_equal_to_itself(AFTER_NAME);
-    let is_cut = is_message(
-        "a letter, a digit, an underscore, a brace, a colon, a dollar or a backslash",
-        "a letter, a digit, an underscore, a brace, a colon, a dollar ...",
+fn debug_texts_of_out_of_memory(rt: HostRuntime) {
+    let want = "OutOfMemory(AllocError)";
+    expect_debug(&rt, &ParseError::from(AllocError), want);
+    expect_debug(&rt, &ParseError::from(AllocFailed { value: 7u8 }), want);
+    expect_debug(&rt, &ExpandError::from(AllocError), want);
+    expect_debug(&rt, &ExpandError::from(AllocFailed { value: 7u8 }), want);
+    expect_debug(&rt, &Error::from(AllocError), want);
+    expect_debug(&rt, &Error::from(AllocFailed { value: 7u8 }), want);
+    expect_shown(&rt, &ExpandError::from(AllocError), "out of memory");
+}
+
+fn absent(alloc: Global, position: usize, name: &str) -> Result<NoSuchVariable, AllocError> {
+    let name = String::from_str(alloc, name)?;
+    Ok(NoSuchVariable { position, name })
+}
+
+#[test]
+fn texts_of_a_missing_variable(rt: HostRuntime) -> Result<(), Fail> {
+    let want = "No such variable: $name";
+    let missing = absent(rt.alloc(), 8, "name")?;
+    expect_shown(&rt, &missing, want);
+    expect_debug(
+        &rt,
+        &missing,
+        "NoSuchVariable { position: 8, name: \"name\" }",
     );
-    let want = "ExpectedCharacter { message: \"a brace\" }";
-    let is_shown = is_debug(rt.alloc(), "a brace", want);
-    assert_eq!(rt; (is_kept, is_cut, is_shown), (true, true, true));
+    let debug = "NoSuchVariable(NoSuchVariable { position: 8, name: \"name\" })";
+    let missing = ExpandError::from(missing);
+    expect_shown(&rt, &missing, want);
+    expect_debug(&rt, &missing, debug);
+    let missing = Error::from(missing);
+    expect_shown(&rt, &missing, want);
+    expect_debug(&rt, &missing, debug);
+    Ok(())
+}
+
+/// Whether clones of a missing `name` at 8 are equal to this one: by themselves, and as each error.
+fn are_equal(alloc: Global, position: usize, name: &str) -> Result<[bool; 3], AllocError> {
+    let (one, other) = (absent(alloc, 8, "name")?, absent(alloc, position, name)?);
+    let are_names_equal = one.clone()? == other;
+    let (one, other) = (ExpandError::from(one), ExpandError::from(other));
+    let are_expansions_equal = one.clone()? == other;
+    let (one, other) = (Error::from(one), Error::from(other));
+    Ok([are_names_equal, are_expansions_equal, one.clone()? == other])
+}
+
+#[test]
+fn equality_and_clones_of_missing_variables(rt: HostRuntime) {
+    assert_eq!(rt; are_equal(rt.alloc(), 8, "name"), Ok([true; 3]));
+    assert_eq!(rt; are_equal(rt.alloc(), 7, "name"), Ok([false; 3]));
+    assert_eq!(rt; are_equal(rt.alloc(), 8, "game"), Ok([false; 3]));
+    assert_eq!(rt; are_equal(rt.alloc(), 8, ""), Ok([false; 3]));
+}
+
+/// The text of an error that a call returns.
+fn told<T: Drop, E: Display + Drop>(
+    alloc: Global,
+    came: Result<T, E>,
+) -> Result<String, AllocError> {
+    match came {
+        Ok(_) => String::from_str(alloc, "no error"),
+        Err(e) => e.to_string(alloc),
+    }
+}
+
+#[test]
+fn texts_of_faults_of_templates(rt: HostRuntime) -> Result<(), Fail> {
+    let refused = ByteTemplate::from_slice(rt.alloc(), b"Hello ${name");
+    expect(
+        &rt,
+        "a parse",
+        told(rt.alloc(), refused),
+        "Missing closing brace",
+    );
+    let template = ByteTemplate::from_slice(rt.alloc(), b"Hello ${name}!")?;
+    let refused = told(rt.alloc(), template.expand(rt.alloc(), &NoSubstitution));
+    expect(&rt, "an expansion", refused, "No such variable: $name");
+    Ok(())
 }

@@ -1,21 +1,23 @@
 //! Tests of `subst` over its public calls, by subject.
 //!
 //! What is only a source, its variables and their answer is a row of `tests/data/rows.tsv`, which the program
-//! `subst_answers` answers in each way. The expected answers here were taken from runs of the Rust crate, or
+//! `subst_answers` answers in each way. The expected answers here were taken from the Rust crate's tests, or
 //! worked out by hand from the rules of the language.
+//!
+//! An answer is told as a text, as `gives Hello world!` or `6..7: Missing variable name`.
 #![tactic(auto)]
 
 #[cfg(test)]
-mod calls;
+mod byte_templates;
 #[cfg(test)]
 mod deep;
 #[cfg(test)]
 mod errors;
 #[cfg(test)]
-mod faults;
+mod expect;
 #[cfg(test)]
-mod one_template;
+mod maps;
 #[cfg(test)]
-mod refused_memory;
+mod reports;
 #[cfg(test)]
-mod rows;
+mod text_templates;
