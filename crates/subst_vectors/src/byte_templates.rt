@@ -2,7 +2,6 @@
 
 use crate::expect::expect;
 use std::alloc::Global;
-use std::test::Fail;
 use subst::{ByteTemplate, ByteTemplateBuf, Error};
 use subst_testing::variables::byte_values;
 
@@ -33,28 +32,18 @@ fn told_owner(alloc: Global, template: &ByteTemplateBuf) -> Told {
     Ok(format!(in alloc; "{given} of {source} by {template:?}")?)
 }
 
-/// Of one template with two maps.
-fn told_with_two_maps(alloc: Global) -> Result<[String; 2], Error> {
-    let template = ByteTemplate::from_slice(alloc, b"Welcome to our hair salon, $name!")?;
+fn told_with_two_maps(alloc: Global) -> Told {
+    let template = ByteTemplate::from_slice(alloc, b"Hello $name!")?;
     let first = told_of(alloc, &template, "name=Scrappy")?;
     let second = told_of(alloc, &template, "name=Coco")?;
-    Ok([first, second])
+    Ok(format!(in alloc; "{first}\n{second}")?)
 }
 
 #[test]
-fn one_template_of_bytes_serves_two_maps(rt: HostRuntime) -> Result<(), Fail> {
-    let [first, second] = told_with_two_maps(rt.alloc())?;
-    assert_eq!(rt;
-        first.as_str(),
-        "Welcome to our hair salon, Scrappy! of Welcome to our hair salon, $name! \
-        by ByteTemplate(b\"Welcome to our hair salon, $name!\")"
-    );
-    assert_eq!(rt;
-        second.as_str(),
-        "Welcome to our hair salon, Coco! of Welcome to our hair salon, $name! \
-        by ByteTemplate(b\"Welcome to our hair salon, $name!\")"
-    );
-    Ok(())
+fn one_template_of_bytes_serves_two_maps(rt: HostRuntime) {
+    let want = r#"Hello Scrappy! of Hello $name! by ByteTemplate(b"Hello $name!")
+Hello Coco! of Hello $name! by ByteTemplate(b"Hello $name!")"#;
+    expect(&rt, "two maps", told_with_two_maps(rt.alloc()), want);
 }
 
 fn lender(alloc: Global) -> Result<ByteTemplate<'static>, Error> {
@@ -65,24 +54,35 @@ fn owner(alloc: Global) -> Result<ByteTemplateBuf, Error> {
     Ok(ByteTemplateBuf::from_vec(Vec::from_slice(alloc, SOURCE)?)?)
 }
 
-/// Of what a template lends, as it is and cloned, and of the clone of a template that borrows its source.
-fn told_lenders(alloc: Global) -> Result<[String; 4], Error> {
-    let owner = owner(alloc)?;
-    let lent = told(alloc, &owner.as_template())?;
-    let by_from = told(alloc, &ByteTemplate::from(&owner))?;
-    let clone_of_lent = told(alloc, &owner.as_template().clone()?)?;
-    let clone = told(alloc, &lender(alloc)?.clone()?)?;
-    Ok([lent, by_from, clone_of_lent, clone])
+fn told_lent(alloc: Global) -> Told {
+    told(alloc, &owner(alloc)?.as_template())
+}
+
+fn told_lent_by_from(alloc: Global) -> Told {
+    told(alloc, &ByteTemplate::from(&owner(alloc)?))
+}
+
+fn told_clone_of_lent(alloc: Global) -> Told {
+    told(alloc, &owner(alloc)?.as_template().clone()?)
+}
+
+fn told_clone_of_lender(alloc: Global) -> Told {
+    told(alloc, &lender(alloc)?.clone()?)
 }
 
 #[test]
-fn lent_templates_of_bytes_are_whole(rt: HostRuntime) -> Result<(), Fail> {
+fn lent_templates_of_bytes_are_whole(rt: HostRuntime) {
     let want =
         r#"Hello world2! of Hello ${name}${a:$b}! by ByteTemplate(b"Hello ${name}${a:$b}!")"#;
-    for told in told_lenders(rt.alloc())? {
-        assert_eq!(rt; told.as_str(), want);
-    }
-    Ok(())
+    expect(&rt, "as_template", told_lent(rt.alloc()), want);
+    expect(&rt, "From", told_lent_by_from(rt.alloc()), want);
+    expect(
+        &rt,
+        "clone of a lent one",
+        told_clone_of_lent(rt.alloc()),
+        want,
+    );
+    expect(&rt, "clone", told_clone_of_lender(rt.alloc()), want);
 }
 
 /// Of a template that is handed over, and then its source, which is overwritten.
@@ -99,34 +99,52 @@ fn take_apart(alloc: Global, template: ByteTemplateBuf) -> Told {
     }
 }
 
-/// Of copies of a template that borrows its source, and of an owner and its copies, which outlive it.
-fn told_owners(alloc: Global) -> Result<[String; 5], Error> {
-    let copy = told_owner(
+fn told_moved(alloc: Global) -> Told {
+    take_apart(alloc, owner(alloc)?)
+}
+
+/// Of a clone that outlives its original.
+fn told_clone(alloc: Global) -> Told {
+    let original = owner(alloc)?;
+    let clone = original.clone()?;
+    take_apart(alloc, original)?;
+    told_owner(alloc, &clone)
+}
+
+/// The owned copy of what a template lends, which is dropped here.
+fn copy_of_lent(alloc: Global, owner: ByteTemplateBuf) -> Result<ByteTemplateBuf, Error> {
+    Ok(ByteTemplateBuf::of_template(alloc, owner.as_template())?)
+}
+
+fn told_copy_of_lent(alloc: Global) -> Told {
+    told_owner(alloc, &copy_of_lent(alloc, owner(alloc)?)?)
+}
+
+fn told_from_template(alloc: Global) -> Told {
+    told_owner(
         alloc,
         &ByteTemplateBuf::from_template(alloc, &lender(alloc)?)?,
-    )?;
-    let taken = told_owner(alloc, &ByteTemplateBuf::of_template(alloc, lender(alloc)?)?)?;
-    let original = owner(alloc)?;
-    let of_lent = ByteTemplateBuf::of_template(alloc, original.as_template())?;
-    let clone = original.clone()?;
-    let moved = take_apart(alloc, original)?;
-    Ok([
-        copy,
-        taken,
-        moved,
-        told_owner(alloc, &of_lent)?,
-        told_owner(alloc, &clone)?,
-    ])
+    )
+}
+
+fn told_of_template(alloc: Global) -> Told {
+    told_owner(alloc, &ByteTemplateBuf::of_template(alloc, lender(alloc)?)?)
 }
 
 #[test]
-fn owned_templates_of_bytes_are_whole(rt: HostRuntime) -> Result<(), Fail> {
+fn owned_templates_of_bytes_are_whole(rt: HostRuntime) {
     let want =
         r#"Hello world2! of Hello ${name}${a:$b}! by ByteTemplateBuf(b"Hello ${name}${a:$b}!")"#;
-    for told in told_owners(rt.alloc())? {
-        assert_eq!(rt; told.as_str(), want);
-    }
-    Ok(())
+    expect(&rt, "moved", told_moved(rt.alloc()), want);
+    expect(&rt, "clone", told_clone(rt.alloc()), want);
+    expect(
+        &rt,
+        "copy of a lent one",
+        told_copy_of_lent(rt.alloc()),
+        want,
+    );
+    expect(&rt, "from_template", told_from_template(rt.alloc()), want);
+    expect(&rt, "of_template", told_of_template(rt.alloc()), want);
 }
 
 fn shown(alloc: Global, source: &[u8]) -> Told {

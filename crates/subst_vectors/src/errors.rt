@@ -197,15 +197,12 @@ fn debug_texts_of_faults(rt: HostRuntime) -> Result<(), Fail> {
     let (character, expected) = (Char(')'), ExpectedCharacter::new("a dot"));
     let want = "UnexpectedCharacter { position: 6, character: Char(')'), \
         expected: ExpectedCharacter { message: \"a dot\" } }";
-    expect_fault(
-        &rt,
-        UnexpectedCharacter {
-            position,
-            character,
-            expected,
-        },
-        want,
-    )?;
+    let unexpected = UnexpectedCharacter {
+        position,
+        character,
+        expected,
+    };
+    expect_fault(&rt, unexpected, want)?;
     let want = "MissingClosingBrace { position: 6 }";
     expect_fault(&rt, MissingClosingBrace { position }, want)?;
     let want = "QuotedPrintable { character: Char(')') }";
@@ -235,11 +232,8 @@ fn texts_of_a_missing_variable(rt: HostRuntime) -> Result<(), Fail> {
     let want = "No such variable: $name";
     let missing = absent(rt.alloc(), 8, "name")?;
     expect_shown(&rt, &missing, want);
-    expect_debug(
-        &rt,
-        &missing,
-        "NoSuchVariable { position: 8, name: \"name\" }",
-    );
+    let debug = "NoSuchVariable { position: 8, name: \"name\" }";
+    expect_debug(&rt, &missing, debug);
     let debug = "NoSuchVariable(NoSuchVariable { position: 8, name: \"name\" })";
     let missing = ExpandError::from(missing);
     expect_shown(&rt, &missing, want);
@@ -282,12 +276,8 @@ fn told<T: Drop, E: Display + Drop>(
 #[test]
 fn texts_of_faults_of_templates(rt: HostRuntime) -> Result<(), Fail> {
     let refused = ByteTemplate::from_slice(rt.alloc(), b"Hello ${name");
-    expect(
-        &rt,
-        "a parse",
-        told(rt.alloc(), refused),
-        "Missing closing brace",
-    );
+    let refused = told(rt.alloc(), refused);
+    expect(&rt, "a parse", refused, "Missing closing brace");
     let template = ByteTemplate::from_slice(rt.alloc(), b"Hello ${name}!")?;
     let refused = told(rt.alloc(), template.expand(rt.alloc(), &NoSubstitution));
     expect(&rt, "an expansion", refused, "No such variable: $name");

@@ -3,7 +3,6 @@
 
 use crate::expect::expect;
 use std::alloc::Global;
-use std::test::Fail;
 use subst::{Error, Template, TemplateBuf, laws};
 use subst_testing::variables::texts;
 
@@ -28,28 +27,18 @@ fn told_owner(alloc: Global, template: &TemplateBuf) -> Told {
     Ok(format!(in alloc; "{given} of {} by {template:?}", template.source())?)
 }
 
-/// Of one template with two maps.
-fn told_with_two_maps(alloc: Global) -> Result<[String; 2], Error> {
-    let template = Template::from_str(alloc, "Welcome to our hair salon, $name!")?;
+fn told_with_two_maps(alloc: Global) -> Told {
+    let template = Template::from_str(alloc, "Hello $name!")?;
     let first = told_of(alloc, &template, "name=Scrappy")?;
     let second = told_of(alloc, &template, "name=Coco")?;
-    Ok([first, second])
+    Ok(format!(in alloc; "{first}\n{second}")?)
 }
 
 #[test]
-fn one_template_of_a_text_serves_two_maps(rt: HostRuntime) -> Result<(), Fail> {
-    let [first, second] = told_with_two_maps(rt.alloc())?;
-    assert_eq!(rt;
-        first.as_str(),
-        "Welcome to our hair salon, Scrappy! of Welcome to our hair salon, $name! \
-        by Template(\"Welcome to our hair salon, $name!\")"
-    );
-    assert_eq!(rt;
-        second.as_str(),
-        "Welcome to our hair salon, Coco! of Welcome to our hair salon, $name! \
-        by Template(\"Welcome to our hair salon, $name!\")"
-    );
-    Ok(())
+fn one_template_of_a_text_serves_two_maps(rt: HostRuntime) {
+    let want = r#"Hello Scrappy! of Hello $name! by Template("Hello $name!")
+Hello Coco! of Hello $name! by Template("Hello $name!")"#;
+    expect(&rt, "two maps", told_with_two_maps(rt.alloc()), want);
 }
 
 fn lender(alloc: Global) -> Result<Template<'static>, Error> {
@@ -60,23 +49,34 @@ fn owner(alloc: Global) -> Result<TemplateBuf, Error> {
     Ok(TemplateBuf::from_string(String::from_str(alloc, SOURCE)?)?)
 }
 
-/// Of what a template lends, as it is and cloned, and of the clone of a template that borrows its source.
-fn told_lenders(alloc: Global) -> Result<[String; 4], Error> {
-    let owner = owner(alloc)?;
-    let lent = told(alloc, &owner.as_template())?;
-    let by_from = told(alloc, &Template::from(&owner))?;
-    let clone_of_lent = told(alloc, &owner.as_template().clone()?)?;
-    let clone = told(alloc, &lender(alloc)?.clone()?)?;
-    Ok([lent, by_from, clone_of_lent, clone])
+fn told_lent(alloc: Global) -> Told {
+    told(alloc, &owner(alloc)?.as_template())
+}
+
+fn told_lent_by_from(alloc: Global) -> Told {
+    told(alloc, &Template::from(&owner(alloc)?))
+}
+
+fn told_clone_of_lent(alloc: Global) -> Told {
+    told(alloc, &owner(alloc)?.as_template().clone()?)
+}
+
+fn told_clone_of_lender(alloc: Global) -> Told {
+    told(alloc, &lender(alloc)?.clone()?)
 }
 
 #[test]
-fn lent_templates_of_texts_are_whole(rt: HostRuntime) -> Result<(), Fail> {
+fn lent_templates_of_texts_are_whole(rt: HostRuntime) {
     let want = r#"Hello world2! of Hello ${name}${a:$b}! by Template("Hello ${name}${a:$b}!")"#;
-    for told in told_lenders(rt.alloc())? {
-        assert_eq!(rt; told.as_str(), want);
-    }
-    Ok(())
+    expect(&rt, "as_template", told_lent(rt.alloc()), want);
+    expect(&rt, "From", told_lent_by_from(rt.alloc()), want);
+    expect(
+        &rt,
+        "clone of a lent one",
+        told_clone_of_lent(rt.alloc()),
+        want,
+    );
+    expect(&rt, "clone", told_clone_of_lender(rt.alloc()), want);
 }
 
 /// Of a template that is handed over, and then its source, which is overwritten.
@@ -89,30 +89,48 @@ fn take_apart(alloc: Global, template: TemplateBuf) -> Told {
     if is_kept { Ok(told) } else { Ok(source) }
 }
 
-/// Of copies of a template that borrows its source, and of an owner and its copies, which outlive it.
-fn told_owners(alloc: Global) -> Result<[String; 5], Error> {
-    let copy = told_owner(alloc, &TemplateBuf::from_template(alloc, &lender(alloc)?)?)?;
-    let taken = told_owner(alloc, &TemplateBuf::of_template(alloc, lender(alloc)?)?)?;
+fn told_moved(alloc: Global) -> Told {
+    take_apart(alloc, owner(alloc)?)
+}
+
+/// Of a clone that outlives its original.
+fn told_clone(alloc: Global) -> Told {
     let original = owner(alloc)?;
-    let of_lent = TemplateBuf::of_template(alloc, original.as_template())?;
     let clone = original.clone()?;
-    let moved = take_apart(alloc, original)?;
-    Ok([
-        copy,
-        taken,
-        moved,
-        told_owner(alloc, &of_lent)?,
-        told_owner(alloc, &clone)?,
-    ])
+    take_apart(alloc, original)?;
+    told_owner(alloc, &clone)
+}
+
+/// The owned copy of what a template lends, which is dropped here.
+fn copy_of_lent(alloc: Global, owner: TemplateBuf) -> Result<TemplateBuf, Error> {
+    Ok(TemplateBuf::of_template(alloc, owner.as_template())?)
+}
+
+fn told_copy_of_lent(alloc: Global) -> Told {
+    told_owner(alloc, &copy_of_lent(alloc, owner(alloc)?)?)
+}
+
+fn told_from_template(alloc: Global) -> Told {
+    told_owner(alloc, &TemplateBuf::from_template(alloc, &lender(alloc)?)?)
+}
+
+fn told_of_template(alloc: Global) -> Told {
+    told_owner(alloc, &TemplateBuf::of_template(alloc, lender(alloc)?)?)
 }
 
 #[test]
-fn owned_templates_of_texts_are_whole(rt: HostRuntime) -> Result<(), Fail> {
+fn owned_templates_of_texts_are_whole(rt: HostRuntime) {
     let want = r#"Hello world2! of Hello ${name}${a:$b}! by TemplateBuf("Hello ${name}${a:$b}!")"#;
-    for told in told_owners(rt.alloc())? {
-        assert_eq!(rt; told.as_str(), want);
-    }
-    Ok(())
+    expect(&rt, "moved", told_moved(rt.alloc()), want);
+    expect(&rt, "clone", told_clone(rt.alloc()), want);
+    expect(
+        &rt,
+        "copy of a lent one",
+        told_copy_of_lent(rt.alloc()),
+        want,
+    );
+    expect(&rt, "from_template", told_from_template(rt.alloc()), want);
+    expect(&rt, "of_template", told_of_template(rt.alloc()), want);
 }
 
 fn shown(alloc: Global, source: &str) -> Told {
@@ -122,12 +140,8 @@ fn shown(alloc: Global, source: &str) -> Told {
 
 #[test]
 fn owned_templates_are_shown_as_texts(rt: HostRuntime) {
-    expect(
-        &rt,
-        "a\"❤",
-        shown(rt.alloc(), "a\"❤"),
-        "TemplateBuf(\"a\\\"❤\")",
-    );
+    let told = shown(rt.alloc(), "a\"❤");
+    expect(&rt, "a\"❤", told, "TemplateBuf(\"a\\\"❤\")");
 }
 
 #[test]
