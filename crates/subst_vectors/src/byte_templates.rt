@@ -1,12 +1,17 @@
 //! Templates of bytes under several maps, templates that own their sources, what they lend, and copies.
 
 use crate::expect::expect;
-use std::alloc::Global;
+use std::alloc::{AllocError, Global};
+use std::test::Fail;
 use subst::{ByteTemplate, ByteTemplateBuf, Error};
 use subst_testing::variables::byte_values;
 
-/// The source of all copies.
-const SOURCE: &[u8] = b"Hello ${name}${a:$b}!";
+/// Sources of copies, with what they give.
+const SOURCES: [(&str, &str); 3] = [
+    ("Hello ${name}!", "Hello world!"),
+    ("${a:$b}", "2"),
+    ("a", "a"),
+];
 
 type Told = Result<String, Error>;
 
@@ -33,7 +38,7 @@ fn told_owner(alloc: Global, template: &ByteTemplateBuf) -> Told {
 }
 
 fn told_with_two_maps(alloc: Global) -> Told {
-    let template = ByteTemplate::from_slice(alloc, b"Hello $name!")?;
+    let template = ByteTemplate::from_slice(alloc, b"Welcome to our hair salon, $name!")?;
     let first = told_of(alloc, &template, "name=Scrappy")?;
     let second = told_of(alloc, &template, "name=Coco")?;
     Ok(format!(in alloc; "{first}\n{second}")?)
@@ -41,57 +46,71 @@ fn told_with_two_maps(alloc: Global) -> Told {
 
 #[test]
 fn one_template_of_bytes_serves_two_maps(rt: HostRuntime) {
-    let want = r#"Hello Scrappy! of Hello $name! by ByteTemplate(b"Hello $name!")
-Hello Coco! of Hello $name! by ByteTemplate(b"Hello $name!")"#;
+    let want = "Welcome to our hair salon, Scrappy! of Welcome to our hair salon, $name! \
+        by ByteTemplate(b\"Welcome to our hair salon, $name!\")\n\
+        Welcome to our hair salon, Coco! of Welcome to our hair salon, $name! \
+        by ByteTemplate(b\"Welcome to our hair salon, $name!\")";
     expect(&rt, "two maps", told_with_two_maps(rt.alloc()), want);
 }
 
-fn lender(alloc: Global) -> Result<ByteTemplate<'static>, Error> {
-    Ok(ByteTemplate::from_slice(alloc, SOURCE)?)
+/// What is told of a template of this kind that gives this.
+fn wanted(alloc: Global, kind: &str, source: &str, given: &str) -> Result<String, AllocError> {
+    format!(in alloc; "{given} of {source} by {kind}(b{source:?})")
 }
 
-fn owner(alloc: Global) -> Result<ByteTemplateBuf, Error> {
-    Ok(ByteTemplateBuf::from_vec(Vec::from_slice(alloc, SOURCE)?)?)
+fn lender(alloc: Global, source: &str) -> Result<ByteTemplate<'_>, Error> {
+    Ok(ByteTemplate::from_slice(alloc, source.as_bytes())?)
 }
 
-fn told_lent(alloc: Global) -> Told {
-    told(alloc, &owner(alloc)?.as_template())
+fn owner(alloc: Global, source: &str) -> Result<ByteTemplateBuf, Error> {
+    let source = Vec::from_slice(alloc, source.as_bytes())?;
+    Ok(ByteTemplateBuf::from_vec(source)?)
 }
 
-fn told_lent_by_from(alloc: Global) -> Told {
-    told(alloc, &ByteTemplate::from(&owner(alloc)?))
+fn told_lent(alloc: Global, source: &str) -> Told {
+    told(alloc, &owner(alloc, source)?.as_template())
 }
 
-fn told_clone_of_lent(alloc: Global) -> Told {
-    told(alloc, &owner(alloc)?.as_template().clone()?)
+fn told_lent_by_from(alloc: Global, source: &str) -> Told {
+    told(alloc, &ByteTemplate::from(&owner(alloc, source)?))
 }
 
-fn told_clone_of_lender(alloc: Global) -> Told {
-    told(alloc, &lender(alloc)?.clone()?)
+fn told_clone_of_lent(alloc: Global, source: &str) -> Told {
+    told(alloc, &owner(alloc, source)?.as_template().clone()?)
+}
+
+fn told_clone_of_lender(alloc: Global, source: &str) -> Told {
+    told(alloc, &lender(alloc, source)?.clone()?)
 }
 
 #[test]
-fn lent_templates_of_bytes_are_whole(rt: HostRuntime) {
-    let want =
-        r#"Hello world2! of Hello ${name}${a:$b}! by ByteTemplate(b"Hello ${name}${a:$b}!")"#;
-    expect(&rt, "as_template", told_lent(rt.alloc()), want);
-    expect(&rt, "From", told_lent_by_from(rt.alloc()), want);
-    expect(
-        &rt,
-        "clone of a lent one",
-        told_clone_of_lent(rt.alloc()),
-        want,
-    );
-    expect(&rt, "clone", told_clone_of_lender(rt.alloc()), want);
+fn lent_templates_of_bytes_are_whole(rt: HostRuntime) -> Result<(), Fail> {
+    for (source, given) in SOURCES {
+        let want = wanted(rt.alloc(), "ByteTemplate", source, given)?;
+        expect(&rt, "as_template", told_lent(rt.alloc(), source), &want);
+        expect(&rt, "From", told_lent_by_from(rt.alloc(), source), &want);
+        expect(
+            &rt,
+            "clone of a lent one",
+            told_clone_of_lent(rt.alloc(), source),
+            &want,
+        );
+        expect(
+            &rt,
+            "clone",
+            told_clone_of_lender(rt.alloc(), source),
+            &want,
+        );
+    }
+    Ok(())
 }
 
-/// Of a template that is handed over, and then its source, which is overwritten.
-fn take_apart(alloc: Global, template: ByteTemplateBuf) -> Told {
+/// Of a template that is handed over, whose source is then taken out and put in upper case.
+fn take_apart(alloc: Global, template: ByteTemplateBuf, source: &str) -> Told {
     let told = told_owner(alloc, &template)?;
-    let mut source = template.into_source();
-    let is_kept = source.as_slice() == SOURCE;
-    source.clear();
-    source.extend_from_slice(b"HELLO ${name}!")?;
+    let mut taken = template.into_source();
+    let is_kept = taken.as_slice() == source.as_bytes();
+    taken.make_ascii_uppercase();
     if is_kept {
         Ok(told)
     } else {
@@ -99,15 +118,15 @@ fn take_apart(alloc: Global, template: ByteTemplateBuf) -> Told {
     }
 }
 
-fn told_moved(alloc: Global) -> Told {
-    take_apart(alloc, owner(alloc)?)
+fn told_moved(alloc: Global, source: &str) -> Told {
+    take_apart(alloc, owner(alloc, source)?, source)
 }
 
 /// Of a clone that outlives its original.
-fn told_clone(alloc: Global) -> Told {
-    let original = owner(alloc)?;
+fn told_clone(alloc: Global, source: &str) -> Told {
+    let original = owner(alloc, source)?;
     let clone = original.clone()?;
-    take_apart(alloc, original)?;
+    take_apart(alloc, original, source)?;
     told_owner(alloc, &clone)
 }
 
@@ -116,35 +135,50 @@ fn copy_of_lent(alloc: Global, owner: ByteTemplateBuf) -> Result<ByteTemplateBuf
     Ok(ByteTemplateBuf::of_template(alloc, owner.as_template())?)
 }
 
-fn told_copy_of_lent(alloc: Global) -> Told {
-    told_owner(alloc, &copy_of_lent(alloc, owner(alloc)?)?)
+fn told_copy_of_lent(alloc: Global, source: &str) -> Told {
+    told_owner(alloc, &copy_of_lent(alloc, owner(alloc, source)?)?)
 }
 
-fn told_from_template(alloc: Global) -> Told {
+fn told_from_template(alloc: Global, source: &str) -> Told {
     told_owner(
         alloc,
-        &ByteTemplateBuf::from_template(alloc, &lender(alloc)?)?,
+        &ByteTemplateBuf::from_template(alloc, &lender(alloc, source)?)?,
     )
 }
 
-fn told_of_template(alloc: Global) -> Told {
-    told_owner(alloc, &ByteTemplateBuf::of_template(alloc, lender(alloc)?)?)
+fn told_of_template(alloc: Global, source: &str) -> Told {
+    told_owner(
+        alloc,
+        &ByteTemplateBuf::of_template(alloc, lender(alloc, source)?)?,
+    )
 }
 
 #[test]
-fn owned_templates_of_bytes_are_whole(rt: HostRuntime) {
-    let want =
-        r#"Hello world2! of Hello ${name}${a:$b}! by ByteTemplateBuf(b"Hello ${name}${a:$b}!")"#;
-    expect(&rt, "moved", told_moved(rt.alloc()), want);
-    expect(&rt, "clone", told_clone(rt.alloc()), want);
-    expect(
-        &rt,
-        "copy of a lent one",
-        told_copy_of_lent(rt.alloc()),
-        want,
-    );
-    expect(&rt, "from_template", told_from_template(rt.alloc()), want);
-    expect(&rt, "of_template", told_of_template(rt.alloc()), want);
+fn owned_templates_of_bytes_are_whole(rt: HostRuntime) -> Result<(), Fail> {
+    for (source, given) in SOURCES {
+        let want = wanted(rt.alloc(), "ByteTemplateBuf", source, given)?;
+        expect(&rt, "moved", told_moved(rt.alloc(), source), &want);
+        expect(&rt, "clone", told_clone(rt.alloc(), source), &want);
+        expect(
+            &rt,
+            "copy of a lent one",
+            told_copy_of_lent(rt.alloc(), source),
+            &want,
+        );
+        expect(
+            &rt,
+            "from_template",
+            told_from_template(rt.alloc(), source),
+            &want,
+        );
+        expect(
+            &rt,
+            "of_template",
+            told_of_template(rt.alloc(), source),
+            &want,
+        );
+    }
+    Ok(())
 }
 
 fn shown(alloc: Global, source: &[u8]) -> Told {
