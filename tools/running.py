@@ -62,7 +62,7 @@ def build(program):
     if path.exists() and path.stat().st_mtime >= newest_source():
         return True
     print(f'{program}: proving and building the program', flush=True)
-    ran = subprocess.run(['rt', 'run', '--', *PROGRAMS[program]], cwd=CRATES / program, stdin=subprocess.DEVNULL,
+    ran = subprocess.run(['rt', 'run', '--', *PROGRAMS.get(program, [])], cwd=CRATES / program, stdin=subprocess.DEVNULL,
                          stdout=subprocess.PIPE, stderr=subprocess.STDOUT)
     if ran.returncode != 0:
         sys.stdout.write(ran.stdout.decode(errors='replace'))

@@ -1,0 +1,50 @@
+//! Clones of errors, and what is shown of one over its source.
+
+ghost use Rattle.std.specs.Prelude.{◌≡◌, Some};
+ghost use Rattle.subst.specs.ErrorFault.{error_fault};
+ghost use Rattle.subst.specs.Fault as fault;
+
+use crate::marks::{Shown, again, clone, say_end, tell};
+use std::alloc::{AllocError, Global};
+use subst::Error;
+use subst::error::{ExpandError, MissingVariableName, NoSuchVariable};
+use subst_testing::marks::{begin, end, say_out_of_memory};
+
+/// The fault of a variable that isn't there.
+pub fn absent(alloc: Global) -> Result<NoSuchVariable, AllocError> {
+    let name = String::from_str(alloc, "absent")?;
+    Ok(NoSuchVariable { position: 3, name })
+}
+
+/// The fault of the source `one`, and `Hi $!` in a second line.
+pub fn no_name() -> Error
+    ensures { error_fault result ≡ Some (fault.MissingVariableName 7 1) }
+{
+    Error::from(MissingVariableName {
+        position: 7,
+        len: 1,
+    })
+}
+
+fn underlined(alloc: Global) -> Result<String, AllocError> {
+    no_name().source_highlighting(alloc, "one\nHi $!")
+}
+
+pub fn calls(rt: &HostRuntime) -> Result<(), AllocError> {
+    let alloc = rt.alloc();
+    clone(rt, "NoSuchVariable::clone", absent(alloc)?);
+    let absent_in_expansion = ExpandError::from(absent(alloc)?);
+    clone(
+        rt,
+        "ExpandError::clone of a missing variable",
+        absent_in_expansion,
+    );
+    clone(
+        rt,
+        "Error::clone of a missing variable",
+        Error::from(absent(alloc)?),
+    );
+    let fault = no_name();
+    again!(rt, "Error::source_highlighting", [fault], Err(_) => underlined(alloc));
+    Ok(())
+}

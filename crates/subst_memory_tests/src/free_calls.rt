@@ -1,0 +1,153 @@
+//! Calls of the library that take no memory.
+
+use crate::marks::{say, say_bytes};
+use indexmap::IndexMap;
+use std::alloc::{AllocError, Global};
+use std::collections::{BTreeMap, HashMap};
+use subst::steps::{Reads, Turns};
+use subst::{
+    ByteTemplate, ByteTemplateBuf, Env, Error, NoSubstitution, Template, TemplateBuf, VariableMap,
+    laws,
+};
+use subst_testing::marks::{begin, end};
+
+/// Looks `name` and `absent` up.
+fn get<'a, M: VariableMap<'a>>(rt: &HostRuntime, call: &str, variables: &'a M)
+where
+    M::Value: Drop,
+{
+    begin(rt, call);
+    let has_name = variables.get("name").is_some();
+    let has_absent = variables.get("absent").is_some();
+    end(rt);
+    say(rt, "name:", if has_name { "a value" } else { "no value" });
+    say(
+        rt,
+        "absent:",
+        if has_absent { "a value" } else { "no value" },
+    );
+    let _ = rt.println("");
+}
+
+fn key(alloc: Global) -> Result<String, AllocError> {
+    String::from_str(alloc, "name")
+}
+
+fn get_of_maps_with_own_keys(rt: &HostRuntime) -> Result<(), AllocError> {
+    let mut tree = BTreeMap::new(rt.alloc());
+    tree.insert(key(rt.alloc())?, "world")?;
+    get(rt, "get of a BTreeMap with keys String", &tree);
+    let mut hash = HashMap::new(rt.alloc());
+    hash.insert(key(rt.alloc())?, "world")?;
+    get(rt, "get of a HashMap with keys String", &hash);
+    let mut index = IndexMap::new(rt.alloc());
+    index.insert(key(rt.alloc())?, "world")?;
+    get(rt, "get of an IndexMap with keys String", &index);
+    Ok(())
+}
+
+fn get_of_maps_with_lent_keys(rt: &HostRuntime) -> Result<(), AllocError> {
+    let mut tree = BTreeMap::new(rt.alloc());
+    tree.insert("name", "world")?;
+    get(rt, "get of a BTreeMap with keys &str", &tree);
+    let mut hash = HashMap::new(rt.alloc());
+    hash.insert("name", "world")?;
+    get(rt, "get of a HashMap with keys &str", &hash);
+    let mut index = IndexMap::new(rt.alloc());
+    index.insert("name", "world")?;
+    get(rt, "get of an IndexMap with keys &str", &index);
+    Ok(())
+}
+
+fn env_of(rt: &HostRuntime, pairs: Vec<(String, String)>) -> Env {
+    begin(rt, "Env::from_pairs");
+    let env = Env::from_pairs(pairs);
+    end(rt);
+    env
+}
+
+fn get_of_env(rt: &HostRuntime) -> Result<(), AllocError> {
+    let mut pairs = Vec::new(rt.alloc());
+    pairs.push((key(rt.alloc())?, String::from_str(rt.alloc(), "world")?))?;
+    let env = env_of(rt, pairs);
+    get(rt, "get of an Env", &env);
+    Ok(())
+}
+
+/// Prints the sources of templates that are lent in two ways.
+fn say_source(rt: &HostRuntime, lent: Template<'_>, by_from: Template<'_>) {
+    say(rt, "as_template:", lent.source());
+    say(rt, "from:", by_from.source());
+}
+
+fn take_text_apart(rt: &HostRuntime, owner: TemplateBuf) {
+    begin(rt, "as_template, from, source and into_source of texts");
+    say_source(rt, owner.as_template(), Template::from(&owner));
+    say(rt, "source:", owner.source());
+    let source = owner.into_source();
+    end(rt);
+    say(rt, "into_source:", source.as_str());
+}
+
+/// The same of bytes.
+fn say_byte_source(rt: &HostRuntime, lent: ByteTemplate<'_>, by_from: ByteTemplate<'_>) {
+    say_bytes(rt, "as_template:", lent.source());
+    say_bytes(rt, "from:", by_from.source());
+}
+
+fn take_bytes_apart(rt: &HostRuntime, owner: ByteTemplateBuf) {
+    begin(rt, "as_template, from, source and into_source of bytes");
+    say_byte_source(rt, owner.as_template(), ByteTemplate::from(&owner));
+    say_bytes(rt, "source:", owner.source());
+    let source = owner.into_source();
+    end(rt);
+    say_bytes(rt, "into_source:", source.as_slice());
+}
+
+fn templates(rt: &HostRuntime) -> Result<(), Error> {
+    let source = "${a:b}";
+    take_text_apart(
+        rt,
+        TemplateBuf::from_string(String::from_str(rt.alloc(), source)?)?,
+    );
+    let _ = rt.println("");
+    take_bytes_apart(
+        rt,
+        ByteTemplateBuf::from_vec(Vec::from_slice(rt.alloc(), source.as_bytes())?)?,
+    );
+    let _ = rt.println("");
+    Ok(())
+}
+
+fn steps_and_laws(rt: &HostRuntime) {
+    begin(rt, "Reads::new and Turns::new");
+    let _reads = Reads::new();
+    let _turns = Turns::new();
+    end(rt);
+    begin(rt, "law_1 to law_9, and the laws of texts, turns and trees");
+    laws::law_1();
+    laws::law_2();
+    laws::law_3();
+    laws::law_4();
+    laws::law_5();
+    laws::law_6();
+    laws::law_7();
+    laws::law_8();
+    laws::law_9();
+    laws::texts_give_texts();
+    laws::turns_are_bounded();
+    laws::trees_have_one_outcome();
+    laws::toml_trees_have_one_outcome();
+    end(rt);
+    let _ = rt.println("");
+}
+
+pub fn calls(rt: &HostRuntime) -> Result<(), Error> {
+    get_of_maps_with_own_keys(rt)?;
+    get_of_maps_with_lent_keys(rt)?;
+    get_of_env(rt)?;
+    get(rt, "get of NoSubstitution", &NoSubstitution);
+    templates(rt)?;
+    steps_and_laws(rt);
+    Ok(())
+}

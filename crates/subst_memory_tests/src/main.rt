@@ -1,0 +1,26 @@
+//! Makes each call of `docs/MEMORY.md`, for `tools/refuse-memory.py`, which refuses each of their requests for
+//! memory in turn. Nothing is judged here.
+#![tactic(auto)]
+
+mod bytes;
+mod documents;
+mod errors;
+mod fakes;
+mod free_calls;
+mod free_errors;
+mod marks;
+mod runs;
+mod texts;
+
+use subst::Error;
+
+fn main(rt: HostRuntime) -> Result<(), Error> {
+    texts::calls(&rt)?;
+    bytes::calls(&rt)?;
+    documents::json_calls(&rt)?;
+    documents::toml_calls(&rt)?;
+    errors::calls(&rt)?;
+    runs::calls(&rt)?;
+    free_calls::calls(&rt)?;
+    Ok(free_errors::calls(&rt)?)
+}

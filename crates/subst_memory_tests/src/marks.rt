@@ -1,0 +1,130 @@
+//! Calls between marks, and what is shown of them.
+
+use std::alloc::AllocError;
+use subst::Error;
+use subst::error::{ExpandError, NoSuchVariable, ParseError};
+use subst_testing::answers::told_fault;
+use subst_testing::marks::{begin, end, say_out_of_memory};
+
+/// Makes a call, by the name that it has in `docs/MEMORY.md`, and once more if what came matches the pattern of
+/// out of memory. Shows what the call is lent before it and after it, and what it gives. An empty line is last.
+macro_rules! again {
+    ($rt:ident, $name:expr, [$($lent:ident),*], $out_of_memory:pat => $call:expr) => {
+        $($lent.show($rt, "lent");)*
+        begin($rt, $name);
+        let mut came = $call;
+        end($rt);
+        if let $out_of_memory = came {
+            say_out_of_memory($rt);
+            $($lent.show($rt, "lent");)*
+            came = $call;
+        }
+        tell($rt, came);
+        $($lent.show($rt, "lent");)*
+        say_end($rt);
+    };
+}
+
+pub(crate) use again;
+
+/// What is printed of calls.
+pub trait Shown {
+    /// Prints it, in lines that begin with a word.
+    fn show(&self, rt: &HostRuntime, word: &str);
+}
+
+/// Prints a line.
+pub fn say(rt: &HostRuntime, word: &str, text: &str) {
+    let _ = rt.println(format_args!("{word} {text}"));
+}
+
+/// Prints an empty line.
+pub fn say_end(rt: &HostRuntime) {
+    let _ = rt.println("");
+}
+
+/// Prints a line of bytes, which are those of a text.
+pub fn say_bytes(rt: &HostRuntime, word: &str, bytes: &[u8]) {
+    say(rt, word, str::from_utf8(bytes).unwrap_or("no text"));
+}
+
+/// Prints what a call gave.
+pub fn tell<T: Shown + Drop, E: Shown + Drop>(rt: &HostRuntime, came: Result<T, E>) {
+    match came {
+        Ok(given) => given.show(rt, "gives"),
+        Err(fault) => fault.show(rt, "refused"),
+    }
+}
+
+fn cloned<T: Clone>(original: &T) -> Result<T, AllocError> {
+    let copy: Result<T, AllocError> = original.clone();
+    copy
+}
+
+/// Makes the call `clone`.
+pub fn clone<T: Clone + Shown + Drop>(rt: &HostRuntime, name: &str, original: T) {
+    again!(rt, name, [original], Err(_) => cloned(&original));
+}
+
+impl Shown for () {
+    fn show(&self, rt: &HostRuntime, word: &str) {
+        say(rt, word, "nothing");
+    }
+}
+
+/// Each line of it.
+impl Shown for &str {
+    fn show(&self, rt: &HostRuntime, word: &str) {
+        for line in self.lines() {
+            say(rt, word, line);
+        }
+    }
+}
+
+impl Shown for String {
+    fn show(&self, rt: &HostRuntime, word: &str) {
+        say(rt, word, self.as_str());
+    }
+}
+
+impl Shown for Vec<u8> {
+    fn show(&self, rt: &HostRuntime, word: &str) {
+        say_bytes(rt, word, self.as_slice());
+    }
+}
+
+impl Shown for AllocError {
+    fn show(&self, rt: &HostRuntime, word: &str) {
+        say(rt, word, "for want of memory");
+    }
+}
+
+impl Shown for Error {
+    fn show(&self, rt: &HostRuntime, word: &str) {
+        match told_fault(rt.alloc(), self) {
+            Ok(told) => say(rt, word, told.as_str()),
+            Err(_) => say(rt, word, "a fault that isn't told"),
+        }
+    }
+}
+
+impl Shown for ParseError {
+    fn show(&self, rt: &HostRuntime, word: &str) {
+        Error::from(*self).show(rt, word);
+    }
+}
+
+impl Shown for ExpandError {
+    fn show(&self, rt: &HostRuntime, word: &str) {
+        match self {
+            ExpandError::NoSuchVariable(fault) => fault.show(rt, word),
+            ExpandError::OutOfMemory(fault) => fault.show(rt, word),
+        }
+    }
+}
+
+impl Shown for NoSuchVariable {
+    fn show(&self, rt: &HostRuntime, word: &str) {
+        let _ = rt.println(format_args!("{word} {}: {self}", self.position));
+    }
+}

@@ -1,0 +1,164 @@
+//! Calls over texts and their templates.
+
+use crate::marks::{Shown, again, clone, say, say_end, tell};
+use std::alloc::{AllocError, Global};
+use std::mem;
+use subst::error::{ExpandError, ParseError};
+use subst::{Error, Template, TemplateBuf, laws, substitute};
+use subst_testing::marks::{begin, end, say_out_of_memory};
+use subst_testing::variables::{Texts, texts};
+
+/// A default in a default, escapes, and a variable.
+const SENTENCE: &str = "Hé ${hi:\\{${who:❤}\\}} and $name!";
+
+/// A sentence that needs a variable which isn't there.
+const MISSING: &str = "Hé ${hi:$name and ${who:$absent}}!";
+
+/// A source with a bad escape in its inner default.
+const BAD_ESCAPE: &str = "Hé ${hi:$name and ${who:\\!}}!";
+
+/// Defaults in defaults.
+const DEFAULTS: &str = "Hello ${a:cruel ${b:round ${c:world}}}!";
+
+/// A value that is longer than each source.
+const NAME: &str = "name=the whole round world with all that is in it";
+
+impl Shown for Texts<'_> {
+    fn show(&self, rt: &HostRuntime, word: &str) {
+        for (name, value) in self.iter() {
+            let _ = rt.println(format_args!("{word} {name}={value}"));
+        }
+    }
+}
+
+fn filled_in(alloc: Global, template: &Template<'_>) -> Result<String, Error> {
+    let variables = texts(alloc, NAME)?;
+    Ok(template.expand(alloc, &variables)?)
+}
+
+/// A template is shown by its source, and by what it gives.
+impl Shown for Template<'_> {
+    fn show(&self, rt: &HostRuntime, word: &str) {
+        say(rt, word, self.source());
+        match filled_in(rt.alloc(), self) {
+            Ok(text) => text.show(rt, word),
+            Err(fault) => fault.show(rt, word),
+        }
+    }
+}
+
+impl Shown for TemplateBuf {
+    fn show(&self, rt: &HostRuntime, word: &str) {
+        self.as_template().show(rt, word);
+    }
+}
+
+fn owned(alloc: Global, source: &str) -> Result<TemplateBuf, ParseError> {
+    TemplateBuf::from_string(String::from_str(alloc, source)?)
+}
+
+/// The template that takes a text over, or another copy if the first one is gone.
+fn taken(
+    alloc: Global,
+    text: &mut Option<String>,
+    source: &str,
+) -> Result<TemplateBuf, ParseError> {
+    match text.take() {
+        Some(text) => TemplateBuf::from_string(text),
+        None => owned(alloc, source),
+    }
+}
+
+/// The owned copy of a template, which is taken; the next one is lent by the owner.
+fn copied<'a>(
+    alloc: Global,
+    template: &mut Template<'a>,
+    owner: &'a TemplateBuf,
+) -> Result<TemplateBuf, AllocError> {
+    TemplateBuf::of_template(alloc, mem::replace(template, owner.as_template()))
+}
+
+fn fill_in(rt: &HostRuntime, name: &str, source: &str) -> Result<(), AllocError> {
+    let map = texts(rt.alloc(), NAME)?;
+    again!(rt, name, [map, source],
+        Err(Error::OutOfMemory(_)) => substitute(rt.alloc(), source, &map));
+    Ok(())
+}
+
+fn parse(rt: &HostRuntime, name: &str, source: &str) {
+    let alloc = rt.alloc();
+    again!(rt, name, [source],
+        Err(ParseError::OutOfMemory(_)) => Template::from_str(alloc, source));
+}
+
+fn expand(rt: &HostRuntime, name: &str, source: &str) -> Result<(), Error> {
+    let alloc = rt.alloc();
+    let template = Template::from_str(alloc, source)?;
+    let map = texts(alloc, NAME)?;
+    again!(rt, name, [template, map],
+        Err(ExpandError::OutOfMemory(_)) => template.expand(alloc, &map));
+    Ok(())
+}
+
+fn take_over(rt: &HostRuntime, name: &str, source: &str) -> Result<(), AllocError> {
+    let alloc = rt.alloc();
+    let mut text = Some(String::from_str(alloc, source)?);
+    again!(rt, name, [source], Err(ParseError::OutOfMemory(_)) => taken(alloc, &mut text, source));
+    Ok(())
+}
+
+fn expand_owner(rt: &HostRuntime, name: &str, source: &str, pairs: &str) -> Result<(), Error> {
+    let alloc = rt.alloc();
+    let owner = owned(alloc, source)?;
+    let map = texts(alloc, pairs)?;
+    again!(rt, name, [owner, map], Err(ExpandError::OutOfMemory(_)) => owner.expand(alloc, &map));
+    Ok(())
+}
+
+fn copy(rt: &HostRuntime) -> Result<(), Error> {
+    let alloc = rt.alloc();
+    clone(rt, "Template::clone", Template::from_str(alloc, SENTENCE)?);
+    clone(rt, "TemplateBuf::clone", owned(alloc, SENTENCE)?);
+    let template = Template::from_str(alloc, SENTENCE)?;
+    let name = "TemplateBuf::from_template";
+    again!(rt, name, [template], Err(_) => TemplateBuf::from_template(alloc, &template));
+    Ok(())
+}
+
+fn copy_of(rt: &HostRuntime) -> Result<(), Error> {
+    let alloc = rt.alloc();
+    let owner = owned(alloc, SENTENCE)?;
+    clone(rt, "Template::clone of a lent one", owner.as_template());
+    let mut template = Template::from_str(alloc, SENTENCE)?;
+    let name = "TemplateBuf::of_template";
+    again!(rt, name, [owner], Err(_) => copied(alloc, &mut template, &owner));
+    let name = "TemplateBuf::of_template of a lent one";
+    let mut template = owner.as_template();
+    again!(rt, name, [owner], Err(_) => copied(alloc, &mut template, &owner));
+    Ok(())
+}
+
+fn escape(rt: &HostRuntime) {
+    let text = "a$b{c}:\\";
+    again!(rt, "laws::escaped", [text], Err(_) => laws::escaped(rt.alloc(), text));
+}
+
+pub fn calls(rt: &HostRuntime) -> Result<(), Error> {
+    fill_in(rt, "substitute of a sentence", SENTENCE)?;
+    fill_in(rt, "substitute of a missing variable", MISSING)?;
+    fill_in(rt, "substitute of a bad escape", BAD_ESCAPE)?;
+    parse(rt, "Template::from_str of a sentence", SENTENCE);
+    expand(rt, "Template::expand of a sentence", SENTENCE)?;
+    expand(rt, "Template::expand of a missing variable", MISSING)?;
+    take_over(rt, "TemplateBuf::from_string of a sentence", SENTENCE)?;
+    take_over(rt, "TemplateBuf::from_string of a bad escape", BAD_ESCAPE)?;
+    let name = "TemplateBuf::from_string of defaults in defaults";
+    take_over(rt, name, DEFAULTS)?;
+    expand_owner(rt, "TemplateBuf::expand of a sentence", SENTENCE, NAME)?;
+    let name = "TemplateBuf::expand of defaults in defaults";
+    expand_owner(rt, name, DEFAULTS, "")?;
+    copy(rt)?;
+    copy_of(rt)?;
+    escape(rt);
+    Ok(())
+}
