@@ -12,6 +12,8 @@ type Part<'a> = (usize, &'a str);
 
 const DEPTH: usize = 100_000;
 
+const UNCLOSED: &str = "1..2: Missing closing brace";
+
 /// The parts, concatenated.
 fn repeated(alloc: Global, parts: &[Part<'_>]) -> Result<String, AllocError> {
     let mut all = String::new(alloc);
@@ -56,13 +58,12 @@ fn expect_answer(rt: &impl Testing, parts: &[Part<'_>], want: &str) -> Result<()
 fn deep_defaults(rt: HostRuntime) -> Result<(), Fail> {
     let (opened, escape) = ((DEPTH, "${a:"), (1, "\\x"));
     let (closed, one_fewer) = ((DEPTH, "}"), (DEPTH - 1, "}"));
-    let unclosed = "1..2: Missing closing brace";
     let refused = "400000..400002: Invalid escape sequence: \\x";
     expect_answer(&rt, &[opened, closed], "gives ")?;
-    expect_answer(&rt, &[opened, one_fewer], unclosed)?;
+    expect_answer(&rt, &[opened, one_fewer], UNCLOSED)?;
     expect_answer(&rt, &[opened, escape, closed], refused)?;
-    expect_answer(&rt, &[opened, escape, one_fewer], unclosed)?;
-    expect_answer(&rt, &[(DEPTH, "${a:\\x")], unclosed)?;
+    expect_answer(&rt, &[opened, escape, one_fewer], UNCLOSED)?;
+    expect_answer(&rt, &[(DEPTH, "${a:\\x")], UNCLOSED)?;
     Ok(())
 }
 
@@ -71,10 +72,6 @@ fn deep_braces_in_a_default(rt: HostRuntime) -> Result<(), Fail> {
     let (default, opened, closed) = ((1, "${a:"), (DEPTH, "{"), (DEPTH, "}"));
     let given = repeated(rt.alloc(), &[(1, "gives "), opened, closed])?;
     expect_answer(&rt, &[default, opened, closed, (1, "}")], &given)?;
-    expect_answer(
-        &rt,
-        &[default, opened, closed],
-        "1..2: Missing closing brace",
-    )?;
+    expect_answer(&rt, &[default, opened, closed], UNCLOSED)?;
     Ok(())
 }

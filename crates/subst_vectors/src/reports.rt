@@ -125,12 +125,8 @@ fn expect_report(
     expect_position(rt, fault, source, position)?;
     let (range, line) = (fault.source_range(), fault.source_line(source));
     let shown = fault.source_highlighting(rt.alloc(), source)?;
-    expect(
-        rt,
-        source,
-        format!(in rt.alloc(); "{range:?} of {line:?}\n{shown}"),
-        want,
-    );
+    let told = format!(in rt.alloc(); "{range:?} of {line:?}\n{shown}");
+    expect(rt, source, told, want);
     Ok(())
 }
 
@@ -140,21 +136,11 @@ fn ranges_made_by_hand(rt: HostRuntime) -> Result<(), Fail> {
         position: 1,
         len: 4,
     });
-    expect_report(
-        &rt,
-        &two_lines,
-        "ab\ncd",
-        "1:2",
-        "1..5 of \"ab\"\n  ab\n   ^\n",
-    )?;
+    let want = "1..5 of \"ab\"\n  ab\n   ^\n";
+    expect_report(&rt, &two_lines, "ab\ncd", "1:2", want)?;
     let line_end = Error::from(MissingClosingBrace { position: 2 });
-    expect_report(
-        &rt,
-        &line_end,
-        "ab\ncd",
-        "1:3",
-        "2..3 of \"ab\"\n  ab\n    \n",
-    )?;
+    let want = "2..3 of \"ab\"\n  ab\n    \n";
+    expect_report(&rt, &line_end, "ab\ncd", "1:3", want)?;
     expect_report(&rt, &line_end, "a\r\nb", "2:1", "2..3 of \"\"\n  \n  \n")?;
     let nowhere = Error::from(AllocError);
     expect_report(&rt, &nowhere, "a\nb", "1:1", "0..0 of \"a\"\n")?;
