@@ -30,7 +30,11 @@ fn told(alloc: Global, read: Result<Value, Error>) -> Result<DocumentAnswer, All
 }
 
 /// The answer of the tree that a text is read as.
-fn in_place(alloc: Global, text: &str, pairs: &Pairs<String>) -> Result<DocumentAnswer, AllocError> {
+fn in_place(
+    alloc: Global,
+    text: &str,
+    pairs: &Pairs<String>,
+) -> Result<DocumentAnswer, AllocError> {
     match Value::from_str(alloc, text) {
         Ok(tree) => filled_in(alloc, tree, pairs),
         Err(e) => told(alloc, Err(Error::from(e))),
@@ -38,7 +42,11 @@ fn in_place(alloc: Global, text: &str, pairs: &Pairs<String>) -> Result<Document
 }
 
 /// The answer of a tree: a refusal only where the tree is as it was.
-fn filled_in(alloc: Global, mut tree: Value, pairs: &Pairs<String>) -> Result<DocumentAnswer, AllocError> {
+fn filled_in(
+    alloc: Global,
+    mut tree: Value,
+    pairs: &Pairs<String>,
+) -> Result<DocumentAnswer, AllocError> {
     let before = tree.to_string(alloc)?;
     let filled = substitute_string_values(alloc, &mut tree, pairs);
     let after = tree.to_string(alloc)?;

@@ -36,7 +36,11 @@ fn text_of(alloc: Global, tree: &Value) -> Result<String, AllocError> {
 }
 
 /// The answer of the tree that a text is read as.
-fn in_place(alloc: Global, text: &str, pairs: &Pairs<String>) -> Result<DocumentAnswer, AllocError> {
+fn in_place(
+    alloc: Global,
+    text: &str,
+    pairs: &Pairs<String>,
+) -> Result<DocumentAnswer, AllocError> {
     match table_from_str(alloc, text) {
         Ok(table) => filled_in(alloc, Value::Table(table), pairs),
         Err(e) => told(alloc, Err(Error::from(e))),
@@ -44,7 +48,11 @@ fn in_place(alloc: Global, text: &str, pairs: &Pairs<String>) -> Result<Document
 }
 
 /// The answer of a tree: a refusal only where the tree is as it was.
-fn filled_in(alloc: Global, mut tree: Value, pairs: &Pairs<String>) -> Result<DocumentAnswer, AllocError> {
+fn filled_in(
+    alloc: Global,
+    mut tree: Value,
+    pairs: &Pairs<String>,
+) -> Result<DocumentAnswer, AllocError> {
     let before = text_of(alloc, &tree)?;
     let filled = substitute_string_values(alloc, &mut tree, pairs);
     let after = text_of(alloc, &tree)?;

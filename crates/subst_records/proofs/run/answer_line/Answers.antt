@@ -12,9 +12,12 @@ returns-clause-ok c = record {
 }
 
 pub returns-then-not-branch-clause-err : goal.returns-then-not-branch-clause-err
-returns-then-not-branch-clause-err c = (λ i. c.args.number, record {
-  asked = c.in_ok-asked.asked;
-  is = ok_before Failure c.read.result c.in_ok-asked.asked (IsRecord c.args.line.now) _
-      c.read.ensures.ok c.in_ok-asked.ensures.cases (λ e none. none);
-  document = c.in_ok-ways_agree.ensures c.if-not-branch.true;
-})
+returns-then-not-branch-clause-err c = (
+  λ i. c.args.number,
+  record {
+    asked = c.in_ok-asked.asked;
+    is = ok_before Failure c.read.result c.in_ok-asked.asked (IsRecord c.args.line.now) _
+        c.read.ensures.ok c.in_ok-asked.ensures.cases (λ e none. none);
+    document = c.in_ok-ways_agree.ensures c.if-not-branch.true;
+  },
+)
