@@ -2,12 +2,11 @@
 
 pub use byte_template::ByteTemplate;
 pub use byte_template_buf::ByteTemplateBuf;
-pub use template::Template;
-pub use template_buf::TemplateBuf;
+pub use text_template::Template;
+pub use text_template_buf::TemplateBuf;
 
 mod byte_string;
 mod byte_template;
 mod byte_template_buf;
-mod raw;
-mod template;
-mod template_buf;
+mod text_template;
+mod text_template_buf;

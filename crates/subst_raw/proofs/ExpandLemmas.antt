@@ -11,9 +11,9 @@ use Rattle.subst_language.specs.Language.Answer.{IsMissing}
 use Rattle.subst_language.specs.Calls.VariableMap.{ReadsAs, look_up_of}
 use Rattle.subst_raw.specs.Span.{span_bytes}
 use Rattle.subst_raw.specs.Parts.{FitsAt, AllFit, part_value, if_found, resume_index, visited_parts, joined_value, parts_value}
-use Rattle.subst_raw.specs.declared.Span.{Span}
-use Rattle.subst_raw.specs.declared.Part.{Part}
-use Rattle.subst_raw.specs.declared.Part.TheVariants.{Literal, Escaped, Variable, Default}
+use Rattle.subst_raw.specs.declared.part.Span.{Span}
+use Rattle.subst_raw.specs.declared.part.Part.{Part}
+use Rattle.subst_raw.specs.declared.part.Part.TheVariants.{Literal, Escaped, Variable, Default}
 use Rattle.subst_raw.proofs.PartsLemmas.{fit_at, visited_parts-before, visited_parts-from, visited_parts-anywhere}
 use Rattle.subst_language.proofs.Language.ValueLemmas.{joined_assoc, joined-left, joined-right}
 use Rattle.subst_language.proofs.Language.ListLemmas.{IsElementAt, element_at, around}

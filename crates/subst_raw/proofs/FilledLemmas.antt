@@ -6,9 +6,9 @@ use Rattle.subst_raw.specs.Span.{span_bytes}
 use Rattle.subst_raw.specs.Parts.{parts_value}
 use Rattle.subst_raw.specs.Filled.{mark, marks_of, IsFilled, FillsMarks}
 use Rattle.subst_raw.specs.Filled.IsFilled.{empty, kept, filled}
-use Rattle.subst_raw.specs.declared.Span.{Span}
-use Rattle.subst_raw.specs.declared.Part.{Part}
-use Rattle.subst_raw.specs.declared.Part.TheVariants.{Literal, Escaped, Variable, Default}
+use Rattle.subst_raw.specs.declared.part.Span.{Span}
+use Rattle.subst_raw.specs.declared.part.Part.{Part}
+use Rattle.subst_raw.specs.declared.part.Part.TheVariants.{Literal, Escaped, Variable, Default}
 use Rattle.subst_language.proofs.Language.ListLemmas.{IsElementAt}
 use Rattle.subst_raw.proofs.ExpandLemmas.{GivesSoFar, starts, ends, after_literal, after_escaped, after_variable, after_value, after_none}
 

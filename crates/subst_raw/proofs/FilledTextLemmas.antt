@@ -7,7 +7,7 @@ use Rattle.subst_language.specs.Language.LookUp.{GivesTexts}
 use Rattle.subst_raw.specs.Parts.{IsTemplateOf, parts_value}
 use Rattle.subst_raw.specs.Filled.{mark, marks_of, IsFilled, FillsMarks}
 use Rattle.subst_raw.specs.Filled.IsFilled.{empty, kept, filled}
-use Rattle.subst_raw.specs.declared.Part.{Part}
+use Rattle.subst_raw.specs.declared.part.Part.{Part}
 use Rattle.subst_language.proofs.Language.Utf8Lemmas.{cut_at, value_is_text, ascii_alone}
 
 -- after the bytes u: where the text with marks is UTF-8, so is that with texts in their place

@@ -15,9 +15,9 @@ use Rattle.subst_raw.specs.Placeholder.{IsInBraces}
 use Rattle.subst_raw.specs.Parts.{IsTemplateOf, HasName}
 use Rattle.subst_language.specs.Lemmas.Closing.{ChangesDepth}
 use Rattle.subst_raw.specs.Parsing.{IsTreeAt, IsParsedWithTail, StackHoldsFlushed}
-use Rattle.subst_raw.specs.declared.Span.{Span}
-use Rattle.subst_raw.specs.declared.Part.{Part}
-use Rattle.subst_raw.specs.declared.Part.TheVariants.{Default}
+use Rattle.subst_raw.specs.declared.part.Span.{Span}
+use Rattle.subst_raw.specs.declared.part.Part.{Part}
+use Rattle.subst_raw.specs.declared.part.Part.TheVariants.{Default}
 use Rattle.subst_raw.specs.declared.parse.OpenDefault.{OpenDefault}
 use Rattle.subst_language.specs.Language.Join.{join}
 use Rattle.subst_language.proofs.Language.PlainLemmas.{plains}

@@ -9,8 +9,8 @@ use Rattle.subst_language.specs.Lemmas.PlainEnds.{ends_plain, HasNoPlainEnds}
 use Rattle.subst_language.specs.Language.Counts.{visited_count_after, visited_count}
 use Rattle.subst_raw.specs.Parts.{PartsMean}
 use Rattle.subst_raw.specs.Parsing.{IsTreeAt, IsParsed, IsParsedWithTail}
-use Rattle.subst_raw.specs.declared.Part.{Part}
-use Rattle.subst_raw.specs.declared.Part.TheVariants.{Literal}
+use Rattle.subst_raw.specs.declared.part.Part.{Part}
+use Rattle.subst_raw.specs.declared.part.Part.TheVariants.{Literal}
 use Rattle.subst_language.specs.Language.Join.{join}
 use Rattle.subst_language.proofs.Language.TreeLemmas.{text-join, well_formed_join, followed_join, followed_front}
 use Rattle.subst_language.proofs.Language.CountLemmas.{ends_plain-join, ends_plain-apart, visited_count_after-apart}

@@ -18,9 +18,9 @@ use Rattle.subst_raw.specs.declared.halt.Halt.{Halt}
 use Rattle.std.specs.Option.{IfSome, IsSomeAnd}
 use Rattle.subst_raw.specs.Placeholder.{IsInBraces, IsNameAt, IsOptional, IsBadWhenCut}
 use Rattle.subst_raw.specs.Parsing.{StackHolds, StackHoldsFlushed, IsReading, IsPart}
-use Rattle.subst_raw.specs.declared.Span.{Span}
-use Rattle.subst_raw.specs.declared.Part.{Part}
-use Rattle.subst_raw.specs.declared.Part.TheVariants.{Default}
+use Rattle.subst_raw.specs.declared.part.Span.{Span}
+use Rattle.subst_raw.specs.declared.part.Part.{Part}
+use Rattle.subst_raw.specs.declared.part.Part.TheVariants.{Default}
 use Rattle.subst_raw.specs.declared.parse.OpenDefault.{OpenDefault}
 use Rattle.subst_raw.specs.declared.parse.Parser.{Parser}
 use Rattle.subst_raw.specs.declared.tape.Tape.{Tape}
@@ -368,18 +368,6 @@ closes_top p reading none =
     let nested : StackHolds true s [] p.depth p.parts p.literal_start p.at =
     subst (λ ds. StackHolds true s ds p.depth p.parts p.literal_start p.at) (ap reverse none) reading.nested in
     subst (λ d. ClosesAll d (drop p.at s)) (sym nested.0) tt
-
--- the parts at the end of the source
-pub reading_end : {O : Type 0} {limit : ℕ} (p mid : Parser O) → IsReading limit p → IsFlushed p mid
-    → length p.tape.source.now ≤ p.at
-    → p.defaults.items ≡ []
-    → IsTemplateOf p.tape.source.now mid.parts
-reading_end p mid reading given end none =
-    let s = p.tape.source.now in
-    let nested : StackHoldsFlushed s [] p.depth mid.parts p.at p.at =
-    subst (λ ds. StackHoldsFlushed s ds p.depth mid.parts p.at p.at) (ap reverse none) given.1 in
-    template_at_end s mid.parts p.at (drop_all p.at s end)
-    (subst (λ d. StackHoldsFlushed s [] d mid.parts p.at p.at) nested.0 nested)
 
 -- the part of the innermost default has its name
 pub innermost_named : {O : Type 0} (old mid : Parser O) (front : List OpenDefault)

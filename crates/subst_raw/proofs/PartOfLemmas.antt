@@ -7,8 +7,8 @@ use Rattle.subst_language.specs.Language.Tree as tree
 use Rattle.subst_raw.specs.Span.{span_bytes}
 use Rattle.subst_raw.specs.Placeholder.{IsEscape, IsShort, IsInBraces, IsOptional}
 use Rattle.subst_raw.specs.Parsing.{IsPart}
-use Rattle.subst_raw.specs.declared.Span.{Span}
-use Rattle.subst_raw.specs.declared.Part.TheVariants.{Escaped, Variable, Default}
+use Rattle.subst_raw.specs.declared.part.Span.{Span}
+use Rattle.subst_raw.specs.declared.part.Part.TheVariants.{Escaped, Variable, Default}
 use Rattle.subst_language.proofs.Language.CountLemmas.{no_plain_ends}
 use Rattle.subst_language.proofs.Language.ItemLemmas.{escape_balanced, short_balanced, braced_balanced, optional_balanced}
 use Rattle.subst_raw.proofs.PartsLemmas.{mean_escaped, mean_short, mean_braced, mean_optional}

@@ -10,9 +10,9 @@ use Rattle.subst_language.specs.Lemmas.PlainEnds.{ends_plain}
 use Rattle.subst_language.specs.Language.Counts.{if_missing, visited_count_after, visited_count}
 use Rattle.subst_raw.specs.Span.{IsSpan, span_bytes}
 use Rattle.subst_raw.specs.Parts.{FitsAt, AllFit, part_value, if_found, resume_index, visited_parts, joined_value, PartsMean}
-use Rattle.subst_raw.specs.declared.Span.{Span}
-use Rattle.subst_raw.specs.declared.Part.{Part}
-use Rattle.subst_raw.specs.declared.Part.TheVariants.{Literal, Escaped, Variable, Default}
+use Rattle.subst_raw.specs.declared.part.Span.{Span}
+use Rattle.subst_raw.specs.declared.part.Part.{Part}
+use Rattle.subst_raw.specs.declared.part.Part.TheVariants.{Literal, Escaped, Variable, Default}
 use Rattle.subst_language.proofs.Language.PlainLemmas.{plains, value-plains}
 use Rattle.subst_language.specs.Language.Join.{join}
 use Rattle.subst_language.proofs.Language.TreeLemmas.{value-join}

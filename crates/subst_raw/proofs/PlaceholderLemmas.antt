@@ -13,7 +13,7 @@ use Rattle.subst_language.specs.Language.Character.{IsFrontCharacter}
 use Rattle.subst_language.specs.Language.BadItem.{after_name, after_question_mark}
 use Rattle.subst_raw.specs.Placeholder.{IsEscape, IsNameAt, IsShort, IsInBraces, IsBadWhenCut}
 use Rattle.subst_error.specs.declared.CharOrByte.{CharOrByte}
-use Rattle.subst_raw.specs.declared.Span.{Span}
+use Rattle.subst_raw.specs.declared.part.Span.{Span}
 use Rattle.subst_language.specs.Language.BadItem.IsBad.{escape_at_end, escape, dollar_at_end, dollar_alone, brace_at_end, brace_alone, name_at_end, name_alone, optional_at_end, optional_alone}
 use Rattle.subst_raw.proofs.CutLemmas.{bad_however}
 use Rattle.subst_language.proofs.Language.ListLemmas.{next_element, next_elements}

@@ -15,9 +15,9 @@ use Rattle.subst_raw.specs.Parts.{PartsMean}
 use Rattle.subst_language.specs.Lemmas.PlainEnds.{HasNoPlainEnds}
 use Rattle.subst_language.specs.Lemmas.Closing.{ChangesDepth}
 use Rattle.subst_raw.specs.Parsing.{IsTreeAt, IsParsedWithTail, IsOpenDefault, StackHolds, StackHoldsFlushed}
-use Rattle.subst_raw.specs.declared.Span.{Span}
-use Rattle.subst_raw.specs.declared.Part.{Part}
-use Rattle.subst_raw.specs.declared.Part.TheVariants.{Literal, Default}
+use Rattle.subst_raw.specs.declared.part.Span.{Span}
+use Rattle.subst_raw.specs.declared.part.Part.{Part}
+use Rattle.subst_raw.specs.declared.part.Part.TheVariants.{Literal, Default}
 use Rattle.subst_raw.specs.declared.parse.OpenDefault.{OpenDefault}
 use Rattle.std.proofs.lemmas.List.{append_cancel_right}
 use Rattle.subst_language.specs.Lemmas.Closing.{Completes}

@@ -6,7 +6,7 @@ use Rattle.subst_language.specs.Language.LookUp.{LookUp}
 use Rattle.subst_language.specs.Language.Value.{value}
 use Rattle.subst_raw.specs.Parts.{IsTemplateOf, visited_parts, parts_value}
 use Rattle.subst_language.specs.Language.Counts.{visited_count}
-use Rattle.subst_raw.specs.declared.Part.{Part}
+use Rattle.subst_raw.specs.declared.part.Part.{Part}
 use Rattle.subst_language.proofs.Language.OneTreeLemmas.{tree_unique}
 
 -- the value of the source's tree, which is the only one

@@ -7,7 +7,7 @@ use Rattle.subst_language.specs.Language.Followed.{IsFollowed}
 use Rattle.subst_language.specs.Language.Balanced.{IsBalanced}
 use Rattle.subst_raw.specs.Span.{span_bytes}
 use Rattle.subst_raw.specs.Placeholder.{IsEscape, IsShort, IsInBraces, IsOptional}
-use Rattle.subst_raw.specs.declared.Span.{Span}
+use Rattle.subst_raw.specs.declared.part.Span.{Span}
 use Rattle.subst_raw.specs.Parsing.{IsTreeAt}
 
 -- an item that is well-formed before any text that may follow it

@@ -2,7 +2,6 @@
 -- them.
 pub mod ByteRun
 pub mod Cost
-pub mod CowParts
 pub mod Filled
 pub mod Halt
 pub mod Inner

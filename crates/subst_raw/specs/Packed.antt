@@ -1,7 +1,7 @@
 -- Parts as lists keep them.
 use Rattle.std.specs.Prelude.{ℕ, ◌<◌, List, map}
-use Rattle.subst_raw.specs.declared.Part.{Part}
-use Rattle.subst_raw.specs.declared.Part.TheVariants.{Literal, Escaped, Variable, Default}
+use Rattle.subst_raw.specs.declared.part.Part.{Part}
+use Rattle.subst_raw.specs.declared.part.Part.TheVariants.{Literal, Escaped, Variable, Default}
 use Rattle.subst_raw.specs.declared.packed_part.PackedPart.{PackedPart}
 use Rattle.subst_raw.specs.declared.packed_part.PackedPart.TheVariants as packed
 

@@ -12,9 +12,9 @@ use Rattle.subst_raw.specs.Halt.{halt_fault}
 use Rattle.subst_raw.specs.Placeholder.{IsInBraces}
 use Rattle.subst_language.specs.Lemmas.PlainEnds.{ends_plain, HasNoPlainEnds}
 use Rattle.subst_raw.specs.Parts.{PartsMean}
-use Rattle.subst_raw.specs.declared.Span.{Span}
-use Rattle.subst_raw.specs.declared.Part.{Part}
-use Rattle.subst_raw.specs.declared.Part.TheVariants.{Default}
+use Rattle.subst_raw.specs.declared.part.Span.{Span}
+use Rattle.subst_raw.specs.declared.part.Part.{Part}
+use Rattle.subst_raw.specs.declared.part.Part.TheVariants.{Default}
 use Rattle.subst_raw.specs.declared.halt.Halt.{Halt}
 use Rattle.subst_raw.specs.declared.parse.OpenDefault.{OpenDefault}
 use Rattle.subst_raw.specs.declared.parse.Parser.{Parser}

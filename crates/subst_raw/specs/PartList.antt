@@ -1,6 +1,6 @@
 -- What the expansion's list of parts is seen as.
 use Rattle.std.specs.Prelude.{ℕ, List}
-use Rattle.subst_raw.specs.declared.Part.{Part}
+use Rattle.subst_raw.specs.declared.part.Part.{Part}
 
 -- the parts, and how many turns there have been
 pub record PartsAndTurns : Type 0 where

@@ -1,11 +1,13 @@
--- Which parts the lists of packed parts keep.
+-- Which parts the lists keep that are lent, owned, or either.
 use Rattle.std.specs.Prelude.{List}
 use Rattle.subst_raw.specs.Packed.{unpacked_parts, same_number}
-use Rattle.subst_raw.specs.declared.Part.{Part}
-use Rattle.subst_raw.specs.declared.part_slice.PartSlice.{PartSlice}
-use Rattle.subst_raw.specs.declared.part_slice.PartSlice.TheVariants as slice
+use Rattle.subst_raw.specs.declared.part.Part.{Part}
+use Rattle.subst_raw.specs.declared.part_vec.PartSlice.{PartSlice}
+use Rattle.subst_raw.specs.declared.part_vec.PartSlice.TheVariants as slice
 use Rattle.subst_raw.specs.declared.part_vec.EitherVec.{EitherVec}
 use Rattle.subst_raw.specs.declared.part_vec.EitherVec.TheVariants as vec
+use Rattle.subst_raw.specs.declared.part_vec.CowList.{CowList}
+use Rattle.subst_raw.specs.declared.part_vec.CowList.TheVariants.{Borrowed, Owned}
 
 -- the parts of a list that is lent
 abbrev pub slice_parts : PartSlice → List Part
@@ -16,3 +18,8 @@ slice_parts (slice.Wide parts) = unpacked_parts same_number parts.now
 abbrev pub vec_parts : EitherVec → List Part
 vec_parts (vec.Narrow parts) = parts
 vec_parts (vec.Wide parts) = parts
+
+-- the parts of a list that is lent or owned
+abbrev pub cow_parts : CowList → List Part
+cow_parts (Borrowed parts) = slice_parts parts
+cow_parts (Owned parts) = parts

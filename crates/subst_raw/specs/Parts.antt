@@ -8,9 +8,9 @@ use Rattle.subst_language.specs.Language.Value.{Value, Bytes, Missing, joined, f
 use Rattle.subst_language.specs.Language.Counts.{visited_count}
 use Rattle.subst_raw.specs.Span.{IsSpan, span_bytes}
 use Rattle.std.specs.List.{slice_get}
-use Rattle.subst_raw.specs.declared.Span.{Span}
-use Rattle.subst_raw.specs.declared.Part.{Part}
-use Rattle.subst_raw.specs.declared.Part.TheVariants.{Literal, Escaped, Variable, Default}
+use Rattle.subst_raw.specs.declared.part.Span.{Span}
+use Rattle.subst_raw.specs.declared.part.Part.{Part}
+use Rattle.subst_raw.specs.declared.part.Part.TheVariants.{Literal, Escaped, Variable, Default}
 
 -- a part at index i of a list: its range lies in the source, its name is one, and its jump goes forward, to
 -- end at most

@@ -6,7 +6,7 @@ use Rattle.subst_language.specs.Language.Name.{IsName, IsNameByte, BeginsWithNo}
 use Rattle.subst_language.specs.Language.BadItem.{IsBad}
 use Rattle.subst_raw.specs.Halt.{halt_fault}
 use Rattle.subst_raw.specs.Span.{IsSpan, span_bytes}
-use Rattle.subst_raw.specs.declared.Span.{Span}
+use Rattle.subst_raw.specs.declared.part.Span.{Span}
 use Rattle.subst_raw.specs.declared.halt.Halt.{Halt}
 use Rattle.subst_raw.specs.declared.item.Placeholder.{Placeholder}
 use Rattle.subst_raw.specs.declared.item.Placeholder.TheVariants.{Short, Braced, Optional, Default}

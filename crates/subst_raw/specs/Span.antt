@@ -1,6 +1,6 @@
 -- Ranges of a source.
 use Rattle.std.specs.Prelude.{ℕ, ◌≤◌, List, length, slice_range}
-use Rattle.subst_raw.specs.declared.Span.{Span}
+use Rattle.subst_raw.specs.declared.part.Span.{Span}
 
 -- the bytes of the range
 abbrev pub span_bytes : Span → List ℕ → List ℕ

@@ -12,13 +12,12 @@ ghost use Rattle.subst_raw.specs.Packed.{unpacked_parts};
 ghost use Rattle.subst_raw.specs.Parts.{AllFit, parts_value, visited_parts};
 ghost use Rattle.subst_raw.specs.Filled.{FillsMarks, marks_of};
 
-use crate::cow_parts::CowParts;
 use crate::packed_part::{Offset, PackedPart};
+use crate::part::{Part, Span};
 use crate::part_list::PartList;
-use crate::part_slice::PartSlice;
+use crate::part_vec::{CowParts, PartSlice};
 use crate::read_value::ReadValue;
 use crate::steps::Turns;
-use crate::{Part, Span};
 use std::alloc::Global;
 use std::{mem, str};
 use subst_error::{ExpandError, NoSuchVariable};

@@ -10,8 +10,8 @@ ghost use Rattle.subst_language.specs.Calls.VariableMap.{ByLookUp};
 ghost use Rattle.subst_language.specs.Calls.Outcome.{Expands};
 ghost use Rattle.subst_raw.specs.Parts.{IsTemplateOf};
 
-use crate::cow_parts::CowParts;
 use crate::expand::expand;
+use crate::part_vec::CowParts;
 use crate::read_value::TextBytes;
 use crate::steps::Turns;
 use std::alloc::Global;

@@ -6,9 +6,9 @@ ghost use Rattle.subst_language.specs.Language.Name.{BeginsWithNo};
 ghost use Rattle.subst_raw.specs.Cost.{GrowsBetween, end_of_name};
 ghost use Rattle.subst_raw.specs.Placeholder.{IsEscape, IsInBraces, IsPlaceholder, StatesBadItem};
 
-use crate::Span;
 use crate::byte_class::is_special;
 use crate::halt::Halt;
+use crate::part::Span;
 use crate::tape::Tape;
 
 /// A placeholder, of one with a default the part up to the colon.

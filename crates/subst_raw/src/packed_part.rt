@@ -3,7 +3,7 @@
 ghost use Rattle.std.specs.Prelude.{◌≡◌, ◌<◌, ◌^◌, ℕ};
 ghost use Rattle.subst_raw.specs.Packed.{FitsBelow, same_number, unpacked};
 
-use crate::{Part, Span};
+use crate::part::{Part, Span};
 
 /// A type of the offsets and indexes in parts. It has the numbers below `limit`.
 pub(crate) trait Offset: Copy {

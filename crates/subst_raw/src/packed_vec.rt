@@ -3,8 +3,8 @@
 ghost use Rattle.std.specs.Prelude.{◌≡◌, ◌<◌, ◌^◌, [], ◌∷◌, ◌++◌, length, slice_get, slice_set, IfOk, OnOk};
 ghost use Rattle.subst_raw.specs.Packed.{FitsBelow, unpacked_parts};
 
-use crate::Part;
 use crate::packed_part::{Offset, PackedPart};
+use crate::part::Part;
 use std::alloc::{AllocError, Global};
 use std::marker::Model;
 
@@ -17,7 +17,7 @@ pub struct PackedVec<O: Offset> {
 
 impl<O: Offset> Model for PackedVec<O> {
     ghost use Rattle.std.specs.Prelude.{List};
-    ghost use Rattle.subst_raw.specs.declared.Part.{Part};
+    ghost use Rattle.subst_raw.specs.declared.part.Part.{Part};
 
     ghost Value = { List Part };
 

@@ -3,8 +3,8 @@
 ghost use Rattle.std.specs.Prelude.{◌≡◌, ◌+◌, ◌^◌, ◌<◌, ◌≤◌, Some, length, slice_get, IfSome, MatchOption};
 ghost use Rattle.subst_raw.specs.Packed.{unpacked_parts};
 
-use crate::Part;
 use crate::packed_part::{Offset, PackedPart};
+use crate::part::Part;
 use crate::steps::Turns;
 use std::marker::Model;
 

@@ -10,15 +10,16 @@ ghost use Rattle.subst_language.specs.Calls.VariableMap.{ByLookUp};
 ghost use Rattle.subst_language.specs.Calls.Outcome.{OnFault, Expands};
 
 use crate::template::byte_string::ByteString;
-use crate::template::raw;
-use crate::template::raw::{CowParts, SliceBytes};
 use std::alloc::{AllocError, Global};
 use std::convert::AsSlice;
 use std::fmt;
 use std::marker::Model;
 use subst_error::{ExpandError, ParseError};
 use subst_map::VariableMap;
+use subst_raw::expand::expand;
+use subst_raw::parse::parse;
 use subst_raw::steps::{Reads, Turns};
+use subst_raw::{CowParts, SliceBytes};
 
 /// A template over a byte source that it borrows. Contracts see it as its source.
 #[derive(Drop)]
@@ -74,7 +75,7 @@ impl<'a> ByteTemplate<'a> {
         ensures whole { OnOk result (reads.old + length source.now ≤ reads.new) }
         ensures refused { IfErr result (λ e. reads.old + 1 ≤ reads.new) }
     {
-        let parts = raw::parse(alloc, source, reads)?;
+        let parts = parse(alloc, source, reads)?;
         let parts = CowParts::from(parts);
         Ok(ByteTemplate { source, parts })
     }
@@ -133,7 +134,7 @@ impl<'a> ByteTemplate<'a> {
             (λ look. ByTree self.now (λ t. turns.new ≤ turns.old + visited_count t look)) }
         ensures grown { turns.old ≤ turns.new }
     {
-        raw::expand::<M, SliceBytes>(alloc, self.source, &self.parts, variables, turns)
+        expand::<M, SliceBytes>(alloc, self.source, &self.parts, variables, turns)
     }
 }
 

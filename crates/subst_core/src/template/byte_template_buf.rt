@@ -10,15 +10,15 @@ ghost use Rattle.subst_language.specs.Calls.Outcome.{OnFault, Expands};
 
 use crate::template::byte_string::ByteString;
 use crate::template::byte_template::ByteTemplate;
-use crate::template::raw;
-use crate::template::raw::{CowParts, PartVec};
 use std::alloc::{AllocError, Global};
 use std::convert::AsSlice;
 use std::fmt;
 use std::marker::Model;
 use subst_error::{ExpandError, ParseError};
 use subst_map::VariableMap;
+use subst_raw::parse::parse;
 use subst_raw::steps::Reads;
+use subst_raw::{CowParts, PartVec};
 
 /// A template that owns its byte source. Contracts see it as its source.
 #[derive(Drop)]
@@ -50,7 +50,7 @@ impl ByteTemplateBuf {
         ensures err { OnFault parse_fault result (HasFault 0 source.items) }
     {
         let alloc = *source.allocator();
-        let parts = raw::parse(alloc, &source, &mut Reads::new())?;
+        let parts = parse(alloc, &source, &mut Reads::new())?;
         Ok(ByteTemplateBuf { source, parts })
     }
 

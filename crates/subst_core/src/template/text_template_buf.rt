@@ -9,16 +9,16 @@ ghost use Rattle.subst_language.specs.Language.Value.{value};
 ghost use Rattle.subst_language.specs.Calls.VariableMap.{ByLookUp};
 ghost use Rattle.subst_language.specs.Calls.Outcome.{OnFault, Expands};
 
-use crate::template::raw;
-use crate::template::raw::{CowParts, PartVec};
-use crate::template::template::Template;
+use crate::template::text_template::Template;
 use std::alloc::{AllocError, Global};
 use std::convert::AsStr;
 use std::fmt;
 use std::marker::Model;
 use subst_error::{ExpandError, ParseError};
 use subst_map::VariableMap;
+use subst_raw::parse::parse;
 use subst_raw::steps::Reads;
+use subst_raw::{CowParts, PartVec};
 
 /// A template that owns its text. Contracts see it as the bytes of its source.
 #[derive(Drop)]
@@ -51,7 +51,7 @@ impl TemplateBuf {
         ensures err { OnFault parse_fault result (HasFault 0 (string_bytes source)) }
     {
         let alloc = *source.allocator();
-        let parts = raw::parse(alloc, source.as_bytes(), &mut Reads::new())?;
+        let parts = parse(alloc, source.as_bytes(), &mut Reads::new())?;
         Ok(TemplateBuf { source, parts })
     }
 

@@ -9,15 +9,16 @@ ghost use Rattle.subst_language.specs.Language.Value.{value};
 ghost use Rattle.subst_language.specs.Calls.VariableMap.{ByLookUp};
 ghost use Rattle.subst_language.specs.Calls.Outcome.{OnFault, Expands};
 
-use crate::template::raw;
-use crate::template::raw::CowParts;
 use std::alloc::{AllocError, Global};
 use std::convert::AsStr;
 use std::fmt;
 use std::marker::Model;
 use subst_error::{ExpandError, ParseError};
 use subst_map::VariableMap;
+use subst_raw::expand_text::expand_text;
+use subst_raw::parse::parse;
 use subst_raw::steps::Reads;
+use subst_raw::CowParts;
 
 /// A template over a text that it borrows. Contracts see it as the bytes of its source.
 #[derive(Drop)]
@@ -53,7 +54,7 @@ impl<'a> Template<'a> {
         // The fault is in the source, between two of its characters.
         ensures range { IfErr result (λ e. IsRangeIn source.now (range_of (parse_fault e))) }
     {
-        let parts = raw::parse(alloc, source.as_bytes(), &mut Reads::new())?;
+        let parts = parse(alloc, source.as_bytes(), &mut Reads::new())?;
         let parts = CowParts::from(parts);
         Ok(Template { source, parts })
     }
@@ -86,7 +87,7 @@ impl<'a> Template<'a> {
         // Whatever the map, the name that is missing is in the source.
         ensures range { IfErr result (λ e. IsRangeIn self.now (range_of (expand_fault e))) }
     {
-        raw::expand_text(alloc, self.source, &self.parts, variables)
+        expand_text(alloc, self.source, &self.parts, variables)
     }
 }
 

@@ -4,7 +4,7 @@ use Rattle.subst_error.specs.ErrorFault.{parse_fault}
 use Rattle.subst_language.specs.Calls.Outcome.{OnFault}
 use Rattle.subst_language.specs.Language.BadItem.{HasFault}
 use Rattle.subst_language.proofs.Language.RangeLemmas.{parse_result_in_text}
-use Rattle.subst_core.proofs.template.template.Template.from_str.Goals as goal
+use Rattle.subst_core.proofs.template.text_template.Template.from_str.Goals as goal
 
 pub returns-in_err-parts-clause-range : goal.returns-in_err-parts-clause-range
 returns-in_err-parts-clause-range c =
