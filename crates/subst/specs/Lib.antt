@@ -1,7 +1,7 @@
+pub mod Calls
 pub mod Errors
 pub mod Json
 pub mod Toml
-pub use Rattle.subst_language.specs.Calls
 pub use Rattle.subst_language.specs.Earlier
 pub use Rattle.subst_language.specs.Language
 pub use Rattle.subst_error.specs.Display

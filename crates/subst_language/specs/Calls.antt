@@ -1,4 +1,3 @@
--- What callers see beside the language: maps as look-ups, and results as answers.
-pub mod Maps
+-- What callers see beside the language: look-ups that maps have, and results as answers.
 pub mod Outcome
 pub mod VariableMap

@@ -24,7 +24,7 @@ impl<'a, V: 'a> VariableMap<'a> for BTreeMap<String, V> {
 
 /// The value under the key, where keys are lent.
 impl<'a, 'k, V: 'a> VariableMap<'a> for BTreeMap<&'k str, V> {
-    ghost use Rattle.subst_language.specs.Calls.Maps.{btree_get_by_lent_text};
+    ghost use Rattle.subst_map.specs.Maps.{btree_get_by_lent_text};
 
     type Value = &'a V;
 

@@ -34,7 +34,7 @@ impl Env {
 /// The value of the first pair with the name. It is searched for from the first pair on.
 impl<'a> VariableMap<'a> for Env {
     ghost use Rattle.std.specs.Prelude.{ℕ, List};
-    ghost use Rattle.subst_language.specs.Calls.Maps.{first_value};
+    ghost use Rattle.subst_map.specs.Maps.{first_value};
 
     type Value = &'a str;
 

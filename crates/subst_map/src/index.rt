@@ -25,7 +25,7 @@ impl<'a, V: 'a, S: BuildHasher> VariableMap<'a> for IndexMap<String, V, S> {
 
 /// The value under the key, where keys are lent.
 impl<'a, 'k, V: 'a, S: BuildHasher> VariableMap<'a> for IndexMap<&'k str, V, S> {
-    ghost use Rattle.subst_language.specs.Calls.Maps.{hash_get_by_lent_text};
+    ghost use Rattle.subst_map.specs.Maps.{hash_get_by_lent_text};
 
     type Value = &'a V;
 

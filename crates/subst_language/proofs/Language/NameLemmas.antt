@@ -75,13 +75,6 @@ split (b ∷ s) = of (name_byte_or_not b) (split s)
         (b ∷ n, x, record { name_part = (h, p.name_part); rest_part = p.rest_part; parts = ap (λ t. b ∷ t) p.parts })
     of (no f) _ = ([], b ∷ s, record { name_part = tt; rest_part = f; parts = refl })
 
--- where a text begins with a name byte, its first part is a name
-pub split_name : (b : ℕ) (s n x : List ℕ) → IsNameByte b → IsSplit n x (b ∷ s) → IsName n
-split_name b s [] [] h p = let e = p.parts in cc
-split_name b s [] (c ∷ x) h p =
-    let e = p.parts in let d : b ≡ c = cc in absurd (p.rest_part (subst IsNameByte d h))
-split_name b s (c ∷ n) x h p = p.name_part
-
 -- a name byte is no backslash and no brace
 pub name_byte_plain : (b : ℕ) → IsNameByte b → (b ≢ backslash) × (b ≢ opening_brace) × (b ≢ closing_brace)
 name_byte_plain b h = (

@@ -16,11 +16,6 @@ pub join_empty : (t : Tree) → join t Empty ≡ t
 join_empty Empty = refl
 join_empty (Then item rest) = ap (Then item) (join_empty rest)
 
--- three trees concatenated, in either grouping
-pub join_assoc : (t u v : Tree) → join (join t u) v ≡ join t (join u v)
-join_assoc Empty u v = refl
-join_assoc (Then item rest) u v = ap (Then item) (join_assoc rest u v)
-
 -- the text of two trees concatenated is their texts concatenated
 pub text-join : (t u : Tree) → text (join t u) ≡ text t ++ text u
 text-join Empty u = refl

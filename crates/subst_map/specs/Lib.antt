@@ -1,0 +1,2 @@
+-- What the maps have, which contracts of the maps cite.
+pub mod Maps
