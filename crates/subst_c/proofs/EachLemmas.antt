@@ -60,10 +60,6 @@ concat-more : (outputs : List (List ℕ)) (output : List ℕ)
 concat-more outputs output =
     concat-append outputs (output ∷ []) ∙ ap (λ x. concat outputs ++ x) (append-nil output)
 
--- no rows, no outputs
-pub no_outputs : (s : List ℕ) → AreOutputs s [] [] []
-no_outputs s = record { outputs = []; given = tt; joined = refl; ended = refl }
-
 -- the output of the row at an index, after those of the rows before it
 pub one_more : (s : List ℕ) (rows : List Row) (i : ℕ) (d : Row)
     (bytes ends output new_bytes new_ends : List ℕ) → i < length rows → AreOutputs s (take i rows) bytes ends
@@ -103,7 +99,7 @@ refused_at s rows i d bytes ends new_ends e o h are same states refused =
       row = get_or rows i d;
       after = drop (i + 1) rows;
       parts = sym (take-append-drop i rows) ∙ ap (λ rest. take i rows ++ rest) (drop_more rows i d h);
-      place = counted;
+      index = counted;
       given = (are.outputs, are.given);
       refused = r;
     })

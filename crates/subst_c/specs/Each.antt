@@ -32,7 +32,7 @@ pub record RefusesAt (s : List ℕ) (rows : List Row) (i : ℕ) (f : Fault) : Ty
   pub row : Row
   pub after : List Row
   pub parts : rows ≡ before ++ row ∷ after
-  pub place : i ≡ length before
+  pub index : i ≡ length before
   pub given : (outputs : List (List ℕ)) × EachGives s before outputs
   pub refused : Answers s (first_value row.pairs.now) (Refuses f)
 

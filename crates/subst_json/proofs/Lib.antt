@@ -1,4 +1,4 @@
 pub mod MappedLemmas
-pub mod TreeLemmas
+pub mod JsonTreeLemmas
 pub mod OneOutcomeLemmas
 pub mod ReadingLemmas

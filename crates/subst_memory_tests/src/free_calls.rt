@@ -1,6 +1,6 @@
 //! Calls of the library that take no memory.
 
-use crate::marks::{say, say_bytes};
+use crate::calls::{say, say_bytes};
 use indexmap::IndexMap;
 use std::alloc::{AllocError, Global};
 use std::collections::{BTreeMap, HashMap};
@@ -9,7 +9,7 @@ use subst::{
     ByteTemplate, ByteTemplateBuf, Env, Error, NoSubstitution, Template, TemplateBuf, VariableMap,
     laws,
 };
-use subst_testing::marks::{begin, end};
+use subst_testing::calls::{begin, end};
 
 /// Looks `name` and `absent` up.
 fn get<'a, M: VariableMap<'a>>(rt: &HostRuntime, call: &str, variables: &'a M)

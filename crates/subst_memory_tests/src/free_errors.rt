@@ -2,8 +2,8 @@
 
 use crate::errors::{absent, no_name};
 use crate::fakes::{Drip, Trickle};
-use crate::marks::{Shown, say};
-use crate::runs::{status_of, words_of};
+use crate::calls::{Shown, say};
+use crate::runs::{status_of_run, words_of};
 use std::alloc::AllocError;
 use std::fmt::{Display, Write};
 use subst::error::{
@@ -15,7 +15,7 @@ use subst_program::device::standard::{FromReader, ToWriter};
 use subst_program::device::{ByteInput, ByteOutput};
 use subst_program::program::end_with;
 use subst_program::run_error::RunError;
-use subst_testing::marks::{begin, end};
+use subst_testing::calls::{begin, end};
 
 const ESCAPE: InvalidEscapeSequence = InvalidEscapeSequence {
     position: 3,
@@ -202,7 +202,7 @@ fn run_wrongly(rt: &HostRuntime) -> Result<(), AllocError> {
     let words = words_of(rt.alloc(), "bytes name")?;
     let (mut output, mut errors) = (Drip::new(rt.alloc())?, Drip::new(rt.alloc())?);
     begin(rt, "run_program after wrong words");
-    let status = status_of(
+    let status = status_of_run(
         rt.alloc(),
         &words,
         Vec::new(rt.alloc()),

@@ -3,12 +3,13 @@
 #![tactic(auto)]
 
 mod bytes;
+mod calls;
 mod documents;
 mod errors;
 mod fakes;
 mod free_calls;
 mod free_errors;
-mod marks;
+
 mod runs;
 mod texts;
 

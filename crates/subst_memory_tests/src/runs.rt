@@ -1,7 +1,7 @@
 //! Runs of the filter, whose input is read one byte per call.
 
 use crate::fakes::{Drip, Trickle};
-use crate::marks::{Shown, again, say, say_end, tell};
+use crate::calls::{Shown, again, say, say_end, tell};
 use std::alloc::{AllocError, Global};
 use subst_program::device::standard::{FromReader, ToWriter};
 use subst_program::engine::{run_bytes, run_text};
@@ -9,7 +9,7 @@ use subst_program::program::run_program;
 use subst_program::run_error::RunError;
 use subst_program::status::OUT_OF_MEMORY;
 use subst_program::values::{Values, values_of_pairs, values_of_words};
-use subst_testing::marks::{begin, end, say_out_of_memory};
+use subst_testing::calls::{begin, end, say_out_of_memory};
 use subst_testing::variables::{ByteValues, Texts, byte_values, texts};
 
 /// A sentence that needs a variable which isn't there.
@@ -106,7 +106,7 @@ impl Shown for Written {
 }
 
 /// The status of the program with these words over `Hello $name!`, and with these pairs as its environment.
-pub fn status_of(
+pub fn status_of_run(
     alloc: Global,
     words: &[String],
     pairs: Vec<(String, String)>,
@@ -133,7 +133,7 @@ fn ended(
         Some(pairs) => pairs,
         None => pairs_of_name(alloc)?,
     };
-    let status = status_of(
+    let status = status_of_run(
         alloc,
         words,
         pairs,

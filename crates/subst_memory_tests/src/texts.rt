@@ -1,11 +1,11 @@
 //! Calls over texts and their templates.
 
-use crate::marks::{Shown, again, clone, say, say_end, tell};
+use crate::calls::{Shown, again, clone, say, say_end, tell};
 use std::alloc::{AllocError, Global};
 use std::mem;
 use subst::error::{ExpandError, ParseError};
 use subst::{Error, Template, TemplateBuf, laws, substitute};
-use subst_testing::marks::{begin, end, say_out_of_memory};
+use subst_testing::calls::{begin, end, say_out_of_memory};
 use subst_testing::variables::{Texts, texts};
 
 /// A default in a default, escapes, and a variable.

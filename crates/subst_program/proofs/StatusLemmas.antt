@@ -5,7 +5,7 @@ use Rattle.std.specs.Io.KnownBytes.{Keeps}
 use Rattle.subst.specs.ErrorFault.{error_fault}
 use Rattle.subst.specs.Language.LookUp.{LookUp}
 use Rattle.subst_program.specs.FilterRun.{RunAnswers, IsRefusedBy, Tells, OnceRead, UnlessWriting, WritesPrefix}
-use Rattle.subst_program.specs.RunError.{status_of}
+use Rattle.subst_program.specs.RunError.{error_status}
 use Rattle.subst_program.specs.Task.{Takes}
 use Rattle.subst_program.specs.declared.run_error.RunError.{RunError}
 use Rattle.subst_program.specs.declared.run_error.RunError.TheVariants.{Read, Write, NotUtf8, Subst, OutOfMemory}
@@ -19,7 +19,7 @@ value_with (Some x) P h = (x, h)
 
 -- at the status REFUSED a run has a source that its task doesn't take, or that is refused
 pub refused_at_status : (e : RunError) (task : Task) (left : Option (List ℕ)) (look : LookUp)
-    (old new : Option (List ℕ)) → status_of e ≡ REFUSED
+    (old new : Option (List ℕ)) → error_status e ≡ REFUSED
     → IfSome left (λ source. Tells (Takes task source) (Err e))
     → IfSome left (λ source. RunAnswers source look (Err e) old new)
     → IfSome left (λ source. IsRefusedBy task source look)
@@ -33,7 +33,7 @@ refused_at_status (Subst e shown) task (Some source) look old new is told run =
 refused_at_status OutOfMemory task left look old new is told run = absurd (omega arith)
 
 -- at the status REFUSED a run has read its source to the end
-pub read_at_status : {P : Type 0} (e : RunError) → status_of e ≡ REFUSED → OnceRead (Err e) P → P
+pub read_at_status : {P : Type 0} (e : RunError) → error_status e ≡ REFUSED → OnceRead (Err e) P → P
 read_at_status Read is read = absurd (omega arith)
 read_at_status Write is read = read
 read_at_status NotUtf8 is read = read
@@ -42,7 +42,7 @@ read_at_status OutOfMemory is read = absurd (omega arith)
 
 -- at the status DEVICE_FAILED a run has written nothing, or a prefix of the answer
 pub prefix_at_status : (e : RunError) (task : Task) (left : Option (List ℕ)) (look : LookUp)
-    (old new : Option (List ℕ)) → status_of e ≡ DEVICE_FAILED
+    (old new : Option (List ℕ)) → error_status e ≡ DEVICE_FAILED
     → IfSome left (λ source. Tells (Takes task source) (Err e)) → UnlessWriting (Err e) (Keeps old new)
     → IfSome left (λ source. RunAnswers source look (Err e) old new)
     → Keeps old new ⊎ IfSome left (λ source. Takes task source × WritesPrefix source look old new)

@@ -42,12 +42,12 @@ HighlightsFault source (Subst e shown) = string_bytes shown ≡ highlighting_of 
 HighlightsFault source _ = ⊤
 
 -- the status that the program ends with after this error
-abbrev pub status_of : RunError → ℕ
-status_of (Subst e shown) = REFUSED
-status_of NotUtf8 = REFUSED
-status_of Read = DEVICE_FAILED
-status_of Write = DEVICE_FAILED
-status_of OutOfMemory = OUT_OF_MEMORY
+abbrev pub error_status : RunError → ℕ
+error_status (Subst e shown) = REFUSED
+error_status NotUtf8 = REFUSED
+error_status Read = DEVICE_FAILED
+error_status Write = DEVICE_FAILED
+error_status OutOfMemory = OUT_OF_MEMORY
 
 -- the text of an error, if it is known; of a refusal it is the text of the library's error
 abbrev pub display_of_run : RunError → Option (List ℕ)

@@ -5,7 +5,7 @@ ghost use Rattle.std.specs.Prelude.{◌≡◌, ◌≢◌, ◌≤◌, ◌⊎◌, 
 ghost use Rattle.std.specs.Io.KnownBytes.{Keeps};
 ghost use Rattle.subst_program.specs.Device.{ReadsAll};
 ghost use Rattle.subst_program.specs.FilterRun.{RunAnswers, WritesAnswer, WritesPrefix, IsRefusedBy, Tells, OnceRead, UnlessReadFails, UnlessWriteFails, UnlessWriting};
-ghost use Rattle.subst_program.specs.RunError.{status_of};
+ghost use Rattle.subst_program.specs.RunError.{error_status};
 ghost use Rattle.subst_program.specs.Task.{task_of, Takes, variables_of};
 
 use crate::device::{ByteInput, ByteOutput};
@@ -144,7 +144,7 @@ fn after_first(words: &[String]) -> &[String]
 /// Writes the text of the error to `errors`, and returns the status to end with. If `errors` fails, the
 /// status stays the same.
 pub fn end_with<P: ByteOutput>(error: &RunError, errors: &mut P) -> u8
-    ensures { result ≡ status_of error.now }
+    ensures { result ≡ error_status error.now }
 {
     let shown = match error {
         RunError::Subst(_, shown) => shown.as_str(),

@@ -25,12 +25,12 @@ pub enum RunError {
 }
 
 impl RunError {
-    ghost use Rattle.subst_program.specs.RunError.{status_of};
+    ghost use Rattle.subst_program.specs.RunError.{error_status};
 
     /// The status that the program ends with: [`REFUSED`] if the source is refused or isn't UTF-8,
     /// [`DEVICE_FAILED`] if the input or the output failed, and [`OUT_OF_MEMORY`] if memory ran out.
     pub fn status(&self) -> u8
-        ensures { result ≡ status_of self.now }
+        ensures { result ≡ error_status self.now }
     {
         match self {
             RunError::Subst(_, _) | RunError::NotUtf8 => REFUSED,

@@ -7,7 +7,7 @@ use Rattle.std.proofs.lemmas.Slice.Eq.{bytes_eq-Decides}
 use Rattle.std.specs.List.{slice_split, All, AllByRecursion}
 use Rattle.std.specs.Str.{bytes_eq}
 use Rattle.subst_records.specs.Column.{column_of, HasNo}
-use Rattle.subst_records.specs.Record.{comma, equals, pair_text, pairs_column, value_in, HaveOwnNames, IsNoPairs, IsVariable}
+use Rattle.subst_records.specs.Record.{comma, equals, pair_text, pairs_column, value_among, HaveOwnNames, IsNoPairs, IsVariable}
 use Rattle.subst_records.specs.Content.{Form}
 use Rattle.subst_records.proofs.ColumnLemmas.{same_bytes}
 use Rattle.subst_records.proofs.RecordLemmas.{equals_no_digit, pair_cut}
@@ -29,7 +29,7 @@ both_all P (x ∷ xs) ys of_xs of_ys = (of_xs.0, both_all P xs ys of_xs.1 of_ys)
 
 -- a variable with a new name can be added
 pub own_names-append : (pairs : List (List ℕ × List ℕ)) (n v : List ℕ) → HaveOwnNames pairs
-    → value_in pairs n ≡ None → HaveOwnNames (pairs ++ (n, v) ∷ [])
+    → value_among pairs n ≡ None → HaveOwnNames (pairs ++ (n, v) ∷ [])
 own_names-append [] n v own new = (tt, tt)
 own_names-append (pair ∷ pairs) n v own new =
     elim (cases_Bool (bytes_eq pair.0 n)) [
@@ -104,7 +104,7 @@ module _ (k : Form) where
   -- a name that comes again comes twice
   comes_twice : (pairs front : List (List ℕ × List ℕ)) (n v w : List ℕ) (later : List (List ℕ))
       → AllByRecursion (IsVariable k) pairs → AllByRecursion (IsVariable k) front → IsVariable k (n, v)
-      → texts_of pairs ≡ texts_of front ++ (pair_text n v ∷ later) → value_in front n ≡ Some w
+      → texts_of pairs ≡ texts_of front ++ (pair_text n v ∷ later) → value_among front n ≡ Some w
       → HaveOwnNames pairs → ⊥
   comes_twice pairs [] n v w later are are_too new is found own = cc found
   comes_twice [] (q ∷ front) n v w later are are_too new is found own = cc is
@@ -142,7 +142,7 @@ module _ (k : Form) where
   -- a column with a name that comes again is malformed
   pub malformed_again : (column n v w : List ℕ) (front : List (List ℕ × List ℕ)) (later : List (List ℕ))
       → slice_split (λ b. b == comma) column ≡ texts_of front ++ (pair_text n v ∷ later)
-      → column ≢ codes "-" → AllByRecursion (IsVariable k) front → IsVariable k (n, v) → value_in front n ≡ Some w
+      → column ≢ codes "-" → AllByRecursion (IsVariable k) front → IsVariable k (n, v) → value_among front n ≡ Some w
       → IsNoPairs k column
   malformed_again column n v w front later split no_dash are new found =
       malformed column (texts_of front ++ (pair_text n v ∷ later)) split no_dash

@@ -16,7 +16,7 @@ use Rattle.subst.proofs.Calling.{range_in_source, range_in_text}
 use Rattle.subst_records.specs.Agreement.{IsRefusal}
 use Rattle.subst_records.specs.Column.{column_of}
 use Rattle.subst_records.specs.PlaceColumns.{column_in, place_alone, place_in, place_text, range_column, ShowsPlace}
-use Rattle.subst_records.specs.declared.place.PlaceColumns.{PlaceColumns}
+use Rattle.subst_records.specs.declared.place_columns.PlaceColumns.{PlaceColumns}
 
 -- what holds of the value of an option holds if there is one
 if_some : {X : Type 0} (o : Option X) (P : X → Type 0) → IsSomeAnd o P → IfSome o P

@@ -10,7 +10,7 @@ use Rattle.std.specs.Option.{is_some, option_map}
 use Rattle.std.specs.Str.{bytes_eq}
 use Rattle.subst.specs.Language.LookUp.{LookUp}
 use Rattle.subst_records.specs.Column.{IsCutAt, IsSeparated}
-use Rattle.subst_records.specs.Record.{comma, pair_text, pairs_column, value_in, AreHeld, AreWritten, HaveOwnNames, IsNoPairs, IsVariable}
+use Rattle.subst_records.specs.Record.{comma, pair_text, pairs_column, value_among, AreHeld, AreWritten, HaveOwnNames, IsNoPairs, IsVariable}
 use Rattle.subst_records.specs.Content.{Form}
 use Rattle.subst_records.proofs.PairLemmas.{both_all, malformed_again, own_names-append, texts_of}
 
@@ -20,7 +20,7 @@ pub record AreReadSo (k : Form) (texts : List (List ℕ)) (values : LookUp) : Ty
   pub written : texts ≡ texts_of pairs
   pub well_formed : AllByRecursion (IsVariable k) pairs
   pub own_names : HaveOwnNames pairs
-  pub same_values : (name : List ℕ) → values name ≡ value_in pairs name
+  pub same_values : (name : List ℕ) → values name ≡ value_among pairs name
 
 -- a look-up that goes on after a variable of another name
 after_other : (m w n v name : List ℕ) (more rest : Option (List ℕ)) → bytes_eq m n ≡ false
@@ -43,15 +43,15 @@ after_other m w n v name more rest other goes_on =
         ]
 
 -- one more variable at the end, whose name is new
-value_in-append : (pairs : List (List ℕ × List ℕ)) (n v : List ℕ) → value_in pairs n ≡ None → (name : List ℕ)
-    → value_in (pairs ++ (n, v) ∷ []) name ≡ (if bytes_eq n name then Some v else value_in pairs name)
-value_in-append [] n v new name = refl
-value_in-append (pair ∷ pairs) n v new name =
+value_among-append : (pairs : List (List ℕ × List ℕ)) (n v : List ℕ) → value_among pairs n ≡ None → (name : List ℕ)
+    → value_among (pairs ++ (n, v) ∷ []) name ≡ (if bytes_eq n name then Some v else value_among pairs name)
+value_among-append [] n v new name = refl
+value_among-append (pair ∷ pairs) n v new name =
     elim (cases_Bool (bytes_eq pair.0 n)) [
       | inl same ↦ let found : Some pair.1 ≡ None = rw same at new in cc found
       | inr other ↦ after_other pair.0 pair.1 n v name
-          (value_in (pairs ++ (n, v) ∷ []) name) (value_in pairs name) other
-          (value_in-append pairs n v (rw other at new) name)
+          (value_among (pairs ++ (n, v) ∷ []) name) (value_among pairs name) other
+          (value_among-append pairs n v (rw other at new) name)
     ]
 
 -- one more variable is read
@@ -65,7 +65,7 @@ one_more k texts text n v old new so is new_one absent updates = record {
   well_formed = both_all (IsVariable k) so.pairs ((n, v) ∷ []) so.well_formed (new_one, tt);
   own_names = own_names-append so.pairs n v so.own_names (sym (so.same_values n) ∙ absent);
   same_values = λ name. updates name
-      ∙ rw (so.same_values name) (sym (value_in-append so.pairs n v (sym (so.same_values n) ∙ absent) name));
+      ∙ rw (so.same_values name) (sym (value_among-append so.pairs n v (sym (so.same_values n) ∙ absent) name));
 }
 
 -- all variables of a column have been read

@@ -5,7 +5,7 @@ use Rattle.subst.specs.Display.{display_of_fault}
 use Rattle.subst.specs.ErrorFault.{error_fault}
 use Rattle.subst.specs.Fault.{Fault}
 use Rattle.subst_records.specs.Column.{column_of}
-use Rattle.subst_records.specs.FaultColumns.{case_of, position_of, detail_of, expected_of}
+use Rattle.subst_records.specs.FaultColumns.{case_of, offset_of_fault, detail_of, expected_of}
 use Rattle.subst_records.specs.PlaceColumns.{place_in}
 use Rattle.subst_records.specs.declared.answer.Answer.{Answer}
 use Rattle.subst_records.specs.declared.answer.Answer.TheVariants.{Gives, Refuses, Differs}
@@ -16,7 +16,7 @@ output_line bytes = codes "ok\t" ++ (column_of bytes ++ codes "\n")
 
 -- the line of a fault whose text this is, with the columns that say where it is
 abbrev pub fault_line : Fault → (text place : List ℕ) → List ℕ
-fault_line f text place = codes "fault\t" ++ (case_of f ++ (codes "\t" ++ (decimal (position_of f)
+fault_line f text place = codes "fault\t" ++ (case_of f ++ (codes "\t" ++ (decimal (offset_of_fault f)
     ++ (codes "\t" ++ (detail_of f ++ (codes "\t" ++ (expected_of f
     ++ (codes "\t" ++ (column_of text ++ (codes "\t" ++ (place ++ codes "\n")))))))))))
 

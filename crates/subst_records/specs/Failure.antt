@@ -5,12 +5,12 @@ use Rattle.subst_records.specs.declared.failure.Failure.{Failure}
 use Rattle.subst_records.specs.declared.failure.Failure.TheVariants.{Malformed, Differs, Read, Write, OutOfMemory}
 
 -- the status that the program ends with if a run ends with this failure
-abbrev pub status_of : Failure → ℕ
-status_of (Malformed number column) = 1
-status_of (Differs number) = 2
-status_of (Read e) = 3
-status_of (Write e) = 3
-status_of OutOfMemory = 4
+abbrev pub failure_status : Failure → ℕ
+failure_status (Malformed number column) = 1
+failure_status (Differs number) = 2
+failure_status (Read e) = 3
+failure_status (Write e) = 3
+failure_status OutOfMemory = 4
 
 -- the system's error number for out of memory
 abbrev pub ENOMEM : ℤ

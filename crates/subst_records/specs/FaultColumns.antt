@@ -27,12 +27,12 @@ case_of (MissingClosingBrace position) = codes "MissingClosingBrace"
 case_of (NoSuchVariable position name) = codes "NoSuchVariable"
 
 -- its position
-abbrev pub position_of : Fault → ℕ
-position_of (InvalidEscapeSequence position c) = position
-position_of (MissingVariableName position len) = position
-position_of (UnexpectedCharacter position c expected) = position
-position_of (MissingClosingBrace position) = position
-position_of (NoSuchVariable position name) = position
+abbrev pub offset_of_fault : Fault → ℕ
+offset_of_fault (InvalidEscapeSequence position c) = position
+offset_of_fault (MissingVariableName position len) = position
+offset_of_fault (UnexpectedCharacter position c expected) = position
+offset_of_fault (MissingClosingBrace position) = position
+offset_of_fault (NoSuchVariable position name) = position
 
 -- what else its case has, except the words for what was expected
 abbrev pub detail_of : Fault → List ℕ
@@ -50,7 +50,7 @@ expected_of _ = codes "-"
 -- the columns are those of the fault
 pub record ShowsFault (columns : FaultColumns) (f : Fault) : Type 0 where
   pub case : columns.case.now ≡ case_of f
-  pub position : columns.position ≡ position_of f
+  pub position : columns.position ≡ offset_of_fault f
   pub detail : string_bytes columns.detail ≡ detail_of f
   pub expected : string_bytes columns.expected ≡ expected_of f
 

@@ -7,7 +7,7 @@ use Rattle.subst.specs.Highlighting.{highlighting_of}
 use Rattle.subst.specs.Line.{line_of}
 use Rattle.subst.specs.Range.{range_of}
 use Rattle.subst_records.specs.Column.{column_of}
-use Rattle.subst_records.specs.declared.place.PlaceColumns.{PlaceColumns}
+use Rattle.subst_records.specs.declared.place_columns.PlaceColumns.{PlaceColumns}
 
 -- the byte offsets at which a range begins and ends
 abbrev pub range_column : Range ℕ → List ℕ

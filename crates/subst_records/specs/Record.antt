@@ -95,15 +95,15 @@ pub record AreWritten (form : Form) (column : List ℕ) (pairs : List (List ℕ 
   pub own_names : HaveOwnNames pairs
 
 -- the value of the first of these variables that has the name
-abbrev pub value_in : List (List ℕ × List ℕ) → List ℕ → Option (List ℕ)
-value_in [] name = None
-value_in (pair ∷ pairs) name = if bytes_eq pair.0 name then Some pair.1 else value_in pairs name
+abbrev pub value_among : List (List ℕ × List ℕ) → List ℕ → Option (List ℕ)
+value_among [] name = None
+value_among (pair ∷ pairs) name = if bytes_eq pair.0 name then Some pair.1 else value_among pairs name
 
 -- the column is that of these variables, and each has its value
 pub record AreHeld (form : Form) (column : List ℕ) (values : LookUp) (pairs : List (List ℕ × List ℕ))
     : Type 0 where
   pub written : AreWritten form column pairs
-  pub same_values : (name : List ℕ) → values name ≡ value_in pairs name
+  pub same_values : (name : List ℕ) → values name ≡ value_among pairs name
 
 -- the column is that of variables with these values
 abbrev pub HoldPairs : Form → List ℕ → LookUp → Type 0
@@ -199,6 +199,6 @@ IsMalformed line column.Pairs =
     × HasSourceAlone (source_form kind) (value_form kind) columns
 
 -- the line is refused for one of its columns, or memory ran out
-abbrev pub IsRefused : List ℕ → RecordError → Type 0
-IsRefused line (Malformed c) = IsMalformed line c
-IsRefused line (OutOfMemory e) = ⊤
+abbrev pub IsLineRefused : List ℕ → RecordError → Type 0
+IsLineRefused line (Malformed c) = IsMalformed line c
+IsLineRefused line (OutOfMemory e) = ⊤

@@ -32,12 +32,12 @@ pub enum Failure {
 }
 
 impl Failure {
-    ghost use Rattle.subst_records.specs.Failure.{IsFailureAt, status_of};
-    ghost use Rattle.subst_records.specs.Record.{IsRefused};
+    ghost use Rattle.subst_records.specs.Failure.{IsFailureAt, failure_status};
+    ghost use Rattle.subst_records.specs.Record.{IsLineRefused};
 
     /// The failure at the record of this number.
     pub fn at_record(number: u64, error: RecordError) -> Failure
-        ensures { (line : List ℕ) → IsRefused line error → IsFailureAt number line result }
+        ensures { (line : List ℕ) → IsLineRefused line error → IsFailureAt number line result }
     {
         match error {
             RecordError::Malformed(column) => Failure::Malformed { number, column },
@@ -47,7 +47,7 @@ impl Failure {
 
     /// The status that the program ends with.
     pub fn status(&self) -> u8
-        ensures { result ≡ status_of self.now }
+        ensures { result ≡ failure_status self.now }
     {
         match self {
             Failure::Malformed { .. } => 1,

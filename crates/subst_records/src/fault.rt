@@ -9,7 +9,7 @@ ghost use Rattle.subst_records.specs.FaultColumns.{character_column, detail_of_e
 ghost use Rattle.subst_records.specs.PlaceColumns.{place_alone, place_in, place_text};
 
 use crate::column::written;
-use crate::place::PlaceColumns;
+use crate::place_columns::PlaceColumns;
 use std::alloc::{AllocError, Global};
 use std::fmt;
 use subst::Error;

@@ -47,7 +47,7 @@ pub mod failure;
 mod fault;
 mod json_document;
 mod json_ways;
-mod place;
+mod place_columns;
 pub mod process;
 mod record;
 pub mod run;

@@ -150,7 +150,7 @@ impl From<AllocError> for RecordError {
 }
 
 impl Record {
-    ghost use Rattle.subst_records.specs.Record.{IsRecord, IsRefused};
+    ghost use Rattle.subst_records.specs.Record.{IsRecord, IsLineRefused};
 
     /// The record of a line, without the byte that ends it.
     ///
@@ -159,7 +159,7 @@ impl Record {
     /// The first column that is malformed, or out of memory.
     pub fn read(alloc: Global, line: &[u8]) -> Result<Record, RecordError>
         ensures ok { IfOk result (IsRecord line.now) }
-        ensures err { IfErr result (IsRefused line.now) }
+        ensures err { IfErr result (IsLineRefused line.now) }
     {
         let (kind, after_kind) = cut(line, b'\t');
         let Some(kind) = Kind::named(kind) else {

@@ -2,5 +2,5 @@
 #![tactic(auto)]
 
 pub mod answers;
-pub mod marks;
+pub mod calls;
 pub mod variables;

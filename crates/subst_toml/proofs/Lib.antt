@@ -1,4 +1,4 @@
 pub mod MappedLemmas
-pub mod TreeLemmas
+pub mod TomlTreeLemmas
 pub mod OneOutcomeLemmas
 pub mod ReadingLemmas

@@ -47,12 +47,12 @@ fn unread(
     source: &str,
     e: &toml::de::Error,
 ) -> Result<String, AllocError> {
-    let (line, column) = place(source, e.span().map_or(0, |span| span.start));
+    let (line, column) = line_and_column(source, e.span().map_or(0, |span| span.start));
     format!(in alloc; "{file}:{line}:{column}: {}", e.message())
 }
 
 /// Returns the line and the column of a byte offset, both from 1; a column counts characters.
-fn place(source: &str, offset: usize) -> (usize, usize) {
+fn line_and_column(source: &str, offset: usize) -> (usize, usize) {
     let (mut line, mut column) = (1usize, 1usize);
     for (at, c) in source.char_indices() {
         if at >= offset {

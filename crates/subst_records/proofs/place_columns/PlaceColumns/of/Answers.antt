@@ -6,7 +6,7 @@ use Rattle.subst.specs.Line.{line_of}
 use Rattle.subst.specs.Range.{range_of, IsRangeIn}
 use Rattle.subst_records.specs.Column.{column_of}
 use Rattle.subst_records.proofs.PlaceLemmas.{ends_within, is_in_text, shows_in_text, shows_in_bytes}
-use Rattle.subst_records.proofs.place.PlaceColumns.of.Goals as goal
+use Rattle.subst_records.proofs.place_columns.PlaceColumns.of.Goals as goal
 
 pub source_range-range-requires : goal.source_range-range-requires
 source_range-range-requires c = omega (arith, ends_within c.args.source.now c.args.fault.now c.requires)

@@ -1,7 +1,7 @@
 -- The range of the fault can be asked for.
 use Rattle.subst.specs.ErrorFault.{error_fault}
 use Rattle.subst_records.proofs.PlaceLemmas.{has_range, shows_alone}
-use Rattle.subst_records.proofs.place.PlaceColumns.alone.Goals as goal
+use Rattle.subst_records.proofs.place_columns.PlaceColumns.alone.Goals as goal
 
 pub source_range-requires : goal.source_range-requires
 source_range-requires c = has_range (error_fault c.args.fault.now) c.requires
