@@ -1,8 +1,8 @@
 #!/usr/bin/env bash
-# Makes a repository in a folder of its own, with the library in it as README.md says, and README's example as a
-# program, and runs that with `rt try`, which proves nothing and so takes half a minute. The lines of crates.txt and the
-# example are taken from README.md as they are there. Then a program that uses a lent template after its owner was taken
-# apart has to be refused for that. The last line is 'N passed, M failed'.
+# Makes a repository in a folder of its own, with the library in it as README.md says, and a program of README's example
+# and of those in the library's comments, and runs that with `rt try`, which proves nothing and so takes half a minute.
+# Then a program that uses a lent template after its owner was taken apart has to be refused for that. The last line is
+# 'N passed, M failed'.
 set -euo pipefail
 cd "$(dirname "$0")/.."
 
@@ -20,11 +20,6 @@ library_lines() {
   sed -n '/^## The library$/,/^## /s/^    \(subst[a-z_]*: .*\)$/\1/p' README.md
 }
 
-# The first block of Rust in README, a whole function.
-example() {
-  sed -n '/^```rust$/,/^```$/{/^```/!p;/^```$/q}' README.md
-}
-
 # Copies the folders of the library, without what `rt` keeps in them.
 copy_library() {
   local crate
@@ -34,15 +29,11 @@ copy_library() {
   done
 }
 
-# A program that prints what the example returns.
+# A program that prints what the examples compute.
 write_program() {
   mkdir -p "$folder/crates/greeting/src"
-  {
-    printf '//! Prints the greeting of the example.\n#![tactic(auto)]\n\n'
-    example
-    printf '\nfn main(rt: HostRuntime) -> anyhow::Result<()> {\n'
-    printf '    let greeting = greet(rt.alloc())?;\n    println!(rt; "{greeting}")?;\n    Ok(())\n}\n'
-  } >"$folder/crates/greeting/src/main.rt"
+  python3 tools/doc-examples.py program >"$folder/crates/greeting/src/main.rt"
+  python3 tools/doc-examples.py output >"$folder/expected"
   { library_lines && printf 'greeting: subst anyhow\n'; } >"$folder/crates.txt"
 }
 
@@ -68,15 +59,14 @@ try() {
   (cd "$folder/crates/greeting" && rt try) >"$folder/output" 2>"$folder/errors"
 }
 
-example | grep -q '^fn greet(' || fail 'the first example of README.md has no function greet'
 copy_library
 write_program
 if ! stoppable try; then
   cat "$folder/errors"
   fail 'the program of another repository does not run'
 fi
-[ "$(cat "$folder/output")" = 'Hello world!' ] || fail "it printed: $(cat "$folder/output")"
-printf 'a program of another repository printed: %s\n' "$(cat "$folder/output")"
+diff "$folder/expected" "$folder/output" || fail 'the examples of the library print something else'
+printf 'a program of another repository ran %d examples\n' "$(wc -l <"$folder/output")"
 write_use_after_taking_apart
 refusal='cannot move out of `owner` because it is borrowed'
 if stoppable try || ! grep -qF "$refusal" "$folder/errors" "$folder/output"; then

@@ -25,9 +25,9 @@ mod template;
 /// otherwise it answers the source's one fault, or for a sentence the first name that its evaluation needs
 /// and the map lacks, each at its place.
 ///
-/// ```text
+/// ```rust
 /// let mut variables = BTreeMap::new(alloc);
-/// variables.insert(String::from_str(alloc, "name")?, "world")?;
+/// variables.insert("name", b"world")?;
 /// let output = substitute_bytes(alloc, b"Hello ${name:nobody}!", &variables)?;
 /// // Hello world!
 /// ```
@@ -57,6 +57,13 @@ where
 ///
 /// It gives what [`substitute_bytes`] gives for the bytes of the texts, as a text. That this is UTF-8 is
 /// proved, so there is no error for it.
+///
+/// ```rust
+/// let mut variables = BTreeMap::new(alloc);
+/// variables.insert("name", "$world")?;
+/// let output = substitute(alloc, "Hello $name${title?}, ${a:or ${b:you}}!", &variables)?;
+/// // Hello $world, or you!
+/// ```
 ///
 /// # Errors
 ///

@@ -66,9 +66,11 @@ where
 
 /// Reads JSON, and returns its tree with its strings filled in from `variables`, whose values are texts.
 ///
-/// ```text
-/// let tree = value_from_str(alloc, r#"{"$home": "${home}/.config"}"#, &variables)?;
-/// // {"$home": "/home/user/.config"}
+/// ```rust
+/// let source = r#"{"$home": "${home:/root}/.config"}"#;
+/// let tree = json::value_from_str(alloc, source, &NoSubstitution)?;
+/// let output = format!(in alloc; "{tree}")?;
+/// // {"$home":"/root/.config"}
 /// ```
 ///
 /// # Errors
@@ -132,6 +134,11 @@ where
 /// Reads JSON, fills in its strings from `variables`, whose values are texts, and reads a `T` from the tree.
 ///
 /// A string stays a string when it is filled in, so no variable gives a `T` its number.
+///
+/// ```rust
+/// let output: String = json::from_str(alloc, r#""${home:/root}/.config""#, &NoSubstitution)?;
+/// // /root/.config
+/// ```
 ///
 /// # Errors
 ///

@@ -24,6 +24,13 @@ impl Model for Env {
 
 impl Env {
     /// Returns the map of these pairs of a name and a value, which it takes over. It allocates nothing.
+    ///
+    /// ```rust
+    /// let mut pairs = Vec::new(alloc);
+    /// pairs.push((String::from_str(alloc, "name")?, String::from_str(alloc, "world")?))?;
+    /// let output = substitute(alloc, "Hello $name!", &Env::from_pairs(pairs))?;
+    /// // Hello world!
+    /// ```
     pub fn from_pairs(pairs: Vec<(String, String)>) -> Env
         ensures { result ≡ pairs.items }
     {

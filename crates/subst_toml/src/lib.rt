@@ -69,9 +69,10 @@ where
 /// Reads a TOML document, and returns its tree, a table, with its strings filled in from `variables`, whose
 /// values are texts.
 ///
-/// ```text
-/// let tree = value_from_str(alloc, "\"$home\" = \"${home}/.config\"\n", &variables)?;
-/// // "$home" = "/home/user/.config"
+/// ```rust
+/// let tree = toml::value_from_str(alloc, "home = '${home:/root}/.config'", &NoSubstitution)?;
+/// let output = format!(in alloc; "{tree}")?;
+/// // { home = "/root/.config" }
 /// ```
 ///
 /// # Errors

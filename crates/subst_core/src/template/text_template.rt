@@ -41,6 +41,12 @@ impl<'a> Model for Template<'a> {
 impl<'a> Template<'a> {
     /// Returns the template of a source.
     ///
+    /// ```rust
+    /// let template = Template::from_str(alloc, "Dear ${name:friend},")?;
+    /// let output = template.expand(alloc, &NoSubstitution)?;
+    /// // Dear friend,
+    /// ```
+    ///
     /// # Errors
     ///
     /// The fault of the source where it isn't a sentence of the template language: `InvalidEscapeSequence`,

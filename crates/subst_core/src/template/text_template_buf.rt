@@ -21,6 +21,12 @@ use subst_raw::steps::Reads;
 use subst_raw::{CowParts, PartVec};
 
 /// A template that owns its text. Contracts see it as the bytes of its source.
+///
+/// ```rust
+/// let template = TemplateBuf::from_string(String::from_str(alloc, "Dear ${name:friend},")?)?;
+/// let output = template.as_template().expand(alloc, &NoSubstitution)?;
+/// // Dear friend,
+/// ```
 #[derive(Drop)]
 pub struct TemplateBuf {
     source: String,
