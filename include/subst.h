@@ -72,7 +72,7 @@ struct subst_fault {
 };
 
 /* Fills in the variables of the source. After SUBST_DONE the first `*needed` bytes of the room are the result, and the
- * bytes behind these are as before.
+ * bytes after these are as before.
  *
  * `*needed` is written with SUBST_DONE and SUBST_ROOM_TOO_SMALL alone, the room with SUBST_DONE alone, and `*fault`
  * with SUBST_REFUSED alone. */

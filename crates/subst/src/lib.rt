@@ -23,8 +23,8 @@
 //! [`json`] and [`toml`] read a tree first and then fill in its strings, so no value can break out of its
 //! string.
 //!
-//! This crate hands on public items of the crates below it under the names of the Rust crate `subst`, and has
-//! no code of its own.
+//! This crate re-exports public items of the crates below it under the names of the Rust crate `subst`, and
+//! has no code of its own.
 #![tactic(auto)]
 
 pub use subst_core::{

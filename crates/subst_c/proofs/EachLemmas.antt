@@ -1,5 +1,5 @@
 -- Outputs of rows, one after the other.
-use Rattle.std.proofs.Common.{◌≡◌, ℕ, zero, suc, ◌+◌, ◌<◌, ◌≤◌, List, [], ◌∷◌, ◌++◌, take, drop, get_or, length, Option, Some, None, IfSome, Result, Ok, Err, IfErr, option_map, inl, inr, refl, sym, ap, ◌∙◌, subst, arith, append-nil, length-append}
+use Rattle.std.proofs.Common.{◌≡◌, ℕ, suc, ◌+◌, ◌<◌, ◌≤◌, List, [], ◌∷◌, ◌++◌, take, drop, get_or, length, Option, Some, None, IfSome, Result, Ok, Err, IfErr, option_map, inl, inr, refl, sym, ap, ◌∙◌, subst, arith, append-nil, length-append}
 use Rattle.std.proofs.lemmas.List.{drop_more, take-append-drop, take_more}
 use Rattle.std.proofs.lemmas.List.Folds.{concat-append}
 use Rattle.std.specs.List.{concat}
@@ -81,7 +81,8 @@ one_more s rows i d bytes ends output new_bytes new_ends h are given joined ende
 
 -- the row at an index is refused, after outputs of the rows before it
 pub refused_at : (s : List ℕ) (rows : List Row) (i : ℕ) (d : Row)
-    (bytes ends new_ends : List ℕ) (e o : Option Fault) → i < length rows → AreOutputs s (take i rows) bytes ends → new_ends ≡ ends → e ≡ o
+    (bytes ends new_ends : List ℕ) (e o : Option Fault) → i < length rows
+    → AreOutputs s (take i rows) bytes ends → new_ends ≡ ends → e ≡ o
     → IfSome o (λ f. Answers s (first_value (get_or rows i d).pairs.now) (Refuses f))
     → IfSome e (IsRefusedIn s rows (length new_ends))
 refused_at s rows i d bytes ends new_ends e o h are same states refused =

@@ -105,7 +105,8 @@ fn add(
     ensures ok { OnOk result ((output : List ℕ)
         × Answers template.now (first_value row.now.pairs.now) (Gives output)
         × (outputs.new.bytes.items ≡ outputs.old.bytes.items ++ output)
-        × (outputs.new.ends.items ≡ outputs.old.ends.items ++ (length outputs.new.bytes.items ∷ []))) }
+        × (outputs.new.ends.items
+        ≡ outputs.old.ends.items ++ (length outputs.new.bytes.items ∷ []))) }
     ensures err { IfErr result (λ e. IfSome (expand_fault e)
         (λ f. Answers template.now (first_value row.now.pairs.now) (Refuses f))) }
     ensures ends { IfErr result (λ e. outputs.new.ends.items ≡ outputs.old.ends.items) }

@@ -1,6 +1,7 @@
-//! Templates over byte strings and texts, and the two calls that parse and expand at once.
+//! Templates over byte strings and texts, and `substitute_bytes` and `substitute`, which parse and expand
+//! at once and return the answer of a source under a map's look-up.
 //!
-//! `subst` hands on all public items of this crate, and describes the language.
+//! `subst` re-exports all public items of this crate, and describes the language.
 #![tactic(auto)]
 
 ghost use Rattle.std.specs.Prelude.{IfErr, IfSome, string_bytes};

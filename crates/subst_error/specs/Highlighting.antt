@@ -6,7 +6,7 @@ use Rattle.subst_error.specs.Fault.{Fault}
 use Rattle.subst_error.specs.Line.{line_before, line_from, line_of}
 use Rattle.subst_error.specs.Range.{range_of}
 
--- how many columns a text takes in a terminal
+-- how many columns a text takes in a terminal, as `unicode_width` counts them
 abbrev pub columns : List ℕ → ℕ
 columns s = str_width false (chars s)
 

@@ -15,8 +15,9 @@ source_len (Byte b) = 1
 abbrev pub range_at : ℕ → ℕ → Range ℕ
 range_at position len = record { start = position; end = position + len }
 
--- The range of bytes that an error is about: an escape with its character, the beginning of a placeholder, a
--- character, an opening brace, a name; and of out of memory the empty range at the source's start.
+-- The range of bytes that an error is about: the backslash and the character after it, if there is
+-- one; the `$` or `${` that has no name; the unexpected character; the opening brace; the name; and
+-- of out of memory the empty range at the source's start.
 abbrev pub range_of : Option Fault → Range ℕ
 range_of (Some (InvalidEscapeSequence position (Some c))) = range_at position (1 + source_len c)
 range_of (Some (InvalidEscapeSequence position None)) = range_at position 1

@@ -77,7 +77,8 @@ impl fmt::Display for MissingClosingBrace {
 }
 
 impl fmt::Display for NoSuchVariable {
-    ghost output = { λ e. display_of_fault (fault.NoSuchVariable e.position (string_bytes e.name)) };
+    ghost output = { λ e.
+        display_of_fault (fault.NoSuchVariable e.position (string_bytes e.name)) };
 
     fn fmt<W: fmt::Write>(&self, f: &mut fmt::Formatter<W>) -> fmt::Result {
         write!(f, "No such variable: ${}", self.name)

@@ -1,4 +1,4 @@
-//! Laws of errors. Each is the contract of a function that does nothing.
+//! Laws of errors: what `==` and `clone` keep. Each is the contract of a function that does nothing.
 
 ghost use Rattle.std.specs.Prelude.{◌≡◌, ◌↔◌, IsTrue};
 ghost use Rattle.subst_error.specs.ErrorFault.{error_fault, expand_fault, parse_fault};

@@ -27,7 +27,8 @@ escaped-at (suc k) (b ∷ x) inside special plain =
     (escaped-at k x (omega arith) special (λ j below. plain (suc j) (omega arith)))
 
 -- a text none of whose bytes is special
-escaped-all_plain : (x : List ℕ) → ((j : ℕ) → j < length x → is_special (get_or x j 0) ≡ false) → escaped x ≡ x
+escaped-all_plain : (x : List ℕ) → ((j : ℕ) → j < length x → is_special (get_or x j 0) ≡ false)
+    → escaped x ≡ x
 escaped-all_plain [] plain = refl
 escaped-all_plain (b ∷ x) plain =
     ap (λ y. y ++ escaped x) (escaped_byte-plain b (plain 0 (omega arith)))

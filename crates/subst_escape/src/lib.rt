@@ -1,4 +1,5 @@
-//! Escaping texts, so that templates give them as they are.
+//! Escaping texts, so that templates give them as they are: `escaped` puts a backslash before each
+//! special byte.
 #![tactic(auto)]
 
 ghost use Rattle.std.specs.Prelude.{◌≡◌, IfOk, string_bytes};

@@ -1,8 +1,8 @@
 //! Tests of the filter, over the public items of `subst_program`: its devices, its runs, its words and its
 //! statuses.
 //!
-//! The expected values were worked out by hand. How a run ends is one text, which a row has to match. Each call
-//! under test is in a function without a contract, so that a test knows little and its proof is short.
+//! The expected values were worked out by hand. How a run ends is one text, which a row has to match. Each
+//! call under test is in a function without a contract, so that a test knows little and its proof is short.
 #![tactic(auto)]
 
 #[cfg(test)]

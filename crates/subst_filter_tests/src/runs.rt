@@ -82,8 +82,8 @@ impl<'a> Run<'a> {
     }
 }
 
-/// How a run ended: `gives Hello world!`, `read failed`, `write failed after Hello`, or a fault and, in the lines
-/// after it, what is shown of it. All that is given was flushed, and nothing else.
+/// How a run ended: `gives Hello world!`, `read failed`, `write failed after Hello`, or a fault and, in the
+/// lines after it, what is shown of it. All that is given was flushed, and nothing else.
 fn told(alloc: Global, ended: &Ended, drip: &Drip) -> Result<String, AllocError> {
     let written = String::from_utf8_lossy(alloc, drip.taken.as_slice())?;
     let written = written.as_str();

@@ -1,4 +1,5 @@
-//! Why a text isn't read and filled in.
+//! Why a text isn't read and filled in. Each `From` keeps the error inside, and gives out of memory its
+//! own case.
 
 use std::alloc::{AllocError, AllocFailed};
 use std::fmt;

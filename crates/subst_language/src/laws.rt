@@ -35,7 +35,8 @@ pub fn law_2()
     ensures tree { (t u : Tree) (a b : List ℕ) → Spells t a → Spells u b → IsFollowed t b
         → Spells (join t u) (a ++ b) }
     ensures bytes { (t : Tree) (a b x y : List ℕ) (look : LookUp) → Spells t a → IsFollowed t b
-        → value 0 t look ≡ Bytes x → Answers b look (Gives y) → Answers (a ++ b) look (Gives (x ++ y)) }
+        → value 0 t look ≡ Bytes x → Answers b look (Gives y)
+        → Answers (a ++ b) look (Gives (x ++ y)) }
 {}
 
 /// The law of escaped texts. A text with a backslash before each special byte is a sentence that gives the

@@ -1,4 +1,6 @@
--- What the maps of the library have under each name.
+-- What the maps of the library have under each name: the value of the key whose text is the name.
+-- Of keys that are owned the standard library's `get_by_text` says so. An `IndexMap` is seen as a
+-- `HashMap`, and an `Env` as its pairs.
 use denote.Ref.{Bor}
 use Rattle.std.specs.Prelude.{ℕ, List, Option, String, string_bytes, find}
 use Rattle.std.specs.BTreeMap.{BTreeMap, get_by as btree_get_by}

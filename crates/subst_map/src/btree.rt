@@ -1,4 +1,4 @@
-//! `BTreeMap` as a map of variables.
+//! `BTreeMap` as a map of variables, with keys that it owns or keys that are lent.
 
 ghost use Rattle.std.specs.Prelude.{◌≡◌};
 

@@ -1,4 +1,4 @@
-//! Pairs of names and values as a map of variables.
+//! `Env`, pairs of names and values as a map of variables. Contracts see it as its pairs.
 
 ghost use Rattle.std.specs.Prelude.{◌≡◌};
 

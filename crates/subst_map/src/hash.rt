@@ -1,4 +1,4 @@
-//! `HashMap` as a map of variables.
+//! `HashMap` as a map of variables, with keys that it owns or keys that are lent.
 
 ghost use Rattle.std.specs.Prelude.{◌≡◌};
 

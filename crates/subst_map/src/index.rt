@@ -1,4 +1,4 @@
-//! `IndexMap` as a map of variables.
+//! `IndexMap` as a map of variables, with keys that it owns or keys that are lent.
 
 ghost use Rattle.std.specs.Prelude.{◌≡◌};
 

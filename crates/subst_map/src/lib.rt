@@ -1,4 +1,5 @@
-//! Maps from names of variables to their values.
+//! Maps from names of variables to their values: the trait `VariableMap`, whose `get` returns what the
+//! map's look-up has.
 #![tactic(auto)]
 
 ghost use Rattle.std.specs.Prelude.{◌≡◌, ℕ, List, Option};

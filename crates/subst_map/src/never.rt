@@ -1,4 +1,4 @@
-//! The map that has no value for any name.
+//! `NoSubstitution`, the map that has no value for any name.
 
 ghost use Rattle.std.specs.Prelude.{◌≡◌};
 

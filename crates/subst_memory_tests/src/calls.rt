@@ -6,8 +6,9 @@ use subst::error::{ExpandError, NoSuchVariable, ParseError};
 use subst_testing::answers::told_fault;
 use subst_testing::calls::{begin, end, say_out_of_memory};
 
-/// Makes a call, by the name that it has in `docs/MEMORY.md`, and once more if what came matches the pattern of
-/// out of memory. Shows what the call is lent before it and after it, and what it gives. An empty line is last.
+/// Makes a call, by the name that it has in `docs/MEMORY.md`, and once more if what came matches the pattern
+/// of out of memory. Shows what the call is lent before it and after it, and what it gives. An empty line is
+/// last.
 macro_rules! again {
     ($rt:ident, $name:expr, [$($lent:ident),*], $out_of_memory:pat => $call:expr) => {
         $($lent.show($rt, "lent");)*

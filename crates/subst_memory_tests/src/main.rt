@@ -1,5 +1,5 @@
-//! Makes each call of `docs/MEMORY.md`, for `tools/refuse-memory.py`, which refuses each of their requests for
-//! memory in turn. Nothing is judged here.
+//! Makes each call of `docs/MEMORY.md`, for `tools/refuse-memory.py`, which refuses each of their requests
+//! for memory in turn. Nothing is judged here.
 #![tactic(auto)]
 
 mod bytes;

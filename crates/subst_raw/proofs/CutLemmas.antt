@@ -63,7 +63,8 @@ cut_bad dollar_at_end simple x q e = absurd (uncut (dollar ∷ []) x q (omega ar
 cut_bad {p = p} (dollar_alone {b = b} unbraced unnamed) simple x q e =
     let (y, is, f) = cut_after (dollar ∷ []) x q (omega arith, tt) e in
     rw is
-    (bad_dollar p y (begins_no_front (λ b. b ≡ opening_brace) y (closing_brace ∷ q) unbraced f) (begins_no_front IsNameByte y (closing_brace ∷ q) unnamed f))
+    (bad_dollar p y (begins_no_front (λ b. b ≡ opening_brace) y (closing_brace ∷ q) unbraced f)
+    (begins_no_front IsNameByte y (closing_brace ∷ q) unnamed f))
 cut_bad brace_at_end simple x q e =
     absurd (uncut (dollar ∷ opening_brace ∷ []) x q (omega arith, (omega arith, tt)) e)
 cut_bad {p = p} (brace_alone {b = b} unnamed) simple x q e =
@@ -74,7 +75,8 @@ cut_bad (name_at_end n named) simple x q e =
 cut_bad (name_alone {b = b} {c = c} n r named unnamed no_close no_colon no_mark beginning) simple x q e =
     let (y, is, f) = cut_after (dollar ∷ opening_brace ∷ n) x q (braced_uncut n named) e in
     let (z, same, g) = cut_after (b ∷ []) y q (no_close, tt) f in
-    rw (is, same) (name_alone n z named unnamed no_close no_colon no_mark (front_cut b z q c (rw g at beginning)))
+    rw (is, same)
+    (name_alone n z named unnamed no_close no_colon no_mark (front_cut b z q c (rw g at beginning)))
 cut_bad (optional_at_end n named) simple x q e =
     let (y, is, f) = cut_after (dollar ∷ opening_brace ∷ n) x q (braced_uncut n named) e in
     absurd (uncut (question_mark ∷ []) y q (omega arith, tt) f)

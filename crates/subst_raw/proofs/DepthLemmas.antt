@@ -35,7 +35,8 @@ depth_closing d = record {
   completed = λ v completes. completes_closing d v completes;
   closed = λ k m n v before after closes.
       again v (suc (d + k)) n (omega arith)
-      ((closes_closing (suc (d + k)) v).0 (again (closing_brace ∷ v) m (suc (suc (d + k))) (omega arith) closes));
+      ((closes_closing (suc (d + k)) v).0
+      (again (closing_brace ∷ v) m (suc (suc (d + k))) (omega arith) closes));
 }
 
 -- a byte that is no backslash and no brace changes nothing
@@ -44,7 +45,8 @@ depth_byte d b no_backslash no_opening no_closing =
     depth_balanced d (byte no_backslash no_opening no_closing empty)
 
 -- two texts concatenated
-pub depth_append : (d e f : ℕ) (y z : List ℕ) → ChangesDepth y d e → ChangesDepth z e f → ChangesDepth (y ++ z) d f
+pub depth_append : (d e f : ℕ) (y z : List ℕ) → ChangesDepth y d e → ChangesDepth z e f
+    → ChangesDepth (y ++ z) d f
 depth_append d e f y z first second = record {
   completed = λ v completes. rw append_assoc (first.completed (z ++ v) (second.completed v completes));
   closed = λ k m n v before after closes.

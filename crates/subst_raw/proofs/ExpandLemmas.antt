@@ -23,7 +23,8 @@ pub fits_there : (end : ℕ) (s : List ℕ) {parts : List Part} {at : ℕ} {part
     → IsElementAt parts at part → FitsAt at end s part
 fits_there end s {parts = parts} {at = at} {part = part} fit here =
     subst (λ n. FitsAt n end s part) (omega (arith, length-take-le at parts (omega (arith, here.below))))
-    (fit_at 0 end s (take at parts) part (drop (at + 1) parts) (subst (AllFit 0 end s) (sym (around here)) fit))
+    (fit_at 0 end s (take at parts) part (drop (at + 1) parts)
+    (subst (AllFit 0 end s) (sym (around here)) fit))
 
 -- a part that was read from the list is there
 pub part_here : {read parts : List Part} {at : ℕ} {found part : Part} → slice_get read at ≡ Some found
@@ -39,7 +40,8 @@ none_here {at = at} past same = subst (λ (xs : List Part). length xs ≤ at) sa
 visited_parts-jump : (k i : ℕ) (s : List ℕ) (xs : List Part) (look : LookUp)
     → visited_parts xs i (i + k) s look ≡ visited_parts (drop k xs) (i + k) 0 s look
 visited_parts-jump zero i s xs look =
-    visited_parts-anywhere xs i (i + 0) s look (omega arith) ∙ ap (λ n. visited_parts xs n 0 s look) (omega arith)
+    visited_parts-anywhere xs i (i + 0) s look (omega arith)
+    ∙ ap (λ n. visited_parts xs n 0 s look) (omega arith)
 visited_parts-jump (suc k) i s [] look = refl
 visited_parts-jump (suc k) i s (part ∷ xs) look =
     visited_parts-before part xs i (i + suc k) s look (omega arith)
@@ -60,10 +62,12 @@ visited_parts-from_jump parts i next s look forward =
 -- an expansion that is at the index `at` visits the part there, and goes on at the index `next`
 pub record GoesOn (parts : List Part) (s : List ℕ) (look : LookUp) (at : ℕ) (part : Part) (next : ℕ)
     : Type 0 where
-  pub visits : visited_parts (drop at parts) at 0 s look ≡ part ∷ visited_parts (drop next parts) next 0 s look
+  pub visits : visited_parts (drop at parts) at 0 s look
+      ≡ part ∷ visited_parts (drop next parts) next 0 s look
 
 -- a part that is at an index is visited there, and the rest from where the part says
-visited_parts-here : (parts : List Part) (at : ℕ) (part : Part) (s : List ℕ) (look : LookUp) → IsElementAt parts at part
+visited_parts-here : (parts : List Part) (at : ℕ) (part : Part) (s : List ℕ) (look : LookUp)
+    → IsElementAt parts at part
     → visited_parts (drop at parts) at 0 s look
     ≡ part ∷ visited_parts (drop (at + 1) parts) (at + 1) (resume_index part s look) s look
 visited_parts-here parts at part s look here =
@@ -89,8 +93,11 @@ goes_on_there {parts = parts} {s = s} {look = look} {at = at} {next = next}
     record {
       visits =
           visited_parts-here parts at (Default name next) s look here
-          ∙ ap (λ (o : Option (List ℕ)). Default name next ∷ visited_parts (drop (at + 1) parts) (at + 1) (if_found o next) s look) (ap look (sym named) ∙ found)
-          ∙ ap (λ (rest : List Part). Default name next ∷ rest) (visited_parts-from_jump parts (at + 1) next s look (omega arith));
+          ∙ ap (λ (o : Option (List ℕ)). Default name next
+          ∷ visited_parts (drop (at + 1) parts) (at + 1) (if_found o next) s look)
+          (ap look (sym named) ∙ found)
+          ∙ ap (λ (rest : List Part). Default name next ∷ rest)
+          (visited_parts-from_jump parts (at + 1) next s look (omega arith));
     }
 
 -- and in the default, whose name has none
@@ -117,7 +124,8 @@ pub ends : {parts : List Part} {s : List ℕ} {look : LookUp} {output : List ℕ
     → parts_value parts s look ≡ Bytes output
 ends {parts = parts} {s = s} {look = look} {output = output} {at = at} so_far above =
     sym so_far.together
-    ∙ ap (λ (rest : List Part). joined (Bytes output) (joined_value (visited_parts rest at 0 s look) s look)) (drop_all at parts above)
+    ∙ ap (λ (rest : List Part). joined (Bytes output) (joined_value (visited_parts rest at 0 s look) s look))
+    (drop_all at parts above)
     ∙ joined-right (Bytes output)
 
 -- the output, what a part gives, and what is visited from where the expansion goes on, concatenated, are what
@@ -130,7 +138,8 @@ step_value : {parts : List Part} {s : List ℕ} {look : LookUp} {output : List �
 step_value {parts = parts} {s = s} {look = look} {output = output} {next = next} so_far goes_on gives =
     sym so_far.together
     ∙ ap (λ (visited : List Part). joined (Bytes output) (joined_value visited s look)) goes_on.visits
-    ∙ ap (λ (u : Value). joined (Bytes output) (joined u (joined_value (visited_parts (drop next parts) next 0 s look) s look))) gives
+    ∙ ap (λ (u : Value). joined (Bytes output)
+    (joined u (joined_value (visited_parts (drop next parts) next 0 s look) s look))) gives
 
 -- the output grows by the bytes that a part gives
 grows : {parts : List Part} {s : List ℕ} {look : LookUp} {output : List ℕ} {at : ℕ} {part : Part} {next : ℕ}
@@ -141,8 +150,10 @@ grows : {parts : List Part} {s : List ℕ} {look : LookUp} {output : List ℕ} {
 grows {parts = parts} {s = s} {look = look} {output = output} {next = next} {x = x} so_far goes_on gives is =
     record {
       together =
-          ap (λ (bytes : List ℕ). joined (Bytes bytes) (joined_value (visited_parts (drop next parts) next 0 s look) s look)) is
-          ∙ joined_assoc (Bytes output) (Bytes x) (joined_value (visited_parts (drop next parts) next 0 s look) s look)
+          ap (λ (bytes : List ℕ). joined (Bytes bytes)
+          (joined_value (visited_parts (drop next parts) next 0 s look) s look)) is
+          ∙ joined_assoc (Bytes output) (Bytes x)
+          (joined_value (visited_parts (drop next parts) next 0 s look) s look)
           ∙ sym (step_value so_far goes_on gives);
     }
 
@@ -189,19 +200,22 @@ after_none {look = look} {output = output} {next = next} so_far here named missi
     grows so_far (goes_on_inside here named missing) (rw (sym named, missing) refl) (sym (append-nil output))
 
 -- at a variable that has no value: it is the one that is missing
-pub missing_variable : {parts : List Part} {s : List ℕ} {look : LookUp} {output : List ℕ} {at : ℕ} {name : Span}
+pub missing_variable : {parts : List Part} {s : List ℕ} {look : LookUp} {output : List ℕ} {at : ℕ}
+    {name : Span}
     {key : List ℕ}
     → GivesSoFar parts s look output at → IsElementAt parts at (Variable name) → key ≡ span_bytes name s
     → look key ≡ None
     → parts_value parts s look ≡ Missing name.start (span_bytes name s)
 missing_variable {s = s} {look = look} {name = name} so_far here named missing =
     step_value {v = Missing name.start (span_bytes name s)} so_far (goes_on_after here refl)
-    (ap (λ (o : Option (List ℕ)). found_or o (Missing name.start (span_bytes name s))) (ap look (sym named) ∙ missing))
+    (ap (λ (o : Option (List ℕ)). found_or o (Missing name.start (span_bytes name s)))
+    (ap look (sym named) ∙ missing))
 
 -- where the map has a value for a name, the look-up has the bytes that the value gives
 pub has_value : {V Seen : Type 0} (items : V → List ℕ) (see : V → Seen) (bytes : Seen → List ℕ)
     (look_up : List ℕ → Option Seen)
-    {key x : List ℕ} (v : V) → ReadsAs items see bytes → Some (see v) ≡ look_up key → x ≡ items v → look_up_of bytes look_up key ≡ Some x
+    {key x : List ℕ} (v : V) → ReadsAs items see bytes → Some (see v) ≡ look_up key → x ≡ items v
+    → look_up_of bytes look_up key ≡ Some x
 has_value items see bytes look_up v reads has gives =
     ap (option_map bytes) (sym has) ∙ ap Some (sym (reads v) ∙ sym gives)
 
@@ -212,7 +226,8 @@ pub has_none : {Seen : Type 0} (bytes : Seen → List ℕ) (look_up : List ℕ �
 has_none bytes look_up has = ap (option_map bytes) (sym has)
 
 -- a fault that states the missing variable of a value
-pub states_missing : (stated : Option Fault) {v : Value} {position : ℕ} {name : List ℕ} → v ≡ Missing position name
+pub states_missing : (stated : Option Fault) {v : Value} {position : ℕ} {name : List ℕ}
+    → v ≡ Missing position name
     → IfSome stated (λ f. f ≡ NoSuchVariable position name) → IfSome stated (IsMissing v)
 states_missing None missing is = tt
 states_missing (Some f) {position = position} {name = name} missing is = (position, name, missing, is)
@@ -228,7 +243,8 @@ pub one_turn : {parts : List Part} {s : List ℕ} {look : LookUp} {before turns 
     {next after : ℕ}
     → CountsSoFar parts s look before turns at → GoesOn parts s look at part next → after ≡ turns + 1
     → CountsSoFar parts s look before after next
-one_turn so_far goes_on is = record { together = omega (arith, so_far.together, ap length goes_on.visits, is) }
+one_turn so_far goes_on is =
+    record { together = omega (arith, so_far.together, ap length goes_on.visits, is) }
 
 -- with the turn of the part at the index there are no more turns than parts that are visited
 pub turns_within : {parts : List Part} {s : List ℕ} {look : LookUp} {before turns at : ℕ} {part : Part}
@@ -243,4 +259,8 @@ pub all_turns : {parts : List Part} {s : List ℕ} {look : LookUp} {before turns
     → CountsSoFar parts s look before turns at → length parts ≤ at
     → turns ≡ before + length (visited_parts parts 0 0 s look)
 all_turns {parts = parts} {s = s} {look = look} {at = at} so_far above =
-    omega (arith, so_far.together, ap (λ (rest : List Part). length (visited_parts rest at 0 s look)) (drop_all at parts above))
+    omega (
+      arith,
+      so_far.together,
+      ap (λ (rest : List Part). length (visited_parts rest at 0 s look)) (drop_all at parts above),
+    )

@@ -1,5 +1,5 @@
 -- From what the parser has read to the fault of the whole source.
-use Rattle.std.proofs.Common.{◌≡◌, ℕ, suc, ◌+◌, ◌-◌, ◌<◌, false, List, [], ◌∷◌, ◌++◌, length, drop, refl, sym, ap, ◌∙◌, subst, append_assoc, append-nil, arith}
+use Rattle.std.proofs.Common.{◌≡◌, ℕ, suc, ◌+◌, ◌-◌, ◌<◌, false, List, [], ◌∷◌, ◌++◌, length, drop, refl, sym, ap, ◌∙◌, subst, append_assoc, arith}
 use Rattle.std.proofs.lemmas.List.{append_cancel_right}
 use Rattle.subst_language.specs.Language.Bytes.{colon, closing_brace, dollar, opening_brace}
 use Rattle.subst_language.specs.Language.Name.{IsName}
@@ -12,7 +12,7 @@ use Rattle.subst_language.specs.Language.BadItem.IsBad.{inside, unclosed}
 use Rattle.subst_language.specs.Language.BadItem.HasFault.{fault_after}
 use Rattle.subst_language.specs.Lemmas.Closing.{ClosesAll}
 use Rattle.subst_raw.specs.Placeholder.{IsInBraces}
-use Rattle.subst_raw.specs.Parts.{IsTemplateOf, HasName}
+use Rattle.subst_raw.specs.Parts.{HasName}
 use Rattle.subst_language.specs.Lemmas.Closing.{ChangesDepth}
 use Rattle.subst_raw.specs.Parsing.{IsTreeAt, IsParsedWithTail, StackHoldsFlushed}
 use Rattle.subst_raw.specs.declared.part.Span.{Span}
@@ -30,9 +30,11 @@ use Rattle.subst_raw.proofs.StackHoldsLemmas.{holds_some}
 use Rattle.subst_raw.proofs.OpenPartLemmas.{named_after, name_unique}
 
 -- a bad item after a tree is the fault of the text that begins where the tree does
-fault_at : {s : List ℕ} {from at : ℕ} {t : Tree} (r : List ℕ) (f : Fault) → IsTreeAt s from at t → IsBad at r f
+fault_at : {s : List ℕ} {from at : ℕ} {t : Tree} (r : List ℕ) (f : Fault) → IsTreeAt s from at t
+    → IsBad at r f
     → HasFault from (text t ++ r) f
-fault_at {t = t} r f at_tree bad = fault_after t at_tree.well_formed (subst (λ p. IsBad p r f) at_tree.ends bad)
+fault_at {t = t} r f at_tree bad =
+    fault_after t at_tree.well_formed (subst (λ p. IsBad p r f) at_tree.ends bad)
 
 -- what is wrong inside a closed default is wrong with its placeholder, for any text after it
 inside_closed : (p : ℕ) (n w v : List ℕ) (f : Fault) → IsName n → IsBalanced w
@@ -52,7 +54,8 @@ cut_again read y v q is_whole is_after is_cut =
 -- of it is before any closing brace is as bad.
 pub lift : (s : List ℕ) (defaults : List OpenDefault) (depth : ℕ) (parts : List Part) (literal_start at : ℕ)
     (y z : List ℕ) (f : Fault)
-    → StackHoldsFlushed s defaults depth parts literal_start at → drop at s ≡ y ++ z → IsBalanced y → IsBad at (y ++ z) f
+    → StackHoldsFlushed s defaults depth parts literal_start at → drop at s ≡ y ++ z → IsBalanced y
+    → IsBad at (y ++ z) f
     → ((v q : List ℕ) → z ≡ v ++ closing_brace ∷ q → IsBad at (y ++ v) f) → ClosesAll depth z → HasFault 0 s f
 lift s [] depth parts literal_start at y z f within reads balanced bad cut closes =
     let at_tree = current_tree_at within.1 in
@@ -86,7 +89,8 @@ lift s (default ∷ defaults) depth parts literal_start at y z f within reads ba
     (λ u r cuts. inside_closed within.position n w u f within.head.named.valid closed fault) rest
 
 -- the front of a placeholder with a default opens one brace
-depth_front : (d : ℕ) (n : List ℕ) → IsName n → ChangesDepth (dollar ∷ opening_brace ∷ n ++ colon ∷ []) d (suc d)
+depth_front : (d : ℕ) (n : List ℕ) → IsName n
+    → ChangesDepth (dollar ∷ opening_brace ∷ n ++ colon ∷ []) d (suc d)
 depth_front d n valid =
     depth_append d d (suc d) (dollar ∷ []) (opening_brace ∷ n ++ colon ∷ [])
     (depth_byte d dollar (λ is. omega (arith, is)) (λ is. omega (arith, is)) (λ is. omega (arith, is)))
@@ -96,17 +100,18 @@ depth_front d n valid =
 
 -- the outermost default: its part among all parts, what is before it, and that all braces which are open
 -- after what was read close where it does
-record IsOutermost (s : List ℕ) (outermost : OpenDefault) (depth : ℕ) (parts : List Part) (at : ℕ) : Type 0 where
-  before : List Part
-  own : List Part
-  name : Span
-  next : ℕ
-  splits : parts ≡ before ++ Default name next ∷ own
-  part : outermost.part ≡ length before
-  position : ℕ
-  head : IsInBraces s position name colon
-  current : IsParsedWithTail false s 0 position position 0 before
-  closes : Closes (drop (name.end + 1) s) → ClosesAll depth (drop at s)
+record IsOutermost (s : List ℕ) (outermost : OpenDefault) (depth : ℕ) (parts : List Part) (at : ℕ) : Type 0
+  where
+    before : List Part
+    own : List Part
+    name : Span
+    next : ℕ
+    splits : parts ≡ before ++ Default name next ∷ own
+    part : outermost.part ≡ length before
+    position : ℕ
+    head : IsInBraces s position name colon
+    current : IsParsedWithTail false s 0 position position 0 before
+    closes : Closes (drop (name.end + 1) s) → ClosesAll depth (drop at s)
 
 -- where the outermost default is
 find_outermost : (s : List ℕ) (inner : List OpenDefault) (outermost : OpenDefault) (depth : ℕ)
@@ -133,8 +138,10 @@ find_outermost s (default ∷ inner) outermost depth parts literal_start at with
     let some =
     holds_some s inner outermost default.depth within.before within.position within.position within.around in
     let found =
-    find_outermost s inner outermost default.depth within.before within.position within.position within.around in
-    let spelled : drop within.position s ≡ (dollar ∷ opening_brace ∷ n ++ colon ∷ []) ++ (within.read ++ drop at s) =
+    find_outermost s inner outermost default.depth within.before within.position within.position
+    within.around in
+    let spelled : drop within.position s
+    ≡ (dollar ∷ opening_brace ∷ n ++ colon ∷ []) ++ (within.read ++ drop at s) =
     within.head.spelled ∙ rw (within.spelled, append_assoc) refl in
     record {
       before = found.before;
@@ -143,14 +150,16 @@ find_outermost s (default ∷ inner) outermost depth parts literal_start at with
       next = found.next;
       splits = within.splits
           ∙ (ap (λ (parts : List Part). parts ++ Default within.name within.next ∷ within.own) found.splits
-          ∙ append_assoc found.before (Default found.name found.next ∷ found.own) (Default within.name within.next ∷ within.own));
+          ∙ append_assoc found.before (Default found.name found.next ∷ found.own)
+          (Default within.name within.next ∷ within.own));
       part = found.part;
       position = found.position;
       head = found.head;
       current = found.current;
       closes = λ closes.
           let after =
-          (depth_front 0 n valid).closed (default.depth - 1) default.depth (suc default.depth) (within.read ++ drop at s)
+          (depth_front 0 n valid).closed (default.depth - 1) default.depth (suc default.depth)
+          (within.read ++ drop at s)
           (omega arith) (omega arith) (subst (ClosesAll default.depth) spelled (found.closes closes)) in
           within.change.closed default.depth (suc default.depth) depth (drop at s) (omega arith)
           (omega (arith, within.braces)) after;
@@ -162,8 +171,12 @@ pub outermost_head : (s : List ℕ) (inner : List OpenDefault) (outermost : Open
     → StackHoldsFlushed s (inner ++ outermost ∷ []) depth parts literal_start at
     → (name : Span) × HasName parts outermost.part name × (0 < name.start)
 outermost_head s inner outermost depth parts literal_start at within =
-    let found = find_outermost s inner outermost depth parts literal_start at within in
-    (found.name, named_after parts found.before found.own found.name found.next outermost.part found.splits found.part, omega (arith, found.head.starts))
+    let found = find_outermost s inner outermost depth parts literal_start at within in (
+      found.name,
+      named_after parts found.before found.own found.name found.next outermost.part found.splits
+          found.part,
+      omega (arith, found.head.starts),
+    )
 
 -- Where not all open braces close, the outermost default is the fault of the source.
 pub unclosed_outermost : (s : List ℕ) (inner : List OpenDefault) (outermost : OpenDefault) (depth : ℕ)
@@ -175,12 +188,14 @@ unclosed_outermost s inner outermost depth parts literal_start at name within na
     let found = find_outermost s inner outermost depth parts literal_start at within in
     let same : found.name ≡ name =
     name_unique parts outermost.part found.name name
-    (named_after parts found.before found.own found.name found.next outermost.part found.splits found.part) named in
+    (named_after parts found.before found.own found.name found.next outermost.part found.splits found.part)
+    named in
     let at_tree = current_tree_at found.current in
     let n = span_bytes found.name s in
     let rest = dollar ∷ opening_brace ∷ n ++ colon ∷ drop (found.name.end + 1) s in
     let bad : IsBad found.position rest (MissingClosingBrace (found.position + 1)) =
-    unclosed n (drop (found.name.end + 1) s) found.head.named.valid (λ closes. unclosed_there (found.closes closes)) in
+    unclosed n (drop (found.name.end + 1) s) found.head.named.valid
+    (λ closes. unclosed_there (found.closes closes)) in
     let fault = fault_at rest (MissingClosingBrace (found.position + 1)) at_tree bad in
     let brace : found.position + 1 ≡ name.start - 1 =
     omega (arith, found.head.starts, ap (λ (name : Span). name.start) same) in
@@ -188,15 +203,3 @@ unclosed_outermost s inner outermost depth parts literal_start at name within na
     let spelled : s ≡ text tree ++ rest = at_tree.spelled ∙ ap (λ x. text tree ++ x) found.head.spelled in
     subst (λ q. HasFault 0 s (MissingClosingBrace q)) brace
     (subst (λ x. HasFault 0 x (MissingClosingBrace (found.position + 1))) (sym spelled) fault)
-
--- At the end of the source, where no default is open and all plain bytes have their parts, the parts are its
--- template.
-pub template_at_end : (s : List ℕ) (parts : List Part) (at : ℕ) → drop at s ≡ [] → StackHoldsFlushed s [] 0 parts at at
-    → IsTemplateOf s parts
-template_at_end s parts at end within =
-    let level = within.1.level in
-    record {
-      tree = level.tree;
-      spells = record { well_formed = level.read.well_formed; spelled = level.read.spelled ∙ rw (end, append-nil) refl };
-      mean = level.mean;
-    }

@@ -18,7 +18,8 @@ named_after parts before own name next i splits at = (
 )
 
 -- it has one name
-pub name_unique : (parts : List Part) (i : ℕ) (name other : Span) → HasName parts i name → HasName parts i other
+pub name_unique : (parts : List Part) (i : ℕ) (name other : Span) → HasName parts i name
+    → HasName parts i other
     → name ≡ other
 name_unique parts i name other (next, is) (next', is') = of (sym is ∙ is')
   where

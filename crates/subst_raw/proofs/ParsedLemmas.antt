@@ -37,7 +37,9 @@ pub add_tree : {s : List ℕ} {start at to i : ℕ} {own new : List Part} {t : T
 add_tree {s} {start} {at} {to} {i} {own} {new} {t} level added apart mean = record {
   tree = join level.tree t;
   read = tree_at_append level.read added;
-  mean = mean_append s i own new start level.tree t apart level.mean (subst (λ p. PartsMean s (i + length own) new p t) level.read.ends mean);
+  mean =
+      mean_append s i own new start level.tree t apart level.mean
+      (subst (λ p. PartsMean s (i + length own) new p t) level.read.ends mean);
 }
 
 -- where all plain bytes have their parts, an item is added with its part
@@ -47,9 +49,13 @@ pub add_item : {pending : Bool} {s : List ℕ} {start at to i : ℕ} {own new : 
     → IsParsedWithTail true s start to to i (own ++ new)
 unfolding add_tree
 add_item {s = s} {to = to} {t = t} current added apart mean = record {
-  level = add_tree current.level added (λ look. visited_count_after-apart (ends_plain false current.level.tree) t look apart) mean;
+  level =
+      add_tree current.level added
+      (λ look. visited_count_after-apart (ends_plain false current.level.tree) t look apart) mean;
   run = run_nothing IsPlain s to;
-  begins = λ pending. ends_plain-join false current.level.tree t ∙ ends_plain-apart (ends_plain false current.level.tree) t apart;
+  begins =
+      λ pending. ends_plain-join false current.level.tree t
+      ∙ ends_plain-apart (ends_plain false current.level.tree) t apart;
 }
 
 -- what is fresh, taken as fresh or not
@@ -73,14 +79,18 @@ run_tree_at {s} {at} {to} r = record {
 }
 
 -- the plain bytes get their part
-pub give_part : {s : List ℕ} {start literal_start at i : ℕ} {own : List Part} → literal_start < at → at ≤ length s
+pub give_part : {s : List ℕ} {start literal_start at i : ℕ} {own : List Part} → literal_start < at
+    → at ≤ length s
     → IsParsedWithTail true s start literal_start at i own
-    → IsParsedWithTail false s start at at i (own ++ Literal (record { start = literal_start; end = at }) ∷ [])
+    → IsParsedWithTail false s start at at i
+    (own ++ Literal (record { start = literal_start; end = at }) ∷ [])
 give_part {s} {start} {literal_start} {at} {i} {own} some inside current =
     record {
       level = add_tree current.level (run_tree_at current.run)
-          (λ look. ap (λ after. visited_count_after after (plains current.run.run) look) (current.begins refl))
-          (mean_literal s (i + length own) (record { start = literal_start; end = at }) literal_start current.run.run (omega (arith, current.run.ends))
+          (λ look. ap (λ after. visited_count_after after (plains current.run.run) look)
+          (current.begins refl))
+          (mean_literal s (i + length own) (record { start = literal_start; end = at }) literal_start
+          current.run.run (omega (arith, current.run.ends))
           (record { ordered = omega arith; within = inside }) (slice_of_run current.run));
       run = run_nothing IsPlain s at;
       begins = λ pending. absurd cc;

@@ -12,7 +12,7 @@ use Rattle.subst_language.specs.Lemmas.Closing.{ClosesAll}
 use Rattle.subst_error.specs.Fault.{Fault, MissingClosingBrace}
 use Rattle.subst_language.specs.Language.BadItem.{HasFault}
 use Rattle.subst_raw.specs.Packed.{FitsBelow}
-use Rattle.subst_raw.specs.Parts.{IsTemplateOf, HasName}
+use Rattle.subst_raw.specs.Parts.{HasName}
 use Rattle.subst_raw.specs.Halt.{halt_fault}
 use Rattle.subst_raw.specs.declared.halt.Halt.{Halt}
 use Rattle.std.specs.Option.{IfSome, IsSomeAnd}
@@ -27,7 +27,7 @@ use Rattle.subst_raw.specs.declared.tape.Tape.{Tape}
 use Rattle.subst_language.proofs.Language.ListLemmas.{split_last, split_first, reverse_last}
 use Rattle.subst_raw.proofs.StackHoldsLemmas.{holds_tree, holds_inner, holds_opening, holds_closing, holds_default, holds_closed, holds_run, holds_any, holds_some, holds_open, holds_top}
 use Rattle.subst_raw.proofs.PartOfLemmas.{optional_part}
-use Rattle.subst_raw.proofs.LiftLemmas.{lift, unclosed_outermost, outermost_head, template_at_end}
+use Rattle.subst_raw.proofs.LiftLemmas.{lift, unclosed_outermost, outermost_head}
 use Rattle.subst_raw.proofs.OpenPartLemmas.{named_after, name_unique}
 use Rattle.subst_language.proofs.Language.ClosingLemmas.{closes_nothing}
 
@@ -70,7 +70,8 @@ pub reading_added : {O : Type 0} {limit : ℕ} (old mid : Parser O) (parts : Lis
     → IsFlushed old mid
     → parts ≡ mid.parts ++ part ∷ [] → IsPart old.tape.source.now old.at end (length mid.parts) part
     → end ≤ length old.tape.source.now → old.at < end
-    → IsReading limit (record mid { parts = parts; literal_start = end; at = end }) × (mid.tape.source ≡ old.tape.source)
+    → IsReading limit (record mid { parts = parts; literal_start = end; at = end })
+    × (mid.tape.source ≡ old.tape.source)
     × (old.at < end)
 reading_added old mid parts part end reading given pushed is within forward =
     let tape = ap (λ (p : Parser _). p.tape) given.0 in
@@ -132,7 +133,15 @@ pub reading_opened : {O : Type 0} {limit : ℕ} (old mid : Parser O) (parts : Li
     → defaults.items
     ≡ mid.defaults.items ++ record { part = length mid.parts; depth = mid.depth } ∷ []
     → parts ≡ mid.parts ++ Default name 0 ∷ []
-    → IsReading limit (record mid { parts = parts; defaults = defaults; depth = mid.depth + 1; literal_start = name.end + 1; at = name.end + 1 })
+    → IsReading limit
+    (record mid {
+      parts = parts;
+      defaults = defaults;
+      depth = mid.depth + 1;
+      literal_start = name.end
+          + 1;
+      at = name.end + 1;
+    })
     × (mid.tape.source ≡ old.tape.source) × (old.at < name.end + 1)
 reading_opened old mid parts defaults name reading given front pushed_default pushed =
     let s = old.tape.source.now in
@@ -141,7 +150,8 @@ reading_opened old mid parts defaults name reading given front pushed_default pu
     let depth = ap (λ (p : Parser _). p.depth) given.0 in
     let opened =
     holds_default s (reverse old.defaults.items) old.depth mid.parts old.at name front given.1 in
-    let stack : reverse defaults.items ≡ record { part = length mid.parts; depth = old.depth } ∷ reverse old.defaults.items =
+    let stack : reverse defaults.items
+    ≡ record { part = length mid.parts; depth = old.depth } ∷ reverse old.defaults.items =
     ap reverse pushed_default ∙ reverse_last mid.defaults.items _ ∙ rw (same, depth) refl in (
       record {
         fits = rw tape reading.fits;
@@ -180,7 +190,8 @@ innermost_fits old mid front innermost name reading given split named =
     let nested = given_innermost old mid front innermost given split in
     let same : name ≡ nested.name =
     name_unique mid.parts innermost.part name nested.name named
-    (named_after mid.parts nested.before nested.own nested.name nested.next innermost.part nested.splits nested.part) in
+    (named_after mid.parts nested.before nested.own nested.name nested.next innermost.part nested.splits
+    nested.part) in
     let fits = name_fits nested.head.named reading.fits in
     rw same (fits.0, fits.1, omega (arith, given.2, reading.within, reading.fits))
 
@@ -193,21 +204,32 @@ pub reading_closed : {O : Type 0} {limit : ℕ} (old mid : Parser O) (front : Li
     → innermost.depth + 1 ≡ old.depth → old.defaults.items ≡ front ++ innermost ∷ [] → defaults.items ≡ front
     → HasName mid.parts innermost.part name
     → parts ≡ set mid.parts innermost.part (Default name (length mid.parts))
-    → IsReading limit (record mid { parts = parts; defaults = defaults; depth = innermost.depth; literal_start = mid.at + 1; at = mid.at + 1 })
+    → IsReading limit
+    (record mid {
+      parts = parts;
+      defaults = defaults;
+      depth = innermost.depth;
+      literal_start = mid.at
+          + 1;
+      at = mid.at + 1;
+    })
     × (mid.tape.source ≡ old.tape.source) × (old.at < mid.at + 1)
-reading_closed old mid front parts defaults innermost name reading given inside reads closes split popped named jumped =
+reading_closed old mid front parts defaults innermost name reading given inside reads closes split popped
+    named jumped =
     let s = old.tape.source.now in
     let tape = ap (λ (p : Parser _). p.tape) given.0 in
     let at = ap (λ (p : Parser _). p.at) given.0 in
     let nested = given_innermost old mid front innermost given split in
     let same : name ≡ nested.name =
     name_unique mid.parts innermost.part name nested.name named
-    (named_after mid.parts nested.before nested.own nested.name nested.next innermost.part nested.splits nested.part) in
+    (named_after mid.parts nested.before nested.own nested.name nested.next innermost.part nested.splits
+    nested.part) in
     let closed =
     holds_closed s innermost (reverse front) old.depth mid.parts old.at closes reads nested in
     let known =
     subst
-    (λ (n : Span). StackHolds true s (reverse front) innermost.depth (set mid.parts innermost.part (Default n (length mid.parts))) (old.at + 1) (old.at + 1))
+    (λ (n : Span). StackHolds true s (reverse front) innermost.depth
+    (set mid.parts innermost.part (Default n (length mid.parts))) (old.at + 1) (old.at + 1))
     (sym same) closed in (
       record {
         fits = rw tape reading.fits;
@@ -322,8 +344,11 @@ reading_outermost : {O : Type 0} {limit : ℕ} (p : Parser O) (outermost : OpenD
 reading_outermost p outermost reading first =
     let split = split_first p.defaults.items outermost first in
     let stack : reverse p.defaults.items ≡ reverse split.0 ++ outermost ∷ [] =
-    ap reverse split.1 ∙ reverse-append (outermost ∷ []) split.0 in
-    (reverse split.0, subst (λ ds. StackHoldsFlushed p.tape.source.now ds p.depth p.parts p.literal_start p.at) stack (reading_within p reading))
+    ap reverse split.1 ∙ reverse-append (outermost ∷ []) split.0 in (
+      reverse split.0,
+      subst (λ ds. StackHoldsFlushed p.tape.source.now ds p.depth p.parts p.literal_start p.at) stack
+          (reading_within p reading),
+    )
 
 -- the fault of a default that is never closed
 pub fault_unclosed : {O : Type 0} {limit : ℕ} (p : Parser O) (outermost : OpenDefault) (name : Span)
@@ -333,7 +358,8 @@ pub fault_unclosed : {O : Type 0} {limit : ℕ} (p : Parser O) (outermost : Open
     → HasFault 0 p.tape.source.now (MissingClosingBrace (name.start - 1))
 fault_unclosed p outermost name reading first named unclosed =
     let (inner, within) = reading_outermost p outermost reading first in
-    unclosed_outermost p.tape.source.now inner outermost p.depth p.parts p.literal_start p.at name within named unclosed
+    unclosed_outermost p.tape.source.now inner outermost p.depth p.parts p.literal_start p.at name within
+    named unclosed
 
 -- the part of the outermost default has its name
 pub outermost_named : {O : Type 0} {limit : ℕ} (p : Parser O) (outermost : OpenDefault) → IsReading limit p
@@ -349,7 +375,11 @@ pub outermost_starts : {O : Type 0} {limit : ℕ} (p : Parser O) (outermost : Op
     → slice_get p.defaults.items 0 ≡ Some outermost → HasName p.parts outermost.part name → 0 < name.start
 outermost_starts p outermost name reading first named =
     let (head, found, starts) = outermost_named p outermost reading first in
-    omega (arith, starts, ap (λ (name : Span). name.start) (name_unique p.parts outermost.part head name found named))
+    omega (
+      arith,
+      starts,
+      ap (λ (name : Span). name.start) (name_unique p.parts outermost.part head name found named),
+    )
 
 -- what is bad at the byte offset that was reached is the fault of the source, where all open braces close
 pub fault_closed : {O : Type 0} {limit : ℕ} (p : Parser O) (f : Fault) → IsReading limit p
@@ -366,7 +396,8 @@ pub closes_top : {O : Type 0} {limit : ℕ} (p : Parser O) → IsReading limit p
 closes_top p reading none =
     let s = p.tape.source.now in
     let nested : StackHolds true s [] p.depth p.parts p.literal_start p.at =
-    subst (λ ds. StackHolds true s ds p.depth p.parts p.literal_start p.at) (ap reverse none) reading.nested in
+    subst (λ ds. StackHolds true s ds p.depth p.parts p.literal_start p.at) (ap reverse none)
+    reading.nested in
     subst (λ d. ClosesAll d (drop p.at s)) (sym nested.0) tt
 
 -- the part of the innermost default has its name
@@ -374,8 +405,11 @@ pub innermost_named : {O : Type 0} (old mid : Parser O) (front : List OpenDefaul
     (innermost : OpenDefault) → IsFlushed old mid
     → old.defaults.items ≡ front ++ innermost ∷ [] → (name : Span) × HasName mid.parts innermost.part name
 innermost_named old mid front innermost given split =
-    let nested = given_innermost old mid front innermost given split in
-    (nested.name, named_after mid.parts nested.before nested.own nested.name nested.next innermost.part nested.splits nested.part)
+    let nested = given_innermost old mid front innermost given split in (
+      nested.name,
+      named_after mid.parts nested.before nested.own nested.name nested.next innermost.part nested.splits
+          nested.part,
+    )
 
 -- the variable of the innermost default is one of the parts
 pub variable_inside : {O : Type 0} (old mid : Parser O) (front : List OpenDefault)
@@ -409,7 +443,8 @@ fault_at_end p outermost name reading end first named =
     let depth : p.depth ≡ suc (p.depth - 1) = omega arith in
     fault_unclosed p outermost name reading first named
     (λ closes. closes_nothing (p.depth - 1)
-    (subst (λ d. ClosesAll d []) depth (subst (ClosesAll p.depth) (drop_all p.at p.tape.source.now end) closes)))
+    (subst (λ d. ClosesAll d []) depth
+    (subst (ClosesAll p.depth) (drop_all p.at p.tape.source.now end) closes)))
 
 -- the fault that was found, where all open braces close
 pub fault_known : {O : Type 0} {limit : ℕ} (p : Parser O) (e : Halt) → IsReading limit p

@@ -43,7 +43,8 @@ fit_widen i end wider s (part ∷ rest) le fit =
     (fits_wider i end wider s part le fit.0, fit_widen (i + 1) end wider s rest le fit.1)
 
 -- two lists of parts concatenated fit where each of them does
-pub fit_append : (i end : ℕ) (s : List ℕ) (xs ys : List Part) → AllFit i end s xs → AllFit (i + length xs) end s ys
+pub fit_append : (i end : ℕ) (s : List ℕ) (xs ys : List Part) → AllFit i end s xs
+    → AllFit (i + length xs) end s ys
     → AllFit i end s (xs ++ ys)
 fit_append i end s [] ys fit rest = subst (λ n. AllFit n end s ys) (omega arith) rest
 fit_append i end s (part ∷ xs) ys fit rest =
@@ -63,20 +64,23 @@ pub fit_at : (i end : ℕ) (s : List ℕ) (xs : List Part) (part : Part) (ys : L
 fit_at i end s xs part ys fit = (fit_split i end s xs (part ∷ ys) fit).1.0
 
 -- a part before the index where an expansion goes on is jumped over
-pub visited_parts-before : (part : Part) (rest : List Part) (i from : ℕ) (s : List ℕ) (look : LookUp) → i < from
+pub visited_parts-before : (part : Part) (rest : List Part) (i from : ℕ) (s : List ℕ) (look : LookUp)
+    → i < from
     → visited_parts (part ∷ rest) i from s look ≡ visited_parts rest (i + 1) from s look
 visited_parts-before part rest i from s look below = rw (lt-ltb i from below) refl
 
 -- a part from that index on is visited
 pub visited_parts-from : (part : Part) (rest : List Part) (i from : ℕ) (s : List ℕ) (look : LookUp) → from ≤ i
-    → visited_parts (part ∷ rest) i from s look ≡ part ∷ visited_parts rest (i + 1) (resume_index part s look) s look
+    → visited_parts (part ∷ rest) i from s look
+    ≡ part ∷ visited_parts rest (i + 1) (resume_index part s look) s look
 visited_parts-from part rest i from s look above = rw (le-ltb i from above) refl
 
 -- an expansion that visits a list from its first part on gives that part, and then what is visited from where
 -- it goes on
 pub joined_value-first : (part : Part) (rest : List Part) (i from : ℕ) (s : List ℕ) (look : LookUp) → from ≤ i
     → joined_value (visited_parts (part ∷ rest) i from s look) s look
-    ≡ joined (part_value part s look) (joined_value (visited_parts rest (i + 1) (resume_index part s look) s look) s look)
+    ≡ joined (part_value part s look)
+    (joined_value (visited_parts rest (i + 1) (resume_index part s look) s look) s look)
 joined_value-first part rest i from s look above =
     ap (λ visited. joined_value visited s look) (visited_parts-from part rest i from s look above)
 
@@ -85,7 +89,8 @@ pub visited_parts-anywhere : (parts : List Part) (i from : ℕ) (s : List ℕ) (
     → visited_parts parts i from s look ≡ visited_parts parts i 0 s look
 visited_parts-anywhere [] i from s look above = refl
 visited_parts-anywhere (part ∷ rest) i from s look above =
-    visited_parts-from part rest i from s look above ∙ sym (visited_parts-from part rest i 0 s look (omega arith))
+    visited_parts-from part rest i from s look above
+    ∙ sym (visited_parts-from part rest i 0 s look (omega arith))
 
 -- a part goes on no later than its end, where it fits
 pub goes_on_within : (i end : ℕ) (s : List ℕ) (part : Part) (look : LookUp) → FitsAt i end s part
@@ -103,22 +108,29 @@ goes_on_within i end s (Default name next) look fits = of (look (span_bytes name
 -- visits what it visits of the first, and then what it visits of the second by itself
 pub visited_parts-append : (i end from : ℕ) (s : List ℕ) (xs ys : List Part) (look : LookUp)
     → AllFit i end s xs → end ≤ i + length xs → from ≤ i + length xs
-    → visited_parts (xs ++ ys) i from s look ≡ visited_parts xs i from s look ++ visited_parts ys (i + length xs) 0 s look
+    → visited_parts (xs ++ ys) i from s look
+    ≡ visited_parts xs i from s look ++ visited_parts ys (i + length xs) 0 s look
 visited_parts-append i end from s [] ys look fit inside above =
-    visited_parts-anywhere ys i from s look (omega arith) ∙ ap (λ n. visited_parts ys n 0 s look) (omega arith)
+    visited_parts-anywhere ys i from s look (omega arith)
+    ∙ ap (λ n. visited_parts ys n 0 s look) (omega arith)
 visited_parts-append i end from s (part ∷ xs) ys look fit inside above =
     elim (cases_lt i from) [
       | inl before ↦
           visited_parts-before part (xs ++ ys) i from s look before
           ∙ visited_parts-append (i + 1) end from s xs ys look fit.1 (omega arith) (omega arith)
           ∙ ap (λ n. visited_parts xs (i + 1) from s look ++ visited_parts ys n 0 s look) (omega arith)
-          ∙ sym (ap (λ visited. visited ++ visited_parts ys (i + length (part ∷ xs)) 0 s look) (visited_parts-before part xs i from s look before))
+          ∙ sym (ap (λ visited. visited ++ visited_parts ys (i + length (part ∷ xs)) 0 s look)
+          (visited_parts-before part xs i from s look before))
       | inr after ↦
           let jump = goes_on_within i end s part look fit.0 in
           visited_parts-from part (xs ++ ys) i from s look after
-          ∙ ap (λ visited. part ∷ visited) (visited_parts-append (i + 1) end (resume_index part s look) s xs ys look fit.1 (omega arith) (omega arith))
-          ∙ ap (λ n. part ∷ visited_parts xs (i + 1) (resume_index part s look) s look ++ visited_parts ys n 0 s look) (omega arith)
-          ∙ sym (ap (λ visited. visited ++ visited_parts ys (i + length (part ∷ xs)) 0 s look) (visited_parts-from part xs i from s look after))
+          ∙ ap (λ visited. part ∷ visited)
+          (visited_parts-append (i + 1) end (resume_index part s look) s xs ys look fit.1 (omega arith)
+          (omega arith))
+          ∙ ap (λ n. part ∷ visited_parts xs (i + 1) (resume_index part s look) s look
+          ++ visited_parts ys n 0 s look) (omega arith)
+          ∙ sym (ap (λ visited. visited ++ visited_parts ys (i + length (part ∷ xs)) 0 s look)
+          (visited_parts-from part xs i from s look after))
     ]
 
 -- of parts that are all before the index where it goes on, an expansion visits none
@@ -126,7 +138,8 @@ pub visited_parts-jumped : (i from : ℕ) (s : List ℕ) (xs : List Part) (look 
     → visited_parts xs i from s look ≡ []
 visited_parts-jumped i from s [] look above = refl
 visited_parts-jumped i from s (part ∷ xs) look above =
-    visited_parts-before part xs i from s look (omega arith) ∙ visited_parts-jumped (i + 1) from s xs look (omega arith)
+    visited_parts-before part xs i from s look (omega arith)
+    ∙ visited_parts-jumped (i + 1) from s xs look (omega arith)
 
 -- no parts mean nothing
 pub mean_nothing : (s : List ℕ) (i p : ℕ) → PartsMean s i [] p Empty
@@ -136,11 +149,14 @@ mean_nothing s i p = record { fit = tt; same_value = λ look. refl; same_count =
 -- bytes goes on from the first into the second
 pub mean_append : (s : List ℕ) (i : ℕ) (xs ys : List Part) (p : ℕ) (t u : Tree)
     → ((look : LookUp) → visited_count_after (ends_plain false t) u look ≡ visited_count u look)
-    → PartsMean s i xs p t → PartsMean s (i + length xs) ys (p + length (text t)) u → PartsMean s i (xs ++ ys) p (join t u)
+    → PartsMean s i xs p t → PartsMean s (i + length xs) ys (p + length (text t)) u
+    → PartsMean s i (xs ++ ys) p (join t u)
 mean_append s i xs ys p t u apart first second = record {
   fit = fit_append i (i + length (xs ++ ys)) s xs ys
-      (fit_widen i (i + length xs) (i + length (xs ++ ys)) s xs (omega (arith, length-append xs ys)) first.fit)
-      (fit_widen (i + length xs) (i + length xs + length ys) (i + length (xs ++ ys)) s ys (omega (arith, length-append xs ys)) second.fit);
+      (fit_widen i (i + length xs) (i + length (xs ++ ys)) s xs (omega (arith, length-append xs ys))
+      first.fit)
+      (fit_widen (i + length xs) (i + length xs + length ys) (i + length (xs ++ ys)) s ys
+      (omega (arith, length-append xs ys)) second.fit);
   same_value = λ look.
       ap (λ visited. joined_value visited s look)
       (visited_parts-append i (i + length xs) 0 s xs ys look first.fit (omega arith) (omega arith))
@@ -149,7 +165,8 @@ mean_append s i xs ys p t u apart first second = record {
   same_count = λ look.
       omega (
         arith,
-        ap length (visited_parts-append i (i + length xs) 0 s xs ys look first.fit (omega arith) (omega arith)),
+        ap length (visited_parts-append i (i + length xs) 0 s xs ys look first.fit (omega arith)
+            (omega arith)),
         length-append (visited_parts xs i 0 s look) (visited_parts ys (i + length xs) 0 s look),
         first.same_count look,
         second.same_count look,
@@ -161,10 +178,12 @@ mean_append s i xs ys p t u apart first second = record {
 -- a part that goes on after itself, and gives what an item gives, means the item
 mean_one : (s : List ℕ) (i : ℕ) (part : Part) (p : ℕ) (item : Item) → FitsAt i (i + 1) s part
     → ((look : LookUp) → part_value part s look ≡ item_value p item look)
-    → ((look : LookUp) → visited_count (Then item Empty) look ≡ 1) → PartsMean s i (part ∷ []) p (Then item Empty)
+    → ((look : LookUp) → visited_count (Then item Empty) look ≡ 1)
+    → PartsMean s i (part ∷ []) p (Then item Empty)
 mean_one s i part p item fits same one = record {
   fit = (fits, tt);
-  same_value = λ look. joined_value-first part [] i 0 s look (omega arith) ∙ ap (λ v. joined v (Bytes [])) (same look);
+  same_value =
+      λ look. joined_value-first part [] i 0 s look (omega arith) ∙ ap (λ v. joined v (Bytes [])) (same look);
   same_count = λ look. ap length (visited_parts-from part [] i 0 s look (omega arith)) ∙ sym (one look);
 }
 
@@ -194,7 +213,8 @@ pub mean_short : (s : List ℕ) (i : ℕ) (name : Span) (p : ℕ) → IsSpan s n
     → PartsMean s i (Variable name ∷ []) p (Then (Short (span_bytes name s)) Empty)
 mean_short s i name p inside named starts =
     mean_one s i (Variable name) p (Short (span_bytes name s)) (inside, named)
-    (λ look. ap (λ position. found_or (look (span_bytes name s)) (Missing position (span_bytes name s))) starts) (λ look. refl)
+    (λ look. ap (λ position. found_or (look (span_bytes name s)) (Missing position (span_bytes name s)))
+    starts) (λ look. refl)
 
 -- a variable whose name is after a dollar and a brace means the name in braces
 pub mean_braced : (s : List ℕ) (i : ℕ) (name : Span) (p : ℕ) → IsSpan s name → IsName (span_bytes name s)
@@ -202,18 +222,21 @@ pub mean_braced : (s : List ℕ) (i : ℕ) (name : Span) (p : ℕ) → IsSpan s 
     → PartsMean s i (Variable name ∷ []) p (Then (Braced (span_bytes name s)) Empty)
 mean_braced s i name p inside named starts =
     mean_one s i (Variable name) p (Braced (span_bytes name s)) (inside, named)
-    (λ look. ap (λ position. found_or (look (span_bytes name s)) (Missing position (span_bytes name s))) starts) (λ look. refl)
+    (λ look. ap (λ position. found_or (look (span_bytes name s)) (Missing position (span_bytes name s)))
+    starts) (λ look. refl)
 
 -- a default's part that jumps over no parts means the name with a question mark
 pub mean_optional : (s : List ℕ) (i : ℕ) (name : Span) (p : ℕ) → IsSpan s name → IsName (span_bytes name s)
     → PartsMean s i (Default name (i + 1) ∷ []) p (Then (Optional (span_bytes name s)) Empty)
 mean_optional s i name p inside named =
-    mean_one s i (Default name (i + 1)) p (Optional (span_bytes name s)) (inside, named, omega arith, omega arith)
+    mean_one s i (Default name (i + 1)) p (Optional (span_bytes name s))
+    (inside, named, omega arith, omega arith)
     (λ look. refl) (λ look. refl)
 
 -- what a default's part and the parts after it give: what was found, or else what the parts give
 joined_value-default : (found : Option (List ℕ)) (parts : List Part) (i : ℕ) (s : List ℕ) (look : LookUp)
-    → joined (found_or found (Bytes [])) (joined_value (visited_parts parts i (if_found found (i + length parts)) s look) s look)
+    → joined (found_or found (Bytes []))
+    (joined_value (visited_parts parts i (if_found found (i + length parts)) s look) s look)
     ≡ found_or found (joined_value (visited_parts parts i 0 s look) s look)
 joined_value-default (Some x) parts i s look =
     ap (λ visited. joined (Bytes x) (joined_value visited s look))
@@ -224,14 +247,16 @@ joined_value-default None parts i s look = joined-left (joined_value (visited_pa
 default_count : (found : Option (List ℕ)) (parts : List Part) (i : ℕ) (s : List ℕ) (look : LookUp)
     → length (visited_parts parts i (if_found found (i + length parts)) s look)
     ≡ if_missing found (length (visited_parts parts i 0 s look))
-default_count (Some x) parts i s look = ap length (visited_parts-jumped i (i + length parts) s parts look (omega arith))
+default_count (Some x) parts i s look =
+    ap length (visited_parts-jumped i (i + length parts) s parts look (omega arith))
 default_count None parts i s look = refl
 
 -- a default's part that jumps over the parts after it means the name with the tree that those mean
 pub mean_default : (s : List ℕ) (i : ℕ) (name : Span) (parts : List Part) (p : ℕ) (t : Tree) → IsSpan s name
     → IsName (span_bytes name s)
     → PartsMean s (i + 1) parts (p + 3 + length (span_bytes name s)) t
-    → PartsMean s i (Default name (i + 1 + length parts) ∷ parts) p (Then (tree.Default (span_bytes name s) t) Empty)
+    → PartsMean s i (Default name (i + 1 + length parts) ∷ parts) p
+    (Then (tree.Default (span_bytes name s) t) Empty)
 mean_default s i name parts p t inside named mean = record {
   fit = (
     (inside, named, omega arith, omega arith),
@@ -241,7 +266,8 @@ mean_default s i name parts p t inside named mean = record {
       joined_value-first (Default name (i + 1 + length parts)) parts i 0 s look (omega arith)
       ∙ joined_value-default (look (span_bytes name s)) parts (i + 1) s look
       ∙ ap (found_or (look (span_bytes name s))) (mean.same_value look)
-      ∙ sym (joined-right (found_or (look (span_bytes name s)) (value (p + 3 + length (span_bytes name s)) t look)));
+      ∙ sym (joined-right
+      (found_or (look (span_bytes name s)) (value (p + 3 + length (span_bytes name s)) t look)));
   same_count = λ look.
       omega (
         arith,

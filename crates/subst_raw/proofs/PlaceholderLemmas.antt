@@ -23,7 +23,11 @@ module _ (s : List ℕ) (at : ℕ) (rest : List ℕ) (begins : drop at s ≡ bac
   -- a backslash before a special byte is an escape
   pub escape_at : (b : ℕ) → drop (at + 1) s ≡ b ∷ drop (at + 1 + 1) s → is_special b ≡ true → IsEscape s at b
   escape_at b second special =
-      record { special = special; spelled = next_elements s at backslash b (next_element s at backslash rest begins) second }
+      record {
+        special = special;
+        spelled = next_elements s at backslash b
+            (next_element s at backslash rest begins) second;
+      }
 
   -- a backslash at the end is none
   pub lone_backslash_at : drop (at + 1) s ≡ [] → IsBadWhenCut at (drop at s) (InvalidEscapeSequence at None)
@@ -102,7 +106,8 @@ module _ (s : List ℕ) (at end : ℕ) (begins : drop at s ≡ dollar ∷ openin
     named = name_at s (at + 2) end run some within;
     starts = refl;
     spelled = begins ∙ ap (λ (x : List ℕ). dollar ∷ opening_brace ∷ x) (run_tree_at s (at + 2) end run
-        ∙ ap (λ (x : List ℕ). span_bytes (record { start = at + 2; end = end }) s ++ x) (follows ∙ ap (λ (k : ℕ). k ∷ drop (end + 1) s) is));
+        ∙ ap (λ (x : List ℕ). span_bytes (record { start = at + 2; end = end }) s ++ x)
+        (follows ∙ ap (λ (k : ℕ). k ∷ drop (end + 1) s) is));
   }
 
   -- a dollar and an opening brace before no name
@@ -128,9 +133,11 @@ module _ (s : List ℕ) (at end : ℕ) (begins : drop at s ≡ dollar ∷ openin
       let whole : drop (at + 2) s ≡ run.run ++ b ∷ drop (end + 1) s =
       run.spelled ∙ ap (λ (x : List ℕ). run.run ++ x) follows in
       let named = run_named s (at + 2) end run some in
-      let bad : IsBadWhenCut at (dollar ∷ opening_brace ∷ run.run ++ b ∷ drop (end + 1) s) (UnexpectedCharacter (at + 2 + length run.run) c after_name) =
+      let bad : IsBadWhenCut at (dollar ∷ opening_brace ∷ run.run ++ b ∷ drop (end + 1) s)
+      (UnexpectedCharacter (at + 2 + length run.run) c after_name) =
       bad_however
-      (name_alone run.run (drop (end + 1) s) named (rw follows at longest) no_close no_colon no_mark (rw follows at front)) tt in
+      (name_alone run.run (drop (end + 1) s) named (rw follows at longest) no_close no_colon no_mark
+      (rw follows at front)) tt in
       rw (begins, whole, is) (rw (← run.ends) at bad)
 
 module _ (s : List ℕ) (at : ℕ) (name : Span) (head : IsInBraces s at name question_mark) where
@@ -148,6 +155,9 @@ module _ (s : List ℕ) (at : ℕ) (name : Span) (head : IsInBraces s at name qu
   unclosed_optional_at position b c expected follows no_close front here is =
       let n = span_bytes name s in
       let there : at + 3 + length n ≡ position = omega (arith, here, head.starts, head.named.ends) in
-      let bad : IsBadWhenCut at (dollar ∷ opening_brace ∷ n ++ (question_mark ∷ b ∷ drop (name.end + 1 + 1) s)) (UnexpectedCharacter (at + 3 + length n) c after_question_mark) =
-      bad_however (optional_alone n (drop (name.end + 1 + 1) s) head.named.valid no_close (rw follows at front)) tt in
+      let bad : IsBadWhenCut at
+      (dollar ∷ opening_brace ∷ n ++ (question_mark ∷ b ∷ drop (name.end + 1 + 1) s))
+      (UnexpectedCharacter (at + 3 + length n) c after_question_mark) =
+      bad_however (optional_alone n (drop (name.end + 1 + 1) s) head.named.valid no_close
+      (rw follows at front)) tt in
       rw (head.spelled, follows, is) (rw there at bad)

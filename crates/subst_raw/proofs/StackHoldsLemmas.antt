@@ -36,7 +36,8 @@ change_inside : {pending pending' : Bool} {s : List ℕ} {default : OpenDefault}
     (z : List ℕ) (new : List Part) (after literal_start' at' : ℕ)
     → (inside : IsOpenDefault pending s default depth parts literal_start at Around)
     → drop at s ≡ z ++ drop at' s
-    → ((start i : ℕ) (own : List Part) → i + length own ≡ length parts → IsParsedWithTail pending s start literal_start at i own
+    → ((start i : ℕ) (own : List Part) → i + length own ≡ length parts
+    → IsParsedWithTail pending s start literal_start at i own
     → IsParsedWithTail pending' s start literal_start' at' i (own ++ new))
     → (bare : ℕ) → after ≡ suc (default.depth + bare) → ChangesDepth z inside.bare bare
     → IsOpenDefault pending' s default after (parts ++ new) literal_start' at' Around
@@ -67,7 +68,8 @@ change : {pending pending' : Bool} (s : List ℕ) (defaults : List OpenDefault) 
     (literal_start at : ℕ)
     (z : List ℕ) (new : List Part) (literal_start' at' : ℕ)
     → drop at s ≡ z ++ drop at' s
-    → ((start i : ℕ) (own : List Part) → i + length own ≡ length parts → IsParsedWithTail pending s start literal_start at i own
+    → ((start i : ℕ) (own : List Part) → i + length own ≡ length parts
+    → IsParsedWithTail pending s start literal_start at i own
     → IsParsedWithTail pending' s start literal_start' at' i (own ++ new))
     → ((d : ℕ) → ChangesDepth z d d)
     → StackHolds pending s defaults depth parts literal_start at
@@ -75,30 +77,38 @@ change : {pending pending' : Bool} (s : List ℕ) (defaults : List OpenDefault) 
 change s [] depth parts literal_start at z new literal_start' at' reads step takes within =
     (within.0, step 0 0 parts (omega arith) within.1)
 change s (default ∷ defaults) depth parts literal_start at z new literal_start' at' reads step takes inside =
-    change_inside z new depth literal_start' at' inside reads step inside.bare inside.braces (takes inside.bare)
+    change_inside z new depth literal_start' at' inside reads step inside.bare inside.braces
+    (takes inside.bare)
 
 -- the bytes that have no part yet are not past the position
-pub holds_ordered : (s : List ℕ) (defaults : List OpenDefault) (depth : ℕ) (parts : List Part) (literal_start at : ℕ)
+pub holds_ordered : (s : List ℕ) (defaults : List OpenDefault) (depth : ℕ) (parts : List Part)
+    (literal_start at : ℕ)
     → StackHolds true s defaults depth parts literal_start at → literal_start ≤ at
 holds_ordered s [] depth parts literal_start at within = omega (arith, within.1.run.ends)
-holds_ordered s (default ∷ defaults) depth parts literal_start at within = omega (arith, within.current.run.ends)
+holds_ordered s (default ∷ defaults) depth parts literal_start at within =
+    omega (arith, within.current.run.ends)
 
 -- the plain bytes get their part
-pub holds_given : (s : List ℕ) (defaults : List OpenDefault) (depth : ℕ) (parts : List Part) (literal_start at : ℕ)
+pub holds_given : (s : List ℕ) (defaults : List OpenDefault) (depth : ℕ) (parts : List Part)
+    (literal_start at : ℕ)
     → literal_start < at → at ≤ length s → StackHolds true s defaults depth parts literal_start at
-    → StackHoldsFlushed s defaults depth (parts ++ Literal (record { start = literal_start; end = at }) ∷ []) at at
+    → StackHoldsFlushed s defaults depth (parts ++ Literal (record { start = literal_start; end = at }) ∷ [])
+    at at
 holds_given s defaults depth parts literal_start at some inside within =
     change s defaults depth parts literal_start at []
     (Literal (record { start = literal_start; end = at }) ∷ []) at at refl
     (λ start i own position current. give_part some inside current) (λ d. depth_balanced d empty) within
 
 -- where there are none, nothing has to be done
-pub holds_same : (s : List ℕ) (defaults : List OpenDefault) (depth : ℕ) (parts : List Part) (literal_start at : ℕ)
-    → at ≤ literal_start → StackHolds true s defaults depth parts literal_start at → StackHoldsFlushed s defaults depth parts at at
+pub holds_same : (s : List ℕ) (defaults : List OpenDefault) (depth : ℕ) (parts : List Part)
+    (literal_start at : ℕ)
+    → at ≤ literal_start → StackHolds true s defaults depth parts literal_start at
+    → StackHoldsFlushed s defaults depth parts at at
 holds_same s defaults depth parts literal_start at none within =
     subst (λ ps. StackHoldsFlushed s defaults depth ps at at) (append-nil parts)
     (change s defaults depth parts literal_start at [] [] at at refl
-    (λ start i own position current. subst (λ ps. IsParsedWithTail false s start at at i ps) (sym (append-nil own)) (no_part none current))
+    (λ start i own position current. subst (λ ps. IsParsedWithTail false s start at at i ps)
+    (sym (append-nil own)) (no_part none current))
     (λ d. depth_balanced d empty) within)
 
 -- a tree is added, with its parts
@@ -108,7 +118,8 @@ pub holds_tree : (s : List ℕ) (defaults : List OpenDefault) (depth : ℕ) (par
     → StackHoldsFlushed s defaults depth parts at at → StackHolds true s defaults depth (parts ++ new) to to
 holds_tree s defaults depth parts new at to t at_tree balanced apart mean within =
     change s defaults depth parts at at (text t) new to to at_tree.spelled
-    (λ start i own position current. add_item current at_tree apart (subst (λ k. PartsMean s k new at t) (sym position) mean))
+    (λ start i own position current. add_item current at_tree apart
+    (subst (λ k. PartsMean s k new at t) (sym position) mean))
     (λ d. depth_balanced d balanced) within
 
 -- a run of plain bytes where no default is open
@@ -119,7 +130,8 @@ holds_run s parts literal_start at to run within =
 
 -- more plain bytes
 longer : {s : List ℕ} {start literal_start at to i : ℕ} {own : List Part} → IsRun IsPlain s at to
-    → IsParsedWithTail true s start literal_start at i own → IsParsedWithTail true s start literal_start to i (own ++ [])
+    → IsParsedWithTail true s start literal_start at i own
+    → IsParsedWithTail true s start literal_start to i (own ++ [])
 longer {s} {start} {literal_start} {at} {to} {i} {own} run current =
     subst (λ ps. IsParsedWithTail true s start literal_start to i ps) (sym (append-nil own)) (record {
       level = current.level;
@@ -136,7 +148,8 @@ byte_inside : (s : List ℕ) (default : OpenDefault) (defaults : List OpenDefaul
     → StackHolds true s (default ∷ defaults) after parts literal_start (at + 1)
 byte_inside s default defaults depth after parts literal_start at b bare plain reads within braces takes =
     subst (λ ps. StackHolds true s (default ∷ defaults) after ps literal_start (at + 1)) (append-nil parts)
-    (change_inside (b ∷ []) [] after literal_start (at + 1) within reads (λ start i own position current. longer (run_one plain reads) current) bare braces takes)
+    (change_inside (b ∷ []) [] after literal_start (at + 1) within reads
+    (λ start i own position current. longer (run_one plain reads) current) bare braces takes)
 
 -- a run of bytes that are no braces
 pub holds_inner : (s : List ℕ) (default : OpenDefault) (defaults : List OpenDefault) (depth : ℕ)
@@ -157,7 +170,8 @@ pub holds_opening : (s : List ℕ) (default : OpenDefault) (defaults : List Open
     → StackHolds true s (default ∷ defaults) (depth + 1) parts literal_start (at + 1)
 holds_opening s default defaults depth parts literal_start at reads within =
     byte_inside s default defaults depth (depth + 1) parts literal_start at opening_brace (suc within.bare)
-    (λ is. omega (arith, is), λ is. omega (arith, is)) reads within (omega (arith, within.braces)) (depth_opening within.bare)
+    (λ is. omega (arith, is), λ is. omega (arith, is)) reads within (omega (arith, within.braces))
+    (depth_opening within.bare)
 
 -- the closing brace of a bare one
 pub holds_closing : (s : List ℕ) (default : OpenDefault) (defaults : List OpenDefault) (depth : ℕ)
@@ -169,13 +183,15 @@ holds_closing s default defaults depth parts literal_start at bare reads within 
     let some : suc (within.bare - 1) ≡ within.bare = omega (arith, within.braces) in
     byte_inside s default defaults depth (depth - 1) parts literal_start at closing_brace (within.bare - 1)
     (λ is. omega (arith, is), λ is. omega (arith, is)) reads within (omega (arith, within.braces))
-    (subst (λ d. ChangesDepth (closing_brace ∷ []) d (within.bare - 1)) some (depth_closing (within.bare - 1)))
+    (subst (λ d. ChangesDepth (closing_brace ∷ []) d (within.bare - 1)) some
+    (depth_closing (within.bare - 1)))
 
 -- a default opens
 pub holds_default : (s : List ℕ) (defaults : List OpenDefault) (depth : ℕ) (parts : List Part) (at : ℕ)
     (name : Span)
     → IsInBraces s at name colon → StackHoldsFlushed s defaults depth parts at at
-    → StackHolds true s (record { part = length parts; depth = depth } ∷ defaults) (depth + 1) (parts ++ Default name 0 ∷ [])
+    → StackHolds true s (record { part = length parts; depth = depth } ∷ defaults) (depth + 1)
+    (parts ++ Default name 0 ∷ [])
     (name.end + 1) (name.end + 1)
 holds_default s defaults depth parts at name front within = record {
   before = parts;
@@ -206,7 +222,8 @@ holds_default s defaults depth parts at name front within = record {
 -- what was read of a default with no bare brace open is balanced
 read_balanced : (s : List ℕ) (default : OpenDefault) (depth : ℕ) (parts : List Part) (at : ℕ)
     (Around : List Part → ℕ → Type 0)
-    (inside : IsOpenDefault false s default depth parts at at Around) → default.depth + 1 ≡ depth → IsBalanced (text inside.current.level.tree)
+    (inside : IsOpenDefault false s default depth parts at at Around) → default.depth + 1 ≡ depth
+    → IsBalanced (text inside.current.level.tree)
 read_balanced s default depth parts at Around inside closes =
     let none : 0 ≡ inside.bare = omega (arith, inside.braces) in
     let same : inside.read ≡ text inside.current.level.tree =
@@ -220,7 +237,8 @@ pub holds_closed : (s : List ℕ) (default : OpenDefault) (defaults : List OpenD
     (parts : List Part) (at : ℕ)
     → default.depth + 1 ≡ depth → drop at s ≡ closing_brace ∷ drop (at + 1) s
     → (inside : StackHoldsFlushed s (default ∷ defaults) depth parts at at)
-    → StackHolds true s defaults default.depth (set parts default.part (Default inside.name (length parts))) (at + 1) (at + 1)
+    → StackHolds true s defaults default.depth (set parts default.part (Default inside.name (length parts)))
+    (at + 1) (at + 1)
 holds_closed s default defaults depth parts at closes reads inside =
     let level = inside.current.level in
     let t = level.tree in
@@ -232,10 +250,13 @@ holds_closed s default defaults depth parts at closes reads inside =
     omega (arith, simp length-append at (ap length inside.splits)) in
     let start : inside.name.end + 1 ≡ inside.position + 3 + length n =
     omega (arith, inside.head.starts, inside.head.named.ends) in
-    let mean : PartsMean s (length inside.before) (Default inside.name (length parts) ∷ inside.own) inside.position (Then (tree.Default n t) Empty) =
+    let mean : PartsMean s (length inside.before) (Default inside.name (length parts) ∷ inside.own)
+    inside.position (Then (tree.Default n t) Empty) =
     subst
-    (λ next. PartsMean s (length inside.before) (Default inside.name next ∷ inside.own) inside.position (Then (tree.Default n t) Empty)) (sym count)
-    (mean_default s (length inside.before) inside.name inside.own inside.position t inside.head.named.inside inside.head.named.valid
+    (λ next. PartsMean s (length inside.before) (Default inside.name next ∷ inside.own) inside.position
+    (Then (tree.Default n t) Empty)) (sym count)
+    (mean_default s (length inside.before) inside.name inside.own inside.position t inside.head.named.inside
+    inside.head.named.valid
     (subst (λ p. PartsMean s (length inside.before + 1) inside.own p t) start level.mean)) in
     let added =
     holds_tree s defaults default.depth inside.before
@@ -243,18 +264,23 @@ holds_closed s default defaults depth parts at closes reads inside =
     (Then (tree.Default n t) Empty)
     (default_tree_at s inside.position (at + 1) inside.name t inside.head level.read.well_formed balanced
     (level.read.spelled ∙ rw reads refl) (omega (arith, level.read.ends)))
-    (rw append-nil (default_balanced n (text t) inside.head.named.valid balanced)) (no_plain_ends (tree.Default n t) refl) mean inside.around in
+    (rw append-nil (default_balanced n (text t) inside.head.named.valid balanced))
+    (no_plain_ends (tree.Default n t) refl) mean inside.around in
     subst (λ ps. StackHolds true s defaults default.depth ps (at + 1) (at + 1))
-    (sym (rw (inside.splits, inside.part) (set-append_seam inside.before (Default inside.name inside.next) inside.own _)))
+    (sym (rw (inside.splits, inside.part)
+    (set-append_seam inside.before (Default inside.name inside.next) inside.own _)))
     added
 
 -- what is fresh, taken as fresh or not
-pub holds_any : (s : List ℕ) (defaults : List OpenDefault) (depth : ℕ) (parts : List Part) (literal_start at : ℕ)
-    → StackHolds true s defaults depth parts literal_start at → StackHoldsFlushed s defaults depth parts literal_start at
+pub holds_any : (s : List ℕ) (defaults : List OpenDefault) (depth : ℕ) (parts : List Part)
+    (literal_start at : ℕ)
+    → StackHolds true s defaults depth parts literal_start at
+    → StackHoldsFlushed s defaults depth parts literal_start at
 holds_any s defaults depth parts literal_start at within =
     subst (λ ps. StackHoldsFlushed s defaults depth ps literal_start at) (append-nil parts)
     (change s defaults depth parts literal_start at [] [] literal_start at refl
-    (λ start i own position current. subst (λ ps. IsParsedWithTail false s start literal_start at i ps) (sym (append-nil own)) (current_any current))
+    (λ start i own position current. subst (λ ps. IsParsedWithTail false s start literal_start at i ps)
+    (sym (append-nil own)) (current_any current))
     (λ d. depth_balanced d empty) within)
 
 -- before anything is read
@@ -273,7 +299,8 @@ holds_start s = (
 )
 
 -- where some brace is open, some default is
-pub holds_open : (s : List ℕ) (defaults : List OpenDefault) (depth : ℕ) (parts : List Part) (literal_start at : ℕ)
+pub holds_open : (s : List ℕ) (defaults : List OpenDefault) (depth : ℕ) (parts : List Part)
+    (literal_start at : ℕ)
     → 0 < depth
     → StackHolds true s defaults depth parts literal_start at
     → (default : OpenDefault) × (rest : List OpenDefault) × (defaults ≡ default ∷ rest)
@@ -281,7 +308,8 @@ holds_open s [] depth parts literal_start at some within = absurd (omega (arith,
 holds_open s (default ∷ rest) depth parts literal_start at some within = (default, rest, refl)
 
 -- where none is open, no default is
-pub holds_top : (s : List ℕ) (defaults : List OpenDefault) (depth : ℕ) (parts : List Part) (literal_start at : ℕ)
+pub holds_top : (s : List ℕ) (defaults : List OpenDefault) (depth : ℕ) (parts : List Part)
+    (literal_start at : ℕ)
     → depth ≡ 0
     → StackHolds true s defaults depth parts literal_start at → defaults ≡ []
 holds_top s [] depth parts literal_start at none within = refl

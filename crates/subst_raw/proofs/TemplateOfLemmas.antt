@@ -22,4 +22,5 @@ pub template_count : (s : List ℕ) (parts : List Part) (t : Tree) (look : LookU
     → Spells t s
     → length (visited_parts parts 0 0 s look) ≡ visited_count t look
 template_count s parts t look template spells =
-    template.mean.same_count look ∙ ap (λ u. visited_count u look) (tree_unique s template.tree t template.spells spells)
+    template.mean.same_count look ∙ ap (λ u. visited_count u look)
+    (tree_unique s template.tree t template.spells spells)

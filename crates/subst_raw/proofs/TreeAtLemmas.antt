@@ -23,7 +23,8 @@ one_tree_at s at to item valid followed at_tree ends = record {
 }
 
 -- an escape
-pub escape_tree_at : (s : List ℕ) (at b : ℕ) → IsEscape s at b → IsTreeAt s at (at + 2) (Then (Escaped b) Empty)
+pub escape_tree_at : (s : List ℕ) (at b : ℕ) → IsEscape s at b
+    → IsTreeAt s at (at + 2) (Then (Escaped b) Empty)
 escape_tree_at s at b is = one_tree_at s at (at + 2) (Escaped b) is.special tt is.spelled refl
 
 -- a name after a dollar
@@ -47,7 +48,12 @@ pub optional_tree_at : (s : List ℕ) (at : ℕ) (name : Span) → IsOptional s 
 optional_tree_at s at name is =
     one_tree_at s at (name.end + 2) (Optional (span_bytes name s)) is.head.named.valid tt
     (is.head.spelled ∙ rw (is.closed, append_assoc) refl)
-    (omega (arith, is.head.starts, is.head.named.ends, length-append (span_bytes name s) (question_mark ∷ closing_brace ∷ [])))
+    (omega (
+      arith,
+      is.head.starts,
+      is.head.named.ends,
+      length-append (span_bytes name s) (question_mark ∷ closing_brace ∷ []),
+    ))
 
 -- a name with a default that closes
 pub default_tree_at : (s : List ℕ) (at to : ℕ) (name : Span) (t : Tree) → IsInBraces s at name colon
@@ -57,4 +63,11 @@ pub default_tree_at : (s : List ℕ) (at to : ℕ) (name : Span) (t : Tree) → 
 default_tree_at s at to name t is well_formed balanced at_tree ends =
     one_tree_at s at to (Default (span_bytes name s) t) (is.named.valid, well_formed, balanced) tt
     (is.spelled ∙ rw (at_tree, append_assoc, append_assoc) refl)
-    (omega (arith, is.starts, is.named.ends, ends, length-append (span_bytes name s) (colon ∷ text t ++ closing_brace ∷ []), length-append (text t) (closing_brace ∷ [])))
+    (omega (
+      arith,
+      is.starts,
+      is.named.ends,
+      ends,
+      length-append (span_bytes name s) (colon ∷ text t ++ closing_brace ∷ []),
+      length-append (text t) (closing_brace ∷ []),
+    ))

@@ -1,4 +1,5 @@
-//! Classes of bytes.
+//! Special bytes, and the classes of bytes of which there are runs: name bytes, plain bytes, and inner
+//! bytes, which mean nothing by themselves inside a default. Each test is that of the definition.
 
 ghost use Rattle.std.specs.Prelude.{◌≡◌, ◌↔◌, ℕ, IsTrue};
 ghost use Rattle.subst_language.specs.Language.Bytes as bytes;

@@ -1,4 +1,4 @@
-//! The character at the front of bytes.
+//! The character at the front of bytes, as `IsFrontCharacter` defines it.
 
 ghost use Rattle.std.specs.Prelude.{◌≡◌, ◌<◌, [], ◌++◌, ℕ, List, length};
 ghost use Rattle.subst_language.specs.Language.Character.{IsFrontCharacter, BeginsWithChar};

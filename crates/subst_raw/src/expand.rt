@@ -1,4 +1,6 @@
-//! Expanding a list of parts over its source.
+//! The loop that expands a list of parts over its source, once for each width of parts. It returns the
+//! value of the parts under the map's look-up, or its missing variable, or that memory ran out, and
+//! counts its turns. Of any map, contracts say what is around the values, and which variable is missing.
 
 ghost use Rattle.std.specs.Prelude.{◌≡◌, ◌≤◌, ◌+◌, length, IfErr, IfOk, IfSome, OnOk};
 ghost use Rattle.subst_error.specs.ErrorFault.{expand_fault};

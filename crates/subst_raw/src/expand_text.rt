@@ -1,4 +1,5 @@
-//! Expanding a list of parts over a source that is a text.
+//! The loop over a source that is a text: its output, the value of the source's tree, is a text too, and
+//! the range of an error is in the source.
 
 ghost use Rattle.std.specs.Prelude.{◌≡◌, IfErr, string_bytes};
 ghost use Rattle.std.specs.Str.{IsUtf8};

@@ -1,4 +1,5 @@
-//! Why the pass ends before the end of its source.
+//! Why the pass ends before the end of its source, without a message: what its steps return. The
+//! `ParseError` that it becomes states the same fault.
 
 ghost use Rattle.std.specs.Prelude.{◌≡◌, ◌≤◌, Some, None, length};
 ghost use Rattle.subst_error.specs.ErrorFault.{parse_fault};

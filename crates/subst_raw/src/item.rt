@@ -1,4 +1,5 @@
-//! Escapes and placeholders, one at a time.
+//! Escapes and placeholders, one at a time: what is at an offset, or a fault that stays one wherever a
+//! default around it ends.
 
 ghost use Rattle.std.specs.Prelude.{◌≡◌, ◌+◌, ◌-◌, ◌∷◌, List, ℕ, IfOk, IfErr, MatchResult, drop, length};
 ghost use Rattle.subst_language.specs.Language.Bytes.{dollar, question_mark, backslash, opening_brace};

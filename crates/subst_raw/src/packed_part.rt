@@ -1,4 +1,5 @@
-//! Parts as lists keep them.
+//! A part as lists keep it, with offsets and indexes of 32 bits, in 16 bytes, or of 64 bits, in 32.
+//! Contracts say which part it unpacks to.
 
 ghost use Rattle.std.specs.Prelude.{◌≡◌, ◌<◌, ◌^◌, ℕ};
 ghost use Rattle.subst_raw.specs.Packed.{FitsBelow, same_number, unpacked};

@@ -1,4 +1,5 @@
-//! Lists of packed parts that grow.
+//! The list of packed parts that the parser adds to, generic in their width. Contracts see it as the list
+//! of its parts.
 
 ghost use Rattle.std.specs.Prelude.{◌≡◌, ◌<◌, ◌^◌, [], ◌∷◌, ◌++◌, length, slice_get, slice_set, IfOk, OnOk};
 ghost use Rattle.subst_raw.specs.Packed.{FitsBelow, unpacked_parts};

@@ -1,4 +1,5 @@
-//! Reading a source once, from the left, into a list of parts.
+//! The pass: a source is read once, from the left, into a list of parts. It returns the parts of the
+//! source's template, or the source's fault, or that memory ran out.
 
 ghost use Rattle.std.specs.Prelude.{◌≡◌, ◌+◌, ◌-◌, ◌*◌, ◌<◌, ◌≤◌, ℕ, List, [], ◌∷◌, length, drop, reverse, slice_get, vec_len, IfOk, IfErr, OnOk, IfSome, IsTrue, ◌↔◌};
 ghost use Rattle.subst_error.specs.ErrorFault.{parse_fault};

@@ -1,4 +1,4 @@
-//! The parts of a template as the expansion sees them.
+//! The parts of a template as the expansion sees them: the part at an index, each time for one turn.
 
 ghost use Rattle.std.specs.Prelude.{◌≡◌, ◌+◌, ◌^◌, ◌<◌, ◌≤◌, Some, length, slice_get, IfSome, MatchOption};
 ghost use Rattle.subst_raw.specs.Packed.{unpacked_parts};

@@ -1,4 +1,5 @@
-//! Lists of parts as templates keep them: lent, owned, or either.
+//! Lists of parts as templates keep them, of either width: lent, owned, or one of the two. Contracts see each
+//! as the list of its parts.
 
 ghost use Rattle.std.specs.Prelude.{◌≡◌, IfOk};
 

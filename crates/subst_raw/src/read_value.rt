@@ -1,4 +1,5 @@
-//! How the expansion reads the bytes of a variable's value.
+//! How the expansion reads the bytes of a variable's value: as those of a slice, or as those of a text,
+//! of which contracts know that they are UTF-8.
 
 ghost use Rattle.std.specs.Prelude.{◌≡◌, ℕ, List};
 

@@ -1,4 +1,4 @@
-//! The search for closing braces after a fault.
+//! The search for closing braces after a fault: whether the rest of the source closes all that are open.
 
 ghost use Rattle.std.specs.Prelude.{◌≡◌, ◌+◌, ◌-◌, ◌≤◌, ◌↔◌, IsTrue, drop, length};
 ghost use Rattle.subst_language.specs.Lemmas.Closing.{ClosesAll};

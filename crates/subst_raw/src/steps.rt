@@ -1,4 +1,5 @@
-//! Counters of steps. They take no bytes at run time: only contracts see the counts.
+//! Counters of steps, which go up by what is added. They take no bytes at run time: only contracts see
+//! the counts.
 
 ghost use Rattle.std.specs.Prelude.{◌≡◌, ◌+◌};
 

@@ -1,4 +1,6 @@
-//! The source as the parser reads it.
+//! The source as the parser sees it: the byte at an offset, three searches, and the character at an
+//! offset. Contracts say what is there, as an equation on the rest of the source, and how many reads that
+//! was.
 
 ghost use Rattle.std.specs.Prelude.{◌≡◌, ◌+◌, ◌-◌, ◌<◌, ◌≤◌, [], ◌∷◌, length, drop, min, IsSome, IsTrue, ◌↔◌, MatchOption};
 ghost use Rattle.subst_language.specs.Language.Bytes.{IsPlain};

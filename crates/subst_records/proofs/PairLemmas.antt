@@ -68,7 +68,8 @@ module _ (k : Form) where
       ∙ ap (λ texts. pair_text pair.0 pair.1 ∷ texts) (parts_are_texts next pairs are.1)
 
   -- two variables with one text have one name
-  same_name : (p q : List ℕ × List ℕ) → IsVariable k p → IsVariable k q → pair_text p.0 p.1 ≡ pair_text q.0 q.1
+  same_name : (p q : List ℕ × List ℕ) → IsVariable k p → IsVariable k q
+      → pair_text p.0 p.1 ≡ pair_text q.0 q.1
       → p.0 ≡ q.0
   same_name p q is is_too same =
       let parts = pair_cut (pair_text p.0 p.1) q.0 q.1 (column_of p.0) (Some (column_of p.1)) is_too.1
@@ -134,7 +135,8 @@ module _ (k : Form) where
   -- a column with a part that isn't the text of a variable is malformed
   pub malformed_part : (column text : List ℕ) (before later : List (List ℕ))
       → slice_split (λ b. b == comma) column ≡ before ++ (text ∷ later) → column ≢ codes "-"
-      → ((name value : List ℕ) → IsVariable k (name, value) → text ≢ pair_text name value) → IsNoPairs k column
+      → ((name value : List ℕ) → IsVariable k (name, value) → text ≢ pair_text name value)
+      → IsNoPairs k column
   malformed_part column text before later split no_dash none =
       malformed column (before ++ (text ∷ later)) split no_dash
       (λ pairs are own is. one_of pairs before text later are is none)
@@ -142,7 +144,8 @@ module _ (k : Form) where
   -- a column with a name that comes again is malformed
   pub malformed_again : (column n v w : List ℕ) (front : List (List ℕ × List ℕ)) (later : List (List ℕ))
       → slice_split (λ b. b == comma) column ≡ texts_of front ++ (pair_text n v ∷ later)
-      → column ≢ codes "-" → AllByRecursion (IsVariable k) front → IsVariable k (n, v) → value_among front n ≡ Some w
+      → column ≢ codes "-" → AllByRecursion (IsVariable k) front → IsVariable k (n, v)
+      → value_among front n ≡ Some w
       → IsNoPairs k column
   malformed_again column n v w front later split no_dash are new found =
       malformed column (texts_of front ++ (pair_text n v ∷ later)) split no_dash

@@ -33,7 +33,8 @@ ends_within source e (look, refused) =
 pub is_in_text : (source : List ℕ) (e : Error) → IsUtf8 source → IsRefusal source (error_fault e)
     → IsRangeIn source (range_of (error_fault e))
 is_in_text source e utf8 (look, refused) =
-    range_in_text source look e utf8 (if_some (option_map Refuses (error_fault e)) (Answers source look) refused)
+    range_in_text source look e utf8
+    (if_some (option_map Refuses (error_fault e)) (Answers source look) refused)
 
 -- what is shown of a source that is UTF-8
 column_in_text : (source shown : List ℕ) → IsUtf8 source → column_in source shown ≡ column_of shown

@@ -43,7 +43,8 @@ after_other m w n v name more rest other goes_on =
         ]
 
 -- one more variable at the end, whose name is new
-value_among-append : (pairs : List (List ℕ × List ℕ)) (n v : List ℕ) → value_among pairs n ≡ None → (name : List ℕ)
+value_among-append : (pairs : List (List ℕ × List ℕ)) (n v : List ℕ) → value_among pairs n ≡ None
+    → (name : List ℕ)
     → value_among (pairs ++ (n, v) ∷ []) name ≡ (if bytes_eq n name then Some v else value_among pairs name)
 value_among-append [] n v new name = refl
 value_among-append (pair ∷ pairs) n v new name =
@@ -55,7 +56,8 @@ value_among-append (pair ∷ pairs) n v new name =
     ]
 
 -- one more variable is read
-pub one_more : (k : Form) (texts : List (List ℕ)) (text n v : List ℕ) (old new : LookUp) → AreReadSo k texts old
+pub one_more : (k : Form) (texts : List (List ℕ)) (text n v : List ℕ) (old new : LookUp)
+    → AreReadSo k texts old
     → text ≡ pair_text n v → IsVariable k (n, v) → old n ≡ None
     → ((name : List ℕ) → new name ≡ (if bytes_eq n name then Some v else old name))
     → AreReadSo k (texts ++ text ∷ []) new
@@ -65,11 +67,13 @@ one_more k texts text n v old new so is new_one absent updates = record {
   well_formed = both_all (IsVariable k) so.pairs ((n, v) ∷ []) so.well_formed (new_one, tt);
   own_names = own_names-append so.pairs n v so.own_names (sym (so.same_values n) ∙ absent);
   same_values = λ name. updates name
-      ∙ rw (so.same_values name) (sym (value_among-append so.pairs n v (sym (so.same_values n) ∙ absent) name));
+      ∙ rw (so.same_values name)
+      (sym (value_among-append so.pairs n v (sym (so.same_values n) ∙ absent) name));
 }
 
 -- all variables of a column have been read
-pub all_read : (k : Form) (column : List ℕ) (values : LookUp) → AreReadSo k (slice_split (λ b. b == comma) column) values
+pub all_read : (k : Form) (column : List ℕ) (values : LookUp)
+    → AreReadSo k (slice_split (λ b. b == comma) column) values
     → (pairs : List (List ℕ × List ℕ)) × AreHeld k column values pairs
 all_read k column values so =
     (so.pairs, record { written = written; same_values = so.same_values })
@@ -158,7 +162,9 @@ pub one_more_to : (k : Form) (column text part : List ℕ) (after : Option (List
     → AreReadTo k column after new
 one_more_to k column text part after n v old new to cut is new_one absent updates = record {
   texts = to.texts ++ part ∷ [];
-  split = parts_around k column text part after old to cut ∙ sym (append_assoc to.texts (part ∷ []) (parts_left after));
+  split =
+      parts_around k column text part after old to cut
+      ∙ sym (append_assoc to.texts (part ∷ []) (parts_left after));
   so = one_more k to.texts part n v old new to.so is new_one absent updates;
 }
 

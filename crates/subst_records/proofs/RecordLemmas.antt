@@ -40,7 +40,8 @@ no_kind line prefix rest cut none kind others separated =
     none kind (one_cut tab line prefix (kind_name kind) rest others cut (separated, kind_has_no_tab kind)).0
 
 -- the content of a column, from its bytes
-pub content_read : (k : Form) (column bytes : List ℕ) (content : Option (List ℕ)) → IsReadAs column (Some bytes)
+pub content_read : (k : Form) (column bytes : List ℕ) (content : Option (List ℕ))
+    → IsReadAs column (Some bytes)
     → IsContentOf k bytes content → IsContentRead k column content
 content_read k column bytes (Some content) is of =
     let same = of.0 in

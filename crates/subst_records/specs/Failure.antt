@@ -20,13 +20,14 @@ ENOMEM = pos 12
 abbrev pub text_of : Failure → Option (List ℕ)
 text_of (Malformed number column) =
     Some (codes "record " ++ (decimal number ++ (codes ": malformed column " ++ column_word column)))
-text_of (Differs number) = Some (codes "record " ++ (decimal number ++ codes ": the ways to its answer differ"))
+text_of (Differs number) =
+    Some (codes "record " ++ (decimal number ++ codes ": the ways to its answer differ"))
 text_of (Read e) = None
 text_of (Write e) = None
 text_of OutOfMemory = Some (codes "out of memory")
 
--- The line of the record of this number is malformed, or that of a document to whose answer the ways differ, or
--- memory ran out.
+-- The line of the record of this number is malformed, or that of a document to whose answer the ways differ,
+-- or memory ran out.
 abbrev pub IsFailureAt : ℕ → List ℕ → Failure → Type 0
 IsFailureAt number line (Malformed n column) = (n ≡ number) × IsMalformed line column
 IsFailureAt number line (Differs n) = (n ≡ number) × HoldsDocument line

@@ -129,7 +129,8 @@ pub record EndsWithin (text : List ℕ) (rest old new : Option (List ℕ)) : Typ
 abbrev pub FailsBy : (text rest old new : Option (List ℕ)) → Failure → Type 0
 FailsBy text rest old new (Malformed number column) =
     IfSome text (λ known. EndsAt (λ line. IsMalformed line column) known rest old new number)
-FailsBy text rest old new (Differs number) = IfSome text (λ known. EndsAt HoldsDocument known rest old new number)
+FailsBy text rest old new (Differs number) =
+    IfSome text (λ known. EndsAt HoldsDocument known rest old new number)
 FailsBy text rest old new (Read e) = IfSome text (λ known. EndsBetween known rest old new)
 FailsBy text rest old new (Write e) = IfSome text (λ known. EndsWithin known rest old new)
 FailsBy text rest old new OutOfMemory = IfSome text (λ known. EndsBetween known rest old new)

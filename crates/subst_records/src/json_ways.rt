@@ -7,8 +7,8 @@ use std::alloc::{AllocError, Global};
 use std::str::from_utf8;
 use subst::json::{Error, substitute_string_values, value_from_slice, value_from_str};
 
-/// Whether the bytes of the source, its text, and its tree filled in in place give the same answer. Bytes that
-/// are no text have one way.
+/// Whether the bytes of the source, its text, and its tree filled in in place give the same answer. Bytes
+/// that are no text have one way.
 pub fn agree(alloc: Global, asked: &Asked<Vec<u8>, String>) -> Result<bool, AllocError> {
     let source = asked.source.as_slice();
     let Ok(text) = from_utf8(source) else {

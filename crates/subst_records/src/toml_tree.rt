@@ -45,7 +45,8 @@ fn items_as_json(alloc: Global, items: &Vec<toml::Value>) -> Result<Vec<Value>, 
 #[cycle(walk)]
 fn members_as_json(alloc: Global, members: &Table) -> Result<Map<String, Value>, AllocError>
     ensures { IfOk result
-        (λ trees. members_view trees.entries ≡ members_json (toml.members_view members.now.entries)) }
+        (λ trees. members_view trees.entries
+        ≡ members_json (toml.members_view members.now.entries)) }
 {
     let mut trees = Map::new(alloc);
     for (key, member) in members.iter() {

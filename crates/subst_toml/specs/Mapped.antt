@@ -24,7 +24,8 @@ abbrev mutual
   strings_of_members no_members = []
   strings_of_members (member key d ms) = strings d ++ strings_of_members ms
 
--- The second tree is the first one, but each string is what the string gives that is there in the first one.
+-- The second tree is the first one, but each string is what the string gives that is there in the
+-- first one. A date is the same in all its parts.
 abbrev mutual
   pub IsMapped : LookUp → Data → Data → Type 0
   IsMapped look (string s) (string x) = Answers s look (Gives x)

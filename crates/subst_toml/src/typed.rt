@@ -1,4 +1,5 @@
-//! The text from which a type of the caller's is read: the kit's `toml` reads types from texts alone.
+//! The text from which a type of the caller's is read, since the kit's `toml` reads types from texts
+//! alone: the tree, printed. It is read as that tree; with a date that no text can hold, it isn't read.
 
 ghost use Rattle.std.specs.Prelude.{◌≡◌, ◌≤◌, false, true, None, Some, IfOk, string_bytes};
 ghost use Rattle.toml.specs.Data.{members_depth, members_have_valid_dates};

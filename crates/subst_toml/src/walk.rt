@@ -1,4 +1,6 @@
-//! The walk over a tree: it takes the tree apart, and puts it together again with its strings filled in.
+//! The walk over a tree: it takes the tree apart, items by index and members by their keys, and puts it
+//! together again with its strings filled in; or it returns the refusal of the first string that is
+//! refused.
 
 ghost use Rattle.std.specs.Prelude.{IfOk};
 ghost use Rattle.toml.specs.View.{view, items_view, members_view};

@@ -1,6 +1,8 @@
-//! Filling in the texts of a tree: what the walks over trees of each format share.
+//! Filling in the texts of a tree: what the walks over trees of each format share. `Fill` is a way to
+//! fill in texts, and `Filler` is that by a map: it returns the answer of a text, and a text without `$`
+//! and `\` as it is. `put_values` puts values into a map, whose keys stay.
 //!
-//! `subst` doesn't hand on this crate.
+//! `subst` doesn't re-export this crate.
 #![tactic(auto)]
 
 ghost use Rattle.std.specs.Prelude.{◌≡◌, ◌↔◌, ◌+◌, ◌<◌, IfOk, IsTrue, ℕ, List, ◌∷◌, length, string_bytes};

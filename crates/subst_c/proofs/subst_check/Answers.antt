@@ -8,5 +8,6 @@ pub refuse-requires : goal.refuse-requires
 refuse-requires c =
     omega (
       arith,
-      fault_within c.args.source.now c.from.result (parse_fault c.in-Err.e) c.from.ensures c.in-Err.ensures.err,
+      fault_within c.args.source.now c.from.result (parse_fault c.in-Err.e) c.from.ensures
+          c.in-Err.ensures.err,
     )

@@ -1,4 +1,6 @@
-//! Templates over byte sources that they borrow.
+//! Templates over byte sources that they borrow: a source, and its parts, owned or lent. Only a sentence
+//! has a template, and it expands to the value of the source's tree. Contracts bound the reads of a parse
+//! and count the turns of an expansion.
 
 ghost use Rattle.std.specs.Prelude.{◌≡◌, ◌+◌, ◌*◌, ◌≤◌, length, IfOk, IfErr, OnOk};
 ghost use Rattle.subst_error.specs.ErrorFault.{parse_fault};

@@ -1,4 +1,5 @@
-//! Templates that own their byte sources.
+//! Templates that own their byte sources: a source and its parts. Each lends a `ByteTemplate` of the same
+//! source.
 
 ghost use Rattle.std.specs.Prelude.{◌≡◌, IfOk};
 ghost use Rattle.subst_error.specs.ErrorFault.{parse_fault};

@@ -1,4 +1,4 @@
-//! Templates over texts that they borrow.
+//! Templates over texts that they borrow, with the contracts of `ByteTemplate` over the bytes of texts.
 
 ghost use Rattle.std.specs.Prelude.{◌≡◌, IfErr, IfOk, string_bytes};
 ghost use Rattle.subst_error.specs.ErrorFault.{expand_fault, parse_fault};

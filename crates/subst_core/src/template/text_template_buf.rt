@@ -1,4 +1,4 @@
-//! Templates that own their texts.
+//! Templates that own their texts, with the contracts of `ByteTemplateBuf` over the bytes of texts.
 
 ghost use Rattle.std.specs.Prelude.{◌≡◌, IfErr, IfOk, string_bytes};
 ghost use Rattle.subst_error.specs.ErrorFault.{expand_fault, parse_fault};

@@ -17,7 +17,8 @@ loop-at-preserved c =
 pub text_of-requires : goal.text_of-requires
 text_of-requires c =
     let none = escaped-none c.loop-at.rest.now (sym c.in_default.ensures) in
-    let whole : escaped c.args.text.now ≡ c.extend_from_slice-2.new.self.items = grind (arith, common_steps, none) in
+    let whole : escaped c.args.text.now
+    ≡ c.extend_from_slice-2.new.self.items = grind (arith, common_steps, none) in
     subst IsUtf8 whole (escaped_is_text c.args.text.now c.utf8.text)
 
 pub returns : goal.returns

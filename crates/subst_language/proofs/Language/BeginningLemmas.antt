@@ -47,14 +47,16 @@ abbrev given : {H K : Type 0} {s t : List ℕ} → s ≡ t → (H → K) → Beg
 given e f k = (k.0, λ h. subst (λ u. BeginsSo u k.0) (sym e) (k.1 (f h)))
 
 -- by a test
-abbrev by_test : {H : Type 0} {s : List ℕ} (d : Bool) → BeginningOf (H × IsTrue d) s → BeginningOf (H × IsFalse d) s
+abbrev by_test : {H : Type 0} {s : List ℕ} (d : Bool) → BeginningOf (H × IsTrue d) s
+    → BeginningOf (H × IsFalse d) s
     → BeginningOf H s
 by_test {s = s} d this other =
     let P = BeginsSo s in
     (cond d this.0 other.0, λ h. cond_both d this.0 other.0 P (λ is. this.1 (h, is)) (λ is. other.1 (h, is)))
 
 -- by whether the byte b of a text is the byte c
-abbrev by_byte : {H : Type 0} (t : ℕ → List ℕ) (b c : ℕ) → BeginningOf H (t c) → BeginningOf (H × (b ≢ c)) (t b)
+abbrev by_byte : {H : Type 0} (t : ℕ → List ℕ) (b c : ℕ) → BeginningOf H (t c)
+    → BeginningOf (H × (b ≢ c)) (t b)
     → BeginningOf H (t b)
 by_byte t b c this other =
     by_test (b == c) (this.0, λ h. subst (λ a. BeginsSo (t a) this.0) (sym (eqb-true b c h.1)) (this.1 h.0))
@@ -110,8 +112,10 @@ after_braced_name n [] = (Bad (λ p. MissingClosingBrace (p + 1)), λ h p. rw ap
 after_braced_name n (b ∷ x) =
     let c = front_character b x in
     let t = λ (b : ℕ). dollar ∷ opening_brace ∷ n ++ b ∷ x in
-    by_byte t b closing_brace
-    (Simple (Braced n) x, λ h. (h.0, tt, sym (append_assoc (dollar ∷ opening_brace ∷ n) (closing_brace ∷ []) x)))
+    by_byte t b closing_brace (
+      Simple (Braced n) x,
+      λ h. (h.0, tt, sym (append_assoc (dollar ∷ opening_brace ∷ n) (closing_brace ∷ []) x)),
+    )
     (by_byte t b colon (given refl (λ h. h.0.0) (after_colon n x (closes_or_not x)))
     (by_byte t b question_mark (given refl (λ h. h.0.0.0) (after_optional_name n x)) (
       Bad (λ p. UnexpectedCharacter (p + 2 + length n) c.0 after_name),
@@ -126,7 +130,9 @@ after_brace (a ∷ n) x = after_braced_name (a ∷ n) x
 
 -- after a dollar, at name bytes that may be none
 abbrev after_short : (n x : List ℕ)
-    → BeginningOf (AllByRecursion IsNameByte n × BeginsWithNo IsNameByte x × BeginsWithNo (λ b. b ≡ opening_brace) (n ++ x)) (dollar ∷ n ++ x)
+    → BeginningOf
+    (AllByRecursion IsNameByte n × BeginsWithNo IsNameByte x × BeginsWithNo (λ b. b ≡ opening_brace) (n ++ x))
+    (dollar ∷ n ++ x)
 after_short [] x = (Bad (λ p. MissingVariableName p 1), λ h p. bad_dollar p x h.2 h.1)
 after_short (a ∷ n) x = (Simple (Short (a ∷ n)) x, λ h. ((h.0, tt), h.1, refl))
 
@@ -139,7 +145,8 @@ after_dollar (b ∷ x) =
     by_byte (λ b. dollar ∷ b ∷ x) b opening_brace
     (given (ap (λ t. dollar ∷ opening_brace ∷ t) q.parts) (λ h. (q.name_part, q.rest_part)) (after_brace n y))
     (given (ap (λ t. dollar ∷ t) r.parts)
-    (λ h. (r.name_part, r.rest_part, subst (BeginsWithNo (λ b. b ≡ opening_brace)) r.parts h.1)) (after_short m z))
+    (λ h. (r.name_part, r.rest_part, subst (BeginsWithNo (λ b. b ≡ opening_brace)) r.parts h.1))
+    (after_short m z))
 
 -- what a text begins with, and that it does
 abbrev found : (s : List ℕ) → BeginningOf (Unit {0}) s
@@ -211,7 +218,8 @@ item_beginning (Default n d) x = WithDefault n (text d) x
 item_beginning item x = Simple item x
 
 -- a well-formed item is found, before any text that may follow it
-pub beginning-item : (item : Item) (rest : Tree) (x : List ℕ) → IsItem item rest → IsFollowed (Then item Empty) x
+pub beginning-item : (item : Item) (rest : Tree) (x : List ℕ) → IsItem item rest
+    → IsFollowed (Then item Empty) x
     → beginning (item_text item ++ x) ≡ item_beginning item x
 beginning-item (Plain b) rest x i f = rw (ne_eqb b backslash i.1, ne_eqb b dollar i.0) refl
 beginning-item (Escaped b) rest x i f = cond-true (is_special b) _ _ i
@@ -223,7 +231,8 @@ beginning-item (Braced n) rest x i f =
 beginning-item (Optional n) rest x i f =
     beginning-name _ n (question_mark ∷ closing_brace ∷ x)
     (append_assoc n (question_mark ∷ closing_brace ∷ []) x) i question_mark_no_name
-beginning-item (Default n d) rest x i f = ap beginning (default_text n (text d) x) ∙ beginning-closed n (text d) x i.0 i.2
+beginning-item (Default n d) rest x i f =
+    ap beginning (default_text n (text d) x) ∙ beginning-closed n (text d) x i.0 i.2
 
 -- a text of m bytes at byte offset p that begins so has the fault f; the text of the default is shorter
 abbrev pub BeginningHasFault : ℕ → ℕ → Beginning → Fault → Type 0
@@ -232,11 +241,13 @@ BeginningHasFault p m (WithDefault n w x) f = (length w < m) × HasFault (p + 3 
 BeginningHasFault p m _ f = ⊥
 
 -- a bad item is found, with its fault
-pub beginning-bad : {p : ℕ} {r : List ℕ} {f : Fault} → IsBad p r f → BeginningHasFault p (length r) (beginning r) f
+pub beginning-bad : {p : ℕ} {r : List ℕ} {f : Fault} → IsBad p r f
+    → BeginningHasFault p (length r) (beginning r) f
 beginning-bad escape_at_end = refl
 beginning-bad {p = p} (escape {b = b} {x = x} {c = c} n h) =
     let k = front_character b x in
-    rw (cond-false (is_special b) (Simple (Escaped b) x) (Bad (λ p. InvalidEscapeSequence p (Some k.0))) (false_from_ne_true (is_special b) n))
+    rw (cond-false (is_special b) (Simple (Escaped b) x) (Bad (λ p. InvalidEscapeSequence p (Some k.0)))
+    (false_from_ne_true (is_special b) n))
     (ap (λ c. InvalidEscapeSequence p (Some c)) (character_unique (b ∷ x) c k.0 h k.1))
 beginning-bad dollar_at_end = refl
 beginning-bad (dollar_alone {b = b} {x = x} o f) = rw (beginning-short b x [] (b ∷ x) o refl tt f) refl
@@ -245,12 +256,19 @@ beginning-bad (brace_alone {b = b} {x = x} f) = rw (beginning-no_name (b ∷ x) 
 beginning-bad (name_at_end n h) = rw (beginning-name n n [] (sym (append-nil n)) h tt) refl
 beginning-bad {p = p} (name_alone {b = b} {c = c} n x h i j k q l) =
     let d = front_character b x in
-    rw (beginning-name (n ++ b ∷ x) n (b ∷ x) refl h i, ne_eqb b closing_brace j, ne_eqb b colon k, ne_eqb b question_mark q)
+    rw (
+      beginning-name (n ++ b ∷ x) n (b ∷ x) refl h i,
+      ne_eqb b closing_brace j,
+      ne_eqb b colon k,
+      ne_eqb b question_mark q,
+    )
     (ap (λ c. UnexpectedCharacter (p + 2 + length n) c after_name) (character_unique (b ∷ x) c d.0 l d.1))
-beginning-bad (optional_at_end n h) = rw (beginning-name _ n (question_mark ∷ []) refl h question_mark_no_name) refl
+beginning-bad (optional_at_end n h) =
+    rw (beginning-name _ n (question_mark ∷ []) refl h question_mark_no_name) refl
 beginning-bad {p = p} (optional_alone {b = b} {c = c} n x h j l) =
     let d = front_character b x in
     rw (beginning-name _ n (question_mark ∷ b ∷ x) refl h question_mark_no_name, ne_eqb b closing_brace j)
-    (ap (λ c. UnexpectedCharacter (p + 3 + length n) c after_question_mark) (character_unique (b ∷ x) c d.0 l d.1))
+    (ap (λ c. UnexpectedCharacter (p + 3 + length n) c after_question_mark)
+    (character_unique (b ∷ x) c d.0 l d.1))
 beginning-bad (unclosed n w h f) = rw (beginning-unclosed n w h f) refl
 beginning-bad (inside n w x h b f) = rw (beginning-closed n w x h b) (default_shorter n w x, f)

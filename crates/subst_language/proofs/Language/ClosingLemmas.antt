@@ -13,7 +13,8 @@ around : {v w : List ℕ} (x y z : List ℕ) → v ≡ x ++ closing_brace ∷ w 
     → opening_brace ∷ v ≡ (opening_brace ∷ x ++ closing_brace ∷ y) ++ closing_brace ∷ z
 around x y z e f =
     ap (λ (u : List ℕ). opening_brace ∷ u)
-    (e ∙ ap (λ (u : List ℕ). x ++ closing_brace ∷ u) f ∙ sym (append_assoc x (closing_brace ∷ y) (closing_brace ∷ z)))
+    (e ∙ ap (λ (u : List ℕ). x ++ closing_brace ∷ u) f
+    ∙ sym (append_assoc x (closing_brace ∷ y) (closing_brace ∷ z)))
 
 -- a balanced prefix of the text is followed by a closing brace, and R holds of what is after that
 abbrev pub ClosesThen : (List ℕ → Type 0) → List ℕ → Type 0
@@ -44,8 +45,13 @@ module _ (R : List ℕ → Type 0) (v : List ℕ) where
   after_opening empty y e rest = absurd (omega (arith, first_same e))
   after_opening (byte _ no_open _ inner) y e rest = absurd (no_open (sym (first_same e)))
   after_opening (escape inner) y e rest = absurd (omega (arith, first_same e))
-  after_opening (braces {x = x} {y = z} inner more) y e rest =
-      (x, z ++ closing_brace ∷ y, inner, rest_same e ∙ append_assoc x (closing_brace ∷ z) (closing_brace ∷ y), (z, y, more, refl, rest))
+  after_opening (braces {x = x} {y = z} inner more) y e rest = (
+    x,
+    z ++ closing_brace ∷ y,
+    inner,
+    rest_same e ∙ append_assoc x (closing_brace ∷ z) (closing_brace ∷ y),
+    (z, y, more, refl, rest),
+  )
 
   -- what closes after a closing brace
   pub after_closing : {x : List ℕ} → IsBalanced x → (y : List ℕ) → closing_brace ∷ v ≡ x ++ closing_brace ∷ y
@@ -158,8 +164,13 @@ pub completes_balanced : (d : ℕ) (v : List ℕ) {x : List ℕ} → IsBalanced 
     → Completes d (x ++ v)
 completes_balanced zero v front inner = balanced_append front inner
 completes_balanced (suc d) v {x} front done =
-    let (w, y, inner, e, rest) = done in
-    (x ++ w, y, balanced_append front inner, ap (λ (u : List ℕ). x ++ u) e ∙ sym (append_assoc x w (closing_brace ∷ y)), rest)
+    let (w, y, inner, e, rest) = done in (
+      x ++ w,
+      y,
+      balanced_append front inner,
+      ap (λ (u : List ℕ). x ++ u) e ∙ sym (append_assoc x w (closing_brace ∷ y)),
+      rest,
+    )
 
 -- a text that closes d + 1 + m braces is one that completes d, a closing brace, and one that closes m
 pub gather : (d m : ℕ) (z : List ℕ) → ClosesAll (suc (d + m)) z
@@ -170,5 +181,6 @@ gather (suc d) m z = λ (x, y, inner, e, rest).
     let sum : suc d + m ≡ suc (d + m) = omega arith in
     let (v, q, done, f, closed) = gather d m y (subst (λ (k : ℕ). ClosesAll k y) sum rest) in
     let split : z ≡ (x ++ closing_brace ∷ v) ++ closing_brace ∷ q =
-    e ∙ ap (λ (u : List ℕ). x ++ closing_brace ∷ u) f ∙ sym (append_assoc x (closing_brace ∷ v) (closing_brace ∷ q)) in
+    e ∙ ap (λ (u : List ℕ). x ++ closing_brace ∷ u) f
+    ∙ sym (append_assoc x (closing_brace ∷ v) (closing_brace ∷ q)) in
     (x ++ closing_brace ∷ v, q, (x, v, inner, refl, done), split, closed)

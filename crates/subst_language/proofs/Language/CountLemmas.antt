@@ -10,9 +10,11 @@ use Rattle.subst_language.specs.Language.Join.{join}
 
 -- of two trees concatenated an expansion visits the parts of the first, and after it those of the second
 pub visited_count_after-join : (after : Bool) (t u : Tree) (look : LookUp)
-    → visited_count_after after (join t u) look ≡ visited_count_after after t look + visited_count_after (ends_plain after t) u look
+    → visited_count_after after (join t u) look
+    ≡ visited_count_after after t look + visited_count_after (ends_plain after t) u look
 visited_count_after-join after Empty u look = omega arith
-visited_count_after-join after (Then item rest) u look = omega (arith, visited_count_after-join (is_plain item) rest u look)
+visited_count_after-join after (Then item rest) u look =
+    omega (arith, visited_count_after-join (is_plain item) rest u look)
 
 -- two trees concatenated end as the second does after the first
 pub ends_plain-join : (after : Bool) (t u : Tree)
@@ -65,18 +67,27 @@ mutual
   item_visited_count_at_most after (Braced n) look = omega arith
   item_visited_count_at_most after (Optional n) look = omega arith
   item_visited_count_at_most after (Default n t) look =
-      omega (arith, missing_at_most (look n) (visited_count_after false t look) (part_count_after false t) (visited_count_after_at_most false t look))
+      omega (
+        arith,
+        missing_at_most (look n) (visited_count_after false t look) (part_count_after false t)
+            (visited_count_after_at_most false t look),
+      )
 
   -- nor of a tree
   pub visited_count_after_at_most : (after : Bool) (t : Tree) (look : LookUp)
       → visited_count_after after t look ≤ part_count_after after t
   visited_count_after_at_most after Empty look = omega arith
   visited_count_after_at_most after (Then item rest) look =
-      omega (arith, item_visited_count_at_most after item look, visited_count_after_at_most (is_plain item) rest look)
+      omega (
+        arith,
+        item_visited_count_at_most after item look,
+        visited_count_after_at_most (is_plain item) rest look,
+      )
 
 mutual
   -- an item has no more parts than bytes
-  item_part_count_at_most : (after : Bool) (item : Item) → item_part_count after item ≤ length (item_text item)
+  item_part_count_at_most : (after : Bool) (item : Item)
+      → item_part_count after item ≤ length (item_text item)
   item_part_count_at_most true (Plain b) = omega arith
   item_part_count_at_most false (Plain b) = omega arith
   item_part_count_at_most after (Escaped b) = omega arith
@@ -84,10 +95,20 @@ mutual
   item_part_count_at_most after (Braced n) = omega arith
   item_part_count_at_most after (Optional n) = omega arith
   item_part_count_at_most after (Default n t) =
-      omega (arith, part_count_after_at_most false t, length-append n (colon ∷ text t ++ closing_brace ∷ []), length-append (text t) (closing_brace ∷ []))
+      omega (
+        arith,
+        part_count_after_at_most false t,
+        length-append n (colon ∷ text t ++ closing_brace ∷ []),
+        length-append (text t) (closing_brace ∷ []),
+      )
 
   -- nor has a tree
   pub part_count_after_at_most : (after : Bool) (t : Tree) → part_count_after after t ≤ length (text t)
   part_count_after_at_most after Empty = omega arith
   part_count_after_at_most after (Then item rest) =
-      omega (arith, item_part_count_at_most after item, part_count_after_at_most (is_plain item) rest, length-append (item_text item) (text rest))
+      omega (
+        arith,
+        item_part_count_at_most after item,
+        part_count_after_at_most (is_plain item) rest,
+        length-append (item_text item) (text rest),
+      )

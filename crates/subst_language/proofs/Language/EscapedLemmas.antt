@@ -62,7 +62,10 @@ value-escapes p (b ∷ x) look =
 fits-escape_item : (b : ℕ) (next : Tree) → IsItem (escape_item b) next
 fits-escape_item b next =
     cond_both (is_special b) (Escaped b) (Plain b) (λ item. IsItem item next) (λ special. special)
-    (λ not_special. (not_special_differs b dollar not_special refl, not_special_differs b backslash not_special refl))
+    (λ not_special. (
+      not_special_differs b dollar not_special refl,
+      not_special_differs b backslash not_special refl,
+    ))
 
 -- the tree is well-formed
 pub well_formed_escapes : (x : List ℕ) → IsWellFormed (escapes x)
@@ -72,9 +75,11 @@ well_formed_escapes (b ∷ x) = (fits-escape_item b (escapes x), well_formed_esc
 -- an escaped byte before a balanced text is balanced
 escaped_byte_balanced : (b : ℕ) (x : List ℕ) → IsBalanced x → IsBalanced (escaped_byte b ++ x)
 escaped_byte_balanced b x inner =
-    cond_both (is_special b) (backslash ∷ b ∷ []) (b ∷ []) (λ y. IsBalanced (y ++ x)) (λ special. escape inner)
+    cond_both (is_special b) (backslash ∷ b ∷ []) (b ∷ []) (λ y. IsBalanced (y ++ x))
+    (λ special. escape inner)
     (λ not_special. byte (not_special_differs b backslash not_special refl)
-    (not_special_differs b opening_brace not_special refl) (not_special_differs b closing_brace not_special refl)
+    (not_special_differs b opening_brace not_special refl)
+    (not_special_differs b closing_brace not_special refl)
     inner)
 
 -- an escaped text is balanced
@@ -102,7 +107,8 @@ text-with_default n x =
     ∙ ap (λ y. dollar ∷ opening_brace ∷ n ++ (colon ∷ y ++ closing_brace ∷ [])) (text-escapes x)
 
 -- what it gives where the name has no value
-value-with_default : (n x : List ℕ) (look : LookUp) → look n ≡ None → value 0 (with_default n x) look ≡ Bytes x
+value-with_default : (n x : List ℕ) (look : LookUp) → look n ≡ None
+    → value 0 (with_default n x) look ≡ Bytes x
 value-with_default n x look none =
     let inner = value (0 + 3 + length n) (escapes x) look in
     joined-right (found_or (look n) inner)
@@ -130,7 +136,8 @@ escaped_end_is_text u (b ∷ x) is =
     (λ special.
     let ascii = special_ascii b special in
     let (before, after) = cut_at u x b ascii is in
-    let pair = IsUtf8-append (backslash ∷ []) (b ∷ []) (ascii_alone backslash (omega arith)) (ascii_alone b ascii) in
+    let pair = IsUtf8-append (backslash ∷ []) (b ∷ []) (ascii_alone backslash (omega arith))
+    (ascii_alone b ascii) in
     between u (backslash ∷ b ∷ []) (escaped x) before pair (escaped_end_is_text [] x after))
     (λ not_special.
     subst IsUtf8 (append_assoc u (b ∷ []) (escaped x))

@@ -86,7 +86,8 @@ bad_is_no_tree : {p : ℕ} {r : List ℕ} {f : Fault} (t : Tree) (x : List ℕ) 
 bad_is_no_tree Empty x w l e b shorter = refl
 bad_is_no_tree {p = p} {r = r} {f = f} (Then item t) x w l e b shorter =
     absurd (item_has_no_fault item t (text t ++ x) p (length r) f w.0 shorter
-    (subst (λ k. BeginningHasFault p (length r) k f) (ap beginning e ∙ front_tree item t x w l) (beginning-bad b)))
+    (subst (λ k. BeginningHasFault p (length r) k f) (ap beginning e ∙ front_tree item t x w l)
+    (beginning-bad b)))
 
 -- what is shorter than what is after the tree is shorter than the text
 shorter_after : {p : ℕ} {s : List ℕ} {f : Fault} (q : FaultParts p s f) (w : List ℕ)
@@ -98,7 +99,8 @@ no_tree_step : (s : List ℕ) → ((w : List ℕ) → length w < length s → Ha
 no_tree_step s shorter t p f w e h =
     let q = fault_parts h in
     of q
-    (one_goes_on q.before t q.after [] q.well_formed w (followed_by_bad q.before q.bad) (followed_by_nothing t)
+    (one_goes_on q.before t q.after [] q.well_formed w (followed_by_bad q.before q.bad)
+    (followed_by_nothing t)
     (sym q.parts ∙ e ∙ sym (append-nil (text t))))
   where
     of : (q : FaultParts p s f) → GoesOn q.before q.after t [] ⊎ GoesOn t [] q.before q.after → ⊥

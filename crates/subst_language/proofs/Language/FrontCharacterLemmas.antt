@@ -28,7 +28,13 @@ character_within bytes k c is (scalar, (rest, e)) =
 pub no_character_in_nothing : (bytes : List ℕ) (k : ℕ) → k ≡ min (length bytes) 4 → take k bytes ≡ []
     → (c : ℕ) → ¬ (BeginsWithChar bytes c)
 no_character_in_nothing bytes k is none c begins =
-    omega (arith, character_length c, character_within bytes k c is begins, ap length none, length-take-le k bytes (omega arith))
+    omega (
+      arith,
+      character_length c,
+      character_within bytes k c is begins,
+      ap length none,
+      length-take-le k bytes (omega arith),
+    )
 
 -- where no text is at the start of the first four bytes, no character is
 pub no_character_in_no_text : (bytes : List ℕ) (k n : ℕ) → k ≡ min (length bytes) 4
@@ -38,7 +44,12 @@ no_character_in_no_text bytes k n is valid none c begins =
     let m = length (encode_utf8 c) in
     let within : m ≤ k = character_within bytes k c is begins in
     let nothing : n ≡ 0 =
-    omega (arith, valid.short, ap length none, length-take-le n (take k bytes) (omega (arith, valid.short))) in
+    omega (
+      arith,
+      valid.short,
+      ap length none,
+      length-take-le n (take k bytes) (omega (arith, valid.short)),
+    ) in
     let whole : take m (take k bytes) ≡ encode_utf8 c =
     take-take m k bytes within
     ∙ ap (λ (w : List ℕ). take m w) begins.1.1
@@ -92,5 +103,7 @@ begins_more x z c (scalar, (rest, e)) =
 pub front_cut : (b : ℕ) (x q : List ℕ) (c : CharOrByte) → IsFrontCharacter (b ∷ x ++ closing_brace ∷ q) c
     → IsFrontCharacter (b ∷ x) c
 front_cut b x q (Char c) front = begins_cut (b ∷ x) q c (omega arith) front
-front_cut b x q (Byte a) (none, (rest, e)) =
-    (λ c begins. none c (begins_more (b ∷ x) (closing_brace ∷ q) c begins), (x, ap (λ (k : ℕ). k ∷ x) (first_same e)))
+front_cut b x q (Byte a) (none, (rest, e)) = (
+  λ c begins. none c (begins_more (b ∷ x) (closing_brace ∷ q) c begins),
+  (x, ap (λ (k : ℕ). k ∷ x) (first_same e)),
+)

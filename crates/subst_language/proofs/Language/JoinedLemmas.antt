@@ -50,7 +50,8 @@ mutual
       (tree_elsewhere t (p + 3 + length n) (q + 3 + length n) look)
 
   -- so has a tree
-  tree_elsewhere : (t : Tree) (p q : ℕ) (look : LookUp) → bytes_of (value p t look) ≡ bytes_of (value q t look)
+  tree_elsewhere : (t : Tree) (p q : ℕ) (look : LookUp)
+      → bytes_of (value p t look) ≡ bytes_of (value q t look)
   tree_elsewhere Empty p q look = refl
   tree_elsewhere (Then item rest) p q look =
       let l = length (item_text item) in

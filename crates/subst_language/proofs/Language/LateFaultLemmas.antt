@@ -26,7 +26,8 @@ balanced_after_byte b v no_slash no_open (escaping inner) e = absurd (no_slash (
 balanced_after_byte b v no_slash no_open (braces inner more) e = absurd (no_open (sym (first_same e)))
 
 -- so is one without the escape that it begins with
-balanced_after_escape : (b : ℕ) (v : List ℕ) {x : List ℕ} → IsBalanced x → x ≡ backslash ∷ b ∷ v → IsBalanced v
+balanced_after_escape : (b : ℕ) (v : List ℕ) {x : List ℕ} → IsBalanced x → x ≡ backslash ∷ b ∷ v
+    → IsBalanced v
 balanced_after_escape b v empty e = cc
 balanced_after_escape b v (byte no_slash _ _ inner) e = absurd (no_slash (first_same e))
 balanced_after_escape b v (escaping inner) e = subst IsBalanced (rest_same (rest_same e)) inner
@@ -79,7 +80,8 @@ drop_balanced : (d : ℕ) (v : List ℕ) {x : List ℕ} → IsBalanced x → Com
 drop_balanced d v empty done = done
 drop_balanced d v (byte {b = b} {x = x} no_slash no_open no_close inner) done =
     drop_balanced d v inner (drop_byte d (x ++ v) b no_slash no_open no_close done)
-drop_balanced d v (escaping {b = b} {x = x} inner) done = drop_balanced d v inner (drop_escape d (x ++ v) b done)
+drop_balanced d v (escaping {b = b} {x = x} inner) done =
+    drop_balanced d v inner (drop_escape d (x ++ v) b done)
 drop_balanced d v (braces {x = x} {y = y} inner more) done =
     let rest = closing_brace ∷ y ++ v in
     let opened = drop_opening d ((x ++ closing_brace ∷ y) ++ v) done in
@@ -92,7 +94,8 @@ abbrev CompletesSome : List ℕ → Type 0
 CompletesSome v = (d : ℕ) × Completes d v
 
 -- what is after a plain byte completes some, where that and the byte do
-after_plain : {b : ℕ} → BraceKind b → (v : List ℕ) → b ≢ backslash → (d : ℕ) → Completes d (b ∷ v) → CompletesSome v
+after_plain : {b : ℕ} → BraceKind b → (v : List ℕ) → b ≢ backslash → (d : ℕ) → Completes d (b ∷ v)
+    → CompletesSome v
 after_plain escapes v no_slash d done = absurd (no_slash refl)
 after_plain opens v no_slash d done = (suc d, drop_opening d v done)
 after_plain closes v no_slash zero done = absurd (closing_not_balanced v done refl)
@@ -100,7 +103,8 @@ after_plain closes v no_slash (suc d) done = (d, drop_closing d v done)
 after_plain (counts_not {b = b} n o c) v no_slash d done = (d, drop_byte d v b n o c done)
 
 -- so does what is after an item
-after_item : (item : Item) (next : Tree) (d : ℕ) (v : List ℕ) → IsItem item next → Completes d (item_text item ++ v)
+after_item : (item : Item) (next : Tree) (d : ℕ) (v : List ℕ) → IsItem item next
+    → Completes d (item_text item ++ v)
     → CompletesSome v
 after_item (Plain b) next d v fits done = after_plain (brace_kind b) v fits.1 d done
 after_item (Escaped b) next d v fits done = (d, drop_balanced d v (escape_balanced b) done)
@@ -140,25 +144,31 @@ after_dollar_brace d v done =
 
 mutual
   -- a bad item with a late fault completes nothing
-  late_completes_none : {p : ℕ} {r : List ℕ} {f : Fault} → IsBad p r f → IsLate f → (d : ℕ) → ¬ (Completes d r)
+  late_completes_none : {p : ℕ} {r : List ℕ} {f : Fault} → IsBad p r f → IsLate f → (d : ℕ)
+      → ¬ (Completes d r)
   late_completes_none escape_at_end late d done = backslash_completes_none d done
   late_completes_none (name_at_end n named) late d done =
       let inner = subst (Completes (suc d)) (sym (append-nil n)) (after_dollar_brace d n done) in
       nothing_completes d (drop_balanced (suc d) [] (name_balanced n named) inner)
   late_completes_none (optional_at_end n named) late d done =
       let mark = question_mark ∷ [] in
-      let inner = drop_balanced (suc d) mark (name_balanced n named) (after_dollar_brace d (n ++ mark) done) in
+      let inner = drop_balanced (suc d) mark (name_balanced n named)
+      (after_dollar_brace d (n ++ mark) done) in
       nothing_completes d (drop_byte (suc d) [] question_mark (omega arith) (omega arith) (omega arith) inner)
   late_completes_none (unclosed n w named none) late d done =
       let rest = colon ∷ w in
-      let inner = drop_balanced (suc d) rest (name_balanced n named) (after_dollar_brace d (n ++ rest) done) in
-      let (x, y, balanced, e, more) = drop_byte (suc d) w colon (omega arith) (omega arith) (omega arith) inner in
+      let inner = drop_balanced (suc d) rest (name_balanced n named)
+      (after_dollar_brace d (n ++ rest) done) in
+      let (x, y, balanced, e, more) = drop_byte (suc d) w colon (omega arith) (omega arith) (omega arith)
+      inner in
       none (x, y, balanced, e)
-  late_completes_none (inside n w v named balanced fault) late d done = late_not_balanced fault late 0 balanced
+  late_completes_none (inside n w v named balanced fault) late d done =
+      late_not_balanced fault late 0 balanced
   late_completes_none _ late d done = elim late [ ]
 
   -- a text with a late fault completes nothing, so it isn't balanced
-  late_not_balanced : {p : ℕ} {s : List ℕ} {f : Fault} → HasFault p s f → IsLate f → (d : ℕ) → ¬ (Completes d s)
+  late_not_balanced : {p : ℕ} {s : List ℕ} {f : Fault} → HasFault p s f → IsLate f → (d : ℕ)
+      → ¬ (Completes d s)
   late_not_balanced (fault_after {r = r} t formed bad) late d done =
       let (e, rest) = after_tree t d r formed done in
       late_completes_none bad late e rest
@@ -167,7 +177,8 @@ mutual
 -- position; with an escape without a character it is a backslash alone
 abbrev BadBy : ℕ → List ℕ → Fault → Type 0
 BadBy p r (InvalidEscapeSequence position None) = (r ≡ backslash ∷ []) × (position ≡ p)
-BadBy p r (MissingClosingBrace position) = (more : List ℕ) × (r ≡ dollar ∷ opening_brace ∷ more) × (position ≡ p + 1)
+BadBy p r (MissingClosingBrace position) =
+    (more : List ℕ) × (r ≡ dollar ∷ opening_brace ∷ more) × (position ≡ p + 1)
 BadBy p r _ = Unit {0}
 
 -- nothing is said of other faults

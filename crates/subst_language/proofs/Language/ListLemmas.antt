@@ -53,7 +53,8 @@ pub by_length : {X : Type 0} (P : List X → Type 0)
 by_length P step s = by_length_within P step (length s) s (omega arith)
 
 -- an index where an element is read is within the list
-pub position_inside : {X : Type 0} (s : List X) (at : ℕ) (a : X) (x : List X) → drop at s ≡ a ∷ x → at < length s
+pub position_inside : {X : Type 0} (s : List X) (at : ℕ) (a : X) (x : List X) → drop at s ≡ a ∷ x
+    → at < length s
 position_inside s at a x reads = omega (arith, simp length-drop at (ap length reads))
 
 -- after the element at an index the list goes on at the next
@@ -105,8 +106,11 @@ split_last xs x is =
     let n = length xs - 1 in
     let inside : n < length xs = slice_get_within xs n x is in
     let last : get_or xs n x ≡ x = get_or_from_slice_get xs n x x is in
-    let none : drop (n + 1) xs ≡ [] = drop_all (n + 1) xs (omega arith) in
-    (take n xs, sym (take-append-drop n xs) ∙ ap (λ rest. take n xs ++ rest) (drop_more xs n x inside ∙ rw (last, none) refl))
+    let none : drop (n + 1) xs ≡ [] = drop_all (n + 1) xs (omega arith) in (
+      take n xs,
+      sym (take-append-drop n xs)
+          ∙ ap (λ rest. take n xs ++ rest) (drop_more xs n x inside ∙ rw (last, none) refl),
+    )
 
 -- a list that has a first element
 pub split_first : {X : Type 0} (xs : List X) (x : X) → slice_get xs 0 ≡ Some x
@@ -151,8 +155,10 @@ front_by_take {X} k x is =
 pub front_by_takes : {X : Type 0} (n k : ℕ) (x : List X) {t : List X} → t ≡ take n (take k x)
     → (rest : List X) × (x ≡ t ++ rest)
 front_by_takes {X} n k x {t} is =
-    let (rest, e) = front_by_take n (take k x) is in
-    (rest ++ drop k x, sym (take-append-drop k x) ∙ ap (λ (y : List X). y ++ drop k x) e ∙ append_assoc t rest (drop k x))
+    let (rest, e) = front_by_take n (take k x) is in (
+      rest ++ drop k x,
+      sym (take-append-drop k x) ∙ ap (λ (y : List X). y ++ drop k x) e ∙ append_assoc t rest (drop k x),
+    )
 
 -- x is a prefix of s
 abbrev pub BeginsWith : List ℕ → List ℕ → Type 0

@@ -71,8 +71,16 @@ split [] = ([], [], record { name_part = tt; rest_part = tt; parts = refl })
 split (b ∷ s) = of (name_byte_or_not b) (split s)
   where
     of : Dec (IsNameByte b) → ((n x : List ℕ) × IsSplit n x s) → (n x : List ℕ) × IsSplit n x (b ∷ s)
-    of (yes h) (n, x, p) =
-        (b ∷ n, x, record { name_part = (h, p.name_part); rest_part = p.rest_part; parts = ap (λ t. b ∷ t) p.parts })
+    of (yes h) (n, x, p) = (
+      b ∷ n,
+      x,
+      record {
+        name_part = (h, p.name_part);
+        rest_part = p.rest_part;
+        parts = ap (λ t. b ∷ t)
+            p.parts;
+      },
+    )
     of (no f) _ = ([], b ∷ s, record { name_part = tt; rest_part = f; parts = refl })
 
 -- a name byte is no backslash and no brace

@@ -89,7 +89,8 @@ one_goes_on (Then (Default n d) t) (Then (Default m c) u) x y wt wu ft fu e =
     one_goes_on d c [] [] wt.0.1 wu.0.1 (followed_by_nothing d) (followed_by_nothing c)
     (ap (λ z. z ++ []) l.0.1) in
     goes_on_after (Default n d) (Default m c) t u x y (cc (l.0.0, same_by_ends d c inner))
-    (one_goes_on t u x y wt.1 wu.1 (followed_tail (Default n d) t x ft) (followed_tail (Default m c) u y fu) l.1)
+    (one_goes_on t u x y wt.1 wu.1 (followed_tail (Default n d) t x ft) (followed_tail (Default m c) u y fu)
+    l.1)
 one_goes_on (Then i t) (Then j u) x y wt wu ft fu e =
     let l = like_firsts i j t u x y wt wu ft fu e in
     goes_on_after i j t u x y l.0

@@ -309,8 +309,8 @@ refusal_in_text s look f is (inr (t, spells, (position, name, missing, same))) =
     subst (λ (g : Fault). IsRangeIn s (range_of (Some g))) (sym same)
     (placed_in s (range_of (Some (NoSuchVariable position name))) of_text)
 
--- an error that a refusal of a text states has its range in the text; where memory ran out it is the empty one
--- at the text's start
+-- an error that a refusal of a text states has its range in the text; where memory ran out it is the empty
+-- one at the text's start
 pub error_in_text : (s : List ℕ) (look : LookUp) (o : Option Fault) → IsUtf8 s
     → IfSome o (λ f. Answers s look (Refuses f)) → IsRangeIn s (range_of o)
 error_in_text s look None is h = let start = IsCharBoundary-start s is in (start, start)

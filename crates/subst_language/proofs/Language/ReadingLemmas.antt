@@ -34,7 +34,10 @@ read_item : (p : ℕ) (item : Item) (x s : List ℕ) → IsItem item Empty → I
 read_item p item x s i l e (inl (t, a)) =
     let one : Spells (Then item Empty) (item_text item) =
     record { well_formed = (i, tt); spelled = sym (append-nil (item_text item)) } in
-    inl (Then item t, subst (Spells (Then item t)) (sym e) (spells_join (Then item Empty) t (item_text item) x one a l))
+    inl (
+      Then item t,
+      subst (Spells (Then item t)) (sym e) (spells_join (Then item Empty) t (item_text item) x one a l),
+    )
 read_item p item x s i l e (inr (f, h)) =
     let n = append-nil (item_text item) in
     let k : s ≡ text (Then item Empty) ++ x = cc in

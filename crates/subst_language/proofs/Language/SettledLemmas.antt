@@ -19,7 +19,8 @@ use Rattle.subst_language.proofs.Language.Utf8Lemmas.{after_ascii}
 front_stays : (b : ℕ) (x more : List ℕ) (c : CharOrByte) → IsUtf8 (b ∷ x) → IsFrontCharacter (b ∷ x) c
     → IsFrontCharacter (b ∷ x ++ more) c
 front_stays b x more (Char c) is front = begins_more (b ∷ x) more c front
-front_stays b x more (Byte a) is (none, rest) = let some = begins_with_some b x is in absurd (none some.0 some.1)
+front_stays b x more (Byte a) is (none, rest) =
+    let some = begins_with_some b x is in absurd (none some.0 some.1)
 
 -- what is after `${` and a name, with more after it
 after_name_more : (n x more : List ℕ)
@@ -33,7 +34,8 @@ after_default_more : (n w v more : List ℕ)
 after_default_more n w v more = simp append_assoc
 
 -- a bad item in a text, whose fault is settled, is one with more after it
-bad_stays : {p : ℕ} {r : List ℕ} {f : Fault} (more : List ℕ) → IsBad p r f → IsUtf8 r → IsSettled (p + length r) f
+bad_stays : {p : ℕ} {r : List ℕ} {f : Fault} (more : List ℕ) → IsBad p r f → IsUtf8 r
+    → IsSettled (p + length r) f
     → IsBad p (r ++ more) f
 bad_stays more escape_at_end is settled = elim settled [ ]
 bad_stays more (escape {b = b} {x = x} {c = c} special front) is settled =
@@ -43,7 +45,8 @@ bad_stays more (dollar_alone brace name) is settled = dollar_alone brace name
 bad_stays more brace_at_end is settled = absurd (omega arith)
 bad_stays more (brace_alone name) is settled = brace_alone name
 bad_stays more (name_at_end n named) is settled = elim settled [ ]
-bad_stays {p = p} {f = f} more (name_alone {b = b} {c = c} n x named name closing separator mark front) is settled =
+bad_stays {p = p} {f = f} more (name_alone {b = b} {c = c} n x named name closing separator mark front) is
+    settled =
     let front = front_stays b x more c (after_braced_name n (b ∷ x) named is) front in
     subst (λ w. IsBad p w f) (after_name_more n (b ∷ x) more)
     (name_alone n (x ++ more) named name closing separator mark front)

@@ -23,7 +23,9 @@ closing (suc d) = Open d
 
 -- the state one byte further on
 abbrev pub next : Standing → ℕ → Standing
-next (Open d) b = cond (b == backslash) (Escaping d) (cond (b == opening_brace) (Open (suc d)) (cond (b == closing_brace) (closing d) (Open d)))
+next (Open d) b =
+    cond (b == backslash) (Escaping d)
+    (cond (b == opening_brace) (Open (suc d)) (cond (b == closing_brace) (closing d) (Open d)))
 next (Escaping d) b = Open d
 next Closed b = Closed
 
@@ -37,12 +39,15 @@ pub same_byte : (d b : ℕ) → b ≢ backslash → b ≢ opening_brace → b �
 same_byte d b n o c = rw (ne_eqb b backslash n, ne_eqb b opening_brace o, ne_eqb b closing_brace c)
 
 -- a balanced prefix changes nothing
-past_balanced : {x : List ℕ} → IsBalanced x → (d : ℕ) (r : List ℕ) → standing_after (Open d) (x ++ r) ≡ standing_after (Open d) r
+past_balanced : {x : List ℕ} → IsBalanced x → (d : ℕ) (r : List ℕ)
+    → standing_after (Open d) (x ++ r) ≡ standing_after (Open d) r
 past_balanced empty d r = refl
-past_balanced (byte {b = b} {x = x} n o c h) d r = ap (λ s. standing_after s (x ++ r)) (same_byte d b n o c) ∙ past_balanced h d r
+past_balanced (byte {b = b} {x = x} n o c h) d r =
+    ap (λ s. standing_after s (x ++ r)) (same_byte d b n o c) ∙ past_balanced h d r
 past_balanced (escape h) d r = past_balanced h d r
 past_balanced (braces {x = x} {y = y} h k) d r =
-    ap (standing_after (Open (suc d))) (append_assoc x (closing_brace ∷ y) r) ∙ past_balanced h (suc d) (closing_brace ∷ y ++ r) ∙ past_balanced k d r
+    ap (standing_after (Open (suc d))) (append_assoc x (closing_brace ∷ y) r)
+    ∙ past_balanced h (suc d) (closing_brace ∷ y ++ r) ∙ past_balanced k d r
 
 -- a balanced text leaves no brace open
 leaves_none : {x : List ℕ} → IsBalanced x → standing_after (Open 0) x ≡ Open 0
@@ -55,7 +60,8 @@ stays_closed (b ∷ y) = stays_closed y
 
 -- a text that closes is seen to close
 pub closes_seen : (w : List ℕ) → Closes w → standing_after (Open 0) w ≡ Closed
-closes_seen w (x, y, h, e) = ap (standing_after (Open 0)) e ∙ past_balanced h 0 (closing_brace ∷ y) ∙ stays_closed y
+closes_seen w (x, y, h, e) =
+    ap (standing_after (Open 0)) e ∙ past_balanced h 0 (closing_brace ∷ y) ∙ stays_closed y
 
 -- what a text that leaves no brace open is, read from such a state
 abbrev Leads : Standing → List ℕ → Type 0
@@ -73,7 +79,8 @@ before_any : {b : ℕ} → BraceKind b → (d : ℕ) (x : List ℕ) → Leads (n
 before_any escapes d x m = m
 before_any opens d x m = completes_opening d x m
 before_any kind.closes d x m = before_closed d x m
-before_any (counts_not {b = b} n o c) d x m = completes_byte d x b n o c (subst (λ s. Leads s x) (same_byte d b n o c) m)
+before_any (counts_not {b = b} n o c) d x m =
+    completes_byte d x b n o c (subst (λ s. Leads s x) (same_byte d b n o c) m)
 
 -- what is so of a text after a byte is so of the byte and the text
 leads_step : (s : Standing) (b : ℕ) (x : List ℕ) → Leads (next s b) x → Leads s (b ∷ x)

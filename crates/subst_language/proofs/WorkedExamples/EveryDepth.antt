@@ -26,22 +26,29 @@ nested_tree (suc n) = only (Default (codes "a") (nested_tree n))
 -- that text is the tree's
 nest_text : (n : ℕ) → nest n ≡ text (nested_tree n)
 nest_text zero = refl
-nest_text (suc n) = ap (λ l. codes "${a:" ++ (l ++ codes "}")) (nest_text n) ∙ sym (append-nil (item_text (Default (codes "a") (nested_tree n))))
+nest_text (suc n) =
+    ap (λ l. codes "${a:" ++ (l ++ codes "}")) (nest_text n)
+    ∙ sym (append-nil (item_text (Default (codes "a") (nested_tree n))))
 
 -- its braces match
 nest_balanced : (n : ℕ) → IsBalanced (nest n)
 nest_balanced zero = empty
 nest_balanced (suc n) =
-    byte (other_byte dollar backslash refl) (other_byte dollar opening_brace refl) (other_byte dollar closing_brace refl)
+    byte (other_byte dollar backslash refl) (other_byte dollar opening_brace refl)
+    (other_byte dollar closing_brace refl)
     (braces {x = codes "a:" ++ nest n} {y = []}
     (byte (other_byte 97 backslash refl) (other_byte 97 opening_brace refl) (other_byte 97 closing_brace refl)
-    (byte (other_byte colon backslash refl) (other_byte colon opening_brace refl) (other_byte colon closing_brace refl) (nest_balanced n)))
+    (byte (other_byte colon backslash refl) (other_byte colon opening_brace refl)
+    (other_byte colon closing_brace refl) (nest_balanced n)))
     empty)
 
 -- so the tree is well-formed
 nest_well_formed : (n : ℕ) → IsWellFormed (nested_tree n)
 nest_well_formed zero = tt
-nest_well_formed (suc n) = ((name_from_test (codes "a") refl, nest_well_formed n, subst IsBalanced (nest_text n) (nest_balanced n)), tt)
+nest_well_formed (suc n) = (
+  (name_from_test (codes "a") refl, nest_well_formed n, subst IsBalanced (nest_text n) (nest_balanced n)),
+  tt,
+)
 
 -- no name has a value, and the innermost default is empty
 nest_value : (n p : ℕ) → value p (nested_tree n) nothing ≡ Bytes []
@@ -50,8 +57,13 @@ nest_value (suc n) p = ap (λ v. joined v (Bytes [])) (nest_value n (p + 3 + 1))
 
 -- defaults in defaults, at any depth, give nothing
 pub defaults_in_defaults : (n : ℕ) → Answers (nest n) nothing (Gives [])
-defaults_in_defaults n = (nested_tree n, record { well_formed = nest_well_formed n; spelled = nest_text n }, nest_value n 0)
+defaults_in_defaults n =
+    (nested_tree n, record { well_formed = nest_well_formed n; spelled = nest_text n }, nest_value n 0)
 
 -- with one closing brace fewer, the outermost is never closed
-pub one_brace_fewer : (n : ℕ) (look : LookUp) → Answers (codes "${a:" ++ nest n) look (Refuses (MissingClosingBrace 1))
-one_brace_fewer n look = refused _ (codes "${a:" ++ nest n) _ look Empty refl refl (unclosed (codes "a") (nest n) (name_from_test (codes "a") refl) (balanced_never_closes (nest n) (nest_balanced n)))
+pub one_brace_fewer : (n : ℕ) (look : LookUp)
+    → Answers (codes "${a:" ++ nest n) look (Refuses (MissingClosingBrace 1))
+one_brace_fewer n look =
+    refused _ (codes "${a:" ++ nest n) _ look Empty refl refl
+    (unclosed (codes "a") (nest n) (name_from_test (codes "a") refl)
+    (balanced_never_closes (nest n) (nest_balanced n)))

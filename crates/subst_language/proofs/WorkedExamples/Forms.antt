@@ -101,17 +101,24 @@ mutual
       (item_from_test item rest p.0, well_formed_from_test rest p.1)
 
 -- a tree whose value is bytes
-pub gives : (s x : List ℕ) (look : LookUp) (t : Tree) → IsTrue (is_well_formed t) → s ≡ text t → value 0 t look ≡ Bytes x → Answers s look (Gives x)
+pub gives : (s x : List ℕ) (look : LookUp) (t : Tree) → IsTrue (is_well_formed t) → s ≡ text t
+    → value 0 t look ≡ Bytes x → Answers s look (Gives x)
 gives s x look t w e v = (t, record { well_formed = well_formed_from_test t w; spelled = e }, v)
 
 -- a tree with a missing variable
-pub missing : (s : List ℕ) (position : ℕ) (name : List ℕ) (look : LookUp) (t : Tree) → IsTrue (is_well_formed t) → s ≡ text t → value 0 t look ≡ Missing position name → Answers s look (Refuses (NoSuchVariable position name))
-missing s position name look t w e v = inr (t, record { well_formed = well_formed_from_test t w; spelled = e }, (position, name, v, refl))
+pub missing : (s : List ℕ) (position : ℕ) (name : List ℕ) (look : LookUp) (t : Tree)
+    → IsTrue (is_well_formed t) → s ≡ text t → value 0 t look ≡ Missing position name
+    → Answers s look (Refuses (NoSuchVariable position name))
+missing s position name look t w e v =
+    inr (t, record { well_formed = well_formed_from_test t w; spelled = e }, (position, name, v, refl))
 
 -- after the text of a tree comes a bad item
-pub fault_after_tree : (p : ℕ) (s r : List ℕ) (f : Fault) (t : Tree) → IsTrue (is_well_formed t) → s ≡ text t ++ r → IsBad (p + length (text t)) r f → HasFault p s f
-fault_after_tree p s r f t w e b = subst (λ l. HasFault p l f) (sym e) (fault_after t (well_formed_from_test t w) b)
+pub fault_after_tree : (p : ℕ) (s r : List ℕ) (f : Fault) (t : Tree) → IsTrue (is_well_formed t)
+    → s ≡ text t ++ r → IsBad (p + length (text t)) r f → HasFault p s f
+fault_after_tree p s r f t w e b =
+    subst (λ l. HasFault p l f) (sym e) (fault_after t (well_formed_from_test t w) b)
 
 -- such a source is refused, whatever the look-up
-pub refused : (s r : List ℕ) (f : Fault) (look : LookUp) (t : Tree) → IsTrue (is_well_formed t) → s ≡ text t ++ r → IsBad (0 + length (text t)) r f → Answers s look (Refuses f)
+pub refused : (s r : List ℕ) (f : Fault) (look : LookUp) (t : Tree) → IsTrue (is_well_formed t)
+    → s ≡ text t ++ r → IsBad (0 + length (text t)) r f → Answers s look (Refuses f)
 refused s r f look t w e b = inl (fault_after_tree 0 s r f t w e b)

@@ -30,11 +30,13 @@ abbrev dash_b : Tree
 dash_b = plain (codes "-") (only (Short (codes "b")))
 
 -- they are a sentence, whose tree is the two joined
-pub joined_sentence : Answers (codes "$a" ++ codes "-$b") (looking_up ((codes "a", codes "1") ∷ (codes "b", codes "2") ∷ [])) (Gives (codes "1-2"))
+pub joined_sentence : Answers (codes "$a" ++ codes "-$b")
+    (looking_up ((codes "a", codes "1") ∷ (codes "b", codes "2") ∷ [])) (Gives (codes "1-2"))
 joined_sentence = gives _ _ _ (join short_a dash_b) refl refl refl
 
 -- `$a` and then `b` are another variable: `b` goes on with the name
-pub name_goes_on : Answers (codes "$a" ++ codes "b") (looking_up ((codes "a", codes "1") ∷ [])) (Refuses (NoSuchVariable 1 (codes "ab")))
+pub name_goes_on : Answers (codes "$a" ++ codes "b") (looking_up ((codes "a", codes "1") ∷ []))
+    (Refuses (NoSuchVariable 1 (codes "ab")))
 name_goes_on = missing _ 1 (codes "ab") _ (only (Short (codes "ab"))) refl refl refl
 
 -- so `b` may not follow the tree
@@ -58,7 +60,10 @@ pub escaped_as_default : Answers (codes "${z:a\\$b\\{c\\}\\:\\\\}") nothing (Giv
 escaped_as_default = escaped_default_gives (codes "z") (codes "a$b{c}:\\") nothing (refl, tt) refl
 
 -- the names in `$a${b:${c:$d}}${e?}`
-pub names_at_each_depth : names_in (Then (Short (codes "a")) (Then (Default (codes "b") (only (Default (codes "c") (only (Short (codes "d")))))) (only (Optional (codes "e"))))) ≡ codes "a" ∷ codes "b" ∷ codes "c" ∷ codes "d" ∷ codes "e" ∷ []
+pub names_at_each_depth : names_in
+    (Then (Short (codes "a"))
+    (Then (Default (codes "b") (only (Default (codes "c") (only (Short (codes "d"))))))
+    (only (Optional (codes "e"))))) ≡ codes "a" ∷ codes "b" ∷ codes "c" ∷ codes "d" ∷ codes "e" ∷ []
 names_at_each_depth = refl
 
 -- what lacks a closing brace in `a${b` is the `${` after `a`
@@ -72,15 +77,24 @@ brace_after_sentence = record {
 }
 
 -- a dollar at the end isn't settled, since a name may follow
-pub dollar_not_settled : HasFault 0 (codes "$") (MissingVariableName 0 1) × ¬ (IsSettled 1 (MissingVariableName 0 1)) × IsSentence (codes "$a")
-dollar_not_settled =
-    (fault_after_tree 0 _ (codes "$") _ Empty refl refl dollar_at_end, λ h. absurd (omega arith), (short_a, spells (codes "$a") short_a refl refl))
+pub dollar_not_settled : HasFault 0 (codes "$") (MissingVariableName 0 1)
+    × ¬ (IsSettled 1 (MissingVariableName 0 1)) × IsSentence (codes "$a")
+dollar_not_settled = (
+  fault_after_tree 0 _ (codes "$") _ Empty refl refl dollar_at_end,
+  λ h. absurd (omega arith),
+  (short_a, spells (codes "$a") short_a refl refl),
+)
 
 -- nor is the fault of a source that isn't UTF-8: with the byte A9 after it, C3 is a character
-pub byte_not_settled : (look : LookUp) → Answers (codes "\\" ++ 0xC3 ∷ []) look (Refuses (InvalidEscapeSequence 0 (Some (Byte 0xC3)))) × Answers (codes "\\" ++ 0xC3 ∷ 0xA9 ∷ []) look (Refuses (InvalidEscapeSequence 0 (Some (Char 0xE9))))
+pub byte_not_settled : (look : LookUp)
+    → Answers (codes "\\" ++ 0xC3 ∷ []) look (Refuses (InvalidEscapeSequence 0 (Some (Byte 0xC3))))
+    × Answers (codes "\\" ++ 0xC3 ∷ 0xA9 ∷ []) look (Refuses (InvalidEscapeSequence 0 (Some (Char 0xE9))))
 unfolding chars
-byte_not_settled look =
-    (refused _ (codes "\\" ++ 0xC3 ∷ []) _ look Empty refl refl (backslash_before 0xC3 [] (Byte 0xC3) (byte_in_front 0xC3 [] refl) refl), escaped_two_bytes look)
+byte_not_settled look = (
+  refused _ (codes "\\" ++ 0xC3 ∷ []) _ look Empty refl refl
+      (backslash_before 0xC3 [] (Byte 0xC3) (byte_in_front 0xC3 [] refl) refl),
+  escaped_two_bytes look,
+)
 
 -- a source without dollars and backslashes gives itself
 pub plain_gives_itself : Answers (codes "{a: b}") nothing (Gives (codes "{a: b}"))

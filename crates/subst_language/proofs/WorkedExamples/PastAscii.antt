@@ -17,98 +17,149 @@ use Rattle.subst_language.proofs.WorkedExamples.Forms.{refused}
 use Rattle.subst_language.proofs.WorkedExamples.Words.{only_plain}
 
 -- a backslash at the front of the source, and the character after it
-escaped : (look : LookUp) (b : ℕ) (x : List ℕ) (c : CharOrByte) → IsTrue (not (is_special b)) → IsFrontCharacter (b ∷ x) c → Answers (backslash ∷ b ∷ x) look (Refuses (InvalidEscapeSequence 0 (Some c)))
+escaped : (look : LookUp) (b : ℕ) (x : List ℕ) (c : CharOrByte) → IsTrue (not (is_special b))
+    → IsFrontCharacter (b ∷ x) c → Answers (backslash ∷ b ∷ x) look
+    (Refuses (InvalidEscapeSequence 0 (Some c)))
 escaped look b x c h k = refused _ (backslash ∷ b ∷ x) _ look Empty refl refl (backslash_before b x c k h)
 
 -- text follows a character of one byte
-pub escaped_ascii : (look : LookUp) → Answers (codes "\\hello") look (Refuses (InvalidEscapeSequence 0 (Some (Char 104))))
+pub escaped_ascii : (look : LookUp)
+    → Answers (codes "\\hello") look (Refuses (InvalidEscapeSequence 0 (Some (Char 104))))
 escaped_ascii look = escaped look 104 (codes "ello") (Char 104) refl (ascii_in_front 104 (codes "ello") refl)
 
 -- stray bytes follow it
-pub escaped_before_stray_bytes : (look : LookUp) → Answers (codes "\\e" ++ 0x80 ∷ codes "llo" ++ 0x80 ∷ []) look (Refuses (InvalidEscapeSequence 0 (Some (Char 101))))
-escaped_before_stray_bytes look = escaped look 101 (0x80 ∷ codes "llo" ++ 0x80 ∷ []) (Char 101) refl (ascii_in_front 101 (0x80 ∷ codes "llo" ++ 0x80 ∷ []) refl)
+pub escaped_before_stray_bytes : (look : LookUp)
+    → Answers (codes "\\e" ++ 0x80 ∷ codes "llo" ++ 0x80 ∷ []) look
+    (Refuses (InvalidEscapeSequence 0 (Some (Char 101))))
+escaped_before_stray_bytes look =
+    escaped look 101 (0x80 ∷ codes "llo" ++ 0x80 ∷ []) (Char 101) refl
+    (ascii_in_front 101 (0x80 ∷ codes "llo" ++ 0x80 ∷ []) refl)
 
 -- U+00E9, which has the bytes C3 A9
-pub escaped_two_bytes : (look : LookUp) → Answers (codes "\\" ++ 0xC3 ∷ 0xA9 ∷ []) look (Refuses (InvalidEscapeSequence 0 (Some (Char 0xE9))))
+pub escaped_two_bytes : (look : LookUp)
+    → Answers (codes "\\" ++ 0xC3 ∷ 0xA9 ∷ []) look (Refuses (InvalidEscapeSequence 0 (Some (Char 0xE9))))
 unfolding encode_utf8
 escaped_two_bytes look = escaped look 0xC3 (0xA9 ∷ []) (Char 0xE9) refl (char_in_front 0xE9 _ [] refl refl)
 
 -- U+2764, which has the bytes E2 9D A4
-pub escaped_three_bytes : (look : LookUp) → Answers (codes "\\" ++ 0xE2 ∷ 0x9D ∷ 0xA4 ∷ []) look (Refuses (InvalidEscapeSequence 0 (Some (Char 0x2764))))
+pub escaped_three_bytes : (look : LookUp)
+    → Answers (codes "\\" ++ 0xE2 ∷ 0x9D ∷ 0xA4 ∷ []) look
+    (Refuses (InvalidEscapeSequence 0 (Some (Char 0x2764))))
 unfolding encode_utf8
-escaped_three_bytes look = escaped look 0xE2 (0x9D ∷ 0xA4 ∷ []) (Char 0x2764) refl (char_in_front 0x2764 _ [] refl refl)
+escaped_three_bytes look =
+    escaped look 0xE2 (0x9D ∷ 0xA4 ∷ []) (Char 0x2764) refl (char_in_front 0x2764 _ [] refl refl)
 
 -- and what follows it doesn't matter
-pub escaped_three_bytes_and_more : (look : LookUp) → Answers (codes "\\" ++ 0xE2 ∷ 0x9D ∷ 0xA4 ∷ codes "ll" ++ 0xE2 ∷ 0x9D ∷ 0xA4 ∷ []) look (Refuses (InvalidEscapeSequence 0 (Some (Char 0x2764))))
+pub escaped_three_bytes_and_more : (look : LookUp)
+    → Answers (codes "\\" ++ 0xE2 ∷ 0x9D ∷ 0xA4 ∷ codes "ll" ++ 0xE2 ∷ 0x9D ∷ 0xA4 ∷ []) look
+    (Refuses (InvalidEscapeSequence 0 (Some (Char 0x2764))))
 unfolding encode_utf8
-escaped_three_bytes_and_more look = escaped look 0xE2 (0x9D ∷ 0xA4 ∷ codes "ll" ++ 0xE2 ∷ 0x9D ∷ 0xA4 ∷ []) (Char 0x2764) refl (char_in_front 0x2764 _ (codes "ll" ++ 0xE2 ∷ 0x9D ∷ 0xA4 ∷ []) refl refl)
+escaped_three_bytes_and_more look =
+    escaped look 0xE2 (0x9D ∷ 0xA4 ∷ codes "ll" ++ 0xE2 ∷ 0x9D ∷ 0xA4 ∷ []) (Char 0x2764) refl
+    (char_in_front 0x2764 _ (codes "ll" ++ 0xE2 ∷ 0x9D ∷ 0xA4 ∷ []) refl refl)
 
 -- U+1F600, which has the bytes F0 9F 98 80
-pub escaped_four_bytes : (look : LookUp) → Answers (codes "\\" ++ 0xF0 ∷ 0x9F ∷ 0x98 ∷ 0x80 ∷ []) look (Refuses (InvalidEscapeSequence 0 (Some (Char 0x1F600))))
+pub escaped_four_bytes : (look : LookUp)
+    → Answers (codes "\\" ++ 0xF0 ∷ 0x9F ∷ 0x98 ∷ 0x80 ∷ []) look
+    (Refuses (InvalidEscapeSequence 0 (Some (Char 0x1F600))))
 unfolding encode_utf8
-escaped_four_bytes look = escaped look 0xF0 (0x9F ∷ 0x98 ∷ 0x80 ∷ []) (Char 0x1F600) refl (char_in_front 0x1F600 _ [] refl refl)
+escaped_four_bytes look =
+    escaped look 0xF0 (0x9F ∷ 0x98 ∷ 0x80 ∷ []) (Char 0x1F600) refl (char_in_front 0x1F600 _ [] refl refl)
 
 -- U+10FFFF, the greatest character
-pub escaped_greatest : (look : LookUp) → Answers (codes "\\" ++ 0xF4 ∷ 0x8F ∷ 0xBF ∷ 0xBF ∷ []) look (Refuses (InvalidEscapeSequence 0 (Some (Char 0x10_FFFF))))
+pub escaped_greatest : (look : LookUp)
+    → Answers (codes "\\" ++ 0xF4 ∷ 0x8F ∷ 0xBF ∷ 0xBF ∷ []) look
+    (Refuses (InvalidEscapeSequence 0 (Some (Char 0x10_FFFF))))
 unfolding encode_utf8
-escaped_greatest look = escaped look 0xF4 (0x8F ∷ 0xBF ∷ 0xBF ∷ []) (Char 0x10_FFFF) refl (char_in_front 0x10_FFFF _ [] refl refl)
+escaped_greatest look =
+    escaped look 0xF4 (0x8F ∷ 0xBF ∷ 0xBF ∷ []) (Char 0x10_FFFF) refl (char_in_front 0x10_FFFF _ [] refl refl)
 
 -- no character begins with the byte 80
-pub escaped_stray : (look : LookUp) → Answers (codes "\\" ++ 0x80 ∷ []) look (Refuses (InvalidEscapeSequence 0 (Some (Byte 0x80))))
+pub escaped_stray : (look : LookUp)
+    → Answers (codes "\\" ++ 0x80 ∷ []) look (Refuses (InvalidEscapeSequence 0 (Some (Byte 0x80))))
 unfolding encode_utf8 chars
 escaped_stray look = escaped look 0x80 [] (Byte 0x80) refl (byte_in_front 0x80 [] refl)
 
 -- whatever follows it
-pub escaped_stray_and_more : (look : LookUp) → Answers (codes "\\" ++ 0x80 ∷ codes "llo") look (Refuses (InvalidEscapeSequence 0 (Some (Byte 0x80))))
+pub escaped_stray_and_more : (look : LookUp)
+    → Answers (codes "\\" ++ 0x80 ∷ codes "llo") look (Refuses (InvalidEscapeSequence 0 (Some (Byte 0x80))))
 unfolding encode_utf8 chars
-escaped_stray_and_more look = escaped look 0x80 (codes "llo") (Byte 0x80) refl (byte_in_front 0x80 (codes "llo") refl)
+escaped_stray_and_more look =
+    escaped look 0x80 (codes "llo") (Byte 0x80) refl (byte_in_front 0x80 (codes "llo") refl)
 
 -- nor with the second byte of U+2764
-pub escaped_second_byte : (look : LookUp) → Answers (codes "\\" ++ 0x9D ∷ 0xA4 ∷ codes "ll") look (Refuses (InvalidEscapeSequence 0 (Some (Byte 0x9D))))
+pub escaped_second_byte : (look : LookUp)
+    → Answers (codes "\\" ++ 0x9D ∷ 0xA4 ∷ codes "ll") look
+    (Refuses (InvalidEscapeSequence 0 (Some (Byte 0x9D))))
 unfolding encode_utf8 chars
-escaped_second_byte look = escaped look 0x9D (0xA4 ∷ codes "ll") (Byte 0x9D) refl (byte_in_front 0x9D (0xA4 ∷ codes "ll") refl)
+escaped_second_byte look =
+    escaped look 0x9D (0xA4 ∷ codes "ll") (Byte 0x9D) refl (byte_in_front 0x9D (0xA4 ∷ codes "ll") refl)
 
 -- nor with its third
-pub escaped_third_byte : (look : LookUp) → Answers (codes "\\" ++ 0xA4 ∷ codes "ll") look (Refuses (InvalidEscapeSequence 0 (Some (Byte 0xA4))))
+pub escaped_third_byte : (look : LookUp)
+    → Answers (codes "\\" ++ 0xA4 ∷ codes "ll") look (Refuses (InvalidEscapeSequence 0 (Some (Byte 0xA4))))
 unfolding encode_utf8 chars
-escaped_third_byte look = escaped look 0xA4 (codes "ll") (Byte 0xA4) refl (byte_in_front 0xA4 (codes "ll") refl)
+escaped_third_byte look =
+    escaped look 0xA4 (codes "ll") (Byte 0xA4) refl (byte_in_front 0xA4 (codes "ll") refl)
 
 -- of its first two bytes the third is wanting
-pub escaped_cut : (look : LookUp) → Answers (codes "\\" ++ 0xE2 ∷ 0x9D ∷ []) look (Refuses (InvalidEscapeSequence 0 (Some (Byte 0xE2))))
+pub escaped_cut : (look : LookUp)
+    → Answers (codes "\\" ++ 0xE2 ∷ 0x9D ∷ []) look (Refuses (InvalidEscapeSequence 0 (Some (Byte 0xE2))))
 unfolding encode_utf8 chars
 escaped_cut look = escaped look 0xE2 (0x9D ∷ []) (Byte 0xE2) refl (byte_in_front 0xE2 (0x9D ∷ []) refl)
 
 -- no character begins with the byte FF
-pub escaped_FF : (look : LookUp) → Answers (codes "\\" ++ 0xFF ∷ []) look (Refuses (InvalidEscapeSequence 0 (Some (Byte 0xFF))))
+pub escaped_FF : (look : LookUp)
+    → Answers (codes "\\" ++ 0xFF ∷ []) look (Refuses (InvalidEscapeSequence 0 (Some (Byte 0xFF))))
 unfolding encode_utf8 chars
 escaped_FF look = escaped look 0xFF [] (Byte 0xFF) refl (byte_in_front 0xFF [] refl)
 
 -- ED A0 80 would be a surrogate
-pub escaped_surrogate : (look : LookUp) → Answers (codes "\\" ++ 0xED ∷ 0xA0 ∷ 0x80 ∷ []) look (Refuses (InvalidEscapeSequence 0 (Some (Byte 0xED))))
+pub escaped_surrogate : (look : LookUp)
+    → Answers (codes "\\" ++ 0xED ∷ 0xA0 ∷ 0x80 ∷ []) look
+    (Refuses (InvalidEscapeSequence 0 (Some (Byte 0xED))))
 unfolding encode_utf8 chars
-escaped_surrogate look = escaped look 0xED (0xA0 ∷ 0x80 ∷ []) (Byte 0xED) refl (byte_in_front 0xED (0xA0 ∷ 0x80 ∷ []) refl)
+escaped_surrogate look =
+    escaped look 0xED (0xA0 ∷ 0x80 ∷ []) (Byte 0xED) refl (byte_in_front 0xED (0xA0 ∷ 0x80 ∷ []) refl)
 
 -- C0 80 would write 0 in two bytes
-pub escaped_overlong : (look : LookUp) → Answers (codes "\\" ++ 0xC0 ∷ 0x80 ∷ []) look (Refuses (InvalidEscapeSequence 0 (Some (Byte 0xC0))))
+pub escaped_overlong : (look : LookUp)
+    → Answers (codes "\\" ++ 0xC0 ∷ 0x80 ∷ []) look (Refuses (InvalidEscapeSequence 0 (Some (Byte 0xC0))))
 unfolding encode_utf8 chars
 escaped_overlong look = escaped look 0xC0 (0x80 ∷ []) (Byte 0xC0) refl (byte_in_front 0xC0 (0x80 ∷ []) refl)
 
 -- F4 90 80 80 would be one more than the greatest
-pub escaped_too_great : (look : LookUp) → Answers (codes "\\" ++ 0xF4 ∷ 0x90 ∷ 0x80 ∷ 0x80 ∷ []) look (Refuses (InvalidEscapeSequence 0 (Some (Byte 0xF4))))
+pub escaped_too_great : (look : LookUp)
+    → Answers (codes "\\" ++ 0xF4 ∷ 0x90 ∷ 0x80 ∷ 0x80 ∷ []) look
+    (Refuses (InvalidEscapeSequence 0 (Some (Byte 0xF4))))
 unfolding encode_utf8 chars
-escaped_too_great look = escaped look 0xF4 (0x90 ∷ 0x80 ∷ 0x80 ∷ []) (Byte 0xF4) refl (byte_in_front 0xF4 (0x90 ∷ 0x80 ∷ 0x80 ∷ []) refl)
+escaped_too_great look =
+    escaped look 0xF4 (0x90 ∷ 0x80 ∷ 0x80 ∷ []) (Byte 0xF4) refl
+    (byte_in_front 0xF4 (0x90 ∷ 0x80 ∷ 0x80 ∷ []) refl)
 
 -- a character after a name: U+00E9
-pub character_after_name : (look : LookUp) → Answers (codes "${a" ++ 0xC3 ∷ 0xA9 ∷ codes "}") look (Refuses (UnexpectedCharacter 3 (Char 0xE9) after_name))
+pub character_after_name : (look : LookUp)
+    → Answers (codes "${a" ++ 0xC3 ∷ 0xA9 ∷ codes "}") look
+    (Refuses (UnexpectedCharacter 3 (Char 0xE9) after_name))
 unfolding encode_utf8
-character_after_name look = refused _ (codes "${a" ++ 0xC3 ∷ 0xA9 ∷ codes "}") _ look Empty refl refl (name_before (codes "a") 0xC3 (0xA9 ∷ codes "}") (Char 0xE9) (char_in_front 0xE9 _ (codes "}") refl refl) refl)
+character_after_name look =
+    refused _ (codes "${a" ++ 0xC3 ∷ 0xA9 ∷ codes "}") _ look Empty refl refl
+    (name_before (codes "a") 0xC3 (0xA9 ∷ codes "}") (Char 0xE9) (char_in_front 0xE9 _ (codes "}") refl refl)
+    refl)
 
 -- the byte FF after a name
-pub byte_after_name : (look : LookUp) → Answers (codes "${a" ++ 0xFF ∷ []) look (Refuses (UnexpectedCharacter 3 (Byte 0xFF) after_name))
+pub byte_after_name : (look : LookUp)
+    → Answers (codes "${a" ++ 0xFF ∷ []) look (Refuses (UnexpectedCharacter 3 (Byte 0xFF) after_name))
 unfolding encode_utf8 chars
-byte_after_name look = refused _ (codes "${a" ++ 0xFF ∷ []) _ look Empty refl refl (name_before (codes "a") 0xFF [] (Byte 0xFF) (byte_in_front 0xFF [] refl) refl)
+byte_after_name look =
+    refused _ (codes "${a" ++ 0xFF ∷ []) _ look Empty refl refl
+    (name_before (codes "a") 0xFF [] (Byte 0xFF) (byte_in_front 0xFF [] refl) refl)
 
 -- the first two bytes of a character that is cut, before the placeholder and after it
-pub cut_character_after_name : (look : LookUp) → Answers (0xE2 ∷ 0x98 ∷ codes "Hello ${name" ++ 0xE2 ∷ 0x98 ∷ []) look (Refuses (UnexpectedCharacter 14 (Byte 0xE2) after_name))
+pub cut_character_after_name : (look : LookUp)
+    → Answers (0xE2 ∷ 0x98 ∷ codes "Hello ${name" ++ 0xE2 ∷ 0x98 ∷ []) look
+    (Refuses (UnexpectedCharacter 14 (Byte 0xE2) after_name))
 unfolding encode_utf8 chars
-cut_character_after_name look = refused _ (codes "${name" ++ 0xE2 ∷ 0x98 ∷ []) _ look (only_plain (0xE2 ∷ 0x98 ∷ codes "Hello ")) refl refl (name_before (codes "name") 0xE2 (0x98 ∷ []) (Byte 0xE2) (byte_in_front 0xE2 (0x98 ∷ []) refl) refl)
+cut_character_after_name look =
+    refused _ (codes "${name" ++ 0xE2 ∷ 0x98 ∷ []) _ look (only_plain (0xE2 ∷ 0x98 ∷ codes "Hello ")) refl
+    refl (name_before (codes "name") 0xE2 (0x98 ∷ []) (Byte 0xE2) (byte_in_front 0xE2 (0x98 ∷ []) refl) refl)

@@ -19,8 +19,11 @@ pub backslash_at_end : (look : LookUp) → Answers (codes "\\") look (Refuses (I
 backslash_at_end look = refused _ (codes "\\") _ look Empty refl refl escape_at_end
 
 -- a backslash before a letter
-pub backslash_before_letter : (look : LookUp) → Answers (codes "\\x") look (Refuses (InvalidEscapeSequence 0 (Some (Char 120))))
-backslash_before_letter look = refused _ (codes "\\x") _ look Empty refl refl (backslash_before 120 [] (Char 120) (ascii_in_front 120 [] refl) refl)
+pub backslash_before_letter : (look : LookUp)
+    → Answers (codes "\\x") look (Refuses (InvalidEscapeSequence 0 (Some (Char 120))))
+backslash_before_letter look =
+    refused _ (codes "\\x") _ look Empty refl refl
+    (backslash_before 120 [] (Char 120) (ascii_in_front 120 [] refl) refl)
 
 -- a dollar ends the source
 pub lone_dollar : (look : LookUp) → Answers (codes "$") look (Refuses (MissingVariableName 0 1))
@@ -31,8 +34,10 @@ pub dollar_before_mark : (look : LookUp) → Answers (codes "$!") look (Refuses 
 dollar_before_mark look = refused _ (codes "$!") _ look Empty refl refl (dollar_before 33 [] refl)
 
 -- a dollar before a character past ASCII, U+00E9
-pub dollar_before_past_ascii : (look : LookUp) → Answers (codes "$" ++ 0xC3 ∷ 0xA9 ∷ []) look (Refuses (MissingVariableName 0 1))
-dollar_before_past_ascii look = refused _ (codes "$" ++ 0xC3 ∷ 0xA9 ∷ []) _ look Empty refl refl (dollar_before 0xC3 (0xA9 ∷ []) refl)
+pub dollar_before_past_ascii : (look : LookUp)
+    → Answers (codes "$" ++ 0xC3 ∷ 0xA9 ∷ []) look (Refuses (MissingVariableName 0 1))
+dollar_before_past_ascii look =
+    refused _ (codes "$" ++ 0xC3 ∷ 0xA9 ∷ []) _ look Empty refl refl (dollar_before 0xC3 (0xA9 ∷ []) refl)
 
 -- an opening brace after a dollar ends the source
 pub lone_brace : (look : LookUp) → Answers (codes "${") look (Refuses (MissingVariableName 0 2))
@@ -44,56 +49,78 @@ empty_braces look = refused _ (codes "${}") _ look Empty refl refl (brace_before
 
 -- no name before a default
 pub default_without_name : (look : LookUp) → Answers (codes "${:x}") look (Refuses (MissingVariableName 0 2))
-default_without_name look = refused _ (codes "${:x}") _ look Empty refl refl (brace_before colon (codes "x}") refl)
+default_without_name look =
+    refused _ (codes "${:x}") _ look Empty refl refl (brace_before colon (codes "x}") refl)
 
 -- a name in braces ends the source
 pub unclosed_name : (look : LookUp) → Answers (codes "${a") look (Refuses (MissingClosingBrace 1))
 unclosed_name look = refused _ (codes "${a") _ look Empty refl refl (name_ends (codes "a") refl)
 
 -- a name in braces before another byte, with what was expected in words
-pub other_byte_after_name : (look : LookUp) → Answers (codes "${a)") look (Refuses (UnexpectedCharacter 3 (Char 41) (codes "a closing brace ('}'), colon (':') or question mark ('?')")))
-other_byte_after_name look = refused _ (codes "${a)") _ look Empty refl refl (name_before (codes "a") 41 [] (Char 41) (ascii_in_front 41 [] refl) refl)
+pub other_byte_after_name : (look : LookUp)
+    → Answers (codes "${a)") look
+    (Refuses (UnexpectedCharacter 3 (Char 41)
+    (codes "a closing brace ('}'), colon (':') or question mark ('?')")))
+other_byte_after_name look =
+    refused _ (codes "${a)") _ look Empty refl refl
+    (name_before (codes "a") 41 [] (Char 41) (ascii_in_front 41 [] refl) refl)
 
 -- a dash is no name byte
-pub dash_after_name : (look : LookUp) → Answers (codes "${a-b}") look (Refuses (UnexpectedCharacter 3 (Char 45) after_name))
-dash_after_name look = refused _ (codes "${a-b}") _ look Empty refl refl (name_before (codes "a") 45 (codes "b}") (Char 45) (ascii_in_front 45 (codes "b}") refl) refl)
+pub dash_after_name : (look : LookUp)
+    → Answers (codes "${a-b}") look (Refuses (UnexpectedCharacter 3 (Char 45) after_name))
+dash_after_name look =
+    refused _ (codes "${a-b}") _ look Empty refl refl
+    (name_before (codes "a") 45 (codes "b}") (Char 45) (ascii_in_front 45 (codes "b}") refl) refl)
 
 -- a default that never closes
 pub unclosed_default : (look : LookUp) → Answers (codes "${a:x") look (Refuses (MissingClosingBrace 1))
-unclosed_default look = refused _ (codes "${a:x") _ look Empty refl refl (never_closed (codes "a") (codes "x") refl)
+unclosed_default look =
+    refused _ (codes "${a:x") _ look Empty refl refl (never_closed (codes "a") (codes "x") refl)
 
 -- an escaped closing brace closes nothing
-pub escaped_brace_closes_nothing : (look : LookUp) → Answers (codes "${a:\\}") look (Refuses (MissingClosingBrace 1))
-escaped_brace_closes_nothing look = refused _ (codes "${a:\\}") _ look Empty refl refl (never_closed (codes "a") (codes "\\}") refl)
+pub escaped_brace_closes_nothing : (look : LookUp)
+    → Answers (codes "${a:\\}") look (Refuses (MissingClosingBrace 1))
+escaped_brace_closes_nothing look =
+    refused _ (codes "${a:\\}") _ look Empty refl refl (never_closed (codes "a") (codes "\\}") refl)
 
 -- a bare opening brace opens
 pub bare_brace_opens : (look : LookUp) → Answers (codes "${a:{}") look (Refuses (MissingClosingBrace 1))
-bare_brace_opens look = refused _ (codes "${a:{}") _ look Empty refl refl (never_closed (codes "a") (codes "{}") refl)
+bare_brace_opens look =
+    refused _ (codes "${a:{}") _ look Empty refl refl (never_closed (codes "a") (codes "{}") refl)
 
 -- a default that ends in a backslash
-pub default_ends_in_backslash : (look : LookUp) → Answers (codes "${a:\\") look (Refuses (MissingClosingBrace 1))
-default_ends_in_backslash look = refused _ (codes "${a:\\") _ look Empty refl refl (never_closed (codes "a") (codes "\\") refl)
+pub default_ends_in_backslash : (look : LookUp)
+    → Answers (codes "${a:\\") look (Refuses (MissingClosingBrace 1))
+default_ends_in_backslash look =
+    refused _ (codes "${a:\\") _ look Empty refl refl (never_closed (codes "a") (codes "\\") refl)
 
 -- a fault in a closed default has its position in the whole source
-pub escape_in_default : (look : LookUp) → Answers (codes "${a:\\x}") look (Refuses (InvalidEscapeSequence 4 (Some (Char 120))))
+pub escape_in_default : (look : LookUp)
+    → Answers (codes "${a:\\x}") look (Refuses (InvalidEscapeSequence 4 (Some (Char 120))))
 escape_in_default look = refused _ (codes "${a:\\x}") _ look Empty refl refl
     (in_default (codes "a") (codes "\\x") [] _
-    (fault_after_tree 4 _ (codes "\\x") _ Empty refl refl (backslash_before 120 [] (Char 120) (ascii_in_front 120 [] refl) refl)) refl)
+    (fault_after_tree 4 _ (codes "\\x") _ Empty refl refl
+    (backslash_before 120 [] (Char 120) (ascii_in_front 120 [] refl) refl)) refl)
 
 -- a dollar at the end of a default
 pub dollar_in_default : (look : LookUp) → Answers (codes "${a:$}") look (Refuses (MissingVariableName 4 1))
 dollar_in_default look = refused _ (codes "${a:$}") _ look Empty refl refl
-    (in_default (codes "a") (codes "$") [] _ (fault_after_tree 4 _ (codes "$") _ Empty refl refl dollar_at_end) refl)
+    (in_default (codes "a") (codes "$") [] _
+    (fault_after_tree 4 _ (codes "$") _ Empty refl refl dollar_at_end) refl)
 
 -- a placeholder in a closed default
-pub placeholder_in_default : (look : LookUp) → Answers (codes "${a:${b)}}") look (Refuses (UnexpectedCharacter 7 (Char 41) after_name))
+pub placeholder_in_default : (look : LookUp)
+    → Answers (codes "${a:${b)}}") look (Refuses (UnexpectedCharacter 7 (Char 41) after_name))
 placeholder_in_default look = refused _ (codes "${a:${b)}}") _ look Empty refl refl
     (in_default (codes "a") (codes "${b)}") [] _
-    (fault_after_tree 4 _ (codes "${b)}") _ Empty refl refl (name_before (codes "b") 41 (codes "}") (Char 41) (ascii_in_front 41 (codes "}") refl) refl)) refl)
+    (fault_after_tree 4 _ (codes "${b)}") _ Empty refl refl
+    (name_before (codes "b") 41 (codes "}") (Char 41) (ascii_in_front 41 (codes "}") refl) refl)) refl)
 
 -- two defaults deep, after other items at each depth
-pub deep_in_defaults : (look : LookUp) → Answers (codes "x$y${a:\\:${b:p${c}\\q}}") look (Refuses (InvalidEscapeSequence 18 (Some (Char 113))))
-deep_in_defaults look = refused _ (codes "${a:\\:${b:p${c}\\q}}") _ look (plain (codes "x") (only (Short (codes "y")))) refl refl
+pub deep_in_defaults : (look : LookUp)
+    → Answers (codes "x$y${a:\\:${b:p${c}\\q}}") look (Refuses (InvalidEscapeSequence 18 (Some (Char 113))))
+deep_in_defaults look =
+    refused _ (codes "${a:\\:${b:p${c}\\q}}") _ look (plain (codes "x") (only (Short (codes "y")))) refl refl
     (in_default (codes "a") (codes "\\:${b:p${c}\\q}") [] _
     (fault_after_tree 7 _ (codes "${b:p${c}\\q}") _ (only (Escaped colon)) refl refl
     (in_default (codes "b") (codes "p${c}\\q") [] _

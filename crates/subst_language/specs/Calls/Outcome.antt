@@ -1,4 +1,5 @@
--- What a call returns, unless memory runs out. An error that states no fault says that memory ran out.
+-- What a call returns, unless memory runs out. An error that states no fault says that memory ran
+-- out. `bytes_of` tells the bytes of an output: of a `Vec` its items, of a `String` its bytes.
 use Rattle.std.specs.Prelude.{◌≡◌, ℕ, List, Option, Some, Result, Ok, Err, IfErr, IfSome}
 use Rattle.std.specs.Option.{option_map}
 use Rattle.subst_error.specs.Fault.{Fault}

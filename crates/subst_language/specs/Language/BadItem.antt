@@ -58,7 +58,9 @@ mutual
     inside : {p : ℕ} {f : Fault} (n w v : List ℕ) → IsName n → IsBalanced w → HasFault (p + 3 + length n) w f
         → IsBad p (dollar ∷ opening_brace ∷ n ++ (colon ∷ w ++ closing_brace ∷ v)) f
 
-  -- the text s, which is at position p, has the fault f: a well-formed tree is followed by a bad item
+  -- The text s, which is at position p, has the fault f: the text of a well-formed tree is followed
+  -- by a text that begins with a bad item. A bad item refers to a fault only of a default in it,
+  -- which is shorter.
   pub data HasFault : (p : ℕ) → (s : List ℕ) → (f : Fault) → Type 0 where
     fault_after : {p : ℕ} {r : List ℕ} {f : Fault} (t : Tree) → IsWellFormed t
         → IsBad (p + length (text t)) r f → HasFault p (text t ++ r) f

@@ -21,7 +21,10 @@ found_or (Some x) v = Bytes x
 found_or None v = v
 
 abbrev mutual
-  -- an item whose text begins at position p
+  -- The value of an item whose text begins at position p. A byte gives itself. A variable gives
+  -- what the look-up has for its name, as it is. Where the look-up has nothing, an optional
+  -- variable gives no bytes, one with a default gives the value of the default, and any other is
+  -- missing.
   pub item_value : ℕ → Item → LookUp → Value
   item_value p (Plain b) look = Bytes (b ∷ [])
   item_value p (Escaped b) look = Bytes (b ∷ [])

@@ -27,10 +27,12 @@ in_order T left count step f (e ∷ es) kept h n m =
 
 pub returns-clause-keys : goal.returns-clause-keys
 returns-clause-keys g c =
-    (in_order _ (λ f. into_iter_items f.0.now) (λ f. into_iter_len f.0.now) (λ f k v b w f' t some. search rules) _ _ _
+    (in_order _ (λ f. into_iter_items f.0.now) (λ f. into_iter_len f.0.now)
+    (λ f k v b w f' t some. search rules) _ _ _
     c.retain.ensures.filtered (search rules) (search rules)).0
 
 pub returns-clause-values : goal.returns-clause-values
 returns-clause-values g c =
-    (in_order _ (λ f. into_iter_items f.0.now) (λ f. into_iter_len f.0.now) (λ f k v b w f' t some. search rules) _ _ _
+    (in_order _ (λ f. into_iter_items f.0.now) (λ f. into_iter_len f.0.now)
+    (λ f k v b w f' t some. search rules) _ _ _
     c.retain.ensures.filtered (search rules) (search rules)).1 ∙ c.into_iter-rest.ensures.rest

@@ -6,6 +6,8 @@ use Rattle.subst_raw.proofs.character.front_character.Goals as goal
 
 pub returns-in-None : goal.returns-in-None
 returns-in-None c = (
-  c.front_text.ensures.empty (nil_from_length c.front_text.result.now (omega (arith, ap length c.chars.ensures.rest, c.in-None.ensures.steps.0.0))),
+  c.front_text.ensures.empty
+      (nil_from_length c.front_text.result.now
+      (omega (arith, ap length c.chars.ensures.rest, c.in-None.ensures.steps.0.0))),
   first_byte c.args.bytes.now c.requires,
 )

@@ -1,6 +1,6 @@
--- At each pass the list has the same parts; the output, joined with what is visited from here on, is what the
--- parts give; the output is what the parts before give under a look-up of marks, with marks filled in; and the
--- turns and what is visited from here on are together as many as the parts that are visited.
+-- At each pass the list has the same parts; the output, joined with what is visited from here on, is what
+-- the parts give; the output is what the parts before give under a look-up of marks, with marks filled in;
+-- and the turns and what is visited from here on are together as many as the parts that are visited.
 use Rattle.std.proofs.Common.{◌≡◌, length, ◌-◌, ◌≤◌}
 use Rattle.subst_language.specs.Calls.VariableMap.{ByLookUp}
 use Rattle.subst_raw.specs.Filled.{marks_of}

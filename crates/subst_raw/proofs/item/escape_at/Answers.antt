@@ -9,10 +9,13 @@ returns-in-None-clause-err c =
 
 pub returns-in-Some-clause-ok : goal.returns-in-Some-clause-ok
 returns-in-Some-clause-ok c =
-    escape_at c.args.tape.now.source.now c.args.at c.requires.0 c.requires.1 c.in-Some.byte c.in-Some.ensures.byte
+    escape_at c.args.tape.now.source.now c.args.at c.requires.0 c.requires.1 c.in-Some.byte
+    c.in-Some.ensures.byte
     (sym c.is_special.ensures ∙ c.if-is_special.true)
 
 pub returns-in-Some-2-clause-err : goal.returns-in-Some-2-clause-err
 returns-in-Some-2-clause-err c =
-    other_escape_at c.args.tape.now.source.now c.args.at c.requires.0 c.requires.1 c.in-Some.byte c.character_at.result c.in-Some.ensures.byte
-    (sym c.is_special.ensures ∙ c.if-is_special.false) (rw c.in-Some.ensures.same at c.character_at.ensures.answer)
+    other_escape_at c.args.tape.now.source.now c.args.at c.requires.0 c.requires.1 c.in-Some.byte
+    c.character_at.result c.in-Some.ensures.byte
+    (sym c.is_special.ensures ∙ c.if-is_special.false)
+    (rw c.in-Some.ensures.same at c.character_at.ensures.answer)

@@ -5,8 +5,11 @@ use Rattle.subst_raw.proofs.ScanLemmas.{scan_end, scan_escape, scan_opening, sca
 use Rattle.subst_raw.proofs.scan.closes_all.Goals as goal
 
 pub returns-in-None-clause-answer : goal.returns-in-None-clause-answer
-returns-in-None-clause-answer c =
-    (λ is. absurd (false≢true is), λ closed. absurd (scan_end c.loop-unclosed.invariant.scan c.loop-unclosed-test.true (rw c.loop-unclosed.invariant.same at c.in-None.ensures.byte) closed))
+returns-in-None-clause-answer c = (
+  λ is. absurd (false≢true is),
+  λ closed. absurd (scan_end c.loop-unclosed.invariant.scan c.loop-unclosed-test.true
+      (rw c.loop-unclosed.invariant.same at c.in-None.ensures.byte) closed),
+)
 
 pub loop-unclosed-preserved-in-Some-eq92 : goal.loop-unclosed-preserved-in-Some-eq92
 loop-unclosed-preserved-in-Some-eq92 c =
@@ -16,7 +19,9 @@ loop-unclosed-preserved-in-Some-eq92 c =
     let byte = rw same at h.byte in
     record {
       same = h.same ∙ same;
-      scan = scan_escape c.loop-unclosed.invariant.scan c.loop-unclosed-test.true within byte c.in-Some-eq92.field-0-test;
+      scan =
+          scan_escape c.loop-unclosed.invariant.scan c.loop-unclosed-test.true within byte
+          c.in-Some-eq92.field-0-test;
       grows = omega arith;
       counted = omega arith;
       inside = omega (arith, within);
@@ -30,7 +35,9 @@ loop-unclosed-preserved-in-Some-eq123 c =
     let byte = rw same at h.byte in
     record {
       same = h.same ∙ same;
-      scan = scan_opening c.loop-unclosed.invariant.scan c.loop-unclosed-test.true within byte c.in-Some-eq123.field-0-test;
+      scan =
+          scan_opening c.loop-unclosed.invariant.scan c.loop-unclosed-test.true within byte
+          c.in-Some-eq123.field-0-test;
       grows = omega arith;
       counted = omega arith;
       inside = omega (arith, within);
@@ -44,7 +51,9 @@ loop-unclosed-preserved-in-Some-eq125 c =
     let byte = rw same at h.byte in
     record {
       same = h.same ∙ same;
-      scan = scan_closing c.loop-unclosed.invariant.scan c.loop-unclosed-test.true within byte c.in-Some-eq125.field-0-test;
+      scan =
+          scan_closing c.loop-unclosed.invariant.scan c.loop-unclosed-test.true within byte
+          c.in-Some-eq125.field-0-test;
       grows = omega arith;
       counted = omega arith;
       inside = omega (arith, within);
@@ -59,7 +68,9 @@ loop-unclosed-preserved c =
     let byte = rw same at h.byte in
     record {
       same = h.same ∙ same;
-      scan = scan_byte c.loop-unclosed.invariant.scan c.loop-unclosed-test.true within byte tests.0.0.1 tests.0.1 tests.1;
+      scan =
+          scan_byte c.loop-unclosed.invariant.scan c.loop-unclosed-test.true within byte tests.0.0.1 tests.0.1
+          tests.1;
       grows = omega arith;
       counted = omega arith;
       inside = omega (arith, within);

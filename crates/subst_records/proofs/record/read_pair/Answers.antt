@@ -30,7 +30,8 @@ returns-in_default-3 g c name value are is =
     let parts = pair_cut c.args.pair.now name value c.cut.result.0.now (option_copied c.cut.result.1)
     are.1 c.cut.ensures is in
     let here : Some c.in-Some.value.now ≡ Some (column_of value) = rw c.in-Some.is at parts.1 in
-    let bad : IsNoContent g.V.Content.form c.in-Some.value.now = rw c.in_default-3.is at c.in_ok-value.ensures in
+    let bad : IsNoContent g.V.Content.form c.in-Some.value.now = rw c.in_default-3.is at
+    c.in_ok-value.ensures in
     bad value are.2 (cc here)
 
 pub returns-in-Ok : goal.returns-in-Ok

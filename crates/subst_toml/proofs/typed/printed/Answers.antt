@@ -11,4 +11,5 @@ unread = refl
 
 pub returns-in-Err-DateInvalid-clause-dates : goal.returns-in-Err-DateInvalid-clause-dates
 returns-in-Err-DateInvalid-clause-dates c =
-    IfOk-weaker c.from_str.result _ _ (λ text is. λ invalid. ap parse_document is ∙ unread) c.from_str.ensures.ok
+    IfOk-weaker c.from_str.result _ _ (λ text is. λ invalid. ap parse_document is ∙ unread)
+    c.from_str.ensures.ok

@@ -29,5 +29,8 @@ loop-name-preserved c =
 
 pub returns : goal.returns
 returns c =
-    let last = c.loop-name-test.false in
-    (λ _ k d inside. c.loop-name.invariant k d (omega (arith, inside, last, c.loop-name.auto.name-index-end)), λ _. refl)
+    let last = c.loop-name-test.false in (
+      λ _ k d inside. c.loop-name.invariant k d
+          (omega (arith, inside, last, c.loop-name.auto.name-index-end)),
+      λ _. refl,
+    )

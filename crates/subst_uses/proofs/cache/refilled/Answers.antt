@@ -5,7 +5,8 @@ use Rattle.subst_uses.specs.CommandLine.{texts_of}
 use Rattle.subst_uses.proofs.cache.refilled.Goals as goal
 
 -- what holds of what each element is mapped to holds of each element of the mapped list
-all_mapped : {X Y : Type 0} (P : Y → Type 0) (f : X → Y) (xs : List X) → All (λ x. P (f x)) xs → All P (map f xs)
+all_mapped : {X Y : Type 0} (P : Y → Type 0) (f : X → Y) (xs : List X) → All (λ x. P (f x)) xs
+    → All P (map f xs)
 all_mapped P f [] each k d inside = absurd (omega arith)
 all_mapped P f (x ∷ xs) each zero d inside = each 0 x (omega arith)
 all_mapped P f (x ∷ xs) each (suc k) d inside =

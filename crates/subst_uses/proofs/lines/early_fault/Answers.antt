@@ -16,7 +16,8 @@ abbrev HasNoneSettled : List ℕ → Type 0
 HasNoneSettled s = (f : Fault) → HasFault 0 s f → ¬ (IsSettled (length s) f)
 
 -- that is so where the result is `Ok(None)`
-none_returned : (s : List ℕ) (result : Result (Option ParseError) AllocError) → result ≡ Ok None → HasNoneSettled s
+none_returned : (s : List ℕ) (result : Result (Option ParseError) AllocError) → result ≡ Ok None
+    → HasNoneSettled s
     → IfOk result (λ found. IfNone found (HasNoneSettled s))
 none_returned s result is none = subst (λ r. IfOk r (λ found. IfNone found (HasNoneSettled s))) (sym is) none
 
@@ -39,6 +40,7 @@ returns-clause-none c =
           (λ f fault _. one.never_both t 0 f spells fault)
       | in-Err+in_ok-is_settled-in-Err+else-branch w ↦
           none_returned s c.match-from_str.result w.result-is
-          (none_settled s (parse_fault w.in-Err.e) _ one w.in-Err.ensures.err w.in_ok-is_settled-in-Err.ensures
+          (none_settled s (parse_fault w.in-Err.e) _ one w.in-Err.ensures.err
+          w.in_ok-is_settled-in-Err.ensures
           w.if-branch.false)
     ]

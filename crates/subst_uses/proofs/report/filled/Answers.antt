@@ -28,5 +28,6 @@ returns-in-Ok c = c.in-Ok.ensures.answer (λ v. string_bytes v) (λ v. refl)
 pub returns-in_ok-report-in_default : goal.returns-in_ok-report-in_default
 returns-in_ok-report-in_default c =
     of_a_fault (error_fault c.in-Err.e) _ c.args.file.now c.args.source.now _
-    (states_a_fault c.in-Err.e c.in_default.not-OutOfMemory) (c.in-Err.ensures.answer (λ v. string_bytes v) (λ v. refl))
+    (states_a_fault c.in-Err.e c.in_default.not-OutOfMemory)
+    (c.in-Err.ensures.answer (λ v. string_bytes v) (λ v. refl))
     c.in_ok-report-in_default.ensures

@@ -11,6 +11,7 @@ returns c =
     let written : IfOk c.format.result (λ text. IfSome (
     Some c.args.file.now ++? Some (codes ":") ++? Some (decimal place.0) ++? Some (codes ":")
     ++? Some (decimal place.1) ++? Some (codes ": ") ++? display_of_error (error_fault c.args.e.now)
-    ++? Some (codes "\n") ++? Some (string_bytes c.in_ok-underlined.underlined)) (λ bs. string_bytes text ≡ bs)) =
+    ++? Some (codes "\n") ++? Some (string_bytes c.in_ok-underlined.underlined))
+    (λ bs. string_bytes text ≡ bs)) =
     c.format.ensures.ok in
     rw (c.source_position-line.ensures, c.in_ok-underlined.ensures) at written

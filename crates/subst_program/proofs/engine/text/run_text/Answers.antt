@@ -1,4 +1,5 @@
--- What was read is the source, which is written if it is plain, and refused with the error of its substitution.
+-- What was read is the source, which is written if it is plain, and refused with the error of its
+-- substitution.
 use Rattle.std.proofs.Common.{List, ℕ, subst, ◌∙◌}
 use Rattle.std.specs.List.{All}
 use Rattle.subst.specs.Calls.VariableMap.{look_up_of}

@@ -7,7 +7,8 @@ use Rattle.subst_raw.proofs.parse.Parser.open_default.Goals as goal
 pub returns-clause-answer : goal.returns-clause-answer
 returns-clause-answer g c =
     let given = c.in_ok-flush_literal.ensures in
-    reading_opened c.args.self.now c.flush_literal.new.self c.push-2.new.self c.push.new.self c.args.name c.requires.reading (given.kept, given.nested, given.few)
+    reading_opened c.args.self.now c.flush_literal.new.self c.push-2.new.self c.push.new.self c.args.name
+    c.requires.reading (given.kept, given.nested, given.few)
     c.requires.head (rw (← c.len.ensures.len) c.in_ok-push.ensures.items) c.in_ok-push-2.ensures
 
 pub overflow_add-self-2 : goal.overflow_add-self-2

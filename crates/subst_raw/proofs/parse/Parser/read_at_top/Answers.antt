@@ -8,15 +8,19 @@ pub read_escape-requires-clause-reading : goal.read_escape-requires-clause-readi
 read_escape-requires-clause-reading g c =
     let found = c.plain_end-self.ensures in
     let p = c.args.self.now in
-    reading_with (record p { at = c.plain_end-self.result }) c.byte_at.new.self (c.byte_at.ensures.same ∙ found.same)
-    (reading_run p c.plain_end-self.result c.requires.reading c.requires.top (omega (arith, found.run.ends)) found.within found.run)
+    reading_with (record p { at = c.plain_end-self.result }) c.byte_at.new.self
+    (c.byte_at.ensures.same ∙ found.same)
+    (reading_run p c.plain_end-self.result c.requires.reading c.requires.top (omega (arith, found.run.ends))
+    found.within found.run)
 
 pub read_placeholder-requires-clause-reading : goal.read_placeholder-requires-clause-reading
 read_placeholder-requires-clause-reading g c =
     let found = c.plain_end-self.ensures in
     let p = c.args.self.now in
-    reading_with (record p { at = c.plain_end-self.result }) c.byte_at.new.self (c.byte_at.ensures.same ∙ found.same)
-    (reading_run p c.plain_end-self.result c.requires.reading c.requires.top (omega (arith, found.run.ends)) found.within found.run)
+    reading_with (record p { at = c.plain_end-self.result }) c.byte_at.new.self
+    (c.byte_at.ensures.same ∙ found.same)
+    (reading_run p c.plain_end-self.result c.requires.reading c.requires.top (omega (arith, found.run.ends))
+    found.within found.run)
 
 pub returns-in-None-clause-answer : goal.returns-in-None-clause-answer
 returns-in-None-clause-answer g c =
@@ -25,18 +29,24 @@ returns-in-None-clause-answer g c =
     let same = c.byte_at.ensures.same ∙ found.same in
     let ends = rw found.same at c.in-None.ensures.byte in (
       reading_with (record p { at = c.plain_end-self.result }) c.byte_at.new.self same
-          (reading_run p c.plain_end-self.result c.requires.reading c.requires.top (omega (arith, found.run.ends)) found.within found.run),
+          (reading_run p c.plain_end-self.result c.requires.reading c.requires.top
+          (omega (arith, found.run.ends)) found.within found.run),
       same,
       omega (arith, c.requires.more, simp length-drop at (ap length ends)),
     )
 
 pub read_escape-requires-clause-spelled : goal.read_escape-requires-clause-spelled
 read_escape-requires-clause-spelled g c =
-    let here = c.in-Some-eq92.ensures in
-    (drop (c.plain_end-self.result + 1) c.plain_end-self.new.self.source.now, rw here.same (rw c.in-Some-eq92.field-0-test at here.byte))
+    let here = c.in-Some-eq92.ensures in (
+      drop (c.plain_end-self.result + 1) c.plain_end-self.new.self.source.now,
+      rw here.same (rw c.in-Some-eq92.field-0-test at here.byte),
+    )
 
 pub read_placeholder-requires-clause-spelled : goal.read_placeholder-requires-clause-spelled
 read_placeholder-requires-clause-spelled g c =
     let here = c.in-Some.ensures in
-    let ends = subst (BeginsWithNo IsPlain) (rw c.plain_end-self.ensures.same at here.byte) c.plain_end-self.ensures.end in
-    (drop (c.plain_end-self.result + 1) c.plain_end-self.new.self.source.now, rw here.same (rw (dollar_if_not_plain c.in-Some.field-0 ends c.in-Some.field-0-test.1) at here.byte))
+    let ends = subst (BeginsWithNo IsPlain) (rw c.plain_end-self.ensures.same at here.byte)
+    c.plain_end-self.ensures.end in (
+      drop (c.plain_end-self.result + 1) c.plain_end-self.new.self.source.now,
+      rw here.same (rw (dollar_if_not_plain c.in-Some.field-0 ends c.in-Some.field-0-test.1) at here.byte),
+    )

@@ -9,19 +9,22 @@ use Rattle.subst_raw.proofs.parse.Parser.read_in_default.Goals as goal
 pub read_escape-requires-clause-reading : goal.read_escape-requires-clause-reading
 read_escape-requires-clause-reading g c =
     let found = c.inner_end-self.ensures in
-    reading_inner c.args.self.now c.byte_at.new.self c.inner_end-self.result (c.byte_at.ensures.same ∙ found.same) c.requires.reading
+    reading_inner c.args.self.now c.byte_at.new.self c.inner_end-self.result
+    (c.byte_at.ensures.same ∙ found.same) c.requires.reading
     c.requires.inside found.within found.run
 
 pub read_placeholder-requires-clause-reading : goal.read_placeholder-requires-clause-reading
 read_placeholder-requires-clause-reading g c =
     let found = c.inner_end-self.ensures in
-    reading_inner c.args.self.now c.byte_at.new.self c.inner_end-self.result (c.byte_at.ensures.same ∙ found.same) c.requires.reading
+    reading_inner c.args.self.now c.byte_at.new.self c.inner_end-self.result
+    (c.byte_at.ensures.same ∙ found.same) c.requires.reading
     c.requires.inside found.within found.run
 
 pub close_brace-requires-clause-reading : goal.close_brace-requires-clause-reading
 close_brace-requires-clause-reading g c =
     let found = c.inner_end-self.ensures in
-    reading_inner c.args.self.now c.byte_at.new.self c.inner_end-self.result (c.byte_at.ensures.same ∙ found.same) c.requires.reading
+    reading_inner c.args.self.now c.byte_at.new.self c.inner_end-self.result
+    (c.byte_at.ensures.same ∙ found.same) c.requires.reading
     c.requires.inside found.within found.run
 
 pub returns-in-None-clause-answer : goal.returns-in-None-clause-answer
@@ -29,7 +32,8 @@ returns-in-None-clause-answer g c =
     let found = c.inner_end-self.ensures in
     let same = c.byte_at.ensures.same ∙ found.same in
     let ends = rw found.same at c.in-None.ensures.byte in (
-      reading_inner c.args.self.now c.byte_at.new.self c.inner_end-self.result same c.requires.reading c.requires.inside found.within found.run,
+      reading_inner c.args.self.now c.byte_at.new.self c.inner_end-self.result same c.requires.reading
+          c.requires.inside found.within found.run,
       same,
       omega (arith, c.requires.more, simp length-drop at (ap length ends)),
     )
@@ -40,25 +44,32 @@ returns-in-Some-eq123-clause-answer g c =
     let here = c.in-Some-eq123.ensures in
     let same = here.same ∙ found.same in
     let read =
-    reading_inner c.args.self.now c.byte_at.new.self c.inner_end-self.result same c.requires.reading c.requires.inside found.within found.run in (
-      reading_opening _ read (rw here.same (here.within refl)) c.requires.inside (rw here.same (rw c.in-Some-eq123.field-0-test at here.byte)),
+    reading_inner c.args.self.now c.byte_at.new.self c.inner_end-self.result same c.requires.reading
+    c.requires.inside found.within found.run in (
+      reading_opening _ read (rw here.same (here.within refl)) c.requires.inside
+          (rw here.same (rw c.in-Some-eq123.field-0-test at here.byte)),
       same,
       omega (arith, found.run.ends),
     )
 
 pub read_escape-requires-clause-spelled : goal.read_escape-requires-clause-spelled
 read_escape-requires-clause-spelled g c =
-    let here = c.in-Some-eq92.ensures in
-    (drop (c.inner_end-self.result + 1) c.inner_end-self.new.self.source.now, rw here.same (rw c.in-Some-eq92.field-0-test at here.byte))
+    let here = c.in-Some-eq92.ensures in (
+      drop (c.inner_end-self.result + 1) c.inner_end-self.new.self.source.now,
+      rw here.same (rw c.in-Some-eq92.field-0-test at here.byte),
+    )
 
 pub read_placeholder-requires-clause-spelled : goal.read_placeholder-requires-clause-spelled
 read_placeholder-requires-clause-spelled g c =
-    let here = c.in-Some-eq36.ensures in
-    (drop (c.inner_end-self.result + 1) c.inner_end-self.new.self.source.now, rw here.same (rw c.in-Some-eq36.field-0-test at here.byte))
+    let here = c.in-Some-eq36.ensures in (
+      drop (c.inner_end-self.result + 1) c.inner_end-self.new.self.source.now,
+      rw here.same (rw c.in-Some-eq36.field-0-test at here.byte),
+    )
 
 pub close_brace-requires-clause-spelled : goal.close_brace-requires-clause-spelled
 close_brace-requires-clause-spelled g c =
     let here = c.in-Some.ensures in
     let other = c.in-Some.field-0-test in
-    let ends = subst (BeginsWithNo IsInner) (rw c.inner_end-self.ensures.same at here.byte) c.inner_end-self.ensures.end in
+    let ends = subst (BeginsWithNo IsInner) (rw c.inner_end-self.ensures.same at here.byte)
+    c.inner_end-self.ensures.end in
     rw here.same (rw (closing_if_not_inner c.in-Some.field-0 ends other.0.0.1 other.0.1 other.1) at here.byte)

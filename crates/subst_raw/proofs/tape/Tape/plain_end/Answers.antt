@@ -6,4 +6,5 @@ returns-clause-run c =
     let first = c.is_at.ensures in
     let second = c.is_at-else-not-has.ensures in
     run_append (first.run c.if-not-is_at.false)
-    (run_append (rw first.same at (second.run c.if-not-is_at-2.false)) (rw (second.same, first.same) at c.search_plain_end.ensures.run))
+    (run_append (rw first.same at (second.run c.if-not-is_at-2.false))
+    (rw (second.same, first.same) at c.search_plain_end.ensures.run))

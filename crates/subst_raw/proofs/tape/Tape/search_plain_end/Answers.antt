@@ -8,7 +8,8 @@ returns-in-Some-clause-run c =
     let is_rest = c.rest.ensures in
     run_of IsPlain c.args.self.now.source.now c.args.from (c.args.from + c.in-Some.found) (omega arith)
     (omega (arith, c.in-Some.ensures.0.high, simp length-drop at (ap length is_rest)))
-    (λ k below. subst (λ (rest : List ℕ). IsPlain (get_or rest k 0)) is_rest (plain_of _ (c.in-Some.ensures.0.before k (omega arith) (omega arith))))
+    (λ k below. subst (λ (rest : List ℕ). IsPlain (get_or rest k 0)) is_rest
+    (plain_of _ (c.in-Some.ensures.0.before k (omega arith) (omega arith))))
 
 pub returns-in-None-clause-run : goal.returns-in-None-clause-run
 returns-in-None-clause-run c =

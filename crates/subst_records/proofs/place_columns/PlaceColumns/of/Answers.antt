@@ -35,7 +35,8 @@ returns-in_ok-highlighting-in-Ok c =
       line = c.in_ok-line-in-Ok.line;
       highlighting = c.in_ok-highlighting-in-Ok.highlighting;
     }) is.1 c.source_range-range.ensures
-    (c.in_ok-line-in-Ok.ensures ∙ ap column_of line) (c.in_ok-highlighting-in-Ok.ensures ∙ ap column_of underlined)
+    (c.in_ok-line-in-Ok.ensures ∙ ap column_of line)
+    (c.in_ok-highlighting-in-Ok.ensures ∙ ap column_of underlined)
 
 pub returns-in-Err : goal.returns-in-Err
 returns-in-Err c =

@@ -13,7 +13,8 @@ returns-clause-value g c bytes reads t spells =
     let s = c.self.inside.source.now in
     let look = look_up_of bytes (g.M.VariableMap.look_up c.args.variables.now) in
     let spells_here : Spells t s = subst (λ x. Spells t x) (sym c.self.view_is) spells in
-    subst (Expands (λ output. output.items) c.expand.result) (template_value s c.self.inside.parts t look c.self.invariant spells_here)
+    subst (Expands (λ output. output.items) c.expand.result)
+    (template_value s c.self.inside.parts t look c.self.invariant spells_here)
     (c.expand.ensures.value bytes reads)
 
 pub returns-clause-counted : goal.returns-clause-counted
@@ -22,7 +23,8 @@ returns-clause-counted g c bytes reads t spells =
     let look = look_up_of bytes (g.M.VariableMap.look_up c.args.variables.now) in
     let spells_here : Spells t s = subst (λ x. Spells t x) (sym c.self.view_is) spells in
     subst (λ n. OnOk c.expand.result (c.expand.new.turns ≡ c.args.turns.now + n))
-    (template_count s c.self.inside.parts t look c.self.invariant spells_here) (c.expand.ensures.counted bytes reads)
+    (template_count s c.self.inside.parts t look c.self.invariant spells_here)
+    (c.expand.ensures.counted bytes reads)
 
 pub returns-clause-at_most : goal.returns-clause-at_most
 returns-clause-at_most g c bytes reads t spells =
@@ -30,4 +32,5 @@ returns-clause-at_most g c bytes reads t spells =
     let look = look_up_of bytes (g.M.VariableMap.look_up c.args.variables.now) in
     let spells_here : Spells t s = subst (λ x. Spells t x) (sym c.self.view_is) spells in
     subst (λ n. c.expand.new.turns ≤ c.args.turns.now + n)
-    (template_count s c.self.inside.parts t look c.self.invariant spells_here) (c.expand.ensures.at_most bytes reads)
+    (template_count s c.self.inside.parts t look c.self.invariant spells_here)
+    (c.expand.ensures.at_most bytes reads)

@@ -27,6 +27,7 @@ new_spec 𝓤 𝓛 𝓜 𝓡 wired =
     enter ! _ _ _ _ _ $ alloc_all ! (λ l. pass_all ! refl tt $
     sets ! (agg ! (no_more !)) refl (tt, tt) $
     returns ! (look_at ! 0 refl) $ free_all ! refl $
-    pure_i ! (the_row.own_val 0 (none ∷ [])) (λ x. (((λ vss. (tt, tt)), tt), tt)) ((record { count = 0 }, (refl, tt)), (((tt, (refl, tt)), tt), tt)) $
+    pure_i ! (the_row.own_val 0 (none ∷ [])) (λ x. (((λ vss. (tt, tt)), tt), tt))
+    ((record { count = 0 }, (refl, tt)), (((tt, (refl, tt)), tt), tt)) $
     suffices ! _ (ends_at 𝓛 f.ended tt c ((κs, qs, bounds, a, tt), g) none 0 tt tt) $ says ! refl $
     nothing ! $ join ! $ nothing ! $ done !))
