@@ -18,7 +18,7 @@ from running import CRATES, TOP, Wrong
 PAGE = TOP / 'docs/PROVED.md'
 WIDTH = 120
 # The crates that callers depend on.
-DOORS = ('subst', 'subst_program', 'subst_c', 'subst_records')
+DOORS = ('subst', 'subst_filter_lib', 'subst_c', 'subst_answers_lib')
 # The function whose comment has the main theorem, and how the theorem begins there.
 THEOREM = ('substitute_bytes', 'For every byte source')
 # Files whose public functions callers don't reach, and why; the longest beginning of a path counts, and the functions
@@ -26,13 +26,13 @@ THEOREM = ('substitute_bytes', 'For every byte source')
 HIDDEN = {
     'subst_raw/': '`subst` re-exports the module `steps` alone',
     'subst_raw/src/steps.rt': '',
-    'subst_tree/': '`subst` has no item of it',
+    'subst_walk/': '`subst` has no item of it',
     'subst_c/': 'its modules are private',
     'subst_c/src/lib.rt': '',
-    'subst_records/': 'most of its modules are private',
-    'subst_records/src/failure.rt': '',
-    'subst_records/src/process.rt': '',
-    'subst_records/src/run.rt': '',
+    'subst_answers_lib/': 'most of its modules are private',
+    'subst_answers_lib/src/failure.rt': '',
+    'subst_answers_lib/src/process.rt': '',
+    'subst_answers_lib/src/run.rt': '',
 }
 # Traits of which an implementation has nothing that a caller reads: `Debug` and `Error` state nothing, and `Model` is
 # told in the comment of its type.

@@ -5,4 +5,4 @@ pub use Rattle.subst_json.specs.Errors
 pub use Rattle.subst_json.specs.Laws
 pub use Rattle.subst_json.specs.Mapped
 pub use Rattle.subst_json.specs.Outcome
-pub use Rattle.subst_tree.specs.Texts
+pub use Rattle.subst_walk.specs.Texts

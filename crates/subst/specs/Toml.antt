@@ -5,4 +5,4 @@ pub use Rattle.subst_toml.specs.Errors
 pub use Rattle.subst_toml.specs.Laws
 pub use Rattle.subst_toml.specs.Mapped
 pub use Rattle.subst_toml.specs.Outcome
-pub use Rattle.subst_tree.specs.Texts
+pub use Rattle.subst_walk.specs.Texts

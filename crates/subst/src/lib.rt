@@ -27,13 +27,13 @@
 //! has no code of its own.
 #![tactic(auto)]
 
-pub use subst_core::{
-    ByteTemplate, ByteTemplateBuf, Template, TemplateBuf, substitute, substitute_bytes,
-};
 pub use subst_error as error;
 pub use subst_error::Error;
 pub use subst_map::{Env, NeverValue, NoSubstitution, VariableMap};
 pub use subst_raw::steps;
+pub use subst_template::{
+    ByteTemplate, ByteTemplateBuf, Template, TemplateBuf, substitute, substitute_bytes,
+};
 
 pub mod json;
 pub mod laws;

@@ -12,8 +12,8 @@ ghost use Rattle.subst_c.specs.Text.{IsHighlighting, IsText, SaysOf, are_texts a
 
 use crate::pairs::{Pair, Pairs};
 use std::alloc::{AllocError, Global};
-use subst_core::substitute_bytes;
 use subst_error::Error;
+use subst_template::substitute_bytes;
 
 /// Returns the bytes of the source with its variables filled in from the pairs.
 ///

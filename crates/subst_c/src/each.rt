@@ -11,8 +11,8 @@ use crate::outcome::{DONE, ROOM_TOO_SMALL};
 use crate::pairs::{Pairs, Row};
 use crate::room;
 use std::alloc::Global;
-use subst_core::ByteTemplate;
 use subst_error::{Error, ExpandError};
+use subst_template::ByteTemplate;
 
 /// What a source gives under each of several rows of pairs.
 #[derive(Drop)]

@@ -21,9 +21,9 @@ pub use fault::FaultRecord;
 use outcome::{DONE, NOT_UTF8, OUT_OF_MEMORY, REFUSED};
 pub use pairs::{Pair, Row};
 use std::alloc::Global;
-use subst_core::ByteTemplate;
 use subst_error::Error;
 use subst_language::laws;
+use subst_template::ByteTemplate;
 
 mod answer;
 mod each;

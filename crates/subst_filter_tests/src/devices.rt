@@ -2,8 +2,8 @@
 
 use crate::fakes::{Drip, Fault, Trickle};
 use std::io::{ErrorKind, Read, Write};
-use subst_program::device::standard::{FromReader, ToWriter};
-use subst_program::device::{ByteInput, ByteOutput, Failed};
+use subst_filter_lib::device::standard::{FromReader, ToWriter};
+use subst_filter_lib::device::{ByteInput, ByteOutput, Failed};
 
 /// What a call on a device returns, and whether the device then counts as failed.
 type Returned<T> = (Result<T, Failed>, bool);

@@ -1,4 +1,4 @@
-//! Tests of the filter, over the public items of `subst_program`: its devices, its runs, its words and its
+//! Tests of the filter, over the public items of `subst_filter_lib`: its devices, its runs, its words and its
 //! statuses.
 //!
 //! The expected values were worked out by hand. How a run ends is one text, which a row has to match. Each

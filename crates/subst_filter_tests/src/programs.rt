@@ -5,8 +5,8 @@ use crate::words::{pairs, words};
 use std::alloc::{AllocError, Global};
 use std::io::ErrorKind;
 use std::test::Fail;
-use subst_program::device::standard::{FromReader, ToWriter};
-use subst_program::program::run_program;
+use subst_filter_lib::device::standard::{FromReader, ToWriter};
+use subst_filter_lib::program::run_program;
 
 /// The words of a command line, over a source, and when a read and a write fail.
 #[derive(Clone, Copy)]

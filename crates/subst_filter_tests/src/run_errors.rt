@@ -5,9 +5,9 @@ use std::alloc::{AllocError, Global};
 use std::io::ErrorKind;
 use std::test::Fail;
 use subst::error::{Error, MissingVariableName};
-use subst_program::device::standard::ToWriter;
-use subst_program::program::end_with;
-use subst_program::run_error::RunError;
+use subst_filter_lib::device::standard::ToWriter;
+use subst_filter_lib::program::end_with;
+use subst_filter_lib::run_error::RunError;
 
 fn print(error: &RunError, drip: &mut Drip) -> u8 {
     end_with(error, &mut ToWriter::new(drip))

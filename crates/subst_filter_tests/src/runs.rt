@@ -3,9 +3,9 @@
 use crate::fakes::{Drip, Fault, Trickle};
 use std::alloc::{AllocError, Global};
 use std::test::Fail;
-use subst_program::device::standard::{FromReader, ToWriter};
-use subst_program::engine::{run_bytes, run_text};
-use subst_program::run_error::RunError;
+use subst_filter_lib::device::standard::{FromReader, ToWriter};
+use subst_filter_lib::engine::{run_bytes, run_text};
+use subst_filter_lib::run_error::RunError;
 use subst_testing::answers::told_fault;
 use subst_testing::variables::{ByteValues, Texts, byte_values, texts};
 

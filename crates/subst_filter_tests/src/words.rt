@@ -3,8 +3,8 @@
 use std::alloc::{AllocError, Global};
 use std::fmt::Write;
 use std::test::Fail;
-use subst_program::task::Task;
-use subst_program::values::{Values, values_of_pairs, values_of_words};
+use subst_filter_lib::task::Task;
+use subst_filter_lib::values::{Values, values_of_pairs, values_of_words};
 
 pub fn words(alloc: Global, texts: &[&str]) -> Result<Vec<String>, AllocError> {
     let mut words = Vec::new(alloc);

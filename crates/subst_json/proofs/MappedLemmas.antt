@@ -1,8 +1,8 @@
 -- Trees whose strings are filled in, apart from how they are kept.
 use Rattle.serde_json.specs.Data.{Data, null, boolean, number, string, array, object, Items, no_items, item, Members, no_members, member}
 use Rattle.subst_language.specs.Language.LookUp.{LookUp}
-use Rattle.subst_tree.specs.Texts.{AreGiven}
-use Rattle.subst_tree.proofs.TextsLemmas.{given_append}
+use Rattle.subst_walk.specs.Texts.{AreGiven}
+use Rattle.subst_walk.proofs.TextsLemmas.{given_append}
 use Rattle.subst_json.specs.Mapped.{strings, strings_of_items, strings_of_members, IsMapped, AreMapped, HasMappedMembers}
 
 -- each string of a tree that is mapped gives bytes

@@ -5,8 +5,8 @@ use Rattle.subst_error.specs.Fault.{Fault}
 use Rattle.subst_language.specs.Language.LookUp.{LookUp}
 use Rattle.subst_language.specs.Language.Answer.{Answers, Gives}
 use Rattle.subst_language.proofs.Language.AnswerLemmas.{answer_unique}
-use Rattle.subst_tree.specs.Texts.{IsFirstRefusal}
-use Rattle.subst_tree.proofs.TextsLemmas.{answered, given_not_refused, refusal_alone, refusal_before, refusal_after, refusal_unique}
+use Rattle.subst_walk.specs.Texts.{IsFirstRefusal}
+use Rattle.subst_walk.proofs.TextsLemmas.{answered, given_not_refused, refusal_alone, refusal_before, refusal_after, refusal_unique}
 use Rattle.subst_json.specs.Laws.{IsMappedOrRefused}
 use Rattle.subst_json.specs.Mapped.{strings, strings_of_items, strings_of_members, IsMapped, AreMapped, HasMappedMembers}
 use Rattle.subst_json.proofs.MappedLemmas.{given}

@@ -18,7 +18,7 @@ ghost use Rattle.serde_json.specs.View.{view};
 ghost use Rattle.subst_error.specs.ErrorFault.{error_fault};
 ghost use Rattle.subst_language.specs.Calls.Outcome.{OnFault};
 ghost use Rattle.subst_language.specs.Calls.VariableMap.{ByLookUp};
-ghost use Rattle.subst_tree.specs.Texts.{HasRange, IsFirstRefusal};
+ghost use Rattle.subst_walk.specs.Texts.{HasRange, IsFirstRefusal};
 ghost use Rattle.subst_json.specs.Mapped.{strings, IsMapped};
 ghost use Rattle.subst_json.specs.Errors.{HasOwnMemory};
 ghost use Rattle.subst_json.specs.Outcome.{ReadsAsTree, OnJson, OnSubst};
@@ -29,7 +29,7 @@ use serde_json::Value;
 use std::alloc::Global;
 use std::convert::AsStr;
 use subst_map::VariableMap;
-use subst_tree::Filler;
+use subst_walk::Filler;
 
 mod error;
 pub mod laws;

@@ -7,14 +7,14 @@ ghost use Rattle.serde_json.specs.View.{view, items_view, members_view};
 ghost use Rattle.subst_error.specs.ErrorFault.{error_fault};
 ghost use Rattle.subst_language.specs.Language.LookUp.{LookUp};
 ghost use Rattle.subst_language.specs.Calls.Outcome.{OnFault};
-ghost use Rattle.subst_tree.specs.Texts.{HasRange, IsFirstRefusal};
+ghost use Rattle.subst_walk.specs.Texts.{HasRange, IsFirstRefusal};
 ghost use Rattle.subst_json.specs.Mapped.{strings, strings_of_items, strings_of_members, IsMapped, AreMapped, HasMappedMembers};
 
 use serde_json::{Map, Value};
 use std::alloc::Global;
 use std::mem::replace;
 use subst_error::Error;
-use subst_tree::{Fill, put_values};
+use subst_walk::{Fill, put_values};
 
 /// Returns the tree with its strings filled in.
 #[cycle(walk)]

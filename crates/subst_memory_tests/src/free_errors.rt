@@ -1,8 +1,8 @@
 //! Calls on errors that take no memory.
 
+use crate::calls::{Shown, say};
 use crate::errors::{absent, no_name};
 use crate::fakes::{Drip, Trickle};
-use crate::calls::{Shown, say};
 use crate::runs::{status_of_run, words_of};
 use std::alloc::AllocError;
 use std::fmt::{Display, Write};
@@ -11,10 +11,10 @@ use subst::error::{
     MissingVariableName, ParseError, UnexpectedCharacter,
 };
 use subst::{Error, json, toml as filled};
-use subst_program::device::standard::{FromReader, ToWriter};
-use subst_program::device::{ByteInput, ByteOutput};
-use subst_program::program::end_with;
-use subst_program::run_error::RunError;
+use subst_filter_lib::device::standard::{FromReader, ToWriter};
+use subst_filter_lib::device::{ByteInput, ByteOutput};
+use subst_filter_lib::program::end_with;
+use subst_filter_lib::run_error::RunError;
 use subst_testing::calls::{begin, end};
 
 const ESCAPE: InvalidEscapeSequence = InvalidEscapeSequence {

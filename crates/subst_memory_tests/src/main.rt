@@ -9,7 +9,6 @@ mod errors;
 mod fakes;
 mod free_calls;
 mod free_errors;
-
 mod runs;
 mod texts;
 

@@ -1,14 +1,14 @@
 //! Runs of the filter, whose input is read one byte per call.
 
-use crate::fakes::{Drip, Trickle};
 use crate::calls::{Shown, again, say, say_end, tell};
+use crate::fakes::{Drip, Trickle};
 use std::alloc::{AllocError, Global};
-use subst_program::device::standard::{FromReader, ToWriter};
-use subst_program::engine::{run_bytes, run_text};
-use subst_program::program::run_program;
-use subst_program::run_error::RunError;
-use subst_program::status::OUT_OF_MEMORY;
-use subst_program::values::{Values, values_of_pairs, values_of_words};
+use subst_filter_lib::device::standard::{FromReader, ToWriter};
+use subst_filter_lib::engine::{run_bytes, run_text};
+use subst_filter_lib::program::run_program;
+use subst_filter_lib::run_error::RunError;
+use subst_filter_lib::status::OUT_OF_MEMORY;
+use subst_filter_lib::values::{Values, values_of_pairs, values_of_words};
 use subst_testing::calls::{begin, end, say_out_of_memory};
 use subst_testing::variables::{ByteValues, Texts, byte_values, texts};
 

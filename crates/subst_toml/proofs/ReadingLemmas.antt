@@ -6,7 +6,7 @@ use Rattle.std.proofs.lemmas.Option.{IfSome_then}
 use Rattle.subst_error.specs.ErrorFault.{error_fault}
 use Rattle.subst_error.specs.declared.Error as substituting
 use Rattle.subst_language.specs.Language.LookUp.{LookUp}
-use Rattle.subst_tree.specs.Texts.{IsFirstRefusal}
+use Rattle.subst_walk.specs.Texts.{IsFirstRefusal}
 use Rattle.subst_toml.specs.Errors.{IsOfSubstitution}
 use Rattle.subst_toml.specs.Mapped.{strings, strings_of_members}
 use Rattle.subst_toml.specs.Outcome.{ReadsAsTree, OnSubst}

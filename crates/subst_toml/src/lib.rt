@@ -19,7 +19,7 @@ ghost use Rattle.toml.specs.View.{view, table_view};
 ghost use Rattle.subst_error.specs.ErrorFault.{error_fault};
 ghost use Rattle.subst_language.specs.Calls.Outcome.{OnFault};
 ghost use Rattle.subst_language.specs.Calls.VariableMap.{ByLookUp};
-ghost use Rattle.subst_tree.specs.Texts.{HasRange, IsFirstRefusal};
+ghost use Rattle.subst_walk.specs.Texts.{HasRange, IsFirstRefusal};
 ghost use Rattle.subst_toml.specs.Mapped.{strings, IsMapped};
 ghost use Rattle.subst_toml.specs.Errors.{HasOwnMemory};
 ghost use Rattle.subst_toml.specs.Outcome.{ReadsAsTree, OnToml, OnSubst, TellsUtf8};
@@ -29,7 +29,7 @@ use serde::DeserializeOwned;
 use std::alloc::Global;
 use std::convert::AsStr;
 use subst_map::VariableMap;
-use subst_tree::Filler;
+use subst_walk::Filler;
 use toml::{Table, Value};
 
 mod error;

@@ -7,13 +7,13 @@ ghost use Rattle.toml.specs.View.{view, items_view, members_view};
 ghost use Rattle.subst_error.specs.ErrorFault.{error_fault};
 ghost use Rattle.subst_language.specs.Language.LookUp.{LookUp};
 ghost use Rattle.subst_language.specs.Calls.Outcome.{OnFault};
-ghost use Rattle.subst_tree.specs.Texts.{HasRange, IsFirstRefusal};
+ghost use Rattle.subst_walk.specs.Texts.{HasRange, IsFirstRefusal};
 ghost use Rattle.subst_toml.specs.Mapped.{strings, strings_of_items, strings_of_members, IsMapped, AreMapped, HasMappedMembers};
 
 use std::alloc::Global;
 use std::mem::replace;
 use subst_error::Error;
-use subst_tree::{Fill, put_values};
+use subst_walk::{Fill, put_values};
 use toml::{Table, Value};
 
 /// Returns the tree with its strings filled in.

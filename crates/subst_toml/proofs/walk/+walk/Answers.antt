@@ -7,7 +7,7 @@ use Rattle.std.specs.Map.{values_of}
 use Rattle.std.specs.Vec.Iter.{into_iter_items}
 use Rattle.toml.specs.View.{items_view}
 use Rattle.subst_error.specs.ErrorFault.{error_fault}
-use Rattle.subst_tree.proofs.WalkLemmas.{ended}
+use Rattle.subst_walk.proofs.WalkLemmas.{ended}
 use Rattle.subst_toml.proofs.TomlTreeLemmas.{string_refused, mapped_append, array_refused, table_refused, members_mapped}
 use Rattle.subst_toml.proofs.walk.+walk.Goals as goal
 

@@ -1,0 +1,38 @@
+-- What was read is the source, which is written if it is plain, and refused with the error of its
+-- substitution.
+use Rattle.std.proofs.Common.{List, ℕ, subst, ◌∙◌}
+use Rattle.std.specs.List.{All}
+use Rattle.subst.specs.Calls.VariableMap.{look_up_of}
+use Rattle.subst.specs.Language.Bytes.{IsPlain}
+use Rattle.subst.proofs.Calling.{plain_answer}
+use Rattle.subst_filter_lib.proofs.FilterRunLemmas.{delivered, refused_source, refused_text}
+use Rattle.subst_filter_lib.proofs.engine.text.run_text.Goals as goal
+
+pub returns-then-is_plain-clause-answer : goal.returns-then-is_plain-clause-answer
+returns-then-is_plain-clause-answer g c bytes reads =
+    let text = c.as_str-source.result.now in
+    let look = look_up_of bytes (g.M.VariableMap.look_up c.args.variables.now) in
+    let plain = subst (λ (s : List ℕ). All IsPlain s) c.as_bytes.ensures.value
+    (c.is_plain.ensures.0 c.if-is_plain.true) in
+    delivered (g.I.ByteInput.left c.args.input.now) (g.I.ByteInput.left c.read_all.new.input)
+    c.in_ok-read_all.field-0.items text look (g.O.ByteOutput.written c.args.output.now)
+    (g.O.ByteOutput.written c.deliver.new.output) c.in_ok-read_all.ensures.ok
+    (c.as_str-source.ensures.value ∙ c.in-Some.ensures.0) text c.as_bytes-then-is_plain.result.now
+    c.deliver.result (g.O.ByteOutput.has_failed c.deliver.new.output)
+    c.as_bytes-then-is_plain.ensures.value (plain_answer text look plain) c.deliver.ensures.ok
+    c.deliver.ensures.prefix c.deliver.ensures.err
+
+pub returns-clause-answer : goal.returns-clause-answer
+returns-clause-answer g c bytes reads =
+    let written = g.O.ByteOutput.written c.args.output.now in
+    refused_source (g.I.ByteInput.left c.args.input.now) (g.I.ByteInput.left c.read_all.new.input)
+    c.in_ok-read_all.field-0.items c.as_str-source.result.now
+    (look_up_of bytes (g.M.VariableMap.look_up c.args.variables.now)) written written
+    c.in_ok-read_all.ensures.ok (c.as_str-source.ensures.value ∙ c.in-Some.ensures.0) c.in-Err.e
+    c.highlighted_refusal.result (c.in-Err.ensures.answer bytes reads) c.highlighted_refusal.ensures.refusal
+
+pub returns-clause-text : goal.returns-clause-text
+returns-clause-text g c =
+    refused_text (g.I.ByteInput.left c.args.input.now) (g.I.ByteInput.left c.read_all.new.input)
+    c.in_ok-read_all.field-0.items c.in_ok-read_all.ensures.ok c.in-Some.ensures.1 c.in-Err.e
+    c.highlighted_refusal.result c.highlighted_refusal.ensures.refusal

@@ -1,0 +1,86 @@
+//! The run over a source of bytes.
+
+ghost use Rattle.std.specs.Prelude.{◌≡◌, ℕ, List, true, OnOk, IfErr, IfSome, IsErrOf};
+ghost use Rattle.std.specs.Io.KnownBytes.{Keeps};
+ghost use Rattle.subst.specs.Calls.Outcome.{answer_of};
+ghost use Rattle.subst.specs.Calls.VariableMap.{ByLookUp};
+ghost use Rattle.subst.specs.Language.Answer.{Answers};
+ghost use Rattle.subst_filter_lib.specs.Device.{ReadsAll};
+ghost use Rattle.subst_filter_lib.specs.FilterRun.{RunAnswers, OnceRead, UnlessReadFails, UnlessWriteFails, UnlessWriting};
+ghost use Rattle.subst_filter_lib.specs.RunError.{IsFaultOfBytes};
+
+use super::{deliver, is_plain, read_all, refusal};
+use crate::device::{ByteInput, ByteOutput};
+use crate::run_error::RunError;
+use std::alloc::Global;
+use std::convert::AsSlice;
+use subst::{Error, VariableMap, substitute_bytes};
+
+/// Reads the source from `input` to its end, fills its variables in from `variables`, writes the resulting
+/// bytes to `output` and flushes it. Nothing is written before the whole source is read and filled in.
+///
+/// # Errors
+///
+/// - [`RunError::Read`] if the input fails.
+/// - [`RunError::Subst`], with an empty text, if the source is refused.
+/// - [`RunError::Write`] if the output fails. Then a prefix of the resulting bytes was written.
+/// - [`RunError::OutOfMemory`] if memory runs out.
+#[tactic(auto, using(crate::proofs::FilterRunLemmas::delivered, crate::proofs::FilterRunLemmas::refused))]
+pub fn run_bytes<'a, I: ByteInput, O: ByteOutput, M: VariableMap<'a>>(
+    alloc: Global,
+    input: &mut I,
+    output: &mut O,
+    variables: &'a M,
+) -> Result<(), RunError>
+where
+    M::Value: AsSlice<u8> + Drop,
+
+    // What was written is the answer of what was read.
+    ensures answer { ByLookUp M.Value.items M.see (M.look_up variables.now)
+        (λ look. IfSome (I.left input.old) (λ source. RunAnswers source look
+        result (O.written output.old) (O.written output.new))) }
+
+    // The source was read to its end, unless reading failed or memory ran out.
+    ensures whole { OnceRead result (ReadsAll (I.left input.old) (I.left input.new)) }
+
+    // Nothing was written, unless the run is done or writing failed.
+    ensures unwritten { UnlessWriting result (Keeps (O.written output.old) (O.written output.new)) }
+
+    // The output was flushed after the last byte was written.
+    ensures flushed { OnOk result (O.is_flushed output.new ≡ true) }
+
+    // A device is blamed only if it has failed, and no source for not being UTF-8.
+    ensures read_fault { IsErrOf result RunError.Read → I.has_failed input.new ≡ true }
+    ensures write_fault { IsErrOf result RunError.Write → O.has_failed output.new ≡ true }
+    ensures faults { IfErr result IsFaultOfBytes }
+
+    // A failure isn't forgotten: unless the result blames a device, that device has not failed meanwhile.
+    ensures input_unfailed { UnlessReadFails result
+        (I.has_failed input.new ≡ I.has_failed input.old) }
+    ensures output_unfailed { UnlessWriteFails result
+        (O.has_failed output.new ≡ O.has_failed output.old) }
+{
+    let source = read_all(alloc, input)?;
+    match fill_in(alloc, source, variables) {
+        Ok(bytes) => deliver(output, &bytes),
+        Err(e) => Err(refusal(e, String::new(alloc))),
+    }
+}
+
+/// Fills the variables of the source in. A plain source is returned as it is, without a copy.
+#[tactic(auto, using(subst::proofs::Calling::plain_answer))]
+fn fill_in<'a, M: VariableMap<'a>>(
+    alloc: Global,
+    source: Vec<u8>,
+    variables: &'a M,
+) -> Result<Vec<u8>, Error>
+where
+    M::Value: AsSlice<u8> + Drop,
+    ensures { ByLookUp M.Value.items M.see (M.look_up variables.now)
+        (λ look. IfSome (answer_of (λ output. output.items) result) (Answers source.items look)) }
+{
+    if is_plain(&source) {
+        return Ok(source);
+    }
+    substitute_bytes(alloc, &source, variables)
+}

@@ -1,0 +1,108 @@
+//! The run over a source of text.
+
+ghost use Rattle.std.specs.Prelude.{◌≡◌, ℕ, List, true, OnOk, IfErr, IfSome, IsErrOf, MatchOption, string_bytes};
+ghost use Rattle.std.specs.Io.KnownBytes.{Keeps};
+ghost use Rattle.std.specs.Str.{IsUtf8};
+ghost use Rattle.subst.specs.Calls.VariableMap.{ByLookUp};
+ghost use Rattle.subst.specs.ErrorFault.{error_fault};
+ghost use Rattle.subst.specs.Range.{IsRangeIn, range_of};
+ghost use Rattle.subst_filter_lib.specs.Device.{ReadsAll};
+ghost use Rattle.subst_filter_lib.specs.FilterRun.{RunAnswers, TellsText, OnceRead, UnlessReadFails, UnlessWriteFails, UnlessWriting};
+ghost use Rattle.subst_filter_lib.specs.RunError.{HighlightsFault, IsFaultOfText, IsRefusalOf};
+
+use super::{deliver, is_plain, read_all, refusal};
+use crate::device::{ByteInput, ByteOutput};
+use crate::run_error::RunError;
+use std::alloc::Global;
+use std::convert::AsStr;
+use subst::{Error, VariableMap, substitute};
+
+/// Reads the source from `input` to its end, fills its variables in from `variables`, whose values are texts,
+/// writes the resulting text to `output` and flushes it. Nothing is written before the whole source is read
+/// and filled in.
+///
+/// # Errors
+///
+/// - [`RunError::Read`] if the input fails.
+/// - [`RunError::NotUtf8`] if the source isn't UTF-8.
+/// - [`RunError::Subst`], with the highlighting of the fault over the source, if the source is refused.
+/// - [`RunError::Write`] if the output fails. Then a prefix of the resulting text's bytes was written.
+/// - [`RunError::OutOfMemory`] if memory runs out, also where there is none for the highlighting.
+#[tactic(auto, using(crate::proofs::FilterRunLemmas::delivered, crate::proofs::FilterRunLemmas::delivered_text, crate::proofs::FilterRunLemmas::delivered_unhighlighted, crate::proofs::FilterRunLemmas::refused_highlighted))]
+pub fn run_text<'a, I: ByteInput, O: ByteOutput, M: VariableMap<'a>>(
+    alloc: Global,
+    input: &mut I,
+    output: &mut O,
+    variables: &'a M,
+) -> Result<(), RunError>
+where
+    M::Value: AsStr + Drop,
+
+    // What was written is the answer of what was read.
+    ensures answer { ByLookUp M.Value.text M.see (M.look_up variables.now)
+        (λ look. IfSome (I.left input.old) (λ source. RunAnswers source look
+        result (O.written output.old) (O.written output.new))) }
+
+    // The source is UTF-8, or is told not to be, unless reading failed or memory ran out.
+    ensures text { IfSome (I.left input.old) (TellsText result) }
+
+    // The source was read to its end, unless reading failed or memory ran out.
+    ensures whole { OnceRead result (ReadsAll (I.left input.old) (I.left input.new)) }
+
+    // Nothing was written, unless the run is done or writing failed.
+    ensures unwritten { UnlessWriting result (Keeps (O.written output.old) (O.written output.new)) }
+
+    // The output was flushed after the last byte was written.
+    ensures flushed { OnOk result (O.is_flushed output.new ≡ true) }
+
+    // A device is blamed only if it has failed.
+    ensures read_fault { IsErrOf result RunError.Read → I.has_failed input.new ≡ true }
+    ensures write_fault { IsErrOf result RunError.Write → O.has_failed output.new ≡ true }
+    ensures faults { IfErr result IsFaultOfText }
+
+    // A refusal has the highlighting of its fault over the source.
+    ensures highlighted { IfSome (I.left input.old)
+        (λ source. IfErr result (HighlightsFault source)) }
+
+    // A failure isn't forgotten: unless the result blames a device, that device has not failed meanwhile.
+    ensures input_unfailed { UnlessReadFails result
+        (I.has_failed input.new ≡ I.has_failed input.old) }
+    ensures output_unfailed { UnlessWriteFails result
+        (O.has_failed output.new ≡ O.has_failed output.old) }
+{
+    let Some(source) = text_of(read_all(alloc, input)?) else {
+        return Err(RunError::NotUtf8);
+    };
+    let source = source.as_str();
+    if is_plain(source.as_bytes()) {
+        return deliver(output, source.as_bytes());
+    }
+    match substitute(alloc, source, variables) {
+        Ok(text) => deliver(output, text.as_bytes()),
+        Err(e) => Err(highlighted_refusal(alloc, e, source)),
+    }
+}
+
+/// The error of a run whose substitution over `source` returned `e`, with the highlighting of its fault. If
+/// there is no memory for that, it is [`RunError::OutOfMemory`].
+fn highlighted_refusal(alloc: Global, e: Error, source: &str) -> RunError
+    requires { IsRangeIn source.now (range_of (error_fault e)) }
+    ensures refusal { IsRefusalOf e result }
+    ensures highlighted { HighlightsFault source.now result }
+{
+    match e.source_highlighting(alloc, source) {
+        Ok(shown) => refusal(e, shown),
+        Err(_) => RunError::OutOfMemory,
+    }
+}
+
+/// The text that has these bytes, without a copy: none if they aren't UTF-8.
+fn text_of(bytes: Vec<u8>) -> Option<String>
+    ensures { MatchOption result (¬ (IsUtf8 bytes.items))
+        (λ text. (string_bytes text ≡ bytes.items) × IsUtf8 bytes.items) }
+{
+    match String::from_utf8(bytes) {
+        Ok(text) => Some(text),
+        Err(_) => None,
+    }
+}

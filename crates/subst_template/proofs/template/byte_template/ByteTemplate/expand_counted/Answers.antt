@@ -1,0 +1,36 @@
+-- What the parts give and how many of them are visited is what the source's tree gives, and how many of its
+-- parts are visited.
+use Rattle.std.proofs.Common.{◌≡◌, ◌≤◌, ◌+◌, sym, subst}
+use Rattle.std.specs.Prelude.{OnOk}
+use Rattle.subst_language.specs.Language.Sentence.{Spells}
+use Rattle.subst_language.specs.Calls.Outcome.{Expands}
+use Rattle.subst_language.specs.Calls.VariableMap.{look_up_of}
+use Rattle.subst_raw.proofs.TemplateOfLemmas.{template_value, template_count}
+use Rattle.subst_template.proofs.template.byte_template.ByteTemplate.expand_counted.Goals as goal
+
+pub returns-clause-value : goal.returns-clause-value
+returns-clause-value g c bytes reads t spells =
+    let s = c.self.inside.source.now in
+    let look = look_up_of bytes (g.M.VariableMap.look_up c.args.variables.now) in
+    let spells_here : Spells t s = subst (λ x. Spells t x) (sym c.self.view_is) spells in
+    subst (Expands (λ output. output.items) c.expand.result)
+    (template_value s c.self.inside.parts t look c.self.invariant spells_here)
+    (c.expand.ensures.value bytes reads)
+
+pub returns-clause-counted : goal.returns-clause-counted
+returns-clause-counted g c bytes reads t spells =
+    let s = c.self.inside.source.now in
+    let look = look_up_of bytes (g.M.VariableMap.look_up c.args.variables.now) in
+    let spells_here : Spells t s = subst (λ x. Spells t x) (sym c.self.view_is) spells in
+    subst (λ n. OnOk c.expand.result (c.expand.new.turns ≡ c.args.turns.now + n))
+    (template_count s c.self.inside.parts t look c.self.invariant spells_here)
+    (c.expand.ensures.counted bytes reads)
+
+pub returns-clause-at_most : goal.returns-clause-at_most
+returns-clause-at_most g c bytes reads t spells =
+    let s = c.self.inside.source.now in
+    let look = look_up_of bytes (g.M.VariableMap.look_up c.args.variables.now) in
+    let spells_here : Spells t s = subst (λ x. Spells t x) (sym c.self.view_is) spells in
+    subst (λ n. c.expand.new.turns ≤ c.args.turns.now + n)
+    (template_count s c.self.inside.parts t look c.self.invariant spells_here)
+    (c.expand.ensures.at_most bytes reads)

@@ -1,0 +1,120 @@
+//! Templates over texts that they borrow, with the contracts of `ByteTemplate` over the bytes of texts.
+
+ghost use Rattle.std.specs.Prelude.{◌≡◌, IfErr, IfOk, string_bytes};
+ghost use Rattle.subst_error.specs.ErrorFault.{expand_fault, parse_fault};
+ghost use Rattle.subst_error.specs.Range.{range_of, IsRangeIn};
+ghost use Rattle.subst_language.specs.Language.Sentence.{IsSentence, ByTree};
+ghost use Rattle.subst_language.specs.Language.BadItem.{HasFault};
+ghost use Rattle.subst_language.specs.Language.Value.{value};
+ghost use Rattle.subst_language.specs.Calls.VariableMap.{ByLookUp};
+ghost use Rattle.subst_language.specs.Calls.Outcome.{OnFault, Expands};
+
+use std::alloc::{AllocError, Global};
+use std::convert::AsStr;
+use std::fmt;
+use std::marker::Model;
+use subst_error::{ExpandError, ParseError};
+use subst_map::VariableMap;
+use subst_raw::CowParts;
+use subst_raw::expand_text::expand_text;
+use subst_raw::parse::parse;
+use subst_raw::steps::Reads;
+
+/// A template over a text that it borrows. Contracts see it as the bytes of its source.
+#[derive(Drop)]
+pub struct Template<'a> {
+    pub(super) source: &'a str,
+    pub(super) parts: CowParts<'a>,
+}
+
+impl<'a> Model for Template<'a> {
+    ghost use Rattle.std.specs.Prelude.{ℕ, List};
+    ghost use Rattle.subst_raw.specs.Parts.{IsTemplateOf};
+
+    ghost Value = { List ℕ };
+
+    ghost view = { λ t. t.source.now };
+
+    ghost invariant = { λ t. IsTemplateOf t.source.now t.parts };
+}
+
+impl<'a> Template<'a> {
+    /// Returns the template of a source.
+    ///
+    /// ```rust
+    /// let template = Template::from_str(alloc, "Dear ${name:friend},")?;
+    /// let output = template.expand(alloc, &NoSubstitution)?;
+    /// // Dear friend,
+    /// ```
+    ///
+    /// # Errors
+    ///
+    /// The fault of the source where it isn't a sentence of the template language: `InvalidEscapeSequence`,
+    /// `MissingVariableName`, `UnexpectedCharacter` or `MissingClosingBrace`, the first from the left, with
+    /// its byte offset. `OutOfMemory` when allocation fails.
+    pub fn from_str(alloc: Global, source: &'a str) -> Result<Self, ParseError>
+        // Only a sentence has a template, which is that of the source.
+        ensures ok { IfOk result (λ template. IsSentence source.now × (template ≡ source.now)) }
+        ensures err { OnFault parse_fault result (HasFault 0 source.now) }
+
+        // The fault is in the source, between two of its characters.
+        ensures range { IfErr result (λ e. IsRangeIn source.now (range_of (parse_fault e))) }
+    {
+        let parts = parse(alloc, source.as_bytes(), &mut Reads::new())?;
+        let parts = CowParts::from(parts);
+        Ok(Template { source, parts })
+    }
+
+    /// Returns the source, which is a sentence of the template language.
+    pub fn source(&self) -> &str
+        ensures source { result.now ≡ self.now }
+        ensures sentence { IsSentence self.now }
+    {
+        self.source
+    }
+
+    /// Returns the source with its variables filled in from `variables`, whose values are texts.
+    ///
+    /// # Errors
+    ///
+    /// `NoSuchVariable` for the first needed name that `variables` has no value for; the names in a default
+    /// that isn't used aren't needed. `OutOfMemory` when allocation fails.
+    pub fn expand<'b, M: VariableMap<'b>>(
+        &self,
+        alloc: Global,
+        variables: &'b M,
+    ) -> Result<String, ExpandError>
+    where
+        M::Value: AsStr + Drop,
+        ensures value { ByLookUp M.Value.text M.see (M.look_up variables.now)
+            (λ look. ByTree self.now
+            (λ t. Expands (λ output. string_bytes output) result (value 0 t look))) }
+
+        // Whatever the map, the name that is missing is in the source.
+        ensures range { IfErr result (λ e. IsRangeIn self.now (range_of (expand_fault e))) }
+    {
+        expand_text(alloc, self.source, &self.parts, variables)
+    }
+}
+
+/// A copy has the same source. It allocates unless the template was lent.
+impl<'a> Clone for Template<'a> {
+    ghost use Rattle.std.specs.Prelude.{◌≡◌};
+
+    ghost is_clone = { λ template copy. copy ≡ template };
+
+    fn clone(&self) -> Result<Self, AllocError> {
+        let parts = self.parts.clone()?;
+        Ok(Template {
+            source: self.source,
+            parts,
+        })
+    }
+}
+
+/// The source, as `Template("Hello $name!")`.
+impl<'a> fmt::Debug for Template<'a> {
+    fn fmt<W: fmt::Write>(&self, f: &mut fmt::Formatter<W>) -> fmt::Result {
+        f.debug_tuple("Template").field(&self.source).finish()
+    }
+}

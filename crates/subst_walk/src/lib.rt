@@ -1,0 +1,96 @@
+//! Filling in the texts of a tree: what the walks over trees of each format share. `Fill` is a way to
+//! fill in texts, and `Filler` is that by a map: it returns the answer of a text, and a text without `$`
+//! and `\` as it is. `put_values` puts values into a map, whose keys stay.
+//!
+//! `subst` doesn't re-export this crate.
+#![tactic(auto)]
+
+ghost use Rattle.std.specs.Prelude.{◌≡◌, ◌↔◌, ◌+◌, ◌<◌, IfOk, IsTrue, ℕ, List, ◌∷◌, length, string_bytes};
+ghost use Rattle.std.specs.List.{All};
+ghost use Rattle.std.specs.Map.{keys_of, values_of};
+ghost use Rattle.std.specs.Vec.Iter.{into_iter_items, into_iter_len};
+ghost use Rattle.subst_language.specs.Language.Bytes.{IsPlain};
+ghost use Rattle.subst_error.specs.ErrorFault.{error_fault};
+ghost use Rattle.subst_language.specs.Language.Answer.{Answers, Gives, Refuses};
+ghost use Rattle.subst_language.specs.Language.LookUp.{LookUp};
+ghost use Rattle.subst_language.specs.Calls.Outcome.{OnFault};
+ghost use Rattle.subst_walk.specs.Texts.{HasRange};
+
+use memchr::memchr2;
+use std::alloc::Global;
+use std::collections::BTreeMap;
+use std::convert::AsStr;
+use subst_error::Error;
+use subst_map::VariableMap;
+use subst_template::substitute;
+
+/// A way to fill in texts.
+///
+/// A walk over a tree calls itself, and the toolchain has no proof of a function that does so under a bound
+/// that names a lifetime, as `VariableMap<'a>`. So a walk is generic in this trait.
+pub trait Fill {
+    // Whether texts are filled in by this look-up.
+    ghost is_look_up: { Self → LookUp → Type 0 };
+
+    /// Returns `source` with its variables filled in.
+    fn fill(&self, alloc: Global, source: String) -> Result<String, Error>
+        ensures ok { (look : LookUp) → is_look_up self.now look
+            → IfOk result (λ text. Answers (string_bytes source) look (Gives (string_bytes text))) }
+        ensures err { (look : LookUp) → is_look_up self.now look
+            → OnFault error_fault result (λ f. Answers (string_bytes source) look (Refuses f)) }
+        ensures range { OnFault error_fault result HasRange };
+}
+
+/// Fills in texts from a map of variables.
+#[derive(Clone, Copy)]
+pub struct Filler<'a, M> {
+    /// The map.
+    pub variables: &'a M,
+}
+
+impl<'a, M: VariableMap<'a>> Fill for Filler<'a, M>
+where
+    M::Value: AsStr + Drop,
+{
+    ghost use Rattle.subst_language.specs.Calls.VariableMap.{look_up_of, ReadsAs};
+
+    // It is the map's look-up, in some way to read the bytes of its values.
+    ghost is_look_up = { λ filler look. (bytes : M.Seen → List ℕ) × ReadsAs M.Value.text M.see bytes
+        × (look ≡ look_up_of bytes (M.look_up filler.variables.now)) };
+
+    fn fill(&self, alloc: Global, source: String) -> Result<String, Error> {
+        if is_plain(source.as_bytes()) {
+            return Ok(source);
+        }
+        substitute(alloc, source.as_str(), self.variables)
+    }
+}
+
+/// Whether a source has no dollar and no backslash, and so gives itself.
+fn is_plain(source: &[u8]) -> bool
+    ensures { IsTrue result ↔ All IsPlain source.now }
+{
+    memchr2(b'$', b'\\', source).is_none()
+}
+
+/// Puts these values into a map, in the order of its keys.
+pub fn put_values<V: Drop>(members: &mut BTreeMap<String, V>, values: Vec<V>)
+    requires { length values.items ≡ length members.old.entries }
+    ensures keys { keys_of members.new.entries ≡ keys_of members.old.entries }
+    ensures values { values_of members.new.entries ≡ values.items }
+{
+    let mut rest = values.into_iter();
+    members.retain(
+        |_, member|
+            ensures stays { IsTrue result }
+            ensures put { 0 < into_iter_len rest.entry
+                → (into_iter_items rest.entry ≡ member.new ∷ into_iter_items rest.exit)
+                × (into_iter_len rest.exit + 1 ≡ into_iter_len rest.entry) }
+        {
+            if let Some(value) = rest.next() {
+                *member = value;
+            }
+            true
+        },
+    );
+}
