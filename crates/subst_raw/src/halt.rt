@@ -14,6 +14,12 @@ use subst_error::{
     ParseError, UnexpectedCharacter,
 };
 
+/// What is expected after a name in braces.
+const AFTER_NAME: &str = "a closing brace ('}'), colon (':') or question mark ('?')";
+
+/// What is expected after a question mark.
+const AFTER_QUESTION_MARK: &str = "a closing brace ('}')";
+
 /// Why the pass ends before the end of its source: the cases of a `ParseError`, without the message that is
 /// in it. So it is small, since each step of the pass returns it or nothing.
 #[derive(Clone, Copy)]
@@ -89,15 +95,11 @@ impl From<Halt> for ParseError {
             Halt::AfterName {
                 position,
                 character,
-            } => unexpected(
-                position,
-                character,
-                "a closing brace ('}'), colon (':') or question mark ('?')",
-            ),
+            } => unexpected(position, character, AFTER_NAME),
             Halt::AfterQuestionMark {
                 position,
                 character,
-            } => unexpected(position, character, "a closing brace ('}')"),
+            } => unexpected(position, character, AFTER_QUESTION_MARK),
             Halt::Unclosed { position } => MissingClosingBrace { position }.into(),
             Halt::OutOfMemory(e) => e.into(),
         }
