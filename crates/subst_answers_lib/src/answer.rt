@@ -22,7 +22,7 @@ pub enum Answer {
 }
 
 impl Answer {
-    /// The answer that a result states, unless it is out of memory.
+    /// Returns the answer that a result states, unless it is out of memory.
     pub fn of(filled: Result<Vec<u8>, Error>) -> Result<Answer, AllocError>
         ensures stated { IfOk result
             (λ answer. stated_by answer ≡ answer_of (λ output. output.items) filled) }
@@ -36,7 +36,7 @@ impl Answer {
         }
     }
 
-    /// The answer that a result of texts states, unless it is out of memory.
+    /// Returns the answer that a result of texts states, unless it is out of memory.
     pub fn of_text(filled: Result<String, Error>) -> Result<Answer, AllocError>
         ensures stated { IfOk result
             (λ answer. stated_by answer ≡ answer_of (λ output. string_bytes output) filled) }
@@ -49,7 +49,7 @@ impl Answer {
         }
     }
 
-    /// The answer, if another way gives the same.
+    /// Returns the answer, if another way gives the same.
     pub fn agreed_with(self, other: &Answer) -> Answer
         ensures same { IsSome (stated_by self)
             → stated_by self ≡ stated_by other.now → result ≡ self }
@@ -62,7 +62,7 @@ impl Answer {
         }
     }
 
-    /// The line that the answer of `source` is printed as, with the byte that ends it.
+    /// Returns the line that the answer of `source` is printed as, with the byte that ends it.
     pub fn line(&self, alloc: Global, source: &[u8]) -> Result<String, AllocError>
         requires { IsOwnRefusal source.now self.now }
         ensures { IfOk result (λ line. IsLineOf source.now self.now (string_bytes line)) }
@@ -75,7 +75,7 @@ impl Answer {
     }
 }
 
-/// The line of bytes that a source gives.
+/// Returns the line of bytes that a source gives.
 pub fn output_line(alloc: Global, bytes: &[u8]) -> Result<String, AllocError>
     ensures { IfOk result (λ line. string_bytes line ≡ output_line bytes.now) }
 {

@@ -10,7 +10,7 @@ use std::alloc::{AllocError, Global};
 use subst::steps::{Reads, Turns};
 use subst::{ByteTemplate, Error, substitute_bytes};
 
-/// The line of the answer, with the byte that ends it.
+/// Returns the line of the answer, with the byte that ends it.
 pub fn line(alloc: Global, asked: &Asked<Vec<u8>, Vec<u8>>) -> Result<String, AllocError>
     ensures { IfOk result (λ line. IsTrueLine asked.now.source.items
         (values_of (λ v. v.items) asked.now.pairs) (string_bytes line)) }
@@ -19,8 +19,8 @@ pub fn line(alloc: Global, asked: &Asked<Vec<u8>, Vec<u8>>) -> Result<String, Al
     answer(alloc, source, &asked.pairs)?.line(alloc, source)
 }
 
-/// The answer of `substitute_bytes`, if a template that is parsed once and expanded twice gives the same, and
-/// so do the calls that count.
+/// Returns the answer of `substitute_bytes`, if a template that is parsed once and expanded twice gives the
+/// same, and so do the calls that count.
 fn answer(alloc: Global, source: &[u8], pairs: &Pairs<Vec<u8>>) -> Result<Answer, AllocError>
     ensures { IfOk result (IsTrueAnswer source.now (values_of (λ v. v.items) pairs.now)) }
 {

@@ -9,7 +9,8 @@ ghost use Rattle.subst_answers_lib.specs.Column.{column_of, IsCutAt, IsReadAs};
 use hex::FromHexError;
 use std::alloc::{AllocError, Global};
 
-/// The text before the first `byte` and the text after it; the whole text and `None` if it has no such byte.
+/// Returns the text before the first `byte` and the text after it; the whole text and `None` if it has no
+/// such byte.
 pub fn cut(text: &[u8], byte: u8) -> (&[u8], Option<&[u8]>)
     ensures { IsCutAt byte text.now result.0.now (option_copied result.1) }
 {
@@ -25,7 +26,7 @@ fn has_capital(text: &[u8]) -> bool
     text.iter().any(|b| b.is_ascii_uppercase())
 }
 
-/// The bytes that are written in a column, or `None` if it isn't lower-case hexadecimal.
+/// Returns the bytes that are written in a column, or `None` if it isn't lower-case hexadecimal.
 pub fn read_bytes(alloc: Global, column: &[u8]) -> Result<Option<Vec<u8>>, AllocError>
     ensures { IfOk result (λ read. IsReadAs column.now (option_map (λ v. v.items) read)) }
 {
@@ -44,7 +45,7 @@ pub fn read_bytes(alloc: Global, column: &[u8]) -> Result<Option<Vec<u8>>, Alloc
     }
 }
 
-/// The column in which these bytes are written.
+/// Returns the column in which these bytes are written.
 pub fn written(alloc: Global, bytes: &[u8]) -> Result<String, AllocError>
     ensures { IfOk result (λ text. string_bytes text ≡ column_of bytes.now) }
 {

@@ -24,7 +24,7 @@ pub enum DocumentAnswer {
 }
 
 impl DocumentAnswer {
-    /// The line that the answer is printed as, with the byte that ends it.
+    /// Returns the line that the answer is printed as, with the byte that ends it.
     pub fn line(&self, alloc: Global) -> Result<String, AllocError>
         requires { CanBeShown self.now }
         ensures { IfOk result (λ line. IsDocumentLine self.now (string_bytes line)) }

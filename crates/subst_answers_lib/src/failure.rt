@@ -35,7 +35,7 @@ impl Failure {
     ghost use Rattle.subst_answers_lib.specs.Failure.{IsFailureAt, failure_status};
     ghost use Rattle.subst_answers_lib.specs.Record.{IsLineRefused};
 
-    /// The failure at the record of this number.
+    /// Returns the failure at the record of this number.
     pub fn at_record(number: u64, error: RecordError) -> Failure
         ensures { (line : List ℕ) → IsLineRefused line error → IsFailureAt number line result }
     {
@@ -45,7 +45,7 @@ impl Failure {
         }
     }
 
-    /// The status that the program ends with.
+    /// Returns the status that the program ends with.
     pub fn status(&self) -> u8
         ensures { result ≡ failure_status self.now }
     {

@@ -15,7 +15,7 @@ use std::fmt;
 use subst::Error;
 use subst::error::CharOrByte;
 
-/// The line that a fault of `source` is printed as, with the byte that ends it.
+/// Returns the line that a fault of `source` is printed as, with the byte that ends it.
 pub fn fault_line(alloc: Global, fault: &Error, source: &[u8]) -> Result<String, AllocError>
     requires { IsRefusal source.now (error_fault fault.now) }
     ensures { IfOk result (λ line.
@@ -25,7 +25,7 @@ pub fn fault_line(alloc: Global, fault: &Error, source: &[u8]) -> Result<String,
     line_with(alloc, fault, &place)
 }
 
-/// The line that a fault of a string is printed as, if the text of the string isn't at hand.
+/// Returns the line that a fault of a string is printed as, if the text of the string isn't at hand.
 pub fn string_fault_line(alloc: Global, fault: &Error) -> Result<String, AllocError>
     requires { IfSome (error_fault fault.now) HasRange }
     ensures { IfOk result
@@ -35,7 +35,7 @@ pub fn string_fault_line(alloc: Global, fault: &Error) -> Result<String, AllocEr
     line_with(alloc, fault, &place)
 }
 
-/// The line of a fault, with these columns for where it is.
+/// Returns the line of a fault, with these columns for where it is.
 fn line_with(alloc: Global, fault: &Error, place: &PlaceColumns) -> Result<String, AllocError>
     ensures { IfOk result (λ line.
         IsLineOfError (λ _. place_text place.now) (error_fault fault.now) (string_bytes line)) }
@@ -56,7 +56,7 @@ struct FaultColumns {
 }
 
 impl FaultColumns {
-    /// The columns of the fault that an error states, unless it is out of memory.
+    /// Returns the columns of the fault that an error states, unless it is out of memory.
     fn of(alloc: Global, fault: &Error) -> Result<FaultColumns, AllocError>
         ensures { IfOk result (λ columns. IsSomeAnd (error_fault fault.now) (ShowsFault columns)) }
     {

@@ -7,8 +7,8 @@ use std::alloc::{AllocError, Global};
 use std::str::from_utf8;
 use subst::json::{Error, substitute_string_values, value_from_slice, value_from_str};
 
-/// Whether the bytes of the source, its text, and its tree filled in in place give the same answer. Bytes
-/// that are no text have one way.
+/// Returns whether the bytes of the source, its text, and its tree filled in in place give the same answer.
+/// Bytes that are no text have one way.
 pub fn agree(alloc: Global, asked: &Asked<Vec<u8>, String>) -> Result<bool, AllocError> {
     let source = asked.source.as_slice();
     let Ok(text) = from_utf8(source) else {
@@ -29,7 +29,7 @@ fn told(alloc: Global, read: Result<Value, Error>) -> Result<DocumentAnswer, All
     }
 }
 
-/// The answer of the tree that a text is read as.
+/// Returns the answer of the tree that a text is read as.
 fn in_place(
     alloc: Global,
     text: &str,
@@ -41,7 +41,7 @@ fn in_place(
     }
 }
 
-/// The answer of a tree: a refusal only where the tree is as it was.
+/// Returns the answer of a tree: a refusal only where the tree is as it was.
 fn filled_in(
     alloc: Global,
     mut tree: Value,

@@ -21,8 +21,8 @@ pub struct PlaceColumns {
 }
 
 impl PlaceColumns {
-    /// The columns of a fault that `source` is refused for. The line and the highlighting are dots if the
-    /// source isn't UTF-8.
+    /// Returns the columns of a fault that `source` is refused for. The line and the highlighting are dots if
+    /// the source isn't UTF-8.
     pub fn of(alloc: Global, fault: &Error, source: &[u8]) -> Result<PlaceColumns, AllocError>
         requires { IsRefusal source.now (error_fault fault.now) }
         ensures { IfOk result (ShowsPlace (place_in source.now) (error_fault fault.now)) }
@@ -43,7 +43,8 @@ impl PlaceColumns {
         }
     }
 
-    /// The columns of a fault of a string whose text isn't at hand. The line and the highlighting are dots.
+    /// Returns the columns of a fault of a string whose text isn't at hand. The line and the highlighting are
+    /// dots.
     pub fn alone(alloc: Global, fault: &Error) -> Result<PlaceColumns, AllocError>
         requires { IfSome (error_fault fault.now) HasRange }
         ensures { IfOk result (ShowsPlace place_alone (error_fault fault.now)) }
@@ -51,7 +52,7 @@ impl PlaceColumns {
         PlaceColumns::unshown(alloc, fault.source_range())
     }
 
-    /// The columns of a range, with dots for the line and the highlighting.
+    /// Returns the columns of a range, with dots for the line and the highlighting.
     fn unshown(alloc: Global, range: Range<usize>) -> Result<PlaceColumns, AllocError>
         ensures { IfOk result
             (λ columns. place_text columns ≡ range_column range ++ codes "\t.\t.") }

@@ -44,7 +44,7 @@ pub trait Content: Drop + Sized {
 
     ghost bytes_of: { Self → List ℕ };
 
-    /// The content that has these bytes, or `None` if there is no such one.
+    /// Returns the content that has these bytes, or `None` if there is no such one.
     fn from_bytes(bytes: Vec<u8>) -> Option<Self>
         ensures { IsContentOf form bytes.items (option_map bytes_of result) };
 }
@@ -152,7 +152,7 @@ impl From<AllocError> for RecordError {
 impl Record {
     ghost use Rattle.subst_answers_lib.specs.Record.{IsRecord, IsLineRefused};
 
-    /// The record of a line, without the byte that ends it.
+    /// Returns the record of a line, without the byte that ends it.
     ///
     /// # Errors
     ///
@@ -181,7 +181,7 @@ impl<S: Content, V: Content> Asked<S, V> {
     ghost use Rattle.subst_answers_lib.specs.Record.{AreColumnsOf, IsRefusedFor};
     ghost use Rattle.subst_answers_lib.specs.Agreement.{values_of};
 
-    /// The source and the variables of the columns after a kind.
+    /// Returns the source and the variables of the columns after a kind.
     ///
     /// # Errors
     ///
@@ -205,7 +205,7 @@ impl<S: Content, V: Content> Asked<S, V> {
     }
 }
 
-/// The variables of a column, or `None` if it is malformed.
+/// Returns the variables of a column, or `None` if it is malformed.
 fn read_pairs<V: Content>(alloc: Global, column: &[u8]) -> Result<Option<Pairs<V>>, AllocError>
     ensures { IfOk result (ArePairsRead V.form V.bytes_of column.now) }
 {
@@ -227,7 +227,7 @@ fn read_pairs<V: Content>(alloc: Global, column: &[u8]) -> Result<Option<Pairs<V
     Ok(Some(pairs))
 }
 
-/// A name and its value, or `None` if they are malformed.
+/// Returns a name and its value, or `None` if they are malformed.
 fn read_pair<V: Content>(alloc: Global, pair: &[u8]) -> Result<Option<(String, V)>, AllocError>
     ensures { IfOk result (IsPairRead V.form V.bytes_of pair.now) }
 {
@@ -247,7 +247,7 @@ fn read_pair<V: Content>(alloc: Global, pair: &[u8]) -> Result<Option<(String, V
     }
 }
 
-/// The content of a column, or `None` if it is malformed.
+/// Returns the content of a column, or `None` if it is malformed.
 fn read_content<V: Content>(alloc: Global, column: &[u8]) -> Result<Option<V>, AllocError>
     ensures { IfOk result (λ read. IsContentRead V.form column.now (option_map V.bytes_of read)) }
 {

@@ -67,7 +67,7 @@ fn is_comment(line: &[u8]) -> bool
     line.first() == Some(&b'#')
 }
 
-/// The line that is printed for a line's record, whose number is `number`.
+/// Returns the line that is printed for a line's record, whose number is `number`.
 fn answer_line(alloc: Global, number: u64, line: &[u8]) -> Result<String, Failure>
     ensures ok { IfOk result (λ printed. IsAnswered line.now (string_bytes printed)) }
     ensures err { IfErr result (IsFailureAt number line.now) }
@@ -79,7 +79,8 @@ fn answer_line(alloc: Global, number: u64, line: &[u8]) -> Result<String, Failur
     Ok(line_for(alloc, &asked)?)
 }
 
-/// Whether the ways to the answer of a document agree. Those to other answers are compared for their line.
+/// Returns whether the ways to the answer of a document agree. Those to other answers are compared for their
+/// line.
 fn ways_agree(alloc: Global, asked: &Record) -> Result<bool, AllocError>
     ensures { IfOk result (λ agree. agree ≡ false → IsOfDocument asked.now) }
 {
@@ -90,7 +91,7 @@ fn ways_agree(alloc: Global, asked: &Record) -> Result<bool, AllocError>
     }
 }
 
-/// The line of the answer to a record.
+/// Returns the line of the answer to a record.
 fn line_for(alloc: Global, asked: &Record) -> Result<String, AllocError>
     ensures { IfOk result (λ printed. IsLineFor asked.now (string_bytes printed)) }
 {

@@ -9,7 +9,7 @@ use crate::record::{Asked, Pairs};
 use std::alloc::{AllocError, Global};
 use subst::{Error, Template, TemplateBuf, substitute};
 
-/// The line of the answer, with the byte that ends it.
+/// Returns the line of the answer, with the byte that ends it.
 pub fn line(alloc: Global, asked: &Asked<String, String>) -> Result<String, AllocError>
     ensures { IfOk result (λ line. IsTrueLine (string_bytes asked.now.source)
         (values_of (λ v. string_bytes v) asked.now.pairs) (string_bytes line)) }
@@ -18,7 +18,7 @@ pub fn line(alloc: Global, asked: &Asked<String, String>) -> Result<String, Allo
     answer(alloc, source, &asked.pairs)?.line(alloc, source.as_bytes())
 }
 
-/// The answer of `substitute`, if a template over the text and one that owns it give the same.
+/// Returns the answer of `substitute`, if a template over the text and one that owns it give the same.
 fn answer(alloc: Global, source: &str, pairs: &Pairs<String>) -> Result<Answer, AllocError>
     ensures { IfOk result
         (IsTrueAnswer source.now (values_of (λ v. string_bytes v) pairs.now)) }

@@ -12,7 +12,7 @@ use crate::toml_tree::as_json;
 use std::alloc::{AllocError, Global};
 use subst::toml::{Error, value_from_slice};
 
-/// The line of the answer, with the byte that ends it.
+/// Returns the line of the answer, with the byte that ends it.
 pub fn line(alloc: Global, asked: &Asked<Vec<u8>, String>) -> Result<String, AllocError>
     ensures { IfOk result (λ line. IsTomlLine asked.now.source.items
         (values_of (λ v. string_bytes v) asked.now.pairs) (string_bytes line)) }
@@ -20,7 +20,8 @@ pub fn line(alloc: Global, asked: &Asked<Vec<u8>, String>) -> Result<String, All
     answer(alloc, asked.source.as_slice(), &asked.pairs)?.line(alloc)
 }
 
-/// The answer of `value_from_slice`. A tree is printed as JSON without spaces, its keys in byte order.
+/// Returns the answer of `value_from_slice`. A tree is printed as JSON without spaces, its keys in byte
+/// order.
 fn answer(alloc: Global, source: &[u8], pairs: &Pairs<String>) -> Result<DocumentAnswer, AllocError>
     ensures is { IfOk result
         (IsTomlAnswer source.now (values_of (λ v. string_bytes v) pairs.now)) }

@@ -12,7 +12,7 @@ use std::alloc::{AllocError, Global};
 use toml::Table;
 use toml::value::Datetime;
 
-/// The tree as JSON. A number that JSON doesn't have, NaN or an infinity, is `null`.
+/// Returns the tree as JSON. A number that JSON doesn't have, NaN or an infinity, is `null`.
 #[cycle(walk)]
 pub fn as_json(alloc: Global, value: &toml::Value) -> Result<Value, AllocError>
     ensures { IfOk result (λ json. view json ≡ tree_json (toml.view value.now)) }
@@ -28,7 +28,7 @@ pub fn as_json(alloc: Global, value: &toml::Value) -> Result<Value, AllocError>
     }
 }
 
-/// The items of an array, in their order.
+/// Returns the items of an array, in their order.
 #[cycle(walk)]
 fn items_as_json(alloc: Global, items: &Vec<toml::Value>) -> Result<Vec<Value>, AllocError>
     ensures { IfOk result
@@ -41,7 +41,7 @@ fn items_as_json(alloc: Global, items: &Vec<toml::Value>) -> Result<Vec<Value>, 
     Ok(trees)
 }
 
-/// The members of a table, in the byte order of their keys.
+/// Returns the members of a table, in the byte order of their keys.
 #[cycle(walk)]
 fn members_as_json(alloc: Global, members: &Table) -> Result<Map<String, Value>, AllocError>
     ensures { IfOk result
@@ -57,7 +57,7 @@ fn members_as_json(alloc: Global, members: &Table) -> Result<Map<String, Value>,
     Ok(trees)
 }
 
-/// An array that says that this is a date, and its text.
+/// Returns an array that says that this is a date, and its text.
 fn date_as_json(alloc: Global, date: &Datetime) -> Result<Value, AllocError>
     ensures { IfOk result (λ json. view json ≡ date_json date.now) }
 {

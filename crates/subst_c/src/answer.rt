@@ -65,21 +65,21 @@ pub fn fault_highlighting(alloc: Global, source: &str, pairs: &[Pair]) -> Result
     }
 }
 
-/// Whether the source and the values of all pairs are UTF-8.
+/// Returns whether the source and the values of all pairs are UTF-8.
 pub fn are_texts(source: &[u8], pairs: &[Pair]) -> bool
     ensures { result ≡ all_are_texts source.now pairs.now }
 {
     is_text(source) && values_are_texts(pairs)
 }
 
-/// Whether the values of all pairs are UTF-8.
+/// Returns whether the values of all pairs are UTF-8.
 fn values_are_texts(pairs: &[Pair]) -> bool
     ensures { result ≡ list_all (λ pair. is_utf8 pair.value.now) pairs.now }
 {
     pairs.iter().all(|pair| is_text(pair.value))
 }
 
-/// Whether bytes are UTF-8.
+/// Returns whether bytes are UTF-8.
 fn is_text(bytes: &[u8]) -> bool
     ensures { result ≡ is_utf8 bytes.now }
 {

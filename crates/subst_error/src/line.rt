@@ -82,7 +82,7 @@ fn line_end(source: &str, offset: usize) -> usize
     end
 }
 
-/// Whether a byte ends a line.
+/// Returns whether a byte ends a line.
 fn is_end(b: u8) -> bool
     ensures { result ≡ is_line_end b }
 {

@@ -38,7 +38,7 @@ fn first_special(bytes: &[u8]) -> Option<usize>
     bytes.iter().position(|byte| is_special(*byte))
 }
 
-/// Whether a backslash escapes the byte.
+/// Returns whether a backslash escapes the byte.
 fn is_special(byte: u8) -> bool
     ensures { result ≡ classes.is_special byte }
 {

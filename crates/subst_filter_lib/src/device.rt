@@ -29,7 +29,7 @@ pub trait ByteInput {
         ensures ok { OnOk result (has_failed self.new ≡ has_failed self.old) }
         ensures err { OnErr result (has_failed self.new ≡ true) };
 
-    /// Whether a call has returned [`Failed`].
+    /// Returns whether a call has returned [`Failed`].
     fn failed(&self) -> bool
         ensures { result ≡ has_failed self.now };
 }
@@ -70,7 +70,7 @@ pub trait ByteOutput {
         ensures ok { OnOk result (has_failed self.new ≡ has_failed self.old) }
         ensures err { OnErr result (has_failed self.new ≡ true) };
 
-    /// Whether a call has returned [`Failed`].
+    /// Returns whether a call has returned [`Failed`].
     fn failed(&self) -> bool
         ensures { result ≡ has_failed self.now };
 }

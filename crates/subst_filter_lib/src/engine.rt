@@ -55,15 +55,15 @@ fn read_all<I: ByteInput>(alloc: Global, input: &mut I) -> Result<Vec<u8>, RunEr
     }
 }
 
-/// Whether the source has no dollar and no backslash, so that it gives itself.
+/// Returns whether the source has no dollar and no backslash, so that it gives itself.
 fn is_plain(source: &[u8]) -> bool
     ensures { IsTrue result ↔ All IsPlain source.now }
 {
     memchr2(b'$', b'\\', source).is_none()
 }
 
-/// The error of a run whose substitution returned `e`. `shown` is the highlighting of the fault, if it is
-/// shown.
+/// Returns the error of a run whose substitution returned `e`. `shown` is the highlighting of the fault, if
+/// it is shown.
 fn refusal(e: Error, shown: String) -> RunError
     ensures { MatchOption (error_fault e) (result ≡ RunError.OutOfMemory)
         (λ _. result ≡ RunError.Subst e shown) }

@@ -39,7 +39,7 @@ pub fn run(rt: &HostRuntime) -> ExitCode
     ExitCode::from(status)
 }
 
-/// The words after the program's name, and the pairs that they ask for.
+/// Returns the words after the program's name, and the pairs that they ask for.
 ///
 /// # Errors
 ///
@@ -50,14 +50,14 @@ fn words_and_pairs(rt: &HostRuntime) -> Result<(Vec<String>, Vec<(String, String
     Ok((words, pairs))
 }
 
-/// The words after the program's name.
+/// Returns the words after the program's name.
 fn words(rt: &HostRuntime) -> io::Result<Vec<String>> {
     let words = env::args(rt)?.skip(1).collect(rt.alloc())?;
     Ok(words)
 }
 
-/// The pairs of the environment if the words ask for them; otherwise the environment isn't read, and there
-/// are none.
+/// Returns the pairs of the environment if the words ask for them; otherwise the environment isn't read, and
+/// there are none.
 fn pairs(rt: &HostRuntime, words: &[String]) -> Result<Vec<(String, String)>, VarError>
     ensures unread { task_of words.now ≢ Some Task.Environment
         → IsOkAnd result (λ pairs. pairs.items ≡ []) }
@@ -69,7 +69,7 @@ fn pairs(rt: &HostRuntime, words: &[String]) -> Result<Vec<(String, String)>, Va
     Ok(pairs)
 }
 
-/// The error that the program ends with if it can't read its words.
+/// Returns the error that the program ends with if it can't read its words.
 fn fault_of_words(e: &io::Error) -> RunError
     ensures memory { error_kind e.now ≡ ErrorKind.OutOfMemory → result ≡ RunError.OutOfMemory }
     ensures other { error_kind e.now ≢ ErrorKind.OutOfMemory → result ≡ RunError.Read }
@@ -80,7 +80,7 @@ fn fault_of_words(e: &io::Error) -> RunError
     }
 }
 
-/// The error that the program ends with if it can't read its environment.
+/// Returns the error that the program ends with if it can't read its environment.
 fn fault_of_pairs(e: &VarError) -> RunError
     ensures memory { e.now ≡ VarError.OutOfMemory → result ≡ RunError.OutOfMemory }
     ensures other { e.now ≢ VarError.OutOfMemory → result ≡ RunError.Read }

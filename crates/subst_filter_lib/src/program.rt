@@ -131,7 +131,7 @@ fn run_task<I: ByteInput, O: ByteOutput>(
     }
 }
 
-/// The words after the first one.
+/// Returns the words after the first one.
 fn after_first(words: &[String]) -> &[String]
     ensures { result.now ≡ drop 1 words.now }
 {

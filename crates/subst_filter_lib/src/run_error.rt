@@ -27,7 +27,7 @@ pub enum RunError {
 impl RunError {
     ghost use Rattle.subst_filter_lib.specs.RunError.{error_status};
 
-    /// The status that the program ends with: [`REFUSED`] if the source is refused or isn't UTF-8,
+    /// Returns the status that the program ends with: [`REFUSED`] if the source is refused or isn't UTF-8,
     /// [`DEVICE_FAILED`] if the input or the output failed, and [`OUT_OF_MEMORY`] if memory ran out.
     pub fn status(&self) -> u8
         ensures { result ≡ error_status self.now }

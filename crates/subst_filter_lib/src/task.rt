@@ -17,9 +17,9 @@ pub enum Task {
 impl Task {
     ghost use Rattle.subst_filter_lib.specs.Task.{task_of};
 
-    /// What the words after the program's name say to do, or `None` if they are wrong. They are right in two
-    /// cases: the first word is `bytes` or `text`, and each other has the form NAME=VALUE; or `env` is the
-    /// only word.
+    /// Returns what the words after the program's name say to do, or `None` if they are wrong. They are right
+    /// in two cases: the first word is `bytes` or `text`, and each other has the form NAME=VALUE; or `env` is
+    /// the only word.
     pub fn of_words(words: &[String]) -> Option<Task>
         ensures { result ≡ task_of words.now }
     {
@@ -35,7 +35,7 @@ impl Task {
     }
 }
 
-/// Whether each word has the form NAME=VALUE.
+/// Returns whether each word has the form NAME=VALUE.
 fn are_pairs(words: &[String]) -> bool
     ensures { result ≡ are_pairs words.now }
 {

@@ -15,8 +15,8 @@ use std::collections::HashMap;
 /// A name may be any text, also one that no placeholder can have.
 pub type Values<'w> = HashMap<&'w str, &'w str>;
 
-/// The values of words of the form NAME=VALUE under their names. Where words have the same name, the last one
-/// gives its value. Other words give none.
+/// Returns the values of words of the form NAME=VALUE under their names. Where words have the same name, the
+/// last one gives its value. Other words give none.
 ///
 /// # Errors
 ///
@@ -32,8 +32,8 @@ pub fn values_of_words(alloc: Global, words: &[String]) -> Result<Values<'_>, Al
     Ok(values)
 }
 
-/// The values of pairs under their names, as `Env` of these pairs has them: where pairs have the same name,
-/// the first one gives its value.
+/// Returns the values of pairs under their names, as `Env` of these pairs has them: where pairs have the same
+/// name, the first one gives its value.
 ///
 /// # Errors
 ///
@@ -78,8 +78,8 @@ fn insert_if_new<'w>(
     Ok(())
 }
 
-/// The name and the value of a word of the form NAME=VALUE, which is split at its first `=`, or `None` if it
-/// has none.
+/// Returns the name and the value of a word of the form NAME=VALUE, which is split at its first `=`, or
+/// `None` if it has none.
 fn pair(word: &str) -> Option<(&str, &str)>
     ensures form { is_some result ≡ is_pair word.now }
     ensures parts { IfSome result (λ p. (p.0.now ≡ name_in word.now)

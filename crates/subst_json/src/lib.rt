@@ -102,7 +102,7 @@ where
     fill_tree(alloc, value, variables)
 }
 
-/// The same of bytes.
+/// Does to bytes what [`value_from_str`] does to a text.
 ///
 /// # Errors
 ///
@@ -164,7 +164,7 @@ where
     Ok(serde_json::from_value(alloc, value)?)
 }
 
-/// The same of bytes.
+/// Does to bytes what [`from_str`] does to a text.
 ///
 /// # Errors
 ///

@@ -32,7 +32,7 @@ static MARKERS: [u8; 256] = *b"\
 pub(crate) trait ByteClass {
     ghost is_in: { ℕ → Type 0 };
 
-    /// Whether a byte is in the class.
+    /// Returns whether a byte is in the class.
     fn has(byte: u8) -> bool
         ensures { IsTrue result ↔ is_in byte };
 }
@@ -79,7 +79,7 @@ impl ByteClass for NameBytes {
     }
 }
 
-/// Whether a byte is an ASCII letter, an ASCII digit or an underscore.
+/// Returns whether a byte is an ASCII letter, an ASCII digit or an underscore.
 #[inline(always)]
 fn is_name_byte(b: u8) -> bool
     ensures { result ≡ name.is_name_byte b }
@@ -87,7 +87,7 @@ fn is_name_byte(b: u8) -> bool
     NAME_BYTES[b as usize] != b','
 }
 
-/// Whether a byte stands for itself inside a default, and is no brace.
+/// Returns whether a byte stands for itself inside a default, and is no brace.
 #[inline(always)]
 fn is_inner(b: u8) -> bool
     ensures { result ≡ inner.is_inner b }
@@ -95,7 +95,7 @@ fn is_inner(b: u8) -> bool
     MARKERS[b as usize] == b','
 }
 
-/// Whether a backslash escapes the byte.
+/// Returns whether a backslash escapes the byte.
 #[inline(always)]
 pub(crate) fn is_special(b: u8) -> bool
     ensures { result ≡ bytes.is_special b }

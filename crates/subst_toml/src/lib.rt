@@ -106,7 +106,7 @@ where
     Ok(Value::Table(filled_table(alloc, source, variables)?))
 }
 
-/// The same of bytes.
+/// Does to bytes what [`value_from_str`] does to a text.
 ///
 /// # Errors
 ///
@@ -165,7 +165,7 @@ where
     Ok(toml::from_str(alloc, text.as_str())?)
 }
 
-/// The same of bytes.
+/// Does to bytes what [`from_str`] does to a text.
 ///
 /// # Errors
 ///

@@ -66,7 +66,7 @@ where
     }
 }
 
-/// Whether a source has no dollar and no backslash, and so gives itself.
+/// Returns whether a source has no dollar and no backslash, and so gives itself.
 fn is_plain(source: &[u8]) -> bool
     ensures { IsTrue result ↔ All IsPlain source.now }
 {

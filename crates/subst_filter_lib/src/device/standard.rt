@@ -14,7 +14,7 @@ pub struct FromReader<R> {
 }
 
 impl<R: Read> FromReader<R> {
-    /// An input over what is left of `reader`. It hasn't failed yet.
+    /// Returns an input over what is left of `reader`. It hasn't failed yet.
     pub fn new(reader: R) -> Self
         ensures left { ⟦<FromReader<R> as ByteInput>⟧.left result ≡ R.remaining reader }
         ensures unfailed { ⟦<FromReader<R> as ByteInput>⟧.has_failed result ≡ false }
@@ -56,7 +56,7 @@ pub struct ToWriter<W> {
 }
 
 impl<W: Write> ToWriter<W> {
-    /// An output over `writer`. It hasn't failed yet.
+    /// Returns an output over `writer`. It hasn't failed yet.
     pub fn new(writer: W) -> Self
         ensures written { ⟦<ToWriter<W> as ByteOutput>⟧.written result ≡ W.contents writer }
         ensures unfailed { ⟦<ToWriter<W> as ByteOutput>⟧.has_failed result ≡ false }

@@ -83,8 +83,8 @@ where
     }
 }
 
-/// The error of a run whose substitution over `source` returned `e`, with the highlighting of its fault. If
-/// there is no memory for that, it is [`RunError::OutOfMemory`].
+/// Returns the error of a run whose substitution over `source` returned `e`, with the highlighting of its
+/// fault. If there is no memory for that, it is [`RunError::OutOfMemory`].
 fn highlighted_refusal(alloc: Global, e: Error, source: &str) -> RunError
     requires { IsRangeIn source.now (range_of (error_fault e)) }
     ensures refusal { IsRefusalOf e result }
@@ -96,7 +96,7 @@ fn highlighted_refusal(alloc: Global, e: Error, source: &str) -> RunError
     }
 }
 
-/// The text that has these bytes, without a copy: none if they aren't UTF-8.
+/// Returns the text that has these bytes, without a copy: none if they aren't UTF-8.
 fn text_of(bytes: Vec<u8>) -> Option<String>
     ensures { MatchOption result (¬ (IsUtf8 bytes.items))
         (λ text. (string_bytes text ≡ bytes.items) × IsUtf8 bytes.items) }
