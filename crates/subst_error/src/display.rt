@@ -1,13 +1,14 @@
 //! The texts of characters and errors.
 
 ghost use Rattle.std.specs.Prelude.{Some, string_bytes};
-ghost use Rattle.std.specs.Fmt.{DisplaysOnOk};
+ghost use Rattle.std.specs.Fmt.{DisplaysOnOk, DisplaysStyledOnOk};
 ghost use Rattle.subst_error.specs.Display.{display_of_character, display_of_error, display_of_fault};
 ghost use Rattle.subst_error.specs.Display.{IsDisplayOfError, IsDisplayOfFault};
 ghost use Rattle.subst_error.specs.ErrorFault.{error_fault, expand_fault, parse_fault, unexpected_fault};
 ghost use Rattle.subst_error.specs.Fault as fault;
 ghost use Rattle.subst_error.specs.Writing.{WritesSome};
 
+use crate::shown::write_shown;
 use crate::{
     CharOrByte, Error, ExpandError, InvalidEscapeSequence, MissingClosingBrace,
     MissingVariableName, NoSuchVariable, ParseError, UnexpectedCharacter,
@@ -17,15 +18,17 @@ use std::fmt;
 impl fmt::Display for CharOrByte {
     ghost output = { λ character. Some (display_of_character character) };
 
+    ghost styled_output = { λ character _. Some (display_of_character character) };
+
     #[tactic(auto, using(std::proofs::lemmas::Fmt::hex_byte))]
     fn fmt<W: fmt::Write>(&self, f: &mut fmt::Formatter<W>) -> fmt::Result {
         match *self {
-            CharOrByte::Char(c) => write!(f, "{c}"),
+            CharOrByte::Char(c) => f.write_char(c),
             CharOrByte::Byte(b) => {
                 if b.is_ascii() {
-                    write!(f, "{}", char::from(b))
+                    f.write_char(char::from(b))
                 } else {
-                    write!(f, "0x{b:02X}")
+                    write_shown(format_args!("0x{b:02X}"), f)
                 }
             }
         }
@@ -35,10 +38,17 @@ impl fmt::Display for CharOrByte {
 impl fmt::Display for InvalidEscapeSequence {
     ghost output = { λ e. display_of_fault (fault.InvalidEscapeSequence e.position e.character) };
 
+    ghost styled_output = { λ e _.
+        display_of_fault (fault.InvalidEscapeSequence e.position e.character) };
+
+    #[tactic(auto, using(crate::proofs::StyledLemmas::styled_two))]
     fn fmt<W: fmt::Write>(&self, f: &mut fmt::Formatter<W>) -> fmt::Result {
         match &self.character {
-            Some(c) => write!(f, "Invalid escape sequence: \\{c}"),
-            None => write!(f, "Invalid escape sequence: missing escape character"),
+            Some(c) => {
+                f.write_str("Invalid escape sequence: \\")?;
+                fmt::Display::fmt(c, f)
+            }
+            None => f.write_str("Invalid escape sequence: missing escape character"),
         }
     }
 }
@@ -46,16 +56,22 @@ impl fmt::Display for InvalidEscapeSequence {
 impl fmt::Display for MissingVariableName {
     ghost output = { λ e. display_of_fault (fault.MissingVariableName e.position e.len) };
 
+    ghost styled_output = { λ e _. display_of_fault (fault.MissingVariableName e.position e.len) };
+
     fn fmt<W: fmt::Write>(&self, f: &mut fmt::Formatter<W>) -> fmt::Result {
-        write!(f, "Missing variable name")
+        f.write_str("Missing variable name")
     }
 }
 
 impl fmt::Display for UnexpectedCharacter {
     ghost output = { λ e. display_of_fault (unexpected_fault e) };
 
+    ghost styled_output = { λ e _. display_of_fault (unexpected_fault e) };
+
     fn fmt<W: fmt::Write>(&self, f: &mut fmt::Formatter<W>) -> fmt::Result
         ensures writes { DisplaysOnOk W.write_str_gives f.old result
+            (display_of_fault (unexpected_fault self.now)) f.new }
+        ensures styled { DisplaysStyledOnOk W.write_str_gives f.old result
             (display_of_fault (unexpected_fault self.now)) f.new }
         ensures text { WritesSome W.write_str_gives f.old result
             (IsDisplayOfFault (unexpected_fault self.now)) f.new }
@@ -71,8 +87,10 @@ impl fmt::Display for UnexpectedCharacter {
 impl fmt::Display for MissingClosingBrace {
     ghost output = { λ e. display_of_fault (fault.MissingClosingBrace e.position) };
 
+    ghost styled_output = { λ e _. display_of_fault (fault.MissingClosingBrace e.position) };
+
     fn fmt<W: fmt::Write>(&self, f: &mut fmt::Formatter<W>) -> fmt::Result {
-        write!(f, "Missing closing brace")
+        f.write_str("Missing closing brace")
     }
 }
 
@@ -80,16 +98,25 @@ impl fmt::Display for NoSuchVariable {
     ghost output = { λ e.
         display_of_fault (fault.NoSuchVariable e.position (string_bytes e.name)) };
 
+    ghost styled_output = { λ e _.
+        display_of_fault (fault.NoSuchVariable e.position (string_bytes e.name)) };
+
+    #[tactic(auto, using(crate::proofs::StyledLemmas::styled_two))]
     fn fmt<W: fmt::Write>(&self, f: &mut fmt::Formatter<W>) -> fmt::Result {
-        write!(f, "No such variable: ${}", self.name)
+        f.write_str("No such variable: $")?;
+        f.write_str(self.name.as_str())
     }
 }
 
 impl fmt::Display for Error {
     ghost output = { λ e. display_of_error (error_fault e) };
 
+    ghost styled_output = { λ e _. display_of_error (error_fault e) };
+
     fn fmt<W: fmt::Write>(&self, f: &mut fmt::Formatter<W>) -> fmt::Result
         ensures writes { DisplaysOnOk W.write_str_gives f.old result
+            (display_of_error (error_fault self.now)) f.new }
+        ensures styled { DisplaysStyledOnOk W.write_str_gives f.old result
             (display_of_error (error_fault self.now)) f.new }
         ensures text { WritesSome W.write_str_gives f.old result
             (IsDisplayOfError (error_fault self.now)) f.new }
@@ -100,7 +127,7 @@ impl fmt::Display for Error {
             Error::UnexpectedCharacter(e) => fmt::Display::fmt(e, f),
             Error::MissingClosingBrace(e) => fmt::Display::fmt(e, f),
             Error::NoSuchVariable(e) => fmt::Display::fmt(e, f),
-            Error::OutOfMemory(_) => write!(f, "out of memory"),
+            Error::OutOfMemory(_) => f.write_str("out of memory"),
         }
     }
 }
@@ -108,8 +135,12 @@ impl fmt::Display for Error {
 impl fmt::Display for ParseError {
     ghost output = { λ e. display_of_error (parse_fault e) };
 
+    ghost styled_output = { λ e _. display_of_error (parse_fault e) };
+
     fn fmt<W: fmt::Write>(&self, f: &mut fmt::Formatter<W>) -> fmt::Result
         ensures writes { DisplaysOnOk W.write_str_gives f.old result
+            (display_of_error (parse_fault self.now)) f.new }
+        ensures styled { DisplaysStyledOnOk W.write_str_gives f.old result
             (display_of_error (parse_fault self.now)) f.new }
         ensures text { WritesSome W.write_str_gives f.old result
             (IsDisplayOfError (parse_fault self.now)) f.new }
@@ -119,7 +150,7 @@ impl fmt::Display for ParseError {
             ParseError::MissingVariableName(e) => fmt::Display::fmt(e, f),
             ParseError::UnexpectedCharacter(e) => fmt::Display::fmt(e, f),
             ParseError::MissingClosingBrace(e) => fmt::Display::fmt(e, f),
-            ParseError::OutOfMemory(_) => write!(f, "out of memory"),
+            ParseError::OutOfMemory(_) => f.write_str("out of memory"),
         }
     }
 }
@@ -127,10 +158,12 @@ impl fmt::Display for ParseError {
 impl fmt::Display for ExpandError {
     ghost output = { λ e. display_of_error (expand_fault e) };
 
+    ghost styled_output = { λ e _. display_of_error (expand_fault e) };
+
     fn fmt<W: fmt::Write>(&self, f: &mut fmt::Formatter<W>) -> fmt::Result {
         match self {
             ExpandError::NoSuchVariable(e) => fmt::Display::fmt(e, f),
-            ExpandError::OutOfMemory(_) => write!(f, "out of memory"),
+            ExpandError::OutOfMemory(_) => f.write_str("out of memory"),
         }
     }
 }

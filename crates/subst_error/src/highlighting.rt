@@ -60,7 +60,7 @@ impl Error {
     /// That of the writer, where it fails; a part may have been written then.
     pub fn write_source_highlighting<W: fmt::Write>(&self, f: &mut W, source: &str) -> fmt::Result
         requires { IsRangeIn source.now (range_of (error_fault self.now)) }
-        ensures { OnOk result (WritesText W.write_str_gives f.old
+        ensures written { OnOk result (WritesText W.write_str_gives f.old
             (Some (highlighting_of (error_fault self.now) source.now)) f.new) }
     {
         match self.underlined(source) {
@@ -79,7 +79,7 @@ impl Error {
     /// When allocation fails.
     pub fn source_highlighting(&self, alloc: Global, source: &str) -> Result<String, AllocError>
         requires { IsRangeIn source.now (range_of (error_fault self.now)) }
-        ensures { IfOk result (λ text.
+        ensures highlighting { IfOk result (λ text.
             string_bytes text ≡ highlighting_of (error_fault self.now) source.now) }
     {
         match self.underlined(source) {

@@ -1,6 +1,6 @@
 //! Laws of errors: what `==` and `clone` keep. Each is the contract of a function that does nothing.
 
-ghost use Rattle.std.specs.Prelude.{◌≡◌, ◌↔◌, IsTrue};
+ghost use Rattle.std.specs.Prelude.{◌≡◌, ◌≢◌, ◌↔◌, IsTrue, None};
 ghost use Rattle.subst_error.specs.ErrorFault.{error_fault, expand_fault, parse_fault};
 ghost use Rattle.subst_error.specs.Expected.{expected_text};
 ghost use Rattle.subst_error.specs.declared.CharOrByte.{CharOrByte};
@@ -30,6 +30,24 @@ pub fn clones_state_equal_faults()
         → expand_fault copy ≡ expand_fault e }
     ensures missing { (e copy : NoSuchVariable) → ⟦<NoSuchVariable as Clone>⟧.is_clone e copy
         → error_fault (stated.NoSuchVariable copy) ≡ error_fault (stated.NoSuchVariable e) }
+{}
+
+/// The law of clones without a name. An error that names no variable takes no memory to clone, so that never
+/// fails.
+pub fn clones_without_a_name_never_fail()
+    ensures error { (e : Error) → ((v : NoSuchVariable) → e ≢ stated.NoSuchVariable v)
+        → ⟦<Error as Clone>⟧.is_infallible e }
+    ensures parsing { (e : ParseError) → ⟦<ParseError as Clone>⟧.is_infallible e }
+    ensures expanding { (e : ExpandError) → expand_fault e ≡ None
+        → ⟦<ExpandError as Clone>⟧.is_infallible e }
+    ensures escape { (e : InvalidEscapeSequence)
+        → ⟦<InvalidEscapeSequence as Clone>⟧.is_infallible e }
+    ensures name { (e : MissingVariableName)
+        → ⟦<MissingVariableName as Clone>⟧.is_infallible e }
+    ensures character { (e : UnexpectedCharacter)
+        → ⟦<UnexpectedCharacter as Clone>⟧.is_infallible e }
+    ensures brace { (e : MissingClosingBrace)
+        → ⟦<MissingClosingBrace as Clone>⟧.is_infallible e }
 {}
 
 /// The law of equality. Errors are equal exactly where they state equal faults, or both out of memory.

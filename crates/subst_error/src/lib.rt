@@ -21,6 +21,7 @@ mod line;
 mod position;
 mod quoted;
 mod range;
+mod shown;
 
 /// The longest message, in bytes, that an [`ExpectedCharacter`] keeps whole.
 pub const MESSAGE_CAPACITY: usize = 64;
@@ -59,7 +60,7 @@ impl ExpectedCharacter {
 
     /// Returns the message.
     pub fn message(&self) -> &str
-        ensures { result.now ≡ expected_text self.now }
+        ensures text { result.now ≡ expected_text self.now }
     {
         self.message.as_str()
     }

@@ -16,7 +16,7 @@ impl Error {
     /// substitution of `source` returned.
     pub fn source_line<'a>(&self, source: &'a str) -> &'a str
         requires { IsRangeIn source.now (range_of (error_fault self.now)) }
-        ensures { result.now ≡ line_of (error_fault self.now) source.now }
+        ensures line { result.now ≡ line_of (error_fault self.now) source.now }
     {
         self.marked_line(source).text
     }

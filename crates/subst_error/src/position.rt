@@ -19,7 +19,7 @@ impl Error {
     /// substitution of `source` returned.
     pub fn source_position(&self, source: &str) -> (usize, usize)
         requires { IsRangeIn source.now (range_of (error_fault self.now)) }
-        ensures { result ≡ position_of (error_fault self.now) source.now }
+        ensures position { result ≡ position_of (error_fault self.now) source.now }
     {
         let line = self.marked_line(source);
         let before = &source.as_bytes()[..self.source_range().start];

@@ -1,9 +1,11 @@
 //! Characters in single quotes, as an error shows them.
 
-ghost use Rattle.subst_error.specs.Display.{IsQuotedChar};
+ghost use Rattle.std.specs.Fmt.{DisplaysStyledOnOk};
+ghost use Rattle.subst_error.specs.Display.{IsQuotedChar, quoted_char};
 ghost use Rattle.subst_error.specs.Writing.{WritesSome};
 
 use crate::CharOrByte;
+use crate::shown::write_shown;
 use std::fmt;
 use std::marker::Model;
 
@@ -30,7 +32,7 @@ impl CharOrByte {
 
     /// Returns the character in single quotes.
     pub fn quoted_printable(&self) -> QuotedPrintable
-        ensures { result ≡ self.now }
+        ensures character { result ≡ self.now }
     {
         QuotedPrintable { character: *self }
     }
@@ -42,9 +44,13 @@ impl fmt::Display for QuotedPrintable {
 
     ghost output = { quoted_of };
 
+    ghost styled_output = { λ quoted _. quoted_of quoted };
+
     #[tactic(auto, using(std::proofs::lemmas::Fmt::hex_byte))]
     fn fmt<W: fmt::Write>(&self, f: &mut fmt::Formatter<W>) -> fmt::Result
         ensures writes { DisplaysOnOk W.write_str_gives f.old result (quoted_of self.now) f.new }
+        ensures styled { DisplaysStyledOnOk W.write_str_gives f.old result
+            (quoted_of self.now) f.new }
         ensures text { WritesSome W.write_str_gives f.old result (IsQuoted self.now) f.new }
     {
         match self.character {
@@ -53,7 +59,7 @@ impl fmt::Display for QuotedPrintable {
                 if b.is_ascii() {
                     write_quoted(char::from(b), f)
                 } else {
-                    write!(f, "'\\x{b:02X}'")
+                    write_shown(format_args!("'\\x{b:02X}'"), f)
                 }
             }
         }
@@ -65,10 +71,11 @@ impl fmt::Display for QuotedPrintable {
 /// Of a character past ASCII `{:?}` states nothing, so its two forms are written here.
 #[tactic(auto, using(crate::proofs::QuotedLemmas::debug_is_quoted))]
 fn write_quoted<W: fmt::Write>(c: char, f: &mut fmt::Formatter<W>) -> fmt::Result
-    ensures { WritesSome W.write_str_gives f.old result (IsQuotedChar c) f.new }
+    ensures styled { DisplaysStyledOnOk W.write_str_gives f.old result (quoted_char c) f.new }
+    ensures text { WritesSome W.write_str_gives f.old result (IsQuotedChar c) f.new }
 {
     if c.is_ascii() {
-        write!(f, "{c:?}")
+        write_shown(format_args!("{c:?}"), f)
     } else if c.escape_debug().count() == 1 {
         write!(f, "'{c}'")
     } else {

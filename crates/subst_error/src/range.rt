@@ -11,7 +11,7 @@ impl CharOrByte {
     /// Returns how many bytes the character takes in a source: the length of its UTF-8 encoding, and 1 for a
     /// byte that no character begins with.
     pub fn source_len(&self) -> usize
-        ensures { result ≡ range.source_len self.now }
+        ensures len { result ≡ range.source_len self.now }
     {
         match self {
             CharOrByte::Char(c) => c.len_utf8(),
@@ -28,7 +28,7 @@ impl Error {
     /// The range has to end within a `usize`, as that of each error that a substitution returns does.
     pub fn source_range(&self) -> Range<usize>
         requires { (range.range_of (error_fault self.now)).end < 2 ^ 64 }
-        ensures { result ≡ range.range_of (error_fault self.now) }
+        ensures range { result ≡ range.range_of (error_fault self.now) }
     {
         let (start, len) = match self {
             Error::InvalidEscapeSequence(e) => {
