@@ -17,7 +17,7 @@ use std::alloc::{AllocError, Global};
 ///
 /// When allocation fails.
 pub fn escaped(alloc: Global, text: &str) -> Result<String, AllocError>
-    ensures { IfOk result (λ template. string_bytes template ≡ language.escaped text.now) }
+    ensures escaped { IfOk result (λ template. string_bytes template ≡ language.escaped text.now) }
 {
     let mut output = Vec::with_capacity(alloc, text.len())?;
     let mut rest = text.as_bytes();

@@ -1,4 +1,5 @@
 -- Lemmas on the language.
+pub mod AlikeLemmas
 pub mod AnswerLemmas
 pub mod BalancedLemmas
 pub mod BeginningLemmas
@@ -10,9 +11,10 @@ pub mod EscapedLemmas
 pub mod FaultLemmas
 pub mod FrontCharacterLemmas
 pub mod ItemLemmas
-pub mod JoinedLemmas
 pub mod LateFaultLemmas
 pub mod ListLemmas
+pub mod MissingLemmas
+pub mod MovedLemmas
 pub mod NameLemmas
 pub mod NamesInLemmas
 pub mod OneTreeLemmas
@@ -21,6 +23,9 @@ pub mod RangeLemmas
 pub mod RangeWithinLemmas
 pub mod ReadingLemmas
 pub mod SettledLemmas
+pub mod SeveralLemmas
 pub mod TreeLemmas
+pub mod UnsettledLemmas
 pub mod Utf8Lemmas
 pub mod ValueLemmas
+pub mod ValueLengthLemmas

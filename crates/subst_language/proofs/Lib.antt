@@ -1,4 +1,5 @@
 pub mod CallingLemmas
 pub mod Earlier
 pub mod Language
+pub mod TreeOf
 pub mod WorkedExamples

@@ -11,9 +11,12 @@ pub mod Followed
 pub mod Join
 pub mod Laws
 pub mod LookUp
+pub mod Moved
 pub mod Name
 pub mod NamesIn
 pub mod Sentence
+pub mod Several
 pub mod Tree
 pub mod Value
+pub mod ValueLength
 pub mod WellFormed

@@ -24,4 +24,4 @@ text_of-requires c =
 pub returns : goal.returns
 returns c =
     let none = escaped-none c.loop-at.rest.now (sym c.in_default.ensures) in
-    c.text_of.ensures ∙ grind (arith, common_steps, none)
+    record { escaped = c.text_of.ensures ∙ grind (arith, common_steps, none) }

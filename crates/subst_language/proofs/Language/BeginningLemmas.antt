@@ -192,7 +192,7 @@ beginning-name s [] x e h f = absurd h
 beginning-name s (b ∷ n) x e h f = split_as (λ a y. (after_brace a y).0) s (b ∷ n) x e h f
 
 -- a name in braces with a default, which ends at the first closing brace whose opening one is before it
-beginning-closed : (n w x : List ℕ) → IsName n → IsBalanced w
+pub beginning-closed : (n w x : List ℕ) → IsName n → IsBalanced w
     → beginning (dollar ∷ opening_brace ∷ n ++ (colon ∷ w ++ closing_brace ∷ x)) ≡ WithDefault n w x
 beginning-closed n w x h b =
     beginning-name _ n _ refl h colon_no_name

@@ -123,7 +123,7 @@ after_tree (Then item rest) d v formed done =
     after_tree rest e v formed.1 behind
 
 -- the fault is one that only the end of a source shows
-abbrev IsLate : Fault → Type 0
+abbrev pub IsLate : Fault → Type 0
 IsLate (InvalidEscapeSequence position None) = Unit {0}
 IsLate (MissingClosingBrace position) = Unit {0}
 IsLate _ = ⊥
@@ -167,7 +167,7 @@ mutual
   late_completes_none _ late d done = elim late [ ]
 
   -- a text with a late fault completes nothing, so it isn't balanced
-  late_not_balanced : {p : ℕ} {s : List ℕ} {f : Fault} → HasFault p s f → IsLate f → (d : ℕ)
+  pub late_not_balanced : {p : ℕ} {s : List ℕ} {f : Fault} → HasFault p s f → IsLate f → (d : ℕ)
       → ¬ (Completes d s)
   late_not_balanced (fault_after {r = r} t formed bad) late d done =
       let (e, rest) = after_tree t d r formed done in
@@ -175,7 +175,7 @@ mutual
 
 -- what a bad item is, by its fault: with a missing closing brace it begins with `${`, whose brace is at the
 -- position; with an escape without a character it is a backslash alone
-abbrev BadBy : ℕ → List ℕ → Fault → Type 0
+abbrev pub BadBy : ℕ → List ℕ → Fault → Type 0
 BadBy p r (InvalidEscapeSequence position None) = (r ≡ backslash ∷ []) × (position ≡ p)
 BadBy p r (MissingClosingBrace position) =
     (more : List ℕ) × (r ≡ dollar ∷ opening_brace ∷ more) × (position ≡ p + 1)
@@ -191,7 +191,7 @@ bad_by_other p r (MissingClosingBrace position) other = absurd (other tt)
 bad_by_other p r (NoSuchVariable position name) other = tt
 
 -- each bad item is so
-bad_by : {p : ℕ} {r : List ℕ} {f : Fault} → IsBad p r f → BadBy p r f
+pub bad_by : {p : ℕ} {r : List ℕ} {f : Fault} → IsBad p r f → BadBy p r f
 bad_by escape_at_end = (refl, refl)
 bad_by (name_at_end n named) = (n, refl, refl)
 bad_by (optional_at_end n named) = (n ++ question_mark ∷ [], refl, refl)

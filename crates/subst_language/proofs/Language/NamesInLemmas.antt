@@ -42,7 +42,7 @@ module _ (a b : LookUp) where
         (item_same p item parts.0) (tree_same q rest parts.1)
 
 -- the value is bytes
-abbrev IsBytes : Value → Type 0
+abbrev pub IsBytes : Value → Type 0
 IsBytes v = (x : List ℕ) × (v ≡ Bytes x)
 
 -- joined values are bytes where the values that they stand for are

@@ -1,9 +1,11 @@
 -- Where a source that is refused is at fault: the range ends within the source, also where that is no text.
-use Rattle.std.proofs.Common.{◌≡◌, ℕ, ◌+◌, ◌≤◌, Some, List, [], ◌∷◌, ◌++◌, length, ap, subst, sym, length-append, encode_utf8, inl, inr, arith}
+use Rattle.std.proofs.Common.{◌≡◌, ℕ, ◌+◌, ◌≤◌, Option, Some, None, Result, Ok, Err, IfErr, IfSome, List, [], ◌∷◌, ◌++◌, length, ap, subst, sym, length-append, encode_utf8, inl, inr, arith}
 use Rattle.subst_error.specs.Fault.{Fault}
+use Rattle.subst_error.specs.ErrorFault.{parse_fault}
 use Rattle.subst_error.specs.Range.{source_len, range_of}
 use Rattle.subst_error.specs.declared.CharOrByte.{CharOrByte}
 use Rattle.subst_error.specs.declared.CharOrByte.TheVariants.{Char, Byte}
+use Rattle.subst_error.specs.declared.ParseError.{ParseError}
 use Rattle.subst_language.specs.Language.Bytes.{colon, question_mark, closing_brace}
 use Rattle.subst_language.specs.Language.Character.{IsFrontCharacter}
 use Rattle.subst_language.specs.Language.Tree.{Item, Plain, Escaped, Short, Braced, Optional, Default, Tree, Empty, Then, item_text, text}
@@ -12,7 +14,9 @@ use Rattle.subst_language.specs.Language.Value.{Bytes, Missing, item_value, valu
 use Rattle.subst_language.specs.Language.BadItem.{IsBad, HasFault}
 use Rattle.subst_language.specs.Language.BadItem.IsBad.{escape_at_end, escape, dollar_at_end, dollar_alone, brace_at_end, brace_alone, name_at_end, name_alone, optional_at_end, optional_alone, unclosed, inside}
 use Rattle.subst_language.specs.Language.BadItem.HasFault.{fault_after}
-use Rattle.subst_language.specs.Language.Answer.{Answers, Refuses}
+use Rattle.subst_language.specs.Language.Answer.{Answers, Refuses, IsMissing}
+use Rattle.subst_language.specs.Language.Sentence.{Spells}
+use Rattle.subst_language.specs.Calls.Outcome.{OnFault}
 use Rattle.subst_language.proofs.Language.RangeLemmas.{found_missing, joined_missing}
 
 -- the character at the front of bytes takes at most as many as there are
@@ -46,7 +50,8 @@ mutual
       )
 
   -- the range of a fault ends within its source
-  fault_within : {p : ℕ} {s : List ℕ} {f : Fault} → HasFault p s f → (range_of (Some f)).end ≤ p + length s
+  pub fault_within : {p : ℕ} {s : List ℕ} {f : Fault} → HasFault p s f
+      → (range_of (Some f)).end ≤ p + length s
   fault_within (fault_after {r = r} t formed bad) = omega (arith, bad_within bad, length-append (text t) r)
 
 mutual
@@ -96,3 +101,19 @@ refusal_within s look f (inl fault) = omega (arith, fault_within fault)
 refusal_within s look f (inr (t, spells, (position, name, missing, same))) =
     subst (λ (g : Fault). (range_of (Some g)).end ≤ length s) (sym same)
     (omega (arith, tree_within t 0 look position name missing, ap length spells.spelled))
+
+-- so has an error of parsing; where memory ran out it is the empty range at the source's start
+pub parse_result_within : {T : Type 0} (s : List ℕ) (r : Result T ParseError)
+    → OnFault parse_fault r (HasFault 0 s) → IfErr r (λ e. (range_of (parse_fault e)).end ≤ length s)
+parse_result_within s (Ok x) h = tt
+parse_result_within s (Err e) h = of (parse_fault e) h
+  where
+    of : (o : Option Fault) → IfSome o (HasFault 0 s) → (range_of o).end ≤ length s
+    of None h = omega arith
+    of (Some f) h = refusal_within s (λ name. None) f (inl h)
+
+-- and one of expansion
+pub expand_error_within : (s : List ℕ) (t : Tree) (look : LookUp) (o : Option Fault) → Spells t s
+    → IfSome o (IsMissing (value 0 t look)) → (range_of o).end ≤ length s
+expand_error_within s t look None spells h = omega arith
+expand_error_within s t look (Some f) spells h = refusal_within s look f (inr (t, spells, h))

@@ -1,21 +1,25 @@
 -- Worked examples of the laws: what each says of written-out sources, and why its conditions are needed.
-use Rattle.std.proofs.Common.{◌≡◌, [], ◌∷◌, ◌++◌, codes, Some, refl, arith}
+use Rattle.std.proofs.Common.{◌≡◌, [], ◌∷◌, ◌++◌, codes, Some, None, refl, arith}
 use Rattle.std.specs.Str.{chars}
 use Rattle.subst_error.specs.Fault.{InvalidEscapeSequence, MissingVariableName, NoSuchVariable}
 use Rattle.subst_error.specs.declared.CharOrByte.TheVariants.{Char, Byte}
-use Rattle.subst_language.specs.Language.Tree.{Short, Optional, Default, Tree, Empty, Then}
+use Rattle.subst_language.specs.Language.Tree.{Escaped, Short, Braced, Optional, Default, Tree, Empty, Then}
 use Rattle.subst_language.specs.Language.Answer.{Answers, Gives, Refuses}
 use Rattle.subst_language.specs.Language.BadItem.{HasFault}
 use Rattle.subst_language.specs.Language.BadItem.IsBad.{dollar_at_end}
+use Rattle.subst_language.specs.Language.Bytes.{dollar, closing_brace}
 use Rattle.subst_language.specs.Language.Escaped.{escaped}
 use Rattle.subst_language.specs.Language.Followed.{IsFollowed}
 use Rattle.subst_language.specs.Language.Join.{join}
 use Rattle.subst_language.specs.Language.Laws.{OpensAt, IsSettled}
 use Rattle.subst_language.specs.Language.LookUp.{LookUp}
+use Rattle.subst_language.specs.Language.Moved.{moved}
 use Rattle.subst_language.specs.Language.NamesIn.{names_in}
 use Rattle.subst_language.specs.Language.Sentence.{IsSentence}
+use Rattle.subst_language.specs.Language.ValueLength.{value_length, visited_length}
 use Rattle.subst_language.proofs.CallingLemmas.{spells}
 use Rattle.subst_language.proofs.Language.EscapedLemmas.{escaped_default_gives}
+use Rattle.subst_language.proofs.TreeOf.{tree_of}
 use Rattle.subst_language.proofs.WorkedExamples.BadItems.{backslash_before}
 use Rattle.subst_language.proofs.WorkedExamples.Characters.{byte_in_front}
 use Rattle.subst_language.proofs.WorkedExamples.Forms.{fault_after_tree, gives, missing, refused}
@@ -42,6 +46,16 @@ name_goes_on = missing _ 1 (codes "ab") _ (only (Short (codes "ab"))) refl refl 
 -- so `b` may not follow the tree
 pub name_not_followed : ¬ (IsFollowed short_a (codes "b"))
 name_not_followed h = h refl
+
+-- a dollar alone after `a` has its fault there, with the position moved
+pub fault_after_sentence : HasFault 0 (codes "a" ++ codes "$") (moved 1 (MissingVariableName 0 1))
+fault_after_sentence = fault_after_tree 0 _ (codes "$") _ (only_plain (codes "a")) refl refl dollar_at_end
+
+-- so has a missing variable
+pub missing_after_sentence : Answers (codes "a" ++ codes "$b") nothing
+    (Refuses (moved 1 (NoSuchVariable 1 (codes "b"))))
+missing_after_sentence =
+    missing _ 2 (codes "b") _ (plain (codes "a") (only (Short (codes "b")))) refl refl refl
 
 -- a backslash comes before each special byte
 pub specials_escaped : escaped (codes "a$b{c}:\\") ≡ codes "a\\$b\\{c\\}\\:\\\\"
@@ -99,3 +113,33 @@ byte_not_settled look = (
 -- a source without dollars and backslashes gives itself
 pub plain_gives_itself : Answers (codes "{a: b}") nothing (Gives (codes "{a: b}"))
 plain_gives_itself = gives _ _ _ (only_plain (codes "{a: b}")) refl refl refl
+
+-- `a\$${b:${c}}$c`, as a tree
+abbrev two_of_c : Tree
+two_of_c =
+    plain (codes "a") (Then (Escaped dollar)
+    (Then (Default (codes "b") (only (Braced (codes "c")))) (only (Short (codes "c")))))
+
+-- it gives two bytes of its own, and the value of `c` twice; a value of `b` has the place of the first
+pub lengths_of_values :
+    (value_length two_of_c (looking_up ((codes "c", codes "xyz") ∷ [])) ≡ 8)
+    × (visited_length two_of_c (looking_up ((codes "c", codes "xyz") ∷ [])) ≡ 6)
+    × (value_length two_of_c (looking_up ((codes "b", codes "x") ∷ (codes "c", codes "xyz") ∷ [])) ≡ 6)
+lengths_of_values = (refl, refl, refl)
+
+-- its tree is computed
+pub tree_computed : tree_of (codes "a\\$${b:${c}}$c") ≡ Some two_of_c
+tree_computed = refl
+
+-- a default ends at the brace that closes it; an optional variable; a text that ends with a name
+pub tree_of_each_form : tree_of (codes "{${a:{\\}$b}}?}${c?}d$e") ≡ Some
+    (plain (codes "{") (Then
+    (Default (codes "a") (plain (codes "{") (Then (Escaped closing_brace) (Then (Short (codes "b"))
+    (plain (codes "}") Empty)))))
+    (plain (codes "?}") (Then (Optional (codes "c")) (plain (codes "d") (only (Short (codes "e"))))))))
+tree_of_each_form = refl
+
+-- a source with a fault has none
+pub no_tree_computed : (tree_of (codes "a$") ≡ None) × (tree_of (codes "${a:$}") ≡ None)
+    × (tree_of (codes "${a:}\\") ≡ None) × (tree_of (codes "${a?b}") ≡ None)
+no_tree_computed = (refl, refl, refl, refl)

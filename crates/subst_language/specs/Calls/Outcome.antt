@@ -1,6 +1,6 @@
 -- What a call returns, unless memory runs out. An error that states no fault says that memory ran
 -- out. `bytes_of` tells the bytes of an output: of a `Vec` its items, of a `String` its bytes.
-use Rattle.std.specs.Prelude.{◌≡◌, ℕ, List, Option, Some, Result, Ok, Err, IfErr, IfSome}
+use Rattle.std.specs.Prelude.{◌≡◌, ℕ, List, Option, Some, None, Result, Ok, Err, IfErr, IfSome}
 use Rattle.std.specs.Option.{option_map}
 use Rattle.subst_error.specs.Fault.{Fault}
 use Rattle.subst_error.specs.ErrorFault.{error_fault, expand_fault}
@@ -22,3 +22,8 @@ Expands bytes_of (Err e) v = IfSome (expand_fault e) (IsMissing v)
 abbrev pub answer_of : {T : Type 0} → (T → List ℕ) → Result T Error → Option Answer
 answer_of bytes_of (Ok output) = Some (Gives (bytes_of output))
 answer_of bytes_of (Err e) = option_map Refuses (error_fault e)
+
+-- the refusal that the result of a substitution states: the fault of its error
+abbrev pub refusal_of : {T : Type 0} → Result T Error → Option Answer
+refusal_of (Ok output) = None
+refusal_of (Err e) = option_map Refuses (error_fault e)

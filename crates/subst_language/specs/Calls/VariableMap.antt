@@ -1,7 +1,7 @@
 -- How a map of variables is a look-up of bytes. Contracts see a map by three ghost members of its
 -- trait: `Seen`, what its values are identified with; `see`, what a value is identified with, a
 -- reference with what it points to; and `look_up`, what the map has under each name.
-use Rattle.std.specs.Prelude.{◌≡◌, ℕ, List, Option}
+use Rattle.std.specs.Prelude.{◌≡◌, ℕ, List, Option, is_some}
 use Rattle.std.specs.Option.{option_map}
 use Rattle.subst_language.specs.Language.LookUp.{LookUp}
 
@@ -20,3 +20,9 @@ abbrev pub ByLookUp : {Value Seen : Type 0} → (Value → List ℕ) → (Value 
     → (LookUp → Type 0) → Type 0
 ByLookUp {Value} {Seen} items see look_up P =
     (bytes : Seen → List ℕ) → ReadsAs items see bytes → P (look_up_of bytes look_up)
+
+-- P holds of each look-up of bytes that has something for the same names as the map. So is what
+-- doesn't depend on the values said, also of a map whose values nothing is known of.
+abbrev pub ByNames : {Seen : Type 0} → (List ℕ → Option Seen) → (LookUp → Type 0) → Type 0
+ByNames look_up P =
+    (look : LookUp) → ((name : List ℕ) → is_some (look name) ≡ is_some (look_up name)) → P look

@@ -3,4 +3,4 @@ use Rattle.subst_language.proofs.laws.law_1.Goals as goal
 
 -- each text has one reading
 pub returns : goal.returns
-returns c = one_reading
+returns c = record { reading = one_reading }

@@ -1,4 +1,4 @@
-use Rattle.subst_language.proofs.Language.JoinedLemmas.{joined_gives}
+use Rattle.subst_language.proofs.Language.MovedLemmas.{joined_fault, joined_gives, joined_missing, missing_before}
 use Rattle.subst_language.proofs.Language.TreeLemmas.{spells_join}
 use Rattle.subst_language.proofs.laws.law_2.Goals as goal
 
@@ -9,3 +9,15 @@ returns-clause-tree c = spells_join
 -- and give what the two give
 pub returns-clause-bytes : goal.returns-clause-bytes
 returns-clause-bytes c = joined_gives
+
+-- a fault of what is after a sentence is that of the whole
+pub returns-clause-fault : goal.returns-clause-fault
+returns-clause-fault c = joined_fault
+
+-- so is a missing variable of the second sentence, where the first gives bytes
+pub returns-clause-missing : goal.returns-clause-missing
+returns-clause-missing c = joined_missing
+
+-- and one of the first
+pub returns-clause-missing_before : goal.returns-clause-missing_before
+returns-clause-missing_before c = missing_before

@@ -3,4 +3,4 @@ use Rattle.subst_language.proofs.laws.law_7.Goals as goal
 
 -- each refusal has its range in the text
 pub returns : goal.returns
-returns c = refusal_in_text
+returns c = record { range = refusal_in_text }

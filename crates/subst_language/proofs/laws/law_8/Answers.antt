@@ -3,4 +3,4 @@ use Rattle.subst_language.proofs.laws.law_8.Goals as goal
 
 -- each plain text gives itself
 pub returns : goal.returns
-returns c = plain_answer
+returns c = record { itself = plain_answer }

@@ -3,4 +3,4 @@ use Rattle.subst_language.proofs.laws.law_9.Goals as goal
 
 -- each text keeps its earlier reading
 pub returns : goal.returns
-returns c = keeps_reading
+returns c = record { kept = keeps_reading }

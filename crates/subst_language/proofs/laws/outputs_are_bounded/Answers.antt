@@ -1,0 +1,14 @@
+use Rattle.subst_language.proofs.Language.ValueLengthLemmas.{value_length_at_most, value_length_exact, visited_length_at_most}
+use Rattle.subst_language.proofs.laws.outputs_are_bounded.Goals as goal
+
+-- the length that is said is that of the bytes
+pub returns-clause-exact : goal.returns-clause-exact
+returns-clause-exact c = value_length_exact
+
+-- it is at most that of the source and of the values
+pub returns-clause-bound : goal.returns-clause-bound
+returns-clause-bound c = value_length_at_most
+
+-- of which there is at most one for each name
+pub returns-clause-values : goal.returns-clause-values
+returns-clause-values c = visited_length_at_most

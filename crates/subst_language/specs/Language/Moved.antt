@@ -1,0 +1,12 @@
+-- Faults of a text that is written after another one.
+use Rattle.std.specs.Prelude.{ℕ, ◌+◌}
+use Rattle.subst_error.specs.Fault.{Fault, InvalidEscapeSequence, MissingVariableName, UnexpectedCharacter, MissingClosingBrace, NoSuchVariable}
+
+-- the fault, or the missing variable, with this many bytes more before it
+abbrev pub moved : ℕ → Fault → Fault
+moved n (InvalidEscapeSequence position character) = InvalidEscapeSequence (position + n) character
+moved n (MissingVariableName position len) = MissingVariableName (position + n) len
+moved n (UnexpectedCharacter position character expected) =
+    UnexpectedCharacter (position + n) character expected
+moved n (MissingClosingBrace position) = MissingClosingBrace (position + n)
+moved n (NoSuchVariable position name) = NoSuchVariable (position + n) name
