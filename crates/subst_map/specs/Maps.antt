@@ -11,10 +11,14 @@ use Rattle.std.specs.Ordering.{nat_cmp}
 use Rattle.std.specs.Str.{bytes_eq}
 use Rattle.subst_language.specs.Language.LookUp.{LookUp}
 
--- the value of the first pair with this name
+-- the value of the first pair with this name, where these two tell the name and the value of a pair
+abbrev pub first_value_by : {P : Type 0} → (P → List ℕ) → (P → List ℕ) → List P → LookUp
+first_value_by name_of value_of pairs name =
+    option_map value_of (find (λ pair. bytes_eq name (name_of pair)) pairs)
+
+-- the same of pairs of texts that are owned
 abbrev pub first_value : {X : Type 0} → List (String X × String X) → LookUp
-first_value pairs name =
-    option_map (λ pair. string_bytes pair.1) (find (λ pair. bytes_eq name (string_bytes pair.0)) pairs)
+first_value pairs = first_value_by (λ pair. string_bytes pair.0) (λ pair. string_bytes pair.1) pairs
 
 -- the value of a `BTreeMap` under the key, a lent text, whose bytes are the name
 abbrev pub btree_get_by_lent_text : {V : Type 0} → BTreeMap (Bor (List ℕ)) V → List ℕ → Option V

@@ -32,7 +32,7 @@ impl Env {
     /// // Hello world!
     /// ```
     pub fn from_pairs(pairs: Vec<(String, String)>) -> Env
-        ensures { result ≡ pairs.items }
+        ensures pairs { result ≡ pairs.items }
     {
         Env { pairs }
     }

@@ -37,5 +37,5 @@ pub trait VariableMap<'a> {
 
     /// Returns the value of the variable with this name, or nothing where the map has none.
     fn get(&'a self, key: &str) -> Option<Self::Value>
-        ensures { option_map see result ≡ look_up self.now key.now };
+        ensures value { option_map see result ≡ look_up self.now key.now };
 }

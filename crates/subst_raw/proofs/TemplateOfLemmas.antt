@@ -1,13 +1,20 @@
 -- What the parts of a template give, and how many of them are visited.
-use Rattle.std.proofs.Common.{◌≡◌, ℕ, List, length, ap, ◌∙◌}
+use Rattle.std.proofs.Common.{◌≡◌, ◌≤◌, ℕ, Option, IfSome, List, [], ◌∷◌, length, ap, subst, ◌∙◌}
+use Rattle.subst_error.specs.Fault.{Fault}
+use Rattle.subst_error.specs.Range.{range_of}
+use Rattle.subst_language.specs.Calls.VariableMap.{ByNames}
+use Rattle.subst_language.specs.Language.Answer.{IsMissing}
 use Rattle.subst_language.specs.Language.Tree.{Tree}
 use Rattle.subst_language.specs.Language.Sentence.{Spells}
 use Rattle.subst_language.specs.Language.LookUp.{LookUp}
 use Rattle.subst_language.specs.Language.Value.{value}
+use Rattle.subst_raw.specs.Filled.{mark, marks_of}
 use Rattle.subst_raw.specs.Parts.{IsTemplateOf, visited_parts, parts_value}
 use Rattle.subst_language.specs.Language.Counts.{visited_count}
 use Rattle.subst_raw.specs.declared.part.Part.{Part}
+use Rattle.subst_language.proofs.Language.AlikeLemmas.{missing_by_names}
 use Rattle.subst_language.proofs.Language.OneTreeLemmas.{tree_unique}
+use Rattle.subst_language.proofs.Language.RangeWithinLemmas.{expand_error_within}
 
 -- the value of the source's tree, which is the only one
 pub template_value : (s : List ℕ) (parts : List Part) (t : Tree) (look : LookUp) → IsTemplateOf s parts
@@ -24,3 +31,23 @@ pub template_count : (s : List ℕ) (parts : List Part) (t : Tree) (look : LookU
 template_count s parts t look template spells =
     template.mean.same_count look ∙ ap (λ u. visited_count u look)
     (tree_unique s template.tree t template.spells spells)
+
+-- what the parts are missing where each value is a mark, the source's tree is missing under each look-up that
+-- has something for the same names
+pub template_missing : {Seen : Type 0} (s : List ℕ) (parts : List Part) (t : Tree)
+    (look_up : List ℕ → Option Seen) (stated : Option Fault) → IsTemplateOf s parts → Spells t s
+    → IfSome stated (IsMissing (parts_value parts s (marks_of look_up)))
+    → ByNames look_up (λ look. IfSome stated (IsMissing (value 0 t look)))
+template_missing s parts t look_up stated template spells missing =
+    let gives = template_value s parts t (marks_of look_up) template spells in
+    missing_by_names t (λ _. mark ∷ []) look_up stated
+    (subst (λ v. IfSome stated (IsMissing v)) gives missing)
+
+-- so the range of its error ends within the source
+pub template_range : {Seen : Type 0} (s : List ℕ) (parts : List Part) (look_up : List ℕ → Option Seen)
+    (stated : Option Fault) → IsTemplateOf s parts
+    → IfSome stated (IsMissing (parts_value parts s (marks_of look_up))) → (range_of stated).end ≤ length s
+template_range s parts look_up stated template missing =
+    let look = marks_of look_up in
+    expand_error_within s template.tree look stated template.spells
+    (subst (λ v. IfSome stated (IsMissing v)) (template.mean.same_value look) missing)

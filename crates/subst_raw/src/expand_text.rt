@@ -1,13 +1,14 @@
 //! The loop over a source that is a text: its output, the value of the source's tree, is a text too, and
 //! the range of an error is in the source.
 
-ghost use Rattle.std.specs.Prelude.{◌≡◌, IfErr, string_bytes};
+ghost use Rattle.std.specs.Prelude.{◌≡◌, IfErr, IfSome, string_bytes};
 ghost use Rattle.std.specs.Str.{IsUtf8};
 ghost use Rattle.subst_error.specs.ErrorFault.{expand_fault};
 ghost use Rattle.subst_error.specs.Range.{range_of, IsRangeIn};
+ghost use Rattle.subst_language.specs.Language.Answer.{IsMissing};
 ghost use Rattle.subst_language.specs.Language.Sentence.{ByTree};
 ghost use Rattle.subst_language.specs.Language.Value.{value};
-ghost use Rattle.subst_language.specs.Calls.VariableMap.{ByLookUp};
+ghost use Rattle.subst_language.specs.Calls.VariableMap.{ByLookUp, ByNames};
 ghost use Rattle.subst_language.specs.Calls.Outcome.{Expands};
 ghost use Rattle.subst_raw.specs.Parts.{IsTemplateOf};
 
@@ -37,6 +38,8 @@ where
     ensures value { ByLookUp M.Value.text M.see (M.look_up variables.now)
         (λ look. ByTree source.now
         (λ t. Expands (λ output. string_bytes output) result (value 0 t look))) }
+    ensures missing { ByNames (M.look_up variables.now) (λ look. ByTree source.now
+        (λ t. IfErr result (λ e. IfSome (expand_fault e) (IsMissing (value 0 t look))))) }
     ensures range { IfErr result (λ e. IsRangeIn source.now (range_of (expand_fault e))) }
 {
     let mut turns = Turns::new();

@@ -4,6 +4,7 @@
 ghost use Rattle.std.specs.Prelude.{◌≡◌, ◌+◌, ◌-◌, ◌*◌, ◌<◌, ◌≤◌, ℕ, List, [], ◌∷◌, length, drop, reverse, slice_get, vec_len, IfOk, IfErr, OnOk, IfSome, IsTrue, ◌↔◌};
 ghost use Rattle.subst_error.specs.ErrorFault.{parse_fault};
 ghost use Rattle.subst_error.specs.Fault.{MissingClosingBrace};
+ghost use Rattle.subst_error.specs.Range.{range_of};
 ghost use Rattle.subst_language.specs.Language.Bytes.{dollar, colon, backslash, closing_brace};
 ghost use Rattle.subst_language.specs.Language.BadItem.{HasFault};
 ghost use Rattle.subst_language.specs.Calls.Outcome.{OnFault};
@@ -65,6 +66,7 @@ pub fn parse(alloc: Global, source: &[u8], reads: &mut Reads) -> Result<PartVec,
     ensures grows { reads.old ≤ reads.new }
     ensures whole { OnOk result (reads.old + length source.now ≤ reads.new) }
     ensures refused { IfErr result (λ e. reads.old + 1 ≤ reads.new) }
+    ensures range { IfErr result (λ e. (range_of (parse_fault e)).end ≤ length source.now) }
 {
     // No offset and no index of a part is past the end of the source.
     if source.len() <= u32::MAX as usize {

@@ -27,7 +27,7 @@ impl Model for Reads {
 impl Reads {
     /// Returns a counter at 0.
     pub fn new() -> Self
-        ensures { result ≡ 0 }
+        ensures start { result ≡ 0 }
     {
         Reads {
             counter: Counter::new(),
@@ -61,7 +61,7 @@ impl Model for Turns {
 impl Turns {
     /// Returns a counter at 0.
     pub fn new() -> Self
-        ensures { result ≡ 0 }
+        ensures start { result ≡ 0 }
     {
         Turns {
             counter: Counter::new(),

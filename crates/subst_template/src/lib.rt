@@ -4,19 +4,22 @@
 //! `subst` re-exports all public items of this crate, and describes the language.
 #![tactic(auto)]
 
-ghost use Rattle.std.specs.Prelude.{IfErr, IfSome, string_bytes};
+ghost use Rattle.std.specs.Prelude.{◌≤◌, length, IfErr, IfOk, IfSome, string_bytes};
 ghost use Rattle.subst_error.specs.ErrorFault.{error_fault};
 ghost use Rattle.subst_error.specs.Range.{range_of, IsRangeIn};
 ghost use Rattle.subst_language.specs.Language.Answer.{Answers};
-ghost use Rattle.subst_language.specs.Calls.VariableMap.{ByLookUp};
-ghost use Rattle.subst_language.specs.Calls.Outcome.{answer_of};
+ghost use Rattle.subst_language.specs.Language.Sentence.{IsSentence};
+ghost use Rattle.subst_language.specs.Calls.VariableMap.{ByLookUp, ByNames};
+ghost use Rattle.subst_language.specs.Calls.Outcome.{answer_of, refusal_of};
 
+pub use owned::{is_plain, substitute_bytes_owned, substitute_owned};
 use std::alloc::Global;
 use std::convert::{AsSlice, AsStr};
 use subst_error::Error;
 use subst_map::VariableMap;
 pub use template::{ByteTemplate, ByteTemplateBuf, Template, TemplateBuf};
 
+mod owned;
 mod template;
 
 /// Returns the bytes of `source` with its variables filled in from `variables`.
@@ -48,8 +51,15 @@ where
     M::Value: AsSlice<u8> + Drop,
 
     // The answer of the source under the map's look-up: there is one, and it is this.
-    ensures { ByLookUp M.Value.items M.see (M.look_up variables.now)
+    ensures answer { ByLookUp M.Value.items M.see (M.look_up variables.now)
         (λ look. IfSome (answer_of (λ output. output.items) result) (Answers source.now look)) }
+
+    // Whatever the map: only a sentence gives bytes, and an error states the refusal of the source, whose
+    // range ends within it.
+    ensures sentence { IfOk result (λ output. IsSentence source.now) }
+    ensures refusal { ByNames (M.look_up variables.now)
+        (λ look. IfSome (refusal_of result) (Answers source.now look)) }
+    ensures range { IfErr result (λ e. (range_of (error_fault e)).end ≤ length source.now) }
 {
     Ok(ByteTemplate::from_slice(alloc, source)?.expand(alloc, variables)?)
 }
@@ -82,7 +92,11 @@ where
         (λ look. IfSome (answer_of (λ output. string_bytes output) result)
         (Answers source.now look)) }
 
-    // Whatever the map, an error has its range in the source, as its line and its highlighting ask.
+    // Whatever the map: only a sentence gives a text, and an error states the refusal of the source, with a
+    // range in it, as its line and its highlighting ask.
+    ensures sentence { IfOk result (λ output. IsSentence source.now) }
+    ensures refusal { ByNames (M.look_up variables.now)
+        (λ look. IfSome (refusal_of result) (Answers source.now look)) }
     ensures range { IfErr result (λ e. IsRangeIn source.now (range_of (error_fault e))) }
 {
     Ok(Template::from_str(alloc, source)?.expand(alloc, variables)?)

@@ -5,24 +5,21 @@
 //! `subst` doesn't re-export this crate.
 #![tactic(auto)]
 
-ghost use Rattle.std.specs.Prelude.{◌≡◌, ◌↔◌, ◌+◌, ◌<◌, IfOk, IsTrue, ℕ, List, ◌∷◌, length, string_bytes};
-ghost use Rattle.std.specs.List.{All};
+ghost use Rattle.std.specs.Prelude.{◌≡◌, ◌+◌, ◌<◌, IfOk, IsTrue, ℕ, List, ◌∷◌, length, string_bytes};
 ghost use Rattle.std.specs.Map.{keys_of, values_of};
 ghost use Rattle.std.specs.Vec.Iter.{into_iter_items, into_iter_len};
-ghost use Rattle.subst_language.specs.Language.Bytes.{IsPlain};
 ghost use Rattle.subst_error.specs.ErrorFault.{error_fault};
 ghost use Rattle.subst_language.specs.Language.Answer.{Answers, Gives, Refuses};
 ghost use Rattle.subst_language.specs.Language.LookUp.{LookUp};
 ghost use Rattle.subst_language.specs.Calls.Outcome.{OnFault};
 ghost use Rattle.subst_walk.specs.Texts.{HasRange};
 
-use memchr::memchr2;
 use std::alloc::Global;
 use std::collections::BTreeMap;
 use std::convert::AsStr;
 use subst_error::Error;
 use subst_map::VariableMap;
-use subst_template::substitute;
+use subst_template::substitute_owned;
 
 /// A way to fill in texts.
 ///
@@ -59,18 +56,8 @@ where
         × (look ≡ look_up_of bytes (M.look_up filler.variables.now)) };
 
     fn fill(&self, alloc: Global, source: String) -> Result<String, Error> {
-        if is_plain(source.as_bytes()) {
-            return Ok(source);
-        }
-        substitute(alloc, source.as_str(), self.variables)
+        substitute_owned(alloc, source, self.variables)
     }
-}
-
-/// Returns whether a source has no dollar and no backslash, and so gives itself.
-fn is_plain(source: &[u8]) -> bool
-    ensures { IsTrue result ↔ All IsPlain source.now }
-{
-    memchr2(b'$', b'\\', source).is_none()
 }
 
 /// Puts these values into a map, in the order of its keys.

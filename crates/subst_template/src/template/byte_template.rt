@@ -2,13 +2,15 @@
 //! has a template, and it expands to the value of the source's tree. Contracts bound the reads of a parse
 //! and count the turns of an expansion.
 
-ghost use Rattle.std.specs.Prelude.{◌≡◌, ◌+◌, ◌*◌, ◌≤◌, length, IfOk, IfErr, OnOk};
-ghost use Rattle.subst_error.specs.ErrorFault.{parse_fault};
+ghost use Rattle.std.specs.Prelude.{◌≡◌, ◌+◌, ◌*◌, ◌≤◌, length, IfOk, IfErr, IfSome, OnOk};
+ghost use Rattle.subst_error.specs.ErrorFault.{expand_fault, parse_fault};
+ghost use Rattle.subst_error.specs.Range.{range_of};
+ghost use Rattle.subst_language.specs.Language.Answer.{IsMissing};
 ghost use Rattle.subst_language.specs.Language.Sentence.{IsSentence, ByTree};
 ghost use Rattle.subst_language.specs.Language.BadItem.{HasFault};
 ghost use Rattle.subst_language.specs.Language.Value.{value};
 ghost use Rattle.subst_language.specs.Language.Counts.{visited_count};
-ghost use Rattle.subst_language.specs.Calls.VariableMap.{ByLookUp};
+ghost use Rattle.subst_language.specs.Calls.VariableMap.{ByLookUp, ByNames};
 ghost use Rattle.subst_language.specs.Calls.Outcome.{OnFault, Expands};
 
 use crate::template::byte_string::ByteString;
@@ -53,13 +55,15 @@ impl<'a> ByteTemplate<'a> {
         // Only a sentence has a template, which is that of the source.
         ensures ok { IfOk result (λ template. IsSentence source.now × (template ≡ source.now)) }
         ensures err { OnFault parse_fault result (HasFault 0 source.now) }
+        ensures range { IfErr result (λ e. (range_of (parse_fault e)).end ≤ length source.now) }
     {
         ByteTemplate::from_slice_counted(alloc, source, &mut Reads::new())
     }
 
     /// Returns the template of a source, as `from_slice`, and counts the reads: at least one for each byte
     /// of a template, and at least one of a source that is refused; for each source, refused or not, at
-    /// most three for each of its bytes and eight more.
+    /// most three for each of its bytes and eight more. It isn't stated that all reads of a refused source
+    /// are counted.
     ///
     /// # Errors
     ///
@@ -76,6 +80,7 @@ impl<'a> ByteTemplate<'a> {
         ensures grows { reads.old ≤ reads.new }
         ensures whole { OnOk result (reads.old + length source.now ≤ reads.new) }
         ensures refused { IfErr result (λ e. reads.old + 1 ≤ reads.new) }
+        ensures range { IfErr result (λ e. (range_of (parse_fault e)).end ≤ length source.now) }
     {
         let parts = parse(alloc, source, reads)?;
         let parts = CowParts::from(parts);
@@ -103,9 +108,16 @@ impl<'a> ByteTemplate<'a> {
     ) -> Result<Vec<u8>, ExpandError>
     where
         M::Value: AsSlice<u8> + Drop,
-        ensures { ByLookUp M.Value.items M.see (M.look_up variables.now)
+        ensures value { ByLookUp M.Value.items M.see (M.look_up variables.now)
             (λ look. ByTree self.now
             (λ t. Expands (λ output. output.items) result (value 0 t look))) }
+
+        // Whatever the map: a template's source has a tree, and an error states the variable that its
+        // evaluation misses, which is in the source.
+        ensures sentence { IsSentence self.now }
+        ensures missing { ByNames (M.look_up variables.now) (λ look. ByTree self.now
+            (λ t. IfErr result (λ e. IfSome (expand_fault e) (IsMissing (value 0 t look))))) }
+        ensures range { IfErr result (λ e. (range_of (expand_fault e)).end ≤ length self.now) }
     {
         let mut turns = Turns::new();
         self.expand_counted(alloc, variables, &mut turns)
@@ -117,7 +129,8 @@ impl<'a> ByteTemplate<'a> {
     ///
     /// # Errors
     ///
-    /// As `expand`. Some parts may then not be visited.
+    /// As `expand`. Some parts may then not be visited, and it isn't stated that each one that is visited is
+    /// counted.
     pub fn expand_counted<'b, M: VariableMap<'b>>(
         &self,
         alloc: Global,
@@ -135,6 +148,13 @@ impl<'a> ByteTemplate<'a> {
         ensures at_most { ByLookUp M.Value.items M.see (M.look_up variables.now)
             (λ look. ByTree self.now (λ t. turns.new ≤ turns.old + visited_count t look)) }
         ensures grown { turns.old ≤ turns.new }
+
+        // Whatever the map: a template's source has a tree, and an error states the variable that its
+        // evaluation misses, which is in the source.
+        ensures sentence { IsSentence self.now }
+        ensures missing { ByNames (M.look_up variables.now) (λ look. ByTree self.now
+            (λ t. IfErr result (λ e. IfSome (expand_fault e) (IsMissing (value 0 t look))))) }
+        ensures range { IfErr result (λ e. (range_of (expand_fault e)).end ≤ length self.now) }
     {
         expand::<M, SliceBytes>(alloc, self.source, &self.parts, variables, turns)
     }

@@ -1,12 +1,14 @@
 //! Templates that own their byte sources: a source and its parts. Each lends a `ByteTemplate` of the same
 //! source.
 
-ghost use Rattle.std.specs.Prelude.{◌≡◌, IfOk};
-ghost use Rattle.subst_error.specs.ErrorFault.{parse_fault};
+ghost use Rattle.std.specs.Prelude.{◌≡◌, ◌≤◌, length, IfErr, IfOk, IfSome};
+ghost use Rattle.subst_error.specs.ErrorFault.{expand_fault, parse_fault};
+ghost use Rattle.subst_error.specs.Range.{range_of};
+ghost use Rattle.subst_language.specs.Language.Answer.{IsMissing};
 ghost use Rattle.subst_language.specs.Language.Sentence.{IsSentence, ByTree};
 ghost use Rattle.subst_language.specs.Language.BadItem.{HasFault};
 ghost use Rattle.subst_language.specs.Language.Value.{value};
-ghost use Rattle.subst_language.specs.Calls.VariableMap.{ByLookUp};
+ghost use Rattle.subst_language.specs.Calls.VariableMap.{ByLookUp, ByNames};
 ghost use Rattle.subst_language.specs.Calls.Outcome.{OnFault, Expands};
 
 use crate::template::byte_string::ByteString;
@@ -49,6 +51,7 @@ impl ByteTemplateBuf {
         // Only a sentence has a template, which is that of the source.
         ensures ok { IfOk result (λ template. IsSentence source.items × (template ≡ source.items)) }
         ensures err { OnFault parse_fault result (HasFault 0 source.items) }
+        ensures range { IfErr result (λ e. (range_of (parse_fault e)).end ≤ length source.items) }
     {
         let alloc = *source.allocator();
         let parts = parse(alloc, &source, &mut Reads::new())?;
@@ -61,7 +64,7 @@ impl ByteTemplateBuf {
     ///
     /// Out of memory.
     pub fn from_template(alloc: Global, other: &ByteTemplate<'_>) -> Result<Self, AllocError>
-        ensures { IfOk result (λ template. template ≡ other.now) }
+        ensures template { IfOk result (λ template. template ≡ other.now) }
     {
         let source = Vec::from_slice(alloc, other.source)?;
         let parts = other.parts.to_vec(alloc)?;
@@ -74,7 +77,7 @@ impl ByteTemplateBuf {
     ///
     /// Out of memory.
     pub fn of_template(alloc: Global, other: ByteTemplate<'_>) -> Result<Self, AllocError>
-        ensures { IfOk result (λ template. template ≡ other.entry) }
+        ensures template { IfOk result (λ template. template ≡ other.entry) }
     {
         let source = Vec::from_slice(alloc, other.source)?;
         let parts = other.parts.into_vec(alloc)?;
@@ -83,7 +86,7 @@ impl ByteTemplateBuf {
 
     /// Returns the template over the same source, lent. It takes no memory.
     pub fn as_template(&self) -> ByteTemplate<'_>
-        ensures { result ≡ self.now }
+        ensures template { result ≡ self.now }
     {
         ByteTemplate {
             source: &self.source,
@@ -119,9 +122,16 @@ impl ByteTemplateBuf {
     ) -> Result<Vec<u8>, ExpandError>
     where
         M::Value: AsSlice<u8> + Drop,
-        ensures { ByLookUp M.Value.items M.see (M.look_up variables.now)
+        ensures value { ByLookUp M.Value.items M.see (M.look_up variables.now)
             (λ look. ByTree self.now
             (λ t. Expands (λ output. output.items) result (value 0 t look))) }
+
+        // Whatever the map: a template's source has a tree, and an error states the variable that its
+        // evaluation misses, which is in the source.
+        ensures sentence { IsSentence self.now }
+        ensures missing { ByNames (M.look_up variables.now) (λ look. ByTree self.now
+            (λ t. IfErr result (λ e. IfSome (expand_fault e) (IsMissing (value 0 t look))))) }
+        ensures range { IfErr result (λ e. (range_of (expand_fault e)).end ≤ length self.now) }
     {
         self.as_template().expand(alloc, variables)
     }

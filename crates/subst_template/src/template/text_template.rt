@@ -1,12 +1,13 @@
 //! Templates over texts that they borrow, with the contracts of `ByteTemplate` over the bytes of texts.
 
-ghost use Rattle.std.specs.Prelude.{◌≡◌, IfErr, IfOk, string_bytes};
+ghost use Rattle.std.specs.Prelude.{◌≡◌, IfErr, IfOk, IfSome, string_bytes};
 ghost use Rattle.subst_error.specs.ErrorFault.{expand_fault, parse_fault};
 ghost use Rattle.subst_error.specs.Range.{range_of, IsRangeIn};
+ghost use Rattle.subst_language.specs.Language.Answer.{IsMissing};
 ghost use Rattle.subst_language.specs.Language.Sentence.{IsSentence, ByTree};
 ghost use Rattle.subst_language.specs.Language.BadItem.{HasFault};
 ghost use Rattle.subst_language.specs.Language.Value.{value};
-ghost use Rattle.subst_language.specs.Calls.VariableMap.{ByLookUp};
+ghost use Rattle.subst_language.specs.Calls.VariableMap.{ByLookUp, ByNames};
 ghost use Rattle.subst_language.specs.Calls.Outcome.{OnFault, Expands};
 
 use std::alloc::{AllocError, Global};
@@ -90,7 +91,11 @@ impl<'a> Template<'a> {
             (λ look. ByTree self.now
             (λ t. Expands (λ output. string_bytes output) result (value 0 t look))) }
 
-        // Whatever the map, the name that is missing is in the source.
+        // Whatever the map: a template's source has a tree, and an error states the variable that its
+        // evaluation misses, which is in the source.
+        ensures sentence { IsSentence self.now }
+        ensures missing { ByNames (M.look_up variables.now) (λ look. ByTree self.now
+            (λ t. IfErr result (λ e. IfSome (expand_fault e) (IsMissing (value 0 t look))))) }
         ensures range { IfErr result (λ e. IsRangeIn self.now (range_of (expand_fault e))) }
     {
         expand_text(alloc, self.source, &self.parts, variables)

@@ -1,12 +1,13 @@
 //! Templates that own their texts, with the contracts of `ByteTemplateBuf` over the bytes of texts.
 
-ghost use Rattle.std.specs.Prelude.{◌≡◌, IfErr, IfOk, string_bytes};
+ghost use Rattle.std.specs.Prelude.{◌≡◌, IfErr, IfOk, IfSome, string_bytes};
 ghost use Rattle.subst_error.specs.ErrorFault.{expand_fault, parse_fault};
 ghost use Rattle.subst_error.specs.Range.{range_of, IsRangeIn};
+ghost use Rattle.subst_language.specs.Language.Answer.{IsMissing};
 ghost use Rattle.subst_language.specs.Language.Sentence.{IsSentence, ByTree};
 ghost use Rattle.subst_language.specs.Language.BadItem.{HasFault};
 ghost use Rattle.subst_language.specs.Language.Value.{value};
-ghost use Rattle.subst_language.specs.Calls.VariableMap.{ByLookUp};
+ghost use Rattle.subst_language.specs.Calls.VariableMap.{ByLookUp, ByNames};
 ghost use Rattle.subst_language.specs.Calls.Outcome.{OnFault, Expands};
 
 use crate::template::text_template::Template;
@@ -55,6 +56,10 @@ impl TemplateBuf {
         ensures ok { IfOk result
             (λ template. IsSentence (string_bytes source) × (template ≡ string_bytes source)) }
         ensures err { OnFault parse_fault result (HasFault 0 (string_bytes source)) }
+
+        // The fault is in the source, between two of its characters.
+        ensures range { IfErr result
+            (λ e. IsRangeIn (string_bytes source) (range_of (parse_fault e))) }
     {
         let alloc = *source.allocator();
         let parts = parse(alloc, source.as_bytes(), &mut Reads::new())?;
@@ -67,7 +72,7 @@ impl TemplateBuf {
     ///
     /// Out of memory.
     pub fn from_template(alloc: Global, other: &Template<'_>) -> Result<Self, AllocError>
-        ensures { IfOk result (λ template. template ≡ other.now) }
+        ensures template { IfOk result (λ template. template ≡ other.now) }
     {
         let source = String::from_str(alloc, other.source)?;
         let parts = other.parts.to_vec(alloc)?;
@@ -80,7 +85,7 @@ impl TemplateBuf {
     ///
     /// Out of memory.
     pub fn of_template(alloc: Global, other: Template<'_>) -> Result<Self, AllocError>
-        ensures { IfOk result (λ template. template ≡ other.entry) }
+        ensures template { IfOk result (λ template. template ≡ other.entry) }
     {
         let source = String::from_str(alloc, other.source)?;
         let parts = other.parts.into_vec(alloc)?;
@@ -89,7 +94,7 @@ impl TemplateBuf {
 
     /// Returns the template over the same source, lent. It takes no memory.
     pub fn as_template(&self) -> Template<'_>
-        ensures { result ≡ self.now }
+        ensures template { result ≡ self.now }
     {
         Template {
             source: &self.source,
@@ -129,7 +134,11 @@ impl TemplateBuf {
             (λ look. ByTree self.now
             (λ t. Expands (λ output. string_bytes output) result (value 0 t look))) }
 
-        // Whatever the map, the name that is missing is in the source.
+        // Whatever the map: a template's source has a tree, and an error states the variable that its
+        // evaluation misses, which is in the source.
+        ensures sentence { IsSentence self.now }
+        ensures missing { ByNames (M.look_up variables.now) (λ look. ByTree self.now
+            (λ t. IfErr result (λ e. IfSome (expand_fault e) (IsMissing (value 0 t look))))) }
         ensures range { IfErr result (λ e. IsRangeIn self.now (range_of (expand_fault e))) }
     {
         self.as_template().expand(alloc, variables)

@@ -99,14 +99,15 @@ no_such_variable-requires-clause-name g c =
 pub returns-in_default-get-clause-value : goal.returns-in_default-get-clause-value
 returns-in_default-get-clause-value g c = λ bytes reads.
     let here = part_here c.in-Some.ensures.part c.loop-part.invariant.same c.in-Variable.is in
-    let missing = has_none bytes (g.M.VariableMap.look_up c.args.variables.now) c.in_default-get.ensures in
+    let look_up = g.M.VariableMap.look_up c.args.variables.now in
+    let missing = has_none bytes look_up c.in_default-get.ensures.value in
     let is = missing_variable (c.loop-part.invariant.so_far bytes reads) here c.name_at.ensures missing in
     states_missing _ is c.no_such_variable.ensures
 
 pub returns-in_default-get-clause-missing : goal.returns-in_default-get-clause-missing
 returns-in_default-get-clause-missing g c =
     let here = part_here c.in-Some.ensures.part c.loop-part.invariant.same c.in-Variable.is in
-    let missing = has_no_mark (g.M.VariableMap.look_up c.args.variables.now) c.in_default-get.ensures in
+    let missing = has_no_mark (g.M.VariableMap.look_up c.args.variables.now) c.in_default-get.ensures.value in
     let is = missing_variable c.loop-part.invariant.marks.so_far here c.name_at.ensures missing in
     states_missing _ is c.no_such_variable.ensures
 
@@ -119,7 +120,7 @@ loop-part-preserved-in-Variable g c =
       so_far = λ bytes reads.
           let look_up = g.M.VariableMap.look_up c.args.variables.now in
           let found = has_value g.R.ReadValue.read g.M.VariableMap.see bytes look_up c.in-Some-get.value reads
-          c.in-Some-get.ensures c.bytes_of.ensures.bytes in
+          c.in-Some-get.ensures.value c.bytes_of.ensures.bytes in
           after_variable (c.loop-part.invariant.so_far bytes reads) here c.name_at.ensures found
           c.in_ok-extend_from_slice-in-Variable.ensures.items;
       grown = omega (arith, c.loop-part.invariant.grown, c.in-Some.ensures.counted);
@@ -128,7 +129,7 @@ loop-part-preserved-in-Variable g c =
           c.in-Some.ensures.counted;
       marks =
           marks_variable c.loop-part.invariant.marks here c.name_at.ensures
-          (has_mark (g.M.VariableMap.look_up c.args.variables.now) c.in-Some-get.ensures)
+          (has_mark (g.M.VariableMap.look_up c.args.variables.now) c.in-Some-get.ensures.value)
           c.bytes_of.ensures.property
           c.in_ok-extend_from_slice-in-Variable.ensures.items;
     }
@@ -175,19 +176,19 @@ loop-part-preserved-in-Some-get-2 g c =
       so_far = λ bytes reads.
           let look_up = g.M.VariableMap.look_up c.args.variables.now in
           let found = has_value g.R.ReadValue.read g.M.VariableMap.see bytes look_up c.in-Some-get-2.value
-          reads c.in-Some-get-2.ensures c.bytes_of-in-Some-get-2.ensures.bytes in
+          reads c.in-Some-get-2.ensures.value c.bytes_of-in-Some-get-2.ensures.bytes in
           after_value (c.loop-part.invariant.so_far bytes reads) here fits.2
           c.name_at-in-Default.ensures found c.in_ok-extend_from_slice-in-Some-get-2.ensures.items;
       grown = omega (arith, c.loop-part.invariant.grown, c.in-Some.ensures.counted);
       counted = λ bytes reads.
           let look_up = g.M.VariableMap.look_up c.args.variables.now in
           let found = has_value g.R.ReadValue.read g.M.VariableMap.see bytes look_up c.in-Some-get-2.value
-          reads c.in-Some-get-2.ensures c.bytes_of-in-Some-get-2.ensures.bytes in
+          reads c.in-Some-get-2.ensures.value c.bytes_of-in-Some-get-2.ensures.bytes in
           one_turn (c.loop-part.invariant.counted bytes reads)
           (goes_on_there here fits.2 c.name_at-in-Default.ensures found) c.in-Some.ensures.counted;
       marks =
           marks_value c.loop-part.invariant.marks here fits.2 c.name_at-in-Default.ensures
-          (has_mark (g.M.VariableMap.look_up c.args.variables.now) c.in-Some-get-2.ensures)
+          (has_mark (g.M.VariableMap.look_up c.args.variables.now) c.in-Some-get-2.ensures.value)
           c.bytes_of-in-Some-get-2.ensures.property
           c.in_ok-extend_from_slice-in-Some-get-2.ensures.items;
     }
@@ -205,16 +206,18 @@ loop-part-preserved g c =
       same = c.in-Some.ensures.same ∙ c.loop-part.invariant.same;
       within = omega (arith, here.below);
       so_far = λ bytes reads.
-          let missing = has_none bytes (g.M.VariableMap.look_up c.args.variables.now) c.in-None.ensures in
+          let look_up = g.M.VariableMap.look_up c.args.variables.now in
+          let missing = has_none bytes look_up c.in-None.ensures.value in
           after_none (c.loop-part.invariant.so_far bytes reads) here c.name_at-in-Default.ensures missing;
       grown = omega (arith, c.loop-part.invariant.grown, c.in-Some.ensures.counted);
       counted = λ bytes reads.
-          let missing = has_none bytes (g.M.VariableMap.look_up c.args.variables.now) c.in-None.ensures in
+          let look_up = g.M.VariableMap.look_up c.args.variables.now in
+          let missing = has_none bytes look_up c.in-None.ensures.value in
           one_turn (c.loop-part.invariant.counted bytes reads)
           (goes_on_inside here c.name_at-in-Default.ensures missing) c.in-Some.ensures.counted;
       marks =
           marks_none c.loop-part.invariant.marks here c.name_at-in-Default.ensures
-          (has_no_mark (g.M.VariableMap.look_up c.args.variables.now) c.in-None.ensures);
+          (has_no_mark (g.M.VariableMap.look_up c.args.variables.now) c.in-None.ensures.value);
     }
 
 pub loop-part-smaller : goal.loop-part-smaller

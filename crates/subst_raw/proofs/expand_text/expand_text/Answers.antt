@@ -9,7 +9,7 @@ use Rattle.subst_raw.specs.Filled.{FillsMarks, marks_of}
 use Rattle.subst_raw.specs.Parts.{parts_value}
 use Rattle.subst_language.proofs.Language.RangeLemmas.{expand_error_in_text}
 use Rattle.subst_raw.proofs.FilledTextLemmas.{output_is_text}
-use Rattle.subst_raw.proofs.TemplateOfLemmas.{template_value}
+use Rattle.subst_raw.proofs.TemplateOfLemmas.{template_value, template_missing}
 use Rattle.subst_raw.proofs.expand_text.expand_text.Goals as goal
 
 pub text_of-requires : goal.text_of-requires
@@ -36,6 +36,13 @@ returns-in-Err-clause-value g c bytes reads t spells =
     let gives = template_value c.args.source.now c.args.parts.now t look c.requires spells in
     subst (λ v. IfSome (expand_fault c.in-Err.e) (IsMissing v)) (same ∙ gives)
     (c.in-Err.ensures.value bytes reads)
+
+pub returns-in-Err-clause-missing : goal.returns-in-Err-clause-missing
+returns-in-Err-clause-missing g c look names t spells =
+    let look_up = g.M.VariableMap.look_up c.args.variables.now in
+    let same = ap (λ s. parts_value c.args.parts.now s (marks_of look_up)) c.as_bytes.ensures.value in
+    template_missing c.args.source.now c.args.parts.now t look_up (expand_fault c.in-Err.e) c.requires spells
+    (subst (λ v. IfSome (expand_fault c.in-Err.e) (IsMissing v)) same c.in-Err.ensures.missing) look names
 
 pub returns-in-Err-clause-range : goal.returns-in-Err-clause-range
 returns-in-Err-clause-range g c =
