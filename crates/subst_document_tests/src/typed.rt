@@ -19,6 +19,10 @@ struct Config {
 
 const PAIRS: &str = "bar=aap,baz=noot,port=80,verbatim=$bar${a:x}\\\"";
 
+/// Values that are templates, and give something else, or are a text's own characters.
+const TEMPLATES: &str =
+    "bar=aap,short=$bar,braces=${a:x},escaped=\\$bar,two=\\\\,one=\\,open={,close=}";
+
 /// The text of a value that is read from JSON, or of the error; `no JSON` stands for the reader's words.
 fn of_json<T: Debug + Drop>(
     alloc: Global,
@@ -91,6 +95,40 @@ fn a_struct_of_json(rt: HostRuntime) {
     assert_eq!(rt; first_wrong::<JsonConfig>(rt.alloc(), rows), Ok(None));
 }
 
+struct JsonTemplates;
+
+impl Call for JsonTemplates {
+    fn told(alloc: Global, source: &str) -> Result<String, AllocError> {
+        let variables = texts(alloc, TEMPLATES)?;
+        let of_text = json::from_str::<Config, _>(alloc, source, &variables);
+        let of_bytes = json::from_slice::<Config, _>(alloc, source.as_bytes(), &variables);
+        both(alloc, of_json(alloc, of_text)?, of_json(alloc, of_bytes)?)
+    }
+}
+
+#[test]
+fn a_value_of_json_is_not_filled_in_again(rt: HostRuntime) {
+    let rows: &[(&str, &str)] = &[
+        (
+            "{\"bar\":\"$short\",\"baz\":\"\"}",
+            "Config { bar: \"$bar\", baz: \"\", ports: [] }",
+        ),
+        (
+            "{\"bar\":\"\",\"baz\":\"$braces\"}",
+            "Config { bar: \"\", baz: \"${a:x}\", ports: [] }",
+        ),
+        (
+            "{\"bar\":\"$escaped\",\"baz\":\"${a:$two}\"}",
+            "Config { bar: \"\\\\$bar\", baz: \"\\\\\\\\\", ports: [] }",
+        ),
+        (
+            "{\"bar\":\"$one\",\"baz\":\"$open$close\"}",
+            "Config { bar: \"\\\\\", baz: \"{}\", ports: [] }",
+        ),
+    ];
+    assert_eq!(rt; first_wrong::<JsonTemplates>(rt.alloc(), rows), Ok(None));
+}
+
 struct TomlConfig;
 
 impl Call for TomlConfig {
@@ -121,6 +159,40 @@ fn a_struct_of_toml(rt: HostRuntime) {
         ("bar = ''\nbaz = ''\nports = ['$port']", "no TOML"),
     ];
     assert_eq!(rt; first_wrong::<TomlConfig>(rt.alloc(), rows), Ok(None));
+}
+
+struct TomlTemplates;
+
+impl Call for TomlTemplates {
+    fn told(alloc: Global, source: &str) -> Result<String, AllocError> {
+        let variables = texts(alloc, TEMPLATES)?;
+        let of_text = filled::from_str::<Config, _>(alloc, source, &variables);
+        let of_bytes = filled::from_slice::<Config, _>(alloc, source.as_bytes(), &variables);
+        both(alloc, of_toml(alloc, of_text)?, of_toml(alloc, of_bytes)?)
+    }
+}
+
+#[test]
+fn a_value_of_toml_is_not_filled_in_again(rt: HostRuntime) {
+    let rows: &[(&str, &str)] = &[
+        (
+            "bar = '$short'\nbaz = ''",
+            "Config { bar: \"$bar\", baz: \"\", ports: [] }",
+        ),
+        (
+            "bar = ''\nbaz = '$braces'",
+            "Config { bar: \"\", baz: \"${a:x}\", ports: [] }",
+        ),
+        (
+            "bar = '$escaped'\nbaz = '${a:$two}'",
+            "Config { bar: \"\\\\$bar\", baz: \"\\\\\\\\\", ports: [] }",
+        ),
+        (
+            "bar = '$one'\nbaz = '$open$close'",
+            "Config { bar: \"\\\\\", baz: \"{}\", ports: [] }",
+        ),
+    ];
+    assert_eq!(rt; first_wrong::<TomlTemplates>(rt.alloc(), rows), Ok(None));
 }
 
 struct Unfilled;

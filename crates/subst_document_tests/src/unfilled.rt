@@ -48,6 +48,11 @@ fn json_without_substitution(rt: HostRuntime) {
         ("[\"\\\\x\"]", "Invalid escape sequence: \\x"),
         ("[\"${\"]", "Missing variable name"),
         ("[\"${a\"]", "Missing closing brace"),
+        // A character past ASCII is quoted.
+        (
+            "[\"${aé}\"]",
+            "Unexpected character: 'é', expected a closing brace ('}'), colon (':') or question mark ('?')",
+        ),
         ("{\"b\":\"$\",\"a\":\"$x\"}", "No such variable: $x"),
         ("[\n\"$a\"", BY_READER),
         ("[\"$x\",]", BY_READER),
@@ -79,6 +84,10 @@ fn toml_without_substitution(rt: HostRuntime) {
         ("k = ['\\x']", "Invalid escape sequence: \\x"),
         ("k = '${'", "Missing variable name"),
         ("k = '${a'", "Missing closing brace"),
+        (
+            "k = '${aé}'",
+            "Unexpected character: 'é', expected a closing brace ('}'), colon (':') or question mark ('?')",
+        ),
         ("b = '$'\na = '$x'", "No such variable: $x"),
         ("x =", BY_READER),
         ("k = '$x'\nk = 1", BY_READER),

@@ -9,8 +9,8 @@ use Rattle.serde_json.proofs.Views.{Entry}
 use Rattle.subst_error.specs.Fault.{Fault}
 use Rattle.subst_language.specs.Language.LookUp.{LookUp}
 use Rattle.subst_language.specs.Language.Answer.{Answers, Refuses}
-use Rattle.subst_walk.specs.Texts.{IsFirstRefusal}
-use Rattle.subst_walk.proofs.TextsLemmas.{refusal_alone, refusal_before, refusal_after}
+use Rattle.subst_language.specs.Language.Several.{IsFirstRefusal}
+use Rattle.subst_language.proofs.Language.SeveralLemmas.{refusal_alone, refusal_before, refusal_after}
 use Rattle.subst_json.specs.Mapped.{strings, strings_of_items, strings_of_members, IsMapped, AreMapped, HasMappedMembers}
 use Rattle.subst_json.proofs.MappedLemmas.{given}
 

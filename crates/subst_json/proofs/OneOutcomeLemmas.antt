@@ -5,8 +5,8 @@ use Rattle.subst_error.specs.Fault.{Fault}
 use Rattle.subst_language.specs.Language.LookUp.{LookUp}
 use Rattle.subst_language.specs.Language.Answer.{Answers, Gives}
 use Rattle.subst_language.proofs.Language.AnswerLemmas.{answer_unique}
-use Rattle.subst_walk.specs.Texts.{IsFirstRefusal}
-use Rattle.subst_walk.proofs.TextsLemmas.{answered, given_not_refused, refusal_alone, refusal_before, refusal_after, refusal_unique}
+use Rattle.subst_language.specs.Language.Several.{IsFirstRefusal, under}
+use Rattle.subst_language.proofs.Language.SeveralLemmas.{answered, given_not_refused, refusal_alone, refusal_before, refusal_after, refusal_unique}
 use Rattle.subst_json.specs.Laws.{IsMappedOrRefused}
 use Rattle.subst_json.specs.Mapped.{strings, strings_of_items, strings_of_members, IsMapped, AreMapped, HasMappedMembers}
 use Rattle.subst_json.proofs.MappedLemmas.{given}
@@ -125,6 +125,6 @@ pub one_outcome : (look : LookUp) (d : Data) → IsMappedOrRefused look d
 one_outcome look d = record {
   either = either look d;
   mapped_unique = mapped_unique look d;
-  refusal_unique = refusal_unique look (strings d);
-  never_both = λ e f h. given_not_refused look (strings d) f (given look d e h);
+  refusal_unique = λ f g h k. (refusal_unique (under look) (strings d) h.0 k.0 f g h.1 k.1).1;
+  never_both = λ e f h k. given_not_refused (under look) (strings d) k.0 f (given look d e h) k.1;
 }

@@ -7,7 +7,7 @@ use Rattle.serde_json.specs.declared.value.Value.{Value}
 use Rattle.subst_error.specs.ErrorFault.{error_fault}
 use Rattle.std.proofs.lemmas.Option.{IfSome_then}
 use Rattle.subst_language.specs.Language.LookUp.{LookUp}
-use Rattle.subst_walk.specs.Texts.{IsFirstRefusal}
+use Rattle.subst_language.specs.Language.Several.{IsFirstRefusal}
 use Rattle.subst_json.specs.Mapped.{strings, IsMapped}
 use Rattle.subst_json.specs.Outcome.{ReadsAsTree, OnSubst}
 use Rattle.subst_json.specs.declared.error.Error.{Error}

@@ -31,3 +31,9 @@ abbrev pub display_of_json : Error → Option (List ℕ)
 display_of_json (Json e) = None
 display_of_json (Subst e) = display_of_error (error_fault e)
 display_of_json (OutOfMemory e) = Some (codes "out of memory")
+
+-- P holds of the error of a substitution, if that is what is inside
+abbrev pub IfSubst : Error → (substituting.Error → Type 0) → Type 0
+IfSubst (Json e) P = ⊤
+IfSubst (Subst e) P = P e
+IfSubst (OutOfMemory e) P = ⊤

@@ -3,7 +3,7 @@ use Rattle.std.specs.Prelude.{◌≡◌, ◌⊎◌}
 use Rattle.serde_json.specs.Data.{Data}
 use Rattle.subst_error.specs.Fault.{Fault}
 use Rattle.subst_language.specs.Language.LookUp.{LookUp}
-use Rattle.subst_walk.specs.Texts.{IsFirstRefusal}
+use Rattle.subst_language.specs.Language.Several.{IsFirstRefusal}
 use Rattle.subst_json.specs.Mapped.{strings, IsMapped}
 
 -- the tree is mapped to one tree under the look-up, or refused for one fault, and never both

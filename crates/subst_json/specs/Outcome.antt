@@ -2,8 +2,11 @@
 use Rattle.std.specs.Prelude.{◌≡◌, ⊤, ℕ, List, Some, Result, IfErr, IfSome}
 use Rattle.serde_json.specs.Data.{Data}
 use Rattle.serde_json.specs.Read.{read}
+use Rattle.serde_json.specs.declared.error.Error as reading
 use Rattle.subst_error.specs.Fault.{Fault}
 use Rattle.subst_error.specs.ErrorFault.{error_fault}
+use Rattle.subst_language.specs.Language.LookUp.{LookUp}
+use Rattle.subst_json.specs.Mapped.{IsMapped}
 use Rattle.subst_json.specs.declared.error.Error.{Error}
 use Rattle.subst_json.specs.declared.error.Error.TheVariants.{Json, Subst, OutOfMemory}
 
@@ -11,14 +14,23 @@ use Rattle.subst_json.specs.declared.error.Error.TheVariants.{Json, Subst, OutOf
 abbrev pub ReadsAsTree : List ℕ → (Data → Type 0) → Type 0
 ReadsAsTree text P = (d : Data) × (read text ≡ Some d) × P d
 
--- P holds where the error is the reader's
-abbrev if_json : Error → Type 0 → Type 0
-if_json (Json e) P = P
+-- The result is what the step that reads a type returns for the tree with its strings filled in. That step
+-- is known by what it returns for a tree.
+abbrev pub IsReadFilledIn : {T : Type 0} → LookUp → (Data → Result T reading.Error → Type 0) → Data
+    → Result T reading.Error → Type 0
+IsReadFilledIn look Reads d result = (e : Data) × IsMapped look d e × Reads e result
+
+-- P holds of the reader's error, or of that of the step that reads a type, if that is the error
+abbrev if_json : Error → (reading.Error → Type 0) → Type 0
+if_json (Json e) P = P e
 if_json (Subst e) P = ⊤
 if_json (OutOfMemory e) P = ⊤
 
+abbrev pub IfJson : {T : Type 0} → Result T Error → (reading.Error → Type 0) → Type 0
+IfJson result P = IfErr result (λ e. if_json e P)
+
 abbrev pub OnJson : {T : Type 0} → Result T Error → Type 0 → Type 0
-OnJson result P = IfErr result (λ e. if_json e P)
+OnJson result P = IfJson result (λ _. P)
 
 -- P holds of the fault of a string, if that is the error
 abbrev if_subst : Error → (Fault → Type 0) → Type 0

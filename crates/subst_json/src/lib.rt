@@ -11,28 +11,30 @@
 //! nested more than 127 deep; a deeper tree, which a caller has built, takes as much more of the stack.
 #![tactic(auto)]
 
-ghost use Rattle.std.specs.Prelude.{◌≡◌, IfErr, IfOk, IsUtf8, None, OnErr, OnOk};
-ghost use Rattle.serde_json.specs.Data.{Data};
+ghost use Rattle.std.specs.Prelude.{◌≡◌, ◌⊎◌, Err, Ok, IfErr, IfOk, IsUtf8, None, OnErr, OnOk};
+ghost use Rattle.serde_json.specs.Errors.{IsOfText};
 ghost use Rattle.serde_json.specs.Read.{read};
 ghost use Rattle.serde_json.specs.View.{view};
 ghost use Rattle.subst_error.specs.ErrorFault.{error_fault};
 ghost use Rattle.subst_language.specs.Calls.Outcome.{OnFault};
 ghost use Rattle.subst_language.specs.Calls.VariableMap.{ByLookUp};
-ghost use Rattle.subst_walk.specs.Texts.{HasRange, IsFirstRefusal};
+ghost use Rattle.subst_language.specs.Language.Several.{IsFirstRefusal};
+ghost use Rattle.subst_walk.specs.Texts.{HasRange};
 ghost use Rattle.subst_json.specs.Mapped.{strings, IsMapped};
 ghost use Rattle.subst_json.specs.Errors.{HasOwnMemory};
-ghost use Rattle.subst_json.specs.Outcome.{ReadsAsTree, OnJson, OnSubst};
+ghost use Rattle.subst_json.specs.Outcome.{ReadsAsTree, IsReadFilledIn, IfJson, OnJson, OnSubst};
 
 pub use error::Error;
-use serde::DeserializeOwned;
 use serde_json::Value;
 use std::alloc::Global;
 use std::convert::AsStr;
 use subst_map::VariableMap;
 use subst_walk::Filler;
+use typed::FromTree;
 
 mod error;
 pub mod laws;
+mod typed;
 mod walk;
 
 /// Fills in the strings of a tree from `variables`, whose values are texts.
@@ -90,6 +92,9 @@ where
     ensures ok { ByLookUp M.Value.text M.see (M.look_up variables.now)
         (λ look. IfOk result (λ tree. ReadsAsTree source.now (λ d. IsMapped look d (view tree)))) }
     ensures json { OnJson result (read source.now ≡ None) }
+
+    // What the error says is of a text that is no tree, and not of a type.
+    ensures kind { IfJson result IsOfText }
     ensures subst { ByLookUp M.Value.text M.see (M.look_up variables.now)
         (λ look. OnSubst result
         (λ f. ReadsAsTree source.now (λ d. IsFirstRefusal look (strings d) f))) }
@@ -121,6 +126,7 @@ where
     ensures utf8 { OnOk result (IsUtf8 source.now) }
     ensures refused_utf8 { OnSubst result (λ f. IsUtf8 source.now) }
     ensures json { OnJson result (IsUtf8 source.now → read source.now ≡ None) }
+    ensures kind { IfJson result IsOfText }
     ensures subst { ByLookUp M.Value.text M.see (M.look_up variables.now)
         (λ look. OnSubst result
         (λ f. ReadsAsTree source.now (λ d. IsFirstRefusal look (strings d) f))) }
@@ -143,7 +149,7 @@ where
 /// # Errors
 ///
 /// As [`value_from_str`]. It is `Json` too where the tree with its strings filled in is no `T`.
-pub fn from_str<'a, T: DeserializeOwned, M: VariableMap<'a>>(
+pub fn from_str<'a, T: FromTree, M: VariableMap<'a>>(
     alloc: Global,
     source: &str,
     variables: &'a M,
@@ -151,17 +157,23 @@ pub fn from_str<'a, T: DeserializeOwned, M: VariableMap<'a>>(
 where
     M::Value: AsStr + Drop,
 
-    // It is returned only where there is such a tree. Which `T` is read from it, no clause says.
+    // It is what the step that reads a `T` returns for the tree with its strings filled in.
     ensures ok { ByLookUp M.Value.text M.see (M.look_up variables.now)
-        (λ look. OnOk result (ReadsAsTree source.now (λ d. (e : Data) × IsMapped look d e))) }
+        (λ look. IfOk result
+        (λ value. ReadsAsTree source.now (λ d. IsReadFilledIn look T.reads d (Ok value)))) }
+
+    // `Json` is the reader's error, of a text that is no tree, or what that step returns for such a tree.
+    ensures json { ByLookUp M.Value.text M.see (M.look_up variables.now)
+        (λ look. IfJson result (λ e. ((read source.now ≡ None) × IsOfText e)
+        ⊎ ReadsAsTree source.now (λ d. IsReadFilledIn look T.reads d (Err e)))) }
     ensures subst { ByLookUp M.Value.text M.see (M.look_up variables.now)
         (λ look. OnSubst result
         (λ f. ReadsAsTree source.now (λ d. IsFirstRefusal look (strings d) f))) }
     ensures range { OnSubst result HasRange }
     ensures memory { IfErr result HasOwnMemory }
 {
-    let value = value_from_str(alloc, source, variables)?;
-    Ok(serde_json::from_value(alloc, value)?)
+    let tree = value_from_str(alloc, source, variables)?;
+    Ok(T::from_tree(alloc, tree)?)
 }
 
 /// Does to bytes what [`from_str`] does to a text.
@@ -169,7 +181,7 @@ where
 /// # Errors
 ///
 /// As [`value_from_slice`]. It is `Json` too where the tree with its strings filled in is no `T`.
-pub fn from_slice<'a, T: DeserializeOwned, M: VariableMap<'a>>(
+pub fn from_slice<'a, T: FromTree, M: VariableMap<'a>>(
     alloc: Global,
     source: &[u8],
     variables: &'a M,
@@ -177,19 +189,23 @@ pub fn from_slice<'a, T: DeserializeOwned, M: VariableMap<'a>>(
 where
     M::Value: AsStr + Drop,
     ensures ok { ByLookUp M.Value.text M.see (M.look_up variables.now)
-        (λ look. OnOk result (ReadsAsTree source.now (λ d. (e : Data) × IsMapped look d e))) }
+        (λ look. IfOk result
+        (λ value. ReadsAsTree source.now (λ d. IsReadFilledIn look T.reads d (Ok value)))) }
 
     // The strings of a tree are filled in only where the bytes are UTF-8, and one is refused only there.
     ensures utf8 { OnOk result (IsUtf8 source.now) }
     ensures refused_utf8 { OnSubst result (λ f. IsUtf8 source.now) }
+    ensures json { ByLookUp M.Value.text M.see (M.look_up variables.now)
+        (λ look. IfJson result (λ e. ((IsUtf8 source.now → read source.now ≡ None) × IsOfText e)
+        ⊎ ReadsAsTree source.now (λ d. IsReadFilledIn look T.reads d (Err e)))) }
     ensures subst { ByLookUp M.Value.text M.see (M.look_up variables.now)
         (λ look. OnSubst result
         (λ f. ReadsAsTree source.now (λ d. IsFirstRefusal look (strings d) f))) }
     ensures range { OnSubst result HasRange }
     ensures memory { IfErr result HasOwnMemory }
 {
-    let value = value_from_slice(alloc, source, variables)?;
-    Ok(serde_json::from_value(alloc, value)?)
+    let tree = value_from_slice(alloc, source, variables)?;
+    Ok(T::from_tree(alloc, tree)?)
 }
 
 /// Returns a tree that was read, with its strings filled in.

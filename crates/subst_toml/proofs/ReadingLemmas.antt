@@ -1,15 +1,16 @@
 -- What was returned for a document that was read, as said of its text.
-use Rattle.std.proofs.Common.{◌≡◌, ℕ, List, Some, Result, Ok, Err, IfSome, IsErrAnd}
-use Rattle.toml.specs.Data.{Members}
+use Rattle.std.proofs.Common.{◌≡◌, ℕ, List, Some, Result, Ok, Err, IfSome, IsErrAnd, subst, sym}
+use Rattle.toml.specs.Data.{Members, table}
 use Rattle.toml.specs.Parse.{parse_document}
+use Rattle.toml.specs.declared.de.error.Error as reading
 use Rattle.std.proofs.lemmas.Option.{IfSome_then}
 use Rattle.subst_error.specs.ErrorFault.{error_fault}
 use Rattle.subst_error.specs.declared.Error as substituting
 use Rattle.subst_language.specs.Language.LookUp.{LookUp}
-use Rattle.subst_walk.specs.Texts.{IsFirstRefusal}
-use Rattle.subst_toml.specs.Errors.{IsOfSubstitution}
-use Rattle.subst_toml.specs.Mapped.{strings, strings_of_members}
-use Rattle.subst_toml.specs.Outcome.{ReadsAsTree, OnSubst}
+use Rattle.subst_language.specs.Language.Several.{IsFirstRefusal}
+use Rattle.subst_toml.specs.Errors.{IsOfReader, IsOfSubstitution}
+use Rattle.subst_toml.specs.Mapped.{strings, strings_of_members, IsMapped}
+use Rattle.subst_toml.specs.Outcome.{ReadsAsTree, IsPrinted, IsReadFilledIn, IfToml, OnSubst}
 use Rattle.subst_toml.specs.declared.error.Error.{Error}
 use Rattle.subst_toml.specs.declared.error.Error.TheVariants.{InvalidUtf8, Toml, Subst, OutOfMemory}
 
@@ -24,3 +25,20 @@ refused_as_read look text ms e (Err (Toml d)) is of h = tt
 refused_as_read look text ms e (Err (Subst d)) is of h =
     rw of.0 (IfSome_then (error_fault e) h (λ f refused. (ms, is, refused)))
 refused_as_read look text ms e (Err (OutOfMemory d)) is of h = tt
+
+-- a type that is read from the filled table, printed, is read from the tree of the source, filled in
+pub read_from_printed : {T : Type 0} (look : LookUp) (source : List ℕ) (ns : Members) (printed text : List ℕ)
+    (Reads : List ℕ → Result T reading.Error → Type 0) (result : Result T reading.Error)
+    → ReadsAsTree source (λ d. IsMapped look d (table ns)) → IsPrinted ns printed → text ≡ printed
+    → Reads text result → ReadsAsTree source (λ d. IsReadFilledIn look Reads d result)
+read_from_printed look source ns printed text Reads result (ms, is, mapped) shown same reads =
+    (ms, is, (ns, mapped, (text, subst (λ bs. IsPrinted ns bs) (sym same) shown, reads)))
+
+-- what holds of the error that a type is refused with, holds of that inside
+pub type_refused : {T : Type 0} (e : reading.Error) (result : Result T Error) (P : reading.Error → Type 0)
+    → IsErrAnd result (IsOfReader e) → P e → IfToml result P
+type_refused e (Ok value) P of h = tt
+type_refused e (Err (InvalidUtf8 d)) P of h = tt
+type_refused e (Err (Toml d)) P of h = subst P (sym of.0) h
+type_refused e (Err (Subst d)) P of h = tt
+type_refused e (Err (OutOfMemory d)) P of h = tt

@@ -35,3 +35,10 @@ display_of_toml (InvalidUtf8 e) = None
 display_of_toml (Toml e) = None
 display_of_toml (Subst e) = display_of_error (error_fault e)
 display_of_toml (OutOfMemory e) = Some (codes "out of memory")
+
+-- P holds of the error of a substitution, if that is what is inside
+abbrev pub IfSubst : Error → (substituting.Error → Type 0) → Type 0
+IfSubst (InvalidUtf8 e) P = ⊤
+IfSubst (Toml e) P = ⊤
+IfSubst (Subst e) P = P e
+IfSubst (OutOfMemory e) P = ⊤

@@ -1,16 +1,33 @@
 -- What a call returned that reads a tree and fills it in.
-use Rattle.std.specs.Prelude.{◌≡◌, ⊤, ℕ, List, Some, Result, Ok, Err, IfErr, IfSome, IsUtf8}
+use Rattle.std.specs.Prelude.{◌≡◌, ◌≤◌, ⊤, true, false, ℕ, List, Some, None, Result, Ok, Err, IfErr, IfSome, IsUtf8}
 use Rattle.std.specs.Str.{valid_up_to, IsValidUpTo}
-use Rattle.toml.specs.Data.{Data, Members, table}
+use Rattle.toml.specs.Data.{Data, Members, table, members_depth, members_have_valid_dates}
 use Rattle.toml.specs.Parse.{parse_document}
+use Rattle.toml.specs.declared.de.error.Error as reading
 use Rattle.subst_error.specs.Fault.{Fault}
 use Rattle.subst_error.specs.ErrorFault.{error_fault}
+use Rattle.subst_language.specs.Language.LookUp.{LookUp}
+use Rattle.subst_toml.specs.Mapped.{IsMapped}
 use Rattle.subst_toml.specs.declared.error.Error.{Error}
 use Rattle.subst_toml.specs.declared.error.Error.TheVariants.{InvalidUtf8, Toml, Subst, OutOfMemory}
 
 -- the reader reads the text as a document, of whose tree P holds
 abbrev pub ReadsAsTree : List ℕ → (Data → Type 0) → Type 0
 ReadsAsTree text P = (ms : Members) × (parse_document text ≡ Some ms) × P (table ms)
+
+-- the text is read as this table, where it isn't nested too deep; with a date that no text can hold, it isn't
+-- read
+abbrev pub IsPrinted : Members → List ℕ → Type 0
+IsPrinted ms text =
+    (members_have_valid_dates ms ≡ false → parse_document text ≡ None)
+    × (members_have_valid_dates ms ≡ true → members_depth ms ≤ 80 → parse_document text ≡ Some ms)
+
+-- The result is what the step that reads a type returns for the tree with its strings filled in, printed.
+-- That step is known by what it returns for a text.
+abbrev pub IsReadFilledIn : {T : Type 0} → LookUp → (List ℕ → Result T reading.Error → Type 0) → Data
+    → Result T reading.Error → Type 0
+IsReadFilledIn look Reads d result =
+    (ms : Members) × IsMapped look d (table ms) × ((text : List ℕ) × IsPrinted ms text × Reads text result)
 
 -- the bytes are UTF-8, but where the error says that they aren't, and from where
 abbrev tells_utf8 : List ℕ → Error → Type 0
@@ -23,15 +40,18 @@ abbrev pub TellsUtf8 : {T : Type 0} → List ℕ → Result T Error → Type 0
 TellsUtf8 bytes (Ok value) = IsUtf8 bytes
 TellsUtf8 bytes (Err e) = tells_utf8 bytes e
 
--- P holds where the error is the reader's
-abbrev if_toml : Error → Type 0 → Type 0
+-- P holds of the reader's error, or of that of the step that reads a type, if that is the error
+abbrev if_toml : Error → (reading.Error → Type 0) → Type 0
 if_toml (InvalidUtf8 e) P = ⊤
-if_toml (Toml e) P = P
+if_toml (Toml e) P = P e
 if_toml (Subst e) P = ⊤
 if_toml (OutOfMemory e) P = ⊤
 
+abbrev pub IfToml : {T : Type 0} → Result T Error → (reading.Error → Type 0) → Type 0
+IfToml result P = IfErr result (λ e. if_toml e P)
+
 abbrev pub OnToml : {T : Type 0} → Result T Error → Type 0 → Type 0
-OnToml result P = IfErr result (λ e. if_toml e P)
+OnToml result P = IfToml result (λ _. P)
 
 -- P holds of the fault of a string, if that is the error
 abbrev if_subst : Error → (Fault → Type 0) → Type 0

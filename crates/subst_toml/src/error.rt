@@ -83,11 +83,22 @@ impl<T: Drop> From<AllocFailed<T>> for Error {
 
 /// The text of the error inside, or `out of memory`.
 impl fmt::Display for Error {
-    ghost use Rattle.subst_toml.specs.Errors.{display_of_toml};
+    ghost use Rattle.std.specs.Fmt.{DisplaysOnOk};
+    ghost use Rattle.subst_error.specs.Display.{IsDisplayOfError};
+    ghost use Rattle.subst_error.specs.ErrorFault.{error_fault};
+    ghost use Rattle.subst_error.specs.Writing.{WritesSome};
+    ghost use Rattle.subst_toml.specs.Errors.{display_of_toml, IfSubst};
 
     ghost output = { display_of_toml };
 
-    fn fmt<W: fmt::Write>(&self, f: &mut fmt::Formatter<W>) -> fmt::Result {
+    // Of an error of a substitution the text is there also where it quotes a character past ASCII, which
+    // has two forms.
+    fn fmt<W: fmt::Write>(&self, f: &mut fmt::Formatter<W>) -> fmt::Result
+        ensures writes { DisplaysOnOk W.write_str_gives f.old result
+            (display_of_toml self.now) f.new }
+        ensures text { IfSubst self.now (λ e. WritesSome W.write_str_gives f.old result
+            (IsDisplayOfError (error_fault e)) f.new) }
+    {
         match self {
             Error::InvalidUtf8(e) => e.fmt(f),
             Error::Toml(e) => e.fmt(f),

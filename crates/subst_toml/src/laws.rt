@@ -8,5 +8,5 @@ ghost use Rattle.subst_toml.specs.Laws.{IsMappedOrRefused};
 /// exactly one fault, never both. So a call that fills in a tree succeeds exactly where each string of the
 /// tree gives bytes, unless memory runs out.
 pub fn trees_have_one_outcome()
-    ensures { (look : LookUp) (d : Data) → IsMappedOrRefused look d }
+    ensures outcome { (look : LookUp) (d : Data) → IsMappedOrRefused look d }
 {}

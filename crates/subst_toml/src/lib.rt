@@ -12,25 +12,27 @@
 //! these are; a deeper tree, which a caller has built, takes as much more of the stack.
 #![tactic(auto)]
 
-ghost use Rattle.std.specs.Prelude.{◌≡◌, IfErr, IfOk, None, OnErr, OnOk};
-ghost use Rattle.toml.specs.Data.{Data, table};
+ghost use Rattle.std.specs.Prelude.{◌≡◌, ◌⊎◌, Err, Ok, IfErr, IfOk, None, OnErr, OnOk};
+ghost use Rattle.toml.specs.Data.{table};
+ghost use Rattle.toml.specs.Errors.{IsWithin};
 ghost use Rattle.toml.specs.Parse.{parse_document};
 ghost use Rattle.toml.specs.View.{view, table_view};
 ghost use Rattle.subst_error.specs.ErrorFault.{error_fault};
 ghost use Rattle.subst_language.specs.Calls.Outcome.{OnFault};
 ghost use Rattle.subst_language.specs.Calls.VariableMap.{ByLookUp};
-ghost use Rattle.subst_walk.specs.Texts.{HasRange, IsFirstRefusal};
+ghost use Rattle.subst_language.specs.Language.Several.{IsFirstRefusal};
+ghost use Rattle.subst_walk.specs.Texts.{HasRange};
 ghost use Rattle.subst_toml.specs.Mapped.{strings, IsMapped};
 ghost use Rattle.subst_toml.specs.Errors.{HasOwnMemory};
-ghost use Rattle.subst_toml.specs.Outcome.{ReadsAsTree, OnToml, OnSubst, TellsUtf8};
+ghost use Rattle.subst_toml.specs.Outcome.{ReadsAsTree, IsReadFilledIn, IfToml, OnToml, OnSubst, TellsUtf8};
 
 pub use error::Error;
-use serde::DeserializeOwned;
 use std::alloc::Global;
 use std::convert::AsStr;
 use subst_map::VariableMap;
 use subst_walk::Filler;
 use toml::{Table, Value};
+use typed::FromText;
 
 mod error;
 pub mod laws;
@@ -95,6 +97,9 @@ where
     // A text is UTF-8, so the error is never `InvalidUtf8`.
     ensures utf8 { TellsUtf8 source.now result }
     ensures toml { OnToml result (parse_document source.now ≡ None) }
+
+    // Where the error is, is a range of the source.
+    ensures span { IfToml result (IsWithin source.now) }
     ensures subst { ByLookUp M.Value.text M.see (M.look_up variables.now)
         (λ look. OnSubst result
         (λ f. ReadsAsTree source.now (λ d. IsFirstRefusal look (strings d) f))) }
@@ -125,6 +130,7 @@ where
     // `InvalidUtf8` is returned where the bytes aren't UTF-8, and only there; it tells how far they are.
     ensures utf8 { TellsUtf8 source.now result }
     ensures toml { OnToml result (parse_document source.now ≡ None) }
+    ensures span { IfToml result (IsWithin source.now) }
     ensures subst { ByLookUp M.Value.text M.see (M.look_up variables.now)
         (λ look. OnSubst result
         (λ f. ReadsAsTree source.now (λ d. IsFirstRefusal look (strings d) f))) }
@@ -142,7 +148,7 @@ where
 /// # Errors
 ///
 /// As [`value_from_str`]. It is `Toml` too where the tree with its strings filled in is no `T`.
-pub fn from_str<'a, T: DeserializeOwned, M: VariableMap<'a>>(
+pub fn from_str<'a, T: FromText, M: VariableMap<'a>>(
     alloc: Global,
     source: &str,
     variables: &'a M,
@@ -150,10 +156,17 @@ pub fn from_str<'a, T: DeserializeOwned, M: VariableMap<'a>>(
 where
     M::Value: AsStr + Drop,
 
-    // It is returned only where there is such a tree. Which `T` is read from it, no clause says.
+    // It is what the step that reads a `T` returns for the tree with its strings filled in, printed.
     ensures ok { ByLookUp M.Value.text M.see (M.look_up variables.now)
-        (λ look. OnOk result (ReadsAsTree source.now (λ d. (e : Data) × IsMapped look d e))) }
+        (λ look. IfOk result
+        (λ value. ReadsAsTree source.now (λ d. IsReadFilledIn look T.reads d (Ok value)))) }
     ensures utf8 { TellsUtf8 source.now result }
+
+    // `Toml` is the reader's error, of a text that is no document, or what that step returns for such a tree.
+    ensures toml { ByLookUp M.Value.text M.see (M.look_up variables.now)
+        (λ look. IfToml result
+        (λ e. ((parse_document source.now ≡ None) × IsWithin source.now e)
+        ⊎ ReadsAsTree source.now (λ d. IsReadFilledIn look T.reads d (Err e)))) }
     ensures subst { ByLookUp M.Value.text M.see (M.look_up variables.now)
         (λ look. OnSubst result
         (λ f. ReadsAsTree source.now (λ d. IsFirstRefusal look (strings d) f))) }
@@ -162,7 +175,7 @@ where
 {
     let table = filled_table(alloc, source, variables)?;
     let text = typed::printed(alloc, &table)?;
-    Ok(toml::from_str(alloc, text.as_str())?)
+    Ok(T::from_text(alloc, text.as_str())?)
 }
 
 /// Does to bytes what [`from_str`] does to a text.
@@ -170,7 +183,7 @@ where
 /// # Errors
 ///
 /// As [`value_from_slice`]. It is `Toml` too where the tree with its strings filled in is no `T`.
-pub fn from_slice<'a, T: DeserializeOwned, M: VariableMap<'a>>(
+pub fn from_slice<'a, T: FromText, M: VariableMap<'a>>(
     alloc: Global,
     source: &[u8],
     variables: &'a M,
@@ -178,15 +191,22 @@ pub fn from_slice<'a, T: DeserializeOwned, M: VariableMap<'a>>(
 where
     M::Value: AsStr + Drop,
     ensures ok { ByLookUp M.Value.text M.see (M.look_up variables.now)
-        (λ look. OnOk result (ReadsAsTree source.now (λ d. (e : Data) × IsMapped look d e))) }
+        (λ look. IfOk result
+        (λ value. ReadsAsTree source.now (λ d. IsReadFilledIn look T.reads d (Ok value)))) }
     ensures utf8 { TellsUtf8 source.now result }
+    ensures toml { ByLookUp M.Value.text M.see (M.look_up variables.now)
+        (λ look. IfToml result
+        (λ e. ((parse_document source.now ≡ None) × IsWithin source.now e)
+        ⊎ ReadsAsTree source.now (λ d. IsReadFilledIn look T.reads d (Err e)))) }
     ensures subst { ByLookUp M.Value.text M.see (M.look_up variables.now)
         (λ look. OnSubst result
         (λ f. ReadsAsTree source.now (λ d. IsFirstRefusal look (strings d) f))) }
     ensures range { OnSubst result HasRange }
     ensures memory { IfErr result HasOwnMemory }
 {
-    from_str(alloc, std::str::from_utf8(source)?, variables)
+    let table = filled_table(alloc, std::str::from_utf8(source)?, variables)?;
+    let text = typed::printed(alloc, &table)?;
+    Ok(T::from_text(alloc, text.as_str())?)
 }
 
 /// Returns the table that a document is, with its strings filled in.
@@ -202,6 +222,7 @@ where
         (λ d. IsMapped look d (table (table_view filled))))) }
     ensures utf8 { TellsUtf8 source.now result }
     ensures toml { OnToml result (parse_document source.now ≡ None) }
+    ensures span { IfToml result (IsWithin source.now) }
     ensures subst { ByLookUp M.Value.text M.see (M.look_up variables.now)
         (λ look. OnSubst result
         (λ f. ReadsAsTree source.now (λ d. IsFirstRefusal look (strings d) f))) }

@@ -1,12 +1,21 @@
 -- What holds of the table that was read, said of the text.
-use Rattle.std.proofs.Common.{refl}
+use Rattle.std.proofs.Common.{◌≡◌, Some, refl, rules}
+use Rattle.toml.specs.Parse.{parse_document}
 use Rattle.toml.specs.View.{members_view}
 use Rattle.subst_toml.proofs.ReadingLemmas.{refused_as_read}
 use Rattle.subst_toml.proofs.filled_table.Goals as goal
+
+pub returns-clause-ok : goal.returns-clause-ok
+returns-clause-ok g c = λ bytes reads.
+    let ms = members_view c.in_ok-table.table.entries in
+    let is : parse_document c.args.source.now ≡ Some ms = search rules in
+    (ms, is, c.in_ok-filled_members.ensures.ok _ (bytes, reads, refl))
 
 pub returns-in_err-filled_members-clause-subst : goal.returns-in_err-filled_members-clause-subst
 returns-in_err-filled_members-clause-subst g c = λ bytes reads.
     let failed = c.in_err-filled_members in
     let gone = c.from_residual-in_err-filled_members in
-    refused_as_read _ c.args.source.now (members_view c.in_ok-table.table.entries) failed.field-0.0
-    gone.result c.in_ok-table.ensures.ok gone.ensures.1 (failed.ensures.err _ (bytes, reads, refl))
+    let ms = members_view c.in_ok-table.table.entries in
+    let is : parse_document c.args.source.now ≡ Some ms = search rules in
+    refused_as_read _ c.args.source.now ms failed.field-0.0 gone.result is gone.ensures.1
+    (failed.ensures.err _ (bytes, reads, refl))

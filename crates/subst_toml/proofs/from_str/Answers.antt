@@ -1,9 +1,21 @@
--- The tree that was read is filled in, whatever is read from its text.
-use Rattle.toml.specs.Data.{table}
+-- The tree that was read is filled in and printed, and the type is read from that text.
+use Rattle.std.proofs.Common.{inr, string_bytes}
 use Rattle.toml.specs.View.{members_view}
+use Rattle.subst_toml.proofs.ReadingLemmas.{read_from_printed, type_refused}
 use Rattle.subst_toml.proofs.from_str.Goals as goal
 
 pub returns-clause-ok : goal.returns-clause-ok
 returns-clause-ok g c = λ bytes reads.
-    let (ms, is, mapped) = c.in_ok-table.ensures.ok bytes reads in
-    (ms, is, (table (members_view c.in_ok-table.table.entries), mapped))
+    read_from_printed _ _ (members_view c.in_ok-table.table.entries) (string_bytes c.in_ok-text.text)
+    c.as_str.result.now g.T.FromText.reads _ (c.in_ok-table.ensures.ok bytes reads)
+    (c.in_ok-text.ensures.dates, c.in_ok-text.ensures.table) c.as_str.ensures.value
+    c.in_ok-from_text.ensures.read
+
+pub returns-in_err-from_text-clause-toml : goal.returns-in_err-from_text-clause-toml
+returns-in_err-from_text-clause-toml g c = λ bytes reads.
+    let gone = c.from_residual-in_err-from_text in
+    type_refused _ gone.result _ gone.ensures.1
+    (inr (read_from_printed _ _ (members_view c.in_ok-table.table.entries) (string_bytes c.in_ok-text.text)
+    c.as_str.result.now g.T.FromText.reads _ (c.in_ok-table.ensures.ok bytes reads)
+    (c.in_ok-text.ensures.dates, c.in_ok-text.ensures.table) c.as_str.ensures.value
+    c.in_err-from_text.ensures.read))

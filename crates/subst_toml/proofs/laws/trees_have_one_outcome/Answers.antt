@@ -3,4 +3,4 @@ use Rattle.subst_toml.proofs.OneOutcomeLemmas.{one_outcome}
 use Rattle.subst_toml.proofs.laws.trees_have_one_outcome.Goals as goal
 
 pub returns : goal.returns
-returns c = one_outcome
+returns c = record { outcome = one_outcome }
