@@ -1,6 +1,8 @@
 -- The lemmas for proofs of callers; docs/CALLING.md says how to use each.
 -- a tree that passes the test, and whose value under the look-up is bytes: its text gives them
 pub use Rattle.subst_language.proofs.WorkedExamples.Forms.{gives}
+-- a source that is written out, whose value is computed: `computed_gives _ _ _ refl` says that it gives it
+pub use Rattle.subst_language.proofs.TreeOf.{tree_of, spelled, value_of, computed_gives}
 -- a source has at most one answer under a look-up
 pub use Rattle.subst_language.proofs.Language.AnswerLemmas.{answer_unique}
 -- a source that gives the bytes x: the output of its substitution is x
@@ -15,6 +17,14 @@ pub use Rattle.subst_language.proofs.CallingLemmas.{range_in_source}
 pub use Rattle.subst_language.proofs.CallingLemmas.{same_look_up}
 -- an answer under values that are bytes already, read as they are, is one under what the map has
 pub use Rattle.subst_language.proofs.CallingLemmas.{answer_as_read}
+-- outputs of several sources, with one more
+pub use Rattle.subst_language.proofs.Language.SeveralLemmas.{each_more}
+-- sources that give bytes, and more of them
+pub use Rattle.subst_language.proofs.Language.SeveralLemmas.{given_append}
+-- of several sources the one at an index is refused, and those before it give bytes
+pub use Rattle.subst_language.proofs.Language.SeveralLemmas.{refused_at}
+-- of several sources one is the first that is refused, for one fault
+pub use Rattle.subst_language.proofs.Language.SeveralLemmas.{refusal_unique}
 -- a source without dollars and backslashes gives itself, whatever the look-up
 pub use Rattle.subst_language.proofs.CallingLemmas.{plain_answer}
 -- a text that begins with no name byte may follow each tree
@@ -27,6 +37,9 @@ pub use Rattle.subst_language.proofs.CallingLemmas.{parsed_memory_alone}
 pub use Rattle.subst_language.proofs.CallingLemmas.{expanded}
 -- a tree whose value is bytes: an error of its expansion says that memory ran out
 pub use Rattle.subst_language.proofs.CallingLemmas.{expanded_memory_alone}
+-- where no value is longer than `longest`, an output has at most as many bytes as its source, and `longest`
+-- more for each dollar of the source
+pub use Rattle.subst_language.proofs.Language.ValueLengthLemmas.{output_at_most}
 -- a sentence has no fault
 pub use Rattle.subst_language.proofs.Language.FaultLemmas.{exclusive}
 -- a tree that passes the test is well-formed

@@ -6,8 +6,8 @@ use Rattle.serde_json.specs.Read.{read}
 use Rattle.subst.specs.ErrorFault.{error_fault}
 use Rattle.subst.specs.Json.Mapped.{strings, IsMapped}
 use Rattle.subst.specs.Json.Outcome.{ReadsAsTree}
-use Rattle.subst.specs.Json.Texts.{IsFirstRefusal}
 use Rattle.subst.specs.Language.LookUp.{LookUp}
+use Rattle.subst.specs.Language.Several.{IsFirstRefusal}
 use Rattle.subst_answers_lib.specs.TextOf.{IsTextOf}
 use Rattle.subst_answers_lib.specs.declared.document.DocumentAnswer.{DocumentAnswer}
 use Rattle.subst_answers_lib.specs.declared.document.DocumentAnswer.TheVariants.{Gives, Refuses, NotJson, NotToml, NotUtf8}

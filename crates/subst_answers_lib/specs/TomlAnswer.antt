@@ -6,8 +6,8 @@ use Rattle.toml.specs.Parse.{parse_document}
 use Rattle.subst.specs.ErrorFault.{error_fault}
 use Rattle.subst.specs.Toml.Mapped.{strings, IsMapped}
 use Rattle.subst.specs.Toml.Outcome.{ReadsAsTree}
-use Rattle.subst.specs.Toml.Texts.{IsFirstRefusal}
 use Rattle.subst.specs.Language.LookUp.{LookUp}
+use Rattle.subst.specs.Language.Several.{IsFirstRefusal}
 use Rattle.subst_answers_lib.specs.TextOf.{IsTextOf}
 use Rattle.subst_answers_lib.specs.TomlTree.{tree_json}
 use Rattle.subst_answers_lib.specs.declared.document.DocumentAnswer.{DocumentAnswer}

@@ -69,8 +69,6 @@ fn expanded_counted(
 ) -> Result<Answer, AllocError>
     ensures { IfOk result (IsTrueAnswer template.now (values_of (λ v. v.items) pairs.now)) }
 {
-    // As in `expanded`.
-    let _source = template.source();
     let counted = template.expand_counted(alloc, pairs, &mut Turns::new());
     Answer::of(counted.map_err(Error::from))
 }
@@ -82,7 +80,5 @@ fn expanded(
 ) -> Result<Answer, AllocError>
     ensures { IfOk result (IsTrueAnswer template.now (values_of (λ v. v.items) pairs.now)) }
 {
-    // By the contract of `source` it is a sentence, so `expand` says what the template gives.
-    let _source = template.source();
     Answer::of(template.expand(alloc, pairs).map_err(Error::from))
 }

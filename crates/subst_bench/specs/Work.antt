@@ -1,7 +1,7 @@
 -- The words that name kinds of work.
 use Rattle.std.specs.Prelude.{◌≡◌, ◌≢◌, ℕ, List, codes, Option, Some, None}
 use Rattle.subst_bench.specs.declared.work.Work.{Work}
-use Rattle.subst_bench.specs.declared.work.Work.TheVariants.{Parse, Expand, ExpandText, Both, Nothing}
+use Rattle.subst_bench.specs.declared.work.Work.TheVariants.{Parse, Expand, ExpandText, Both, Escape, Locate, Nothing}
 
 -- the word that names a kind of work
 abbrev pub word_of : Work → List ℕ
@@ -9,6 +9,8 @@ word_of Parse = codes "parse"
 word_of Expand = codes "expand"
 word_of ExpandText = codes "text"
 word_of Both = codes "both"
+word_of Escape = codes "escape"
+word_of Locate = codes "locate"
 word_of Nothing = codes "none"
 
 -- the text is the word of this kind of work, or that of no kind where there is none

@@ -5,7 +5,7 @@ ghost use Rattle.subst_bench.specs.Work.{IsNameOf};
 use std::alloc::Global;
 use std::collections::BTreeMap;
 use std::str;
-use subst::{ByteTemplate, Error, Template, substitute_bytes};
+use subst::{ByteTemplate, Error, Template, laws, substitute, substitute_bytes};
 
 /// The variables that a source is filled in from.
 pub type Variables = BTreeMap<String, String>;
@@ -21,6 +21,11 @@ pub enum Work {
     ExpandText,
     /// Both, by `substitute_bytes`.
     Both,
+    /// Escapes the source as a text; nothing if it isn't UTF-8.
+    Escape,
+    /// Fills the source in as a text, finds the line and the column of its fault, and underlines it; nothing
+    /// if the source isn't UTF-8.
+    Locate,
     /// Nothing.
     Nothing,
 }
@@ -35,6 +40,8 @@ impl Work {
             "expand" => Some(Work::Expand),
             "text" => Some(Work::ExpandText),
             "both" => Some(Work::Both),
+            "escape" => Some(Work::Escape),
+            "locate" => Some(Work::Locate),
             "none" => Some(Work::Nothing),
             _ => None,
         }
@@ -66,7 +73,27 @@ impl Work {
             Work::Both => last(rounds, || {
                 Ok(substitute_bytes(alloc, source, variables)?.len())
             }),
+            Work::Escape => {
+                let text = str::from_utf8(source).unwrap_or("");
+                last(rounds, || Ok(laws::escaped(alloc, text)?.len()))
+            }
+            Work::Locate => {
+                let text = str::from_utf8(source).unwrap_or("");
+                last(rounds, || located(alloc, text, variables))
+            }
             Work::Nothing => Ok(0),
+        }
+    }
+}
+
+/// Returns the column of the fault of a text, which it underlines too, or the length of what the text gives.
+fn located(alloc: Global, text: &str, variables: &Variables) -> Result<usize, Error> {
+    match substitute(alloc, text, variables) {
+        Ok(output) => Ok(output.len()),
+        Err(e) => {
+            let (_, column) = e.source_position(text);
+            let _ = e.source_highlighting(alloc, text)?;
+            Ok(column)
         }
     }
 }

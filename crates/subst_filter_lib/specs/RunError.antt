@@ -1,7 +1,7 @@
 -- What the errors of a run say, and the statuses that the program ends with.
 use Rattle.std.specs.Global.{Global}
 use Rattle.std.specs.Prelude.{◌≡◌, ◌⊎◌, ℕ, Bool, true, ⊤, List, [], codes, String, string_bytes, Option, Some, IsSome}
-use Rattle.subst.specs.Display.{display_of_error}
+use Rattle.subst.specs.Display.{display_of_error, IsDisplayOfError}
 use Rattle.subst.specs.ErrorFault.{error_fault}
 use Rattle.subst.specs.Errors.{Error}
 use Rattle.subst.specs.Highlighting.{highlighting_of}
@@ -56,3 +56,8 @@ display_of_run Write = Some (codes "write failed")
 display_of_run NotUtf8 = Some (codes "input is not UTF-8")
 display_of_run (Subst e shown) = display_of_error (error_fault e)
 display_of_run OutOfMemory = Some (codes "out of memory")
+
+-- the text is that of an error; of a refusal it is a text of the library's error
+abbrev pub IsDisplayOfRun : RunError → List ℕ → Type 0
+IsDisplayOfRun (Subst e shown) text = IsDisplayOfError (error_fault e) text
+IsDisplayOfRun fault text = display_of_run fault ≡ Some text

@@ -31,7 +31,7 @@ pub trait ByteInput {
 
     /// Returns whether a call has returned [`Failed`].
     fn failed(&self) -> bool
-        ensures { result ≡ has_failed self.now };
+        ensures failed { result ≡ has_failed self.now };
 }
 
 /// A device that bytes are written to.
@@ -72,5 +72,5 @@ pub trait ByteOutput {
 
     /// Returns whether a call has returned [`Failed`].
     fn failed(&self) -> bool
-        ensures { result ≡ has_failed self.now };
+        ensures failed { result ≡ has_failed self.now };
 }

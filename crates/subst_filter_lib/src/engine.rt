@@ -3,10 +3,9 @@
 //! A run reads its source to the end, fills the variables in, and only then writes. The runs are in the child
 //! modules; what they share is here.
 
-ghost use Rattle.std.specs.Prelude.{◌≡◌, ◌↔◌, true, All, IsTrue, IfOk, IfErr, OnOk, OnErr, MatchOption};
+ghost use Rattle.std.specs.Prelude.{◌≡◌, true, IfOk, IfErr, OnOk, OnErr, MatchOption};
 ghost use Rattle.std.specs.Io.KnownBytes.{Appends};
 ghost use Rattle.subst.specs.ErrorFault.{error_fault};
-ghost use Rattle.subst.specs.Language.Bytes.{IsPlain};
 ghost use Rattle.subst_filter_lib.specs.Device.{ReadsExactly, AppendsPrefix};
 ghost use Rattle.subst_filter_lib.specs.FilterRun.{UnlessReadFails};
 ghost use Rattle.subst_filter_lib.specs.RunError.{IsReadFault, IsWriteFault};
@@ -14,7 +13,6 @@ ghost use Rattle.subst_filter_lib.specs.RunError.{IsReadFault, IsWriteFault};
 use crate::device::{ByteInput, ByteOutput, Failed};
 use crate::run_error::RunError;
 pub use bytes::run_bytes;
-use memchr::memchr2;
 use std::alloc::Global;
 use subst::Error;
 pub use text::run_text;
@@ -53,13 +51,6 @@ fn read_all<I: ByteInput>(alloc: Global, input: &mut I) -> Result<Vec<u8>, RunEr
             chunk.resize(CHUNK, 0)?;
         }
     }
-}
-
-/// Returns whether the source has no dollar and no backslash, so that it gives itself.
-fn is_plain(source: &[u8]) -> bool
-    ensures { IsTrue result ↔ All IsPlain source.now }
-{
-    memchr2(b'$', b'\\', source).is_none()
 }
 
 /// Returns the error of a run whose substitution returned `e`. `shown` is the highlighting of the fault, if

@@ -144,7 +144,7 @@ fn after_first(words: &[String]) -> &[String]
 /// Writes the text of the error to `errors`, and returns the status to end with. If `errors` fails, the
 /// status stays the same.
 pub fn end_with<P: ByteOutput>(error: &RunError, errors: &mut P) -> u8
-    ensures { result ≡ error_status error.now }
+    ensures status { result ≡ error_status error.now }
 {
     let shown = match error {
         RunError::Subst(_, shown) => shown.as_str(),

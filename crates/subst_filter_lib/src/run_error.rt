@@ -30,7 +30,7 @@ impl RunError {
     /// Returns the status that the program ends with: [`REFUSED`] if the source is refused or isn't UTF-8,
     /// [`DEVICE_FAILED`] if the input or the output failed, and [`OUT_OF_MEMORY`] if memory ran out.
     pub fn status(&self) -> u8
-        ensures { result ≡ error_status self.now }
+        ensures status { result ≡ error_status self.now }
     {
         match self {
             RunError::Subst(_, _) | RunError::NotUtf8 => REFUSED,
@@ -42,11 +42,17 @@ impl RunError {
 
 /// One line without its end. Of a refused source it is the text of the error, without the highlighting.
 impl fmt::Display for RunError {
-    ghost use Rattle.subst_filter_lib.specs.RunError.{display_of_run};
+    ghost use Rattle.std.specs.Fmt.{DisplaysOnOk};
+    ghost use Rattle.subst.specs.Writing.{WritesSome};
+    ghost use Rattle.subst_filter_lib.specs.RunError.{display_of_run, IsDisplayOfRun};
 
     ghost output = { display_of_run };
 
-    fn fmt<W: fmt::Write>(&self, f: &mut fmt::Formatter<W>) -> fmt::Result {
+    fn fmt<W: fmt::Write>(&self, f: &mut fmt::Formatter<W>) -> fmt::Result
+        ensures writes { DisplaysOnOk W.write_str_gives f.old result
+            (display_of_run self.now) f.new }
+        ensures text { WritesSome W.write_str_gives f.old result (IsDisplayOfRun self.now) f.new }
+    {
         match self {
             RunError::Read => f.write_str("read failed"),
             RunError::Write => f.write_str("write failed"),

@@ -21,7 +21,7 @@ impl Task {
     /// in two cases: the first word is `bytes` or `text`, and each other has the form NAME=VALUE; or `env` is
     /// the only word.
     pub fn of_words(words: &[String]) -> Option<Task>
-        ensures { result ≡ task_of words.now }
+        ensures task { result ≡ task_of words.now }
     {
         let [first, rest @ ..] = words else {
             return None;

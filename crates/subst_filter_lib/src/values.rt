@@ -22,7 +22,7 @@ pub type Values<'w> = HashMap<&'w str, &'w str>;
 ///
 /// When allocation fails.
 pub fn values_of_words(alloc: Global, words: &[String]) -> Result<Values<'_>, AllocError>
-    ensures { IfOk result (λ values. value_under values ≡ last_value words.now) }
+    ensures values { IfOk result (λ values. value_under values ≡ last_value words.now) }
 {
     let mut values = HashMap::new(alloc);
     values.reserve(words.len())?;
@@ -39,7 +39,7 @@ pub fn values_of_words(alloc: Global, words: &[String]) -> Result<Values<'_>, Al
 ///
 /// When allocation fails.
 pub fn values_of_pairs(alloc: Global, pairs: &[(String, String)]) -> Result<Values<'_>, AllocError>
-    ensures { IfOk result (λ values. value_under values ≡ first_value pairs.now) }
+    ensures values { IfOk result (λ values. value_under values ≡ first_value pairs.now) }
 {
     let mut values = HashMap::new(alloc);
     values.reserve(pairs.len())?;

@@ -4,7 +4,9 @@ use crate::fakes::{Drip, Fault};
 use std::alloc::{AllocError, Global};
 use std::io::ErrorKind;
 use std::test::Fail;
-use subst::error::{Error, MissingVariableName};
+use subst::error::{
+    CharOrByte, Error, ExpectedCharacter, MissingVariableName, UnexpectedCharacter,
+};
 use subst_filter_lib::device::standard::ToWriter;
 use subst_filter_lib::program::end_with;
 use subst_filter_lib::run_error::RunError;
@@ -55,6 +57,18 @@ fn each_error_has_its_text_and_status(rt: HostRuntime) -> Result<(), Fail> {
         expect(rt.alloc(), error, Fault::never(), wanted)?;
     }
     Ok(())
+}
+
+#[test]
+fn unexpected_character_past_ascii_is_printed(rt: HostRuntime) -> Result<(), Fail> {
+    let unexpected = UnexpectedCharacter {
+        position: 3,
+        character: CharOrByte::Char('é'),
+        expected: ExpectedCharacter::new("a brace"),
+    };
+    let error = RunError::Subst(Error::from(unexpected), String::new(rt.alloc()));
+    let wanted = "1|subst: Unexpected character: 'é', expected a brace\n";
+    expect(rt.alloc(), &error, Fault::never(), wanted)
 }
 
 #[test]

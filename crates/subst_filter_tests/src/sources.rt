@@ -103,3 +103,15 @@ fn widest_line_that_is_shown_has_60_columns(rt: HostRuntime) -> Result<(), Fail>
     ];
     expect_texts(alloc, &rows)
 }
+
+#[test]
+fn long_names_are_told_whole(rt: HostRuntime) -> Result<(), Fail> {
+    let alloc = rt.alloc();
+    for (len, end) in [(300, 301), (100_000, 100_001)] {
+        let name = "n".repeat(alloc, len)?;
+        let source = format!(in alloc; "${name}")?;
+        let told = format!(in alloc; "1..{end}: No such variable: ${name}\n")?;
+        expect_texts(alloc, &[(source.as_str(), told.as_str())])?;
+    }
+    Ok(())
+}

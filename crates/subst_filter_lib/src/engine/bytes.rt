@@ -2,19 +2,17 @@
 
 ghost use Rattle.std.specs.Prelude.{◌≡◌, ℕ, List, true, OnOk, IfErr, IfSome, IsErrOf};
 ghost use Rattle.std.specs.Io.KnownBytes.{Keeps};
-ghost use Rattle.subst.specs.Calls.Outcome.{answer_of};
 ghost use Rattle.subst.specs.Calls.VariableMap.{ByLookUp};
-ghost use Rattle.subst.specs.Language.Answer.{Answers};
 ghost use Rattle.subst_filter_lib.specs.Device.{ReadsAll};
 ghost use Rattle.subst_filter_lib.specs.FilterRun.{RunAnswers, OnceRead, UnlessReadFails, UnlessWriteFails, UnlessWriting};
 ghost use Rattle.subst_filter_lib.specs.RunError.{IsFaultOfBytes};
 
-use super::{deliver, is_plain, read_all, refusal};
+use super::{deliver, read_all, refusal};
 use crate::device::{ByteInput, ByteOutput};
 use crate::run_error::RunError;
 use std::alloc::Global;
 use std::convert::AsSlice;
-use subst::{Error, VariableMap, substitute_bytes};
+use subst::{VariableMap, substitute_bytes_owned};
 
 /// Reads the source from `input` to its end, fills its variables in from `variables`, writes the resulting
 /// bytes to `output` and flushes it. Nothing is written before the whole source is read and filled in.
@@ -61,26 +59,8 @@ where
         (O.has_failed output.new ≡ O.has_failed output.old) }
 {
     let source = read_all(alloc, input)?;
-    match fill_in(alloc, source, variables) {
+    match substitute_bytes_owned(alloc, source, variables) {
         Ok(bytes) => deliver(output, &bytes),
         Err(e) => Err(refusal(e, String::new(alloc))),
     }
-}
-
-/// Fills the variables of the source in. A plain source is returned as it is, without a copy.
-#[tactic(auto, using(subst::proofs::Calling::plain_answer))]
-fn fill_in<'a, M: VariableMap<'a>>(
-    alloc: Global,
-    source: Vec<u8>,
-    variables: &'a M,
-) -> Result<Vec<u8>, Error>
-where
-    M::Value: AsSlice<u8> + Drop,
-    ensures { ByLookUp M.Value.items M.see (M.look_up variables.now)
-        (λ look. IfSome (answer_of (λ output. output.items) result) (Answers source.items look)) }
-{
-    if is_plain(&source) {
-        return Ok(source);
-    }
-    substitute_bytes(alloc, &source, variables)
 }

@@ -10,11 +10,12 @@ ghost use Rattle.subst_filter_lib.specs.Device.{ReadsAll};
 ghost use Rattle.subst_filter_lib.specs.FilterRun.{RunAnswers, TellsText, OnceRead, UnlessReadFails, UnlessWriteFails, UnlessWriting};
 ghost use Rattle.subst_filter_lib.specs.RunError.{HighlightsFault, IsFaultOfText, IsRefusalOf};
 
-use super::{deliver, is_plain, read_all, refusal};
+use super::{deliver, read_all, refusal};
 use crate::device::{ByteInput, ByteOutput};
 use crate::run_error::RunError;
 use std::alloc::Global;
 use std::convert::AsStr;
+use subst::laws::is_plain;
 use subst::{Error, VariableMap, substitute};
 
 /// Reads the source from `input` to its end, fills its variables in from `variables`, whose values are texts,

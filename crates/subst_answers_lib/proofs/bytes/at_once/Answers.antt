@@ -8,4 +8,4 @@ pub returns : goal.returns
 returns c =
     true_if_stated c.args.source.now (values_of (λ v. v.items) c.args.pairs.now) c.of.result
     (answer_of (λ output. output.items) c.substitute_bytes.result) c.of.ensures.stated c.of.ensures.some
-    (c.substitute_bytes.ensures (λ v. v.items) (λ v. refl))
+    (c.substitute_bytes.ensures.answer (λ v. v.items) (λ v. refl))

@@ -3,7 +3,7 @@ use Rattle.std.proofs.Common.{Err, refl, string_bytes, ap, ◌∙◌}
 use Rattle.serde_json.specs.View.{view}
 use Rattle.subst.specs.Json.Mapped.{strings}
 use Rattle.subst.specs.Json.Outcome.{ReadsAsTree}
-use Rattle.subst.specs.Json.Texts.{IsFirstRefusal}
+use Rattle.subst.specs.Language.Several.{IsFirstRefusal}
 use Rattle.subst_answers_lib.specs.Agreement.{values_of}
 use Rattle.subst_answers_lib.proofs.JsonLemmas.{fault_told, filled_in}
 use Rattle.subst_answers_lib.proofs.json_document.answer.Goals as goal

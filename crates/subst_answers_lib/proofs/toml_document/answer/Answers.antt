@@ -5,7 +5,7 @@ use Rattle.toml.specs.View.{view}
 use Rattle.subst.specs.Toml.error.{Subst}
 use Rattle.subst.specs.Toml.Mapped.{strings}
 use Rattle.subst.specs.Toml.Outcome.{ReadsAsTree}
-use Rattle.subst.specs.Toml.Texts.{IsFirstRefusal}
+use Rattle.subst.specs.Language.Several.{IsFirstRefusal}
 use Rattle.subst_answers_lib.specs.Agreement.{values_of}
 use Rattle.subst_answers_lib.specs.TextOf.{IsTextOf}
 use Rattle.subst_answers_lib.proofs.TomlLemmas.{toml_fault_told, toml_filled_in, toml_text_told}

@@ -17,9 +17,9 @@ returns-clause-refused g c is =
     RunAnswers source (variables_of c.in-Some.task c.args.words.now pairs) (Err e)
     (written c.args.output.now) (written c.run_task.new.output)) in
     let answer = subst Ended c.deref.ensures.value run.answer in
-    let status = sym c.end_with.ensures ∙ is in
+    let status = sym c.end_with.ensures.status ∙ is in
     let refused = refused_at_status e _ _ _ _ _ status run.source answer in
-    (read_at_status e status run.whole, holds_of_value _ _ _ c.in-Some.ensures refused)
+    (read_at_status e status run.whole, holds_of_value _ _ _ c.in-Some.ensures.task refused)
 
 pub returns-clause-prefix : goal.returns-clause-prefix
 returns-clause-prefix g c is =
@@ -31,6 +31,6 @@ returns-clause-prefix g c is =
     RunAnswers source (variables_of c.in-Some.task c.args.words.now pairs) (Err e)
     (written c.args.output.now) (written c.run_task.new.output)) in
     let answer = subst Ended c.deref.ensures.value run.answer in
-    let status = sym c.end_with.ensures ∙ is in
-    ⊎_elim inl (λ prefix. inr (holds_of_value _ _ _ c.in-Some.ensures prefix))
+    let status = sym c.end_with.ensures.status ∙ is in
+    ⊎_elim inl (λ prefix. inr (holds_of_value _ _ _ c.in-Some.ensures.task prefix))
     (prefix_at_status e _ _ _ _ _ status run.source run.unwritten answer)

@@ -11,7 +11,7 @@ returns-in_ok-values_of_words-in-Bytes-clause-answer g c =
     let Ended = λ (source : List ℕ) (look : LookUp).
     RunAnswers source look c.run_bytes.result (written c.args.output.now) (written c.run_bytes.new.output) in
     let run = c.run_bytes.ensures.answer (λ v. v.now) (λ v. refl) in
-    let same = rw c.after_first-given.ensures at c.in_ok-values_of_words-in-Bytes.ensures in
+    let same = rw c.after_first-given.ensures at c.in_ok-values_of_words-in-Bytes.ensures.values in
     rw c.in-Bytes.is (holds_by Ended _ _ _ same run)
 
 pub returns-in_ok-values_of_words-in-Text-clause-answer : goal.returns-in_ok-values_of_words-in-Text-clause-answer
@@ -20,7 +20,7 @@ returns-in_ok-values_of_words-in-Text-clause-answer g c =
     let Ended = λ (source : List ℕ) (look : LookUp).
     RunAnswers source look c.run_text.result (written c.args.output.now) (written c.run_text.new.output) in
     let run = c.run_text.ensures.answer (λ v. v.now) (λ v. refl) in
-    let same = rw c.after_first-given.ensures at c.in_ok-values_of_words-in-Text.ensures in
+    let same = rw c.after_first-given.ensures at c.in_ok-values_of_words-in-Text.ensures.values in
     rw c.in-Text.is (holds_by Ended _ _ _ same run)
 
 pub returns-in_ok-values_of_pairs-in-Environment-clause-answer :
@@ -32,4 +32,4 @@ returns-in_ok-values_of_pairs-in-Environment-clause-answer g c =
     let Ended = λ (source : List ℕ) (look : LookUp).
     RunAnswers source look result (written c.args.output.now) (written output) in
     let run = c.run_text-in-Environment.ensures.answer (λ v. v.now) (λ v. refl) in
-    rw c.in-Environment.is (holds_by Ended _ _ _ c.in_ok-values_of_pairs-in-Environment.ensures run)
+    rw c.in-Environment.is (holds_by Ended _ _ _ c.in_ok-values_of_pairs-in-Environment.ensures.values run)

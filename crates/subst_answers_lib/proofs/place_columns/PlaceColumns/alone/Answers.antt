@@ -9,4 +9,4 @@ source_range-requires c = has_range (error_fault c.args.fault.now) c.requires
 pub returns : goal.returns
 returns c =
     shows_alone (error_fault c.args.fault.now) c.unshown.result
-    (rw c.source_range.ensures at c.unshown.ensures)
+    (rw c.source_range.ensures.range at c.unshown.ensures)

@@ -27,14 +27,15 @@ pub returns-in_ok-highlighting-in-Ok : goal.returns-in_ok-highlighting-in-Ok
 returns-in_ok-highlighting-in-Ok c =
     let is = c.in-Ok.ensures.cases in
     let fault = error_fault c.args.fault.now in
-    let line = c.as_bytes.ensures.value ∙ c.source_line.ensures ∙ ap (line_of fault) is.0 in
+    let line = c.as_bytes.ensures.value ∙ c.source_line.ensures.line ∙ ap (line_of fault) is.0 in
     let underlined =
-    c.as_bytes-in-Ok.ensures.value ∙ c.in_ok-underlined-in-Ok.ensures ∙ ap (highlighting_of fault) is.0 in
+    c.as_bytes-in-Ok.ensures.value ∙ c.in_ok-underlined-in-Ok.ensures.highlighting
+    ∙ ap (highlighting_of fault) is.0 in
     shows_in_text c.args.source.now fault (record {
       range = c.source_range-range.result;
       line = c.in_ok-line-in-Ok.line;
       highlighting = c.in_ok-highlighting-in-Ok.highlighting;
-    }) is.1 c.source_range-range.ensures
+    }) is.1 c.source_range-range.ensures.range
     (c.in_ok-line-in-Ok.ensures ∙ ap column_of line)
     (c.in_ok-highlighting-in-Ok.ensures ∙ ap column_of underlined)
 
@@ -42,4 +43,4 @@ pub returns-in-Err : goal.returns-in-Err
 returns-in-Err c =
     let fault = error_fault c.args.fault.now in
     shows_in_bytes c.args.source.now fault c.unshown.result c.in-Err.ensures.cases.0
-    (rw c.source_range-range.ensures at c.unshown.ensures)
+    (rw c.source_range-range.ensures.range at c.unshown.ensures)

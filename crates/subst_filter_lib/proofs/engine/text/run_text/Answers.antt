@@ -1,6 +1,6 @@
 -- What was read is the source, which is written if it is plain, and refused with the error of its
 -- substitution.
-use Rattle.std.proofs.Common.{List, ℕ, subst, ◌∙◌}
+use Rattle.std.proofs.Common.{List, ℕ, string_bytes, subst, ◌∙◌}
 use Rattle.std.specs.List.{All}
 use Rattle.subst.specs.Calls.VariableMap.{look_up_of}
 use Rattle.subst.specs.Language.Bytes.{IsPlain}
@@ -13,7 +13,7 @@ returns-then-is_plain-clause-answer g c bytes reads =
     let text = c.as_str-source.result.now in
     let look = look_up_of bytes (g.M.VariableMap.look_up c.args.variables.now) in
     let plain = subst (λ (s : List ℕ). All IsPlain s) c.as_bytes.ensures.value
-    (c.is_plain.ensures.0 c.if-is_plain.true) in
+    (c.is_plain.ensures.plain.0 c.if-is_plain.true) in
     delivered (g.I.ByteInput.left c.args.input.now) (g.I.ByteInput.left c.read_all.new.input)
     c.in_ok-read_all.field-0.items text look (g.O.ByteOutput.written c.args.output.now)
     (g.O.ByteOutput.written c.deliver.new.output) c.in_ok-read_all.ensures.ok
@@ -21,6 +21,19 @@ returns-then-is_plain-clause-answer g c bytes reads =
     c.deliver.result (g.O.ByteOutput.has_failed c.deliver.new.output)
     c.as_bytes-then-is_plain.ensures.value (plain_answer text look plain) c.deliver.ensures.ok
     c.deliver.ensures.prefix c.deliver.ensures.err
+
+pub returns-in-Ok-clause-answer : goal.returns-in-Ok-clause-answer
+returns-in-Ok-clause-answer g c bytes reads =
+    let text = c.as_str-source.result.now in
+    let look = look_up_of bytes (g.M.VariableMap.look_up c.args.variables.now) in
+    delivered (g.I.ByteInput.left c.args.input.now) (g.I.ByteInput.left c.read_all.new.input)
+    c.in_ok-read_all.field-0.items text look (g.O.ByteOutput.written c.args.output.now)
+    (g.O.ByteOutput.written c.deliver-in-Ok.new.output) c.in_ok-read_all.ensures.ok
+    (c.as_str-source.ensures.value ∙ c.in-Some.ensures.0) (string_bytes c.in-Ok.text)
+    c.as_bytes-in-Ok.result.now c.deliver-in-Ok.result
+    (g.O.ByteOutput.has_failed c.deliver-in-Ok.new.output) c.as_bytes-in-Ok.ensures.value
+    (c.in-Ok.ensures.answer bytes reads) c.deliver-in-Ok.ensures.ok c.deliver-in-Ok.ensures.prefix
+    c.deliver-in-Ok.ensures.err
 
 pub returns-clause-answer : goal.returns-clause-answer
 returns-clause-answer g c bytes reads =
