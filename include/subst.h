@@ -64,7 +64,8 @@ struct subst_row {
     size_t pairs_len;
 };
 
-/* The kind of a fault, and where in the source it is: its first byte, and how many bytes it takes. */
+/* The kind of a fault, and where in the source it is: its first byte, and how many bytes it takes. The sum of its
+ * position and its length is at most the source's length. */
 struct subst_fault {
     uint32_t kind;
     size_t position;

@@ -41,7 +41,7 @@ test_that() {
 
 built_as_c() {
   runs "$compiler" -std=c99 "${strict[@]}" -Iinclude -o "$folder/c" tools/c_library.c "${archives[@]}" &&
-    runs "$folder/c"
+    runs "$folder/c" timed
 }
 
 built_as_cpp() {
@@ -69,7 +69,7 @@ refused_in_turn() {
   runs "$compiler" "${strict[@]}" -shared -fPIC -o "$library" tools/refuse_memory.c || return
   for ((request = 1; request <= most_requests; request++)); do
     rm -f "$report"
-    runs env LD_PRELOAD="$library" REFUSE_REQUEST="$request" REFUSE_REPORT="$report" "$folder/c" || return
+    runs env LD_PRELOAD="$library" REFUSE_REQUEST="$request" REFUSE_REPORT="$report" "$folder/c" small || return
     if [ ! -e "$report" ]; then
       ! grep -qx 'out of memory' "$output" || return
       printf '%d requests refused in turn, %d times out of memory\n' $((request - 1)) "$times" >"$output"

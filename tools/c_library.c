@@ -8,6 +8,7 @@
 #include <stdio.h>
 #include <stdlib.h>
 #include <string.h>
+#include <time.h>
 
 enum { ROOM = 128, UNTOUCHED = 0xA5, MOST_PAIRS = 4 };
 
@@ -333,6 +334,162 @@ static void test_each(void)
     end_test("subst_bytes_each", "no row", is_refused_row(result, &each, 0, SUBST_MISSING_CLOSING_BRACE, 1, 1));
 }
 
+/* Sizes at which a call that gives up at a limit of its own would be found out. */
+enum { MANY_PAIRS = 1000, MANY_ROWS = 10000, LARGE = 1 << 20, LONG_SOURCE = 100000, LONG_NAME = LONG_SOURCE };
+
+static struct subst_pair many_pairs[MANY_PAIRS];
+static struct subst_row many_rows[MANY_ROWS];
+static char names_of_many[MANY_PAIRS][8];
+static size_t many_ends[MANY_ROWS];
+static uint8_t large[LARGE], source_of_many[LONG_SOURCE + 8];
+
+/* What is asked of a call at such a size. The room is large. */
+struct large_written {
+    size_t needed, row;
+    struct subst_fault fault;
+};
+
+static struct large_written large_untouched(void)
+{
+    struct large_written written;
+    memset(large, UNTOUCHED, LARGE);
+    written.needed = written.row = 77;
+    written.fault = NO_FAULT;
+    return written;
+}
+
+/* Whether the room holds this many of a byte, and has nothing else. */
+static int is_filled(const struct large_written *written, size_t length, uint8_t byte)
+{
+    size_t i;
+    if (written->needed != length)
+        return 0;
+    for (i = 0; i < LARGE; i++)
+        if (large[i] != (i < length ? byte : (uint8_t)UNTOUCHED))
+            return 0;
+    return 1;
+}
+
+/* The last of many pairs is found, and one whose value fills the room. */
+static void test_many_pairs(void)
+{
+    static uint8_t value[LARGE];
+    struct large_written written;
+    uint32_t result;
+    size_t i;
+    memset(value, 'v', LARGE);
+    for (i = 0; i < MANY_PAIRS; i++) {
+        sprintf(names_of_many[i], "a%zu", i);
+        many_pairs[i] = pair_of(names_of_many[i], "1");
+    }
+    many_pairs[MANY_PAIRS - 1].value = value;
+    many_pairs[MANY_PAIRS - 1].value_len = LARGE;
+    written = large_untouched();
+    result = subst_bytes(bytes_of("$a999"), 5, many_pairs, MANY_PAIRS, large, LARGE, &written.needed,
+                         &written.fault);
+    end_test("subst_bytes", "many pairs", result == SUBST_DONE && is_filled(&written, LARGE, 'v'));
+    written = large_untouched();
+    result = subst_text(bytes_of("$a999"), 5, many_pairs, MANY_PAIRS, large, LARGE - 1, &written.needed,
+                        &written.fault);
+    end_test("subst_text", "many pairs", result == SUBST_ROOM_TOO_SMALL && written.needed == LARGE);
+}
+
+/* Many rows, each of which gives one byte. */
+static void test_many_rows(void)
+{
+    struct subst_pair pair = pair_of("a", "1");
+    struct large_written written;
+    uint32_t result;
+    size_t i;
+    for (i = 0; i < MANY_ROWS; i++) {
+        many_rows[i].pairs = &pair;
+        many_rows[i].pairs_len = 1;
+    }
+    written = large_untouched();
+    result = subst_bytes_each(bytes_of("$a"), 2, many_rows, MANY_ROWS, large, LARGE, many_ends, MANY_ROWS,
+                              &written.needed, &written.row, &written.fault);
+    for (i = 0; i < MANY_ROWS && many_ends[i] == i + 1; i++)
+        ;
+    end_test("subst_bytes_each", "many rows",
+             result == SUBST_DONE && i == MANY_ROWS && is_filled(&written, MANY_ROWS, '1'));
+    many_rows[MANY_ROWS - 1].pairs_len = 0;
+    written = large_untouched();
+    result = subst_bytes_each(bytes_of("$a"), 2, many_rows, MANY_ROWS, large, LARGE, many_ends, MANY_ROWS,
+                              &written.needed, &written.row, &written.fault);
+    end_test("subst_bytes_each", "the last of many rows", result == SUBST_REFUSED && written.row == MANY_ROWS - 1);
+}
+
+/* The processor time of a long source under this many rows. */
+static clock_t time_of_rows(size_t count)
+{
+    static uint8_t source[LARGE];
+    struct subst_pair pair = pair_of("a", "1");
+    struct large_written written = large_untouched();
+    clock_t start;
+    size_t i;
+    memset(source, 'd', LARGE);
+    memcpy(source, "${a:", 4);
+    source[LARGE - 1] = '}';
+    for (i = 0; i < count; i++) {
+        many_rows[i].pairs = &pair;
+        many_rows[i].pairs_len = 1;
+    }
+    start = clock();
+    if (subst_bytes_each(source, LARGE, many_rows, count, large, LARGE, many_ends, MANY_ROWS, &written.needed,
+                         &written.row, &written.fault) != SUBST_DONE)
+        return -1;
+    return clock() - start;
+}
+
+/* A source is parsed once: a thousand rows don't take the time of a hundred parses. */
+static void test_parsed_once(void)
+{
+    clock_t one = time_of_rows(1), many = time_of_rows(MANY_PAIRS);
+    end_test("subst_bytes_each", "parsed once", one >= 0 && many >= 0 && many < 100 * one + CLOCKS_PER_SEC / 10);
+}
+
+/* A fault after many lines is checked for, and its line is underlined. */
+static void test_long_source(void)
+{
+    static const char shown[] = "  $\n  ^\n";
+    struct large_written written;
+    uint32_t result;
+    memset(source_of_many, '\n', LONG_SOURCE);
+    source_of_many[LONG_SOURCE] = '$';
+    written = large_untouched();
+    result = subst_check(source_of_many, LONG_SOURCE + 1, &written.fault);
+    end_test("subst_check", "a long source", result == SUBST_REFUSED && written.fault.position == LONG_SOURCE);
+    written = large_untouched();
+    result = subst_check(source_of_many, LONG_SOURCE, &written.fault);
+    end_test("subst_check", "a long template", result == SUBST_DONE && is_fault(&written.fault, &NO_FAULT));
+    written = large_untouched();
+    result = subst_fault_highlighting(source_of_many, LONG_SOURCE + 1, many_pairs, 0, large, LARGE,
+                                      &written.needed);
+    end_test("subst_fault_highlighting", "a long source", result == SUBST_DONE
+             && written.needed == strlen(shown) && memcmp(large, shown, strlen(shown)) == 0);
+}
+
+/* A name of this length that is missing is told, and said with all its bytes. */
+static void test_long_name(size_t length)
+{
+    static const char said[] = "No such variable: $";
+    struct large_written written;
+    uint32_t result;
+    memset(source_of_many, 'n', length + 1);
+    source_of_many[0] = '$';
+    written = large_untouched();
+    result = subst_bytes(source_of_many, length + 1, many_pairs, 0, large, LARGE, &written.needed,
+                         &written.fault);
+    end_test("subst_bytes", "a long name", result == SUBST_REFUSED && written.fault.kind == SUBST_NO_SUCH_VARIABLE
+             && written.fault.position == 1 && written.fault.length == length);
+    written = large_untouched();
+    result = subst_fault_text(source_of_many, length + 1, many_pairs, 0, large, LARGE, &written.needed);
+    end_test("subst_fault_text", "a long name", result == SUBST_DONE && written.needed == strlen(said) + length
+             && memcmp(large, said, strlen(said)) == 0
+             && memcmp(large + strlen(said), source_of_many + 1, length) == 0
+             && large[written.needed] == UNTOUCHED);
+}
+
 #define GIVES(text) text, {0, 0, 0}, NULL
 #define REFUSED(kind, position, length, text) NULL, {kind, position, length}, text
 
@@ -351,11 +508,14 @@ static const struct row rows[] = {
      "expected a closing brace ('}'), colon (':') or question mark ('?')")},
     {"${a?b}", {"a", "1"}, REFUSED(SUBST_UNEXPECTED_CHARACTER, 4, 1, "Unexpected character: 'b', "
      "expected a closing brace ('}')")},
+    {"${a\u00E9}", {"a", "1"}, REFUSED(SUBST_UNEXPECTED_CHARACTER, 3, 2, "Unexpected character: '\u00E9', "
+     "expected a closing brace ('}'), colon (':') or question mark ('?')")},
     {"${a:${b:x}", {NULL}, REFUSED(SUBST_MISSING_CLOSING_BRACE, 1, 1, "Missing closing brace")},
     {"1 ${a:$long_name}", {"b", "1"}, REFUSED(SUBST_NO_SUCH_VARIABLE, 7, 9, "No such variable: $long_name")},
 };
 
-int main(void)
+/* An argument leaves out what is at a size: it asks for memory too often to refuse each request in turn. */
+int main(int argc, char **argv)
 {
     /* so that only the library asks for memory */
     static char buffer[BUFSIZ];
@@ -366,6 +526,15 @@ int main(void)
     test_bytes();
     test_no_text();
     test_each();
+    if (argc == 1 || strcmp(argv[1], "timed") == 0) {
+        test_many_pairs();
+        test_many_rows();
+        test_long_source();
+        test_long_name(300);
+        test_long_name(LONG_NAME);
+    }
+    if (argc > 1 && strcmp(argv[1], "timed") == 0)
+        test_parsed_once();
     test_highlighting("a\n\u00E9 ${b}\nc", "  \u00E9 ${b}\n      ^\n");
     test_highlighting("\\x", "  \\x\n  ^^\n");
     test_highlighting("0123456789012345678901234567890123456789012345678901234567890$", "");

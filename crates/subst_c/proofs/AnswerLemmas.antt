@@ -7,7 +7,7 @@ use Rattle.subst_language.specs.Calls.Outcome.{answer_of}
 use Rattle.subst_language.specs.Language.Answer.{Answer, Answers, Refuses}
 use Rattle.subst_language.specs.Language.BadItem.{HasFault}
 use Rattle.subst_language.specs.Language.LookUp.{LookUp}
-use Rattle.subst_error.specs.Display.{display_of_error}
+use Rattle.subst_error.specs.Display.{IsDisplayOfError, IsDisplayOfFault}
 use Rattle.subst_error.specs.ErrorFault.{error_fault}
 use Rattle.subst_error.specs.Fault.{Fault}
 use Rattle.subst_error.specs.Highlighting.{highlighting_of}
@@ -16,7 +16,7 @@ use Rattle.subst_error.specs.declared.Error.{Error}
 use Rattle.subst_error.specs.declared.Error.TheVariants.{OutOfMemory}
 use Rattle.subst_language.proofs.CallingLemmas.{range_in_source}
 use Rattle.subst_c.specs.Fault.{IsToldOf}
-use Rattle.subst_c.specs.Text.{IsHighlighting, IsText, SaysOf}
+use Rattle.subst_c.specs.Text.{IsHighlighting, SaysOf}
 use Rattle.subst_c.specs.declared.fault.FaultRecord.{FaultRecord}
 
 -- what is told of an error is told of the fault for which the source is refused
@@ -37,16 +37,16 @@ states_a_fault _ other none = cc
 
 -- so its text is that of the fault
 of_a_fault : (e : Option Fault) (IsAnswer : Answer → Type 0) (text : List ℕ) → e ≢ None
-    → IfSome (option_map Refuses e) IsAnswer → IfSome (display_of_error e) (λ shown. text ≡ shown)
-    → SaysOf IsAnswer IsText text
+    → IfSome (option_map Refuses e) IsAnswer → IsDisplayOfError e text
+    → SaysOf IsAnswer IsDisplayOfFault text
 of_a_fault (Some f) IsAnswer text some answer shown = (Refuses f, answer, shown)
 of_a_fault None IsAnswer text some answer shown = absurd (some refl)
 
 -- the text of an error that isn't out of memory says the answer
 pub text_of_error : {E : Type 0} (e : Error) (IsAnswer : Answer → Type 0) (r : Result (String Global) E)
     → ((x : AllocError) → ¬ (e ≡ OutOfMemory x)) → IfSome (option_map Refuses (error_fault e)) IsAnswer
-    → IfOk r (λ text. IfSome (display_of_error (error_fault e)) (λ shown. string_bytes text ≡ shown))
-    → IfOk r (λ text. SaysOf IsAnswer IsText (string_bytes text))
+    → IfOk r (λ text. IsDisplayOfError (error_fault e) (string_bytes text))
+    → IfOk r (λ text. SaysOf IsAnswer IsDisplayOfFault (string_bytes text))
 text_of_error e IsAnswer (Ok text) other refused shown =
     of_a_fault (error_fault e) IsAnswer (string_bytes text) (states_a_fault e other) refused shown
 text_of_error e IsAnswer (Err x) other refused shown = tt

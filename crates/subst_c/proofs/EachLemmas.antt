@@ -1,10 +1,11 @@
 -- Outputs of rows, one after the other.
-use Rattle.std.proofs.Common.{◌≡◌, ℕ, suc, ◌+◌, ◌<◌, ◌≤◌, List, [], ◌∷◌, ◌++◌, take, drop, get_or, length, Option, Some, None, IfSome, Result, Ok, Err, IfErr, option_map, inl, inr, refl, sym, ap, ◌∙◌, subst, arith, append-nil, length-append}
-use Rattle.std.proofs.lemmas.List.{drop_more, take-append-drop, take_more}
+use Rattle.std.proofs.Common.{◌≡◌, ℕ, suc, ◌+◌, ◌<◌, ◌≤◌, List, [], ◌∷◌, ◌++◌, take, get_or, length, Option, Some, None, IfSome, Result, Ok, Err, IfErr, option_map, inl, inr, refl, sym, ap, ◌∙◌, subst, arith, append-nil, length-append}
+use Rattle.std.proofs.lemmas.List.{length-take-le, take_more}
 use Rattle.std.proofs.lemmas.List.Folds.{concat-append}
 use Rattle.std.specs.List.{concat}
 use Rattle.std.specs.Result.{IsErrAnd}
 use Rattle.subst_language.proofs.CallingLemmas.{range_in_source, same_look_up}
+use Rattle.subst_language.proofs.Language.SeveralLemmas.{each_more, length_each, refused_at}
 use Rattle.subst_language.specs.Calls.VariableMap.{look_up_of}
 use Rattle.subst_error.specs.ErrorFault.{error_fault, expand_fault}
 use Rattle.subst_error.specs.declared.Error.{Error}
@@ -13,32 +14,15 @@ use Rattle.subst_error.specs.Fault.{Fault}
 use Rattle.subst_language.specs.Language.Answer.{Answers, Gives, IsMissing, Refuses}
 use Rattle.subst_language.specs.Language.LookUp.{LookUp}
 use Rattle.subst_language.specs.Language.Sentence.{Spells}
+use Rattle.subst_language.specs.Language.Several.{RefusesAt}
 use Rattle.subst_language.specs.Language.Tree.{Tree}
 use Rattle.subst_language.specs.Language.Value.{Bytes, value}
 use Rattle.subst_error.specs.Range.{range_of}
-use Rattle.subst_c.specs.Each.{AreOutputs, EachGives, ends_from, IsRefusedIn}
+use Rattle.subst_c.specs.Each.{AreOutputs, ends_from, IsRefusedIn, under_row}
 use Rattle.subst_c.specs.Pairs.{first_value}
 use Rattle.subst_c.specs.declared.pairs.Row.{Row}
 
--- one more row and its output
-each_more : (s : List ℕ) (rows : List Row) (outputs : List (List ℕ)) (row : Row) (output : List ℕ)
-    → EachGives s rows outputs → Answers s (first_value row.pairs.now) (Gives output)
-    → EachGives s (rows ++ row ∷ []) (outputs ++ output ∷ [])
-each_more s [] [] row output each given = (given, tt)
-each_more s (r ∷ rows) (o ∷ outputs) row output each given =
-    (each.0, each_more s rows outputs row output each.1 given)
-each_more s [] (o ∷ outputs) row output each given = absurd each
-each_more s (r ∷ rows) [] row output each given = absurd each
-
--- there are as many outputs as rows
-length_each : (s : List ℕ) (rows : List Row) (outputs : List (List ℕ)) → EachGives s rows outputs
-    → length outputs ≡ length rows
-length_each s [] [] each = refl
-length_each s (r ∷ rows) (o ∷ outputs) each = ap suc (length_each s rows outputs each.1)
-length_each s [] (o ∷ outputs) each = absurd each
-length_each s (r ∷ rows) [] each = absurd each
-
--- and as many ends
+-- there are as many ends as outputs
 length-ends_from : (n : ℕ) (outputs : List (List ℕ)) → length (ends_from n outputs) ≡ length outputs
 length-ends_from n [] = refl
 length-ends_from n (o ∷ outputs) = ap suc (length-ends_from (n + length o) outputs)
@@ -73,37 +57,33 @@ one_more s rows i d bytes ends output new_bytes new_ends h are given joined ende
     let ends_are : new_ends ≡ ends_from 0 all ++ (0 + length (concat all ++ output)) ∷ [] =
     ended ∙ ap (λ e. e ++ length new_bytes ∷ []) are.ended ∙ ap (λ m. ends_from 0 all ++ m ∷ []) end in
     subst (λ r. AreOutputs s r new_bytes new_ends) (sym (take_more rows i d h)) (record {
+      sentence = are.sentence;
       outputs = all ++ output ∷ [];
-      given = each_more s (take i rows) all row output are.given given;
+      given = each_more (under_row s) (take i rows) all row output are.given given;
       joined = bytes_are ∙ sym (concat-more all output);
       ended = ends_are ∙ sym (ends_from-append 0 all output);
     })
 
 -- the row at an index is refused, after outputs of the rows before it
-pub refused_at : (s : List ℕ) (rows : List Row) (i : ℕ) (d : Row)
+pub row_refused : (s : List ℕ) (rows : List Row) (i : ℕ) (d : Row)
     (bytes ends new_ends : List ℕ) (e o : Option Fault) → i < length rows
     → AreOutputs s (take i rows) bytes ends → new_ends ≡ ends → e ≡ o
     → IfSome o (λ f. Answers s (first_value (get_or rows i d).pairs.now) (Refuses f))
     → IfSome e (IsRefusedIn s rows (length new_ends))
-refused_at s rows i d bytes ends new_ends e o h are same states refused =
+row_refused s rows i d bytes ends new_ends e o h are same states refused =
     subst (λ x. IfSome x (IsRefusedIn s rows (length new_ends))) (sym states) (of o refused)
   where
-    counted : length new_ends ≡ length (take i rows)
+    counted : length new_ends ≡ i
     counted = ap length (same ∙ are.ended) ∙ length-ends_from 0 are.outputs
-        ∙ length_each s (take i rows) are.outputs are.given
+        ∙ length_each (under_row s) (take i rows) are.outputs are.given
+        ∙ length-take-le i rows (omega arith)
 
     of : (o : Option Fault) → IfSome o (λ f. Answers s (first_value (get_or rows i d).pairs.now) (Refuses f))
         → IfSome o (IsRefusedIn s rows (length new_ends))
     of None r = tt
-    of (Some f) r = inr (record {
-      before = take i rows;
-      row = get_or rows i d;
-      after = drop (i + 1) rows;
-      parts = sym (take-append-drop i rows) ∙ ap (λ rest. take i rows ++ rest) (drop_more rows i d h);
-      index = counted;
-      given = (are.outputs, are.given);
-      refused = r;
-    })
+    of (Some f) r =
+        inr (subst (λ n. RefusesAt (under_row s) rows n f) (sym counted)
+        (refused_at (under_row s) rows i d f h (are.outputs, are.given) r))
 
 -- the range of such a fault ends within the source
 pub refused_within : (s : List ℕ) (rows : List Row) (i : ℕ) (e : Error)
@@ -116,7 +96,7 @@ refused_within s rows i e h =
         → (look : LookUp) × IfSome (option_map Refuses o) (Answers s look)
     some_look None h = ((λ _. None), tt)
     some_look (Some f) (inl fault) = ((λ _. None), inl fault.0)
-    some_look (Some f) (inr at) = (first_value at.row.pairs.now, at.refused)
+    some_look (Some f) (inr at) = (first_value at.here.pairs.now, at.refused)
 
 -- a variable that is missing is what the source is refused for
 pub refused_for_missing : {T : Type 0} (s : List ℕ) (look : LookUp) (t : Tree) (r : Result T ExpandError)

@@ -39,10 +39,10 @@ second_passes false b e = absurd cc
 
 -- the value that is found under a name is one of the values
 found_is_text : (pairs : List Pair) (name : List ℕ) → list_all (λ pair. is_utf8 pair.value.now) pairs ≡ true
-    → IfSome (find (λ pair. bytes_eq pair.name.now name) pairs) (λ pair. is_utf8 pair.value.now ≡ true)
+    → IfSome (find (λ pair. bytes_eq name pair.name.now) pairs) (λ pair. is_utf8 pair.value.now ≡ true)
 found_is_text [] name all = tt
 found_is_text (pair ∷ pairs) name all =
-    of (bytes_eq pair.name.now name) _ (first_passes (is_utf8 pair.value.now) _ all)
+    of (bytes_eq name pair.name.now) _ (first_passes (is_utf8 pair.value.now) _ all)
     (found_is_text pairs name (second_passes (is_utf8 pair.value.now) _ all))
   where
     of : (b : Bool) (later : Option Pair) → is_utf8 pair.value.now ≡ true
@@ -65,7 +65,7 @@ pub puts_text : (law : TextsGiveTexts) (s : List ℕ) (pairs : List Pair) (neede
     → IsPut (λ x. IsUtf8 x × Answers s (first_value pairs) (Gives x)) needed old new
 puts_text law s pairs needed old new are put =
     let texts : GivesTexts (first_value pairs) = λ name x found.
-    value_is_text (find (λ pair. bytes_eq pair.name.now name) pairs) x
+    value_is_text (find (λ pair. bytes_eq name pair.name.now) pairs) x
     (found_is_text pairs name (second_passes (is_utf8 s) _ are)) found in
     let source = IsUtf8-from_is_utf8 s (first_passes (is_utf8 s) _ are) in
     let tree = put.wanted in

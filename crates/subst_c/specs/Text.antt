@@ -1,16 +1,11 @@
 -- What is said of the answer of a source: its fault, as a text.
-use Rattle.std.specs.Prelude.{◌≡◌, ℕ, Bool, ◌&&◌, List, [], Some, IfSome}
+use Rattle.std.specs.Prelude.{◌≡◌, ℕ, Bool, ◌&&◌, List, [], Some}
 use Rattle.std.specs.List.{list_all}
 use Rattle.std.specs.Str.{is_utf8}
-use Rattle.subst_error.specs.Display.{display_of_fault}
 use Rattle.subst_error.specs.Fault.{Fault}
 use Rattle.subst_error.specs.Highlighting.{highlighting_of}
 use Rattle.subst_language.specs.Language.Answer.{Answer, Gives, Refuses}
 use Rattle.subst_c.specs.declared.pairs.Pair.{Pair}
-
--- the text says what the fault is, where there is one text for that
-abbrev pub IsText : Fault → List ℕ → Type 0
-IsText f text = IfSome (display_of_fault f) (λ shown. text ≡ shown)
 
 -- the text is the line of the fault in the source s, with the fault underlined
 abbrev pub IsHighlighting : List ℕ → Fault → List ℕ → Type 0

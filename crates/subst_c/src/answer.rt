@@ -5,13 +5,15 @@ ghost use Rattle.std.specs.List.{list_all};
 ghost use Rattle.std.specs.Str.{is_utf8};
 ghost use Rattle.subst_language.specs.Calls.Outcome.{answer_of};
 ghost use Rattle.subst_language.specs.Language.Answer.{Answers};
+ghost use Rattle.subst_error.specs.Display.{IsDisplayOfError, IsDisplayOfFault};
 ghost use Rattle.subst_error.specs.ErrorFault.{error_fault};
 ghost use Rattle.subst_error.specs.Range.{range_of};
 ghost use Rattle.subst_c.specs.Pairs.{first_value};
-ghost use Rattle.subst_c.specs.Text.{IsHighlighting, IsText, SaysOf, are_texts as all_are_texts};
+ghost use Rattle.subst_c.specs.Text.{IsHighlighting, SaysOf, are_texts as all_are_texts};
 
 use crate::pairs::{Pair, Pairs};
 use std::alloc::{AllocError, Global};
+use std::fmt::{Display, Formatter};
 use subst_error::Error;
 use subst_template::substitute_bytes;
 
@@ -34,15 +36,30 @@ pub fn fill_in(alloc: Global, source: &[u8], pairs: &[Pair]) -> Result<Vec<u8>, 
 ///
 /// When allocation fails, and for nothing else.
 pub fn fault_text(alloc: Global, source: &[u8], pairs: &[Pair]) -> Result<String, AllocError>
-    ensures { IfOk result (λ text. SaysOf (Answers source.now (first_value pairs.now)) IsText
-        (string_bytes text)) }
+    ensures { IfOk result (λ text. SaysOf (Answers source.now (first_value pairs.now))
+        IsDisplayOfFault (string_bytes text)) }
 {
     match fill_in(alloc, source, pairs) {
         Ok(_) => Ok(String::new(alloc)),
         Err(e) => match e {
             Error::OutOfMemory(e) => Err(e),
-            e => format!(in alloc; "{e}"),
+            e => text_of(alloc, &e),
         },
+    }
+}
+
+/// Returns the text of an error.
+///
+/// # Errors
+///
+/// When allocation fails, and for nothing else.
+fn text_of(alloc: Global, e: &Error) -> Result<String, AllocError>
+    ensures { IfOk result (λ text. IsDisplayOfError (error_fault e.now) (string_bytes text)) }
+{
+    let mut f = Formatter::new(String::new(alloc));
+    match e.fmt(&mut f) {
+        Ok(()) => Ok(f.into_inner()),
+        Err(_) => Err(AllocError),
     }
 }
 

@@ -111,7 +111,6 @@ fn add(
         (λ f. Answers template.now (first_value row.now.pairs.now) (Refuses f))) }
     ensures ends { IfErr result (λ e. outputs.new.ends.items ≡ outputs.old.ends.items) }
 {
-    let _source = template.source();
     let bytes = template.expand(alloc, &Pairs { pairs: row.pairs })?;
     outputs.bytes.extend_from_slice(&bytes)?;
     outputs.ends.push(outputs.bytes.len())?;

@@ -1,6 +1,6 @@
 //! What a caller in C is told of a fault.
 
-ghost use Rattle.std.specs.Prelude.{◌≡◌, ◌≢◌, ◌^◌, ◌<◌, None, Some};
+ghost use Rattle.std.specs.Prelude.{◌≡◌, ◌≢◌, ◌+◌, ◌^◌, ◌<◌, None, Some};
 ghost use Rattle.std.specs.Option.{option_map};
 ghost use Rattle.subst_error.specs.ErrorFault.{error_fault};
 ghost use Rattle.subst_error.specs.Range.{range_of};
@@ -38,6 +38,10 @@ pub struct FaultRecord {
 pub fn refuse(e: &Error, fault: &mut FaultRecord) -> u32
     requires { (range_of (error_fault e.now)).end < 2 ^ 64 }
     ensures refused { result ≡ REFUSED → IsToldOf (λ f. error_fault e.now ≡ Some f) fault.new }
+
+    // What is told ends where the error's range does.
+    ensures end { result ≡ REFUSED
+        → fault.new.position + fault.new.length ≡ (range_of (error_fault e.now)).end }
     ensures kept { result ≢ REFUSED → fault.new ≡ fault.old }
     ensures others { result ≢ REFUSED → result ≡ OUT_OF_MEMORY }
 

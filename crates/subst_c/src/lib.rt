@@ -5,8 +5,9 @@
 //! written overlaps nothing else that is passed.
 #![tactic(auto)]
 
-ghost use Rattle.std.specs.Prelude.{◌≡◌, ◌≢◌, ◌⊎◌, ◌<◌, ◌++◌, ℕ, List, drop, length, true, false};
+ghost use Rattle.std.specs.Prelude.{◌≡◌, ◌≢◌, ◌⊎◌, ◌+◌, ◌<◌, ◌≤◌, ◌++◌, ℕ, List, drop, length, true, false};
 ghost use Rattle.std.specs.Str.{IsUtf8};
+ghost use Rattle.subst_error.specs.Display.{IsDisplayOfFault};
 ghost use Rattle.subst_language.specs.Language.Answer.{Answers, Gives, Refuses};
 ghost use Rattle.subst_language.specs.Language.BadItem.{HasFault};
 ghost use Rattle.subst_language.specs.Language.Sentence.{IsSentence};
@@ -14,7 +15,7 @@ ghost use Rattle.subst_c.specs.Each.{AreOutputs, IsRefusedIn};
 ghost use Rattle.subst_c.specs.Fault.{IsToldOf};
 ghost use Rattle.subst_c.specs.Pairs.{first_value};
 ghost use Rattle.subst_c.specs.Room.{IsPut, IsTooLong};
-ghost use Rattle.subst_c.specs.Text.{IsHighlighting, IsText, SaysOf, are_texts};
+ghost use Rattle.subst_c.specs.Text.{IsHighlighting, SaysOf, are_texts};
 ghost use Rattle.subst_c.specs.declared.outcome.TheConstants.{DONE, REFUSED, OUT_OF_MEMORY, ROOM_TOO_SMALL, NOT_UTF8};
 
 pub use fault::FaultRecord;
@@ -51,6 +52,10 @@ pub extern "C" fn subst_bytes(
     ensures refused { result ≡ REFUSED
         → IsToldOf (λ f. Answers source.now (first_value pairs.now) (Refuses f)) fault.new }
 
+    // The fault lies in the source.
+    ensures within { result ≡ REFUSED
+        → fault.new.position + fault.new.length ≤ length source.now }
+
     // What the source gives is longer than the room.
     ensures too_small { result ≡ ROOM_TOO_SMALL
         → IsTooLong (λ x. Answers source.now (first_value pairs.now) (Gives x))
@@ -86,6 +91,8 @@ pub extern "C" fn subst_text(
         needed.new room.old room.new }
     ensures refused { result ≡ REFUSED
         → IsToldOf (λ f. Answers source.now (first_value pairs.now) (Refuses f)) fault.new }
+    ensures within { result ≡ REFUSED
+        → fault.new.position + fault.new.length ≤ length source.now }
     ensures too_small { result ≡ ROOM_TOO_SMALL
         → IsTooLong (λ x. Answers source.now (first_value pairs.now) (Gives x))
         needed.new room.old }
@@ -127,6 +134,8 @@ pub extern "C" fn subst_bytes_each(
     // The fault is that of the source, or of the first row under which it is refused, whose index is told.
     ensures refused { result ≡ REFUSED
         → IsToldOf (IsRefusedIn source.now rows.now row.new) fault.new }
+    ensures within { result ≡ REFUSED
+        → fault.new.position + fault.new.length ≤ length source.now }
 
     // The outputs are longer than the room, or more than the ends that there is room for.
     ensures too_small { result ≡ ROOM_TOO_SMALL
@@ -156,6 +165,8 @@ pub extern "C" fn subst_bytes_each(
 pub extern "C" fn subst_check(alloc: Global, source: &[u8], fault: &mut FaultRecord) -> u32
     ensures done { result ≡ DONE → IsSentence source.now }
     ensures refused { result ≡ REFUSED → IsToldOf (HasFault 0 source.now) fault.new }
+    ensures within { result ≡ REFUSED
+        → fault.new.position + fault.new.length ≤ length source.now }
     ensures others { result ≢ DONE → result ≢ REFUSED → result ≡ OUT_OF_MEMORY }
     ensures fault_kept { result ≢ REFUSED → fault.new ≡ fault.old }
 {
@@ -176,10 +187,10 @@ pub extern "C" fn subst_fault_text(
     needed: &mut usize,
 ) -> u32
     ensures done { result ≡ DONE
-        → IsPut (SaysOf (Answers source.now (first_value pairs.now)) IsText)
+        → IsPut (SaysOf (Answers source.now (first_value pairs.now)) IsDisplayOfFault)
         needed.new room.old room.new }
     ensures too_small { result ≡ ROOM_TOO_SMALL
-        → IsTooLong (SaysOf (Answers source.now (first_value pairs.now)) IsText)
+        → IsTooLong (SaysOf (Answers source.now (first_value pairs.now)) IsDisplayOfFault)
         needed.new room.old }
     ensures others { result ≢ DONE → result ≢ ROOM_TOO_SMALL → result ≡ OUT_OF_MEMORY }
     ensures room_kept { result ≢ DONE → room.new ≡ room.old }

@@ -36,7 +36,7 @@ impl<'a> VariableMap<'a> for Pairs<'a> {
     ghost look_up = { λ self. first_value self.pairs.now };
 
     fn get(&'a self, key: &str) -> Option<&'a [u8]> {
-        let pair = self.pairs.iter().find(|pair| pair.name == key.as_bytes())?;
+        let pair = self.pairs.iter().find(|pair| key.as_bytes() == pair.name)?;
         Some(pair.value)
     }
 }

@@ -10,3 +10,13 @@ refuse-result-requires c =
       refused_within c.args.source.now c.args.rows.now c.in-Err.refusal.row c.in-Err.refusal.error
           c.in-Err.ensures.err,
     )
+
+pub returns-after-result-eq-REFUSED-clause-within : goal.returns-after-result-eq-REFUSED-clause-within
+returns-after-result-eq-REFUSED-clause-within c refused =
+    let end = c.refuse-result.ensures.end refused in
+    omega (
+      arith,
+      end,
+      refused_within c.args.source.now c.args.rows.now c.in-Err.refusal.row c.in-Err.refusal.error
+          c.in-Err.ensures.err,
+    )

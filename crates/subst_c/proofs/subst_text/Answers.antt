@@ -7,5 +7,5 @@ use Rattle.subst_c.proofs.subst_text.Goals as goal
 pub returns-clause-done : goal.returns-clause-done
 returns-clause-done c done =
     let are : are_texts c.args.source.now c.args.pairs.now ≡ true = search rules in
-    puts_text c.texts_give_texts.ensures c.args.source.now c.args.pairs.now _ _ _ are
+    puts_text c.texts_give_texts.ensures.text c.args.source.now c.args.pairs.now _ _ _ are
     (c.subst_bytes.ensures.done done)

@@ -20,4 +20,4 @@ returns c =
     let look = first_value c.args.pairs.now in
     highlighting_of_error c.in-Err.e (Answers c.args.source.now look) c.args.source.now
     c.source_highlighting.result c.in_default.not-OutOfMemory
-    (rw c.as_bytes.ensures.value at c.in-Err.ensures.answer) c.source_highlighting.ensures
+    (rw c.as_bytes.ensures.value at c.in-Err.ensures.answer) c.source_highlighting.ensures.highlighting

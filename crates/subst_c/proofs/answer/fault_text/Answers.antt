@@ -9,5 +9,5 @@ returns-in-Ok c = (Gives c.in-Ok.field-0.items, c.in-Ok.ensures.answer, c.new.en
 
 pub returns : goal.returns
 returns c =
-    text_of_error c.in-Err.e (Answers c.args.source.now (first_value c.args.pairs.now)) c.format.result
-    c.in_default.not-OutOfMemory c.in-Err.ensures.answer c.format.ensures.ok
+    text_of_error c.in-Err.e (Answers c.args.source.now (first_value c.args.pairs.now)) c.text_of.result
+    c.in_default.not-OutOfMemory c.in-Err.ensures.answer c.text_of.ensures

@@ -1,13 +1,13 @@
 -- Each turn adds an output, or ends at the first row that is refused.
 use Rattle.std.proofs.Common.{◌≡◌, length, rules}
-use Rattle.subst_c.proofs.EachLemmas.{one_more, refused_at}
+use Rattle.subst_c.proofs.EachLemmas.{one_more, row_refused}
 use Rattle.subst_c.proofs.each.fill_in_each.Goals as goal
 
 pub returns-in-Err-add-clause-err : goal.returns-in-Err-add-clause-err
 returns-in-Err-add-clause-err c =
     let refused = rw c.in-Ok.ensures.ok.1 at c.in-Err-add.ensures.err in
     let counted : c.len.result ≡ length c.add.new.outputs.ends.items = search rules in
-    rw counted (refused_at c.args.source.now c.args.rows.now c.loop-row.row-index _ _ _ _ _ _
+    rw counted (row_refused c.args.source.now c.args.rows.now c.loop-row.row-index _ _ _ _ _ _
     c.loop-row-test.true c.loop-row.invariant c.in-Err-add.ensures.ends c.from-in-Err-add.ensures refused)
 
 pub loop-row-preserved : goal.loop-row-preserved
