@@ -5,8 +5,8 @@ use Rattle.serde_json.specs.View.{view}
 use Rattle.subst.specs.Fault.{Fault}
 use Rattle.subst.specs.Json.Mapped.{strings, IsMapped}
 use Rattle.subst.specs.Json.Outcome.{ReadsAsTree}
-use Rattle.subst.specs.Json.Texts.{IsFirstRefusal}
 use Rattle.subst.specs.Language.LookUp.{LookUp}
+use Rattle.subst.specs.Language.Several.{IsFirstRefusal}
 use Rattle.subst_uses.specs.declared.config.Loaded.{Loaded}
 use Rattle.subst_uses.specs.declared.config.Loaded.TheVariants.{Tree, Report}
 

@@ -4,9 +4,9 @@ use Rattle.toml.specs.Parse.{parse_document}
 use Rattle.toml.specs.View.{view}
 use Rattle.subst.specs.Fault.{Fault}
 use Rattle.subst.specs.Language.LookUp.{LookUp}
+use Rattle.subst.specs.Language.Several.{IsFirstRefusal}
 use Rattle.subst.specs.Toml.Mapped.{strings, IsMapped}
 use Rattle.subst.specs.Toml.Outcome.{ReadsAsTree}
-use Rattle.subst.specs.Toml.Texts.{IsFirstRefusal}
 use Rattle.subst_uses.specs.declared.settings.Settings.{Settings}
 use Rattle.subst_uses.specs.declared.settings.Settings.TheVariants.{Tree, Report}
 

@@ -29,7 +29,6 @@ where
         (λ look. (t : Tree) × Spells t template.now
         × Expands (λ output. output.items) result (value 0 t look)) }
 {
-    let _source = template.source();
     template.expand(alloc, variables)
 }
 
@@ -53,6 +52,5 @@ where
         (λ _. turns.new ≤ turns.old + length template.now) }
 {
     laws::turns_are_bounded();
-    let _source = template.source();
     template.expand_counted(alloc, variables, turns)
 }

@@ -2,7 +2,8 @@
 
 ghost use Rattle.std.specs.Prelude.{map, IfOk, IfErr, IfSome};
 ghost use Rattle.subst.specs.ErrorFault.{error_fault};
-ghost use Rattle.subst_uses.specs.CommandLine.{EachGives, FirstRefused, texts_of};
+ghost use Rattle.subst.specs.Language.Several.{EachGives, IsFirstRefusal, under};
+ghost use Rattle.subst_uses.specs.CommandLine.{texts_of};
 
 use crate::filled;
 use std::alloc::Global;
@@ -20,10 +21,10 @@ pub fn command_line(
     variables: &BTreeMap<String, String>,
 ) -> Result<Vec<Vec<u8>>, Error>
     ensures ok { IfOk result (λ line.
-        EachGives (texts_of variables.now) (map (λ w. w.now) words.now)
+        EachGives (under (texts_of variables.now)) (map (λ w. w.now) words.now)
         (map (λ x. x.items) line.items)) }
     ensures err { IfErr result (λ e. IfSome (error_fault e)
-        (FirstRefused (texts_of variables.now) (map (λ w. w.now) words.now))) }
+        (IsFirstRefusal (texts_of variables.now) (map (λ w. w.now) words.now))) }
 {
     let mut line = Vec::new(alloc);
     for word in words {

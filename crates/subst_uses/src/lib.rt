@@ -3,18 +3,23 @@
 //! Each has a contract of its own, proved from the contracts of `subst` and its lemmas for callers.
 #![tactic(auto)]
 
+pub mod any_map;
 pub mod any_template;
 pub mod cache;
 pub mod config;
 pub mod filled;
 pub mod launcher;
+pub mod layered;
 pub mod letter;
 pub mod lines;
 pub mod maps;
 mod memory;
+pub mod missing;
 pub mod own_map;
 pub mod plain;
 pub mod report;
+pub mod room;
 pub mod settings;
 pub mod texts;
+pub mod two_kinds;
 pub mod words;

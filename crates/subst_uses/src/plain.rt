@@ -1,15 +1,18 @@
 //! Sources without variables.
 
-ghost use Rattle.std.specs.Prelude.{◌≡◌, IfSome};
+ghost use Rattle.std.specs.Prelude.{◌≡◌, IfSome, string_bytes};
 ghost use Rattle.std.specs.List.{All};
+ghost use Rattle.std.specs.BTreeMap.{get_by_text};
+ghost use Rattle.std.specs.Option.{option_map};
 ghost use Rattle.subst.specs.Language.Bytes.{IsPlain};
-ghost use Rattle.subst.specs.Language.Answer.{Gives};
+ghost use Rattle.subst.specs.Language.Answer.{Answers, Gives};
 ghost use Rattle.subst.specs.Calls.VariableMap.{ByLookUp};
 ghost use Rattle.subst.specs.Calls.Outcome.{answer_of};
 
 use std::alloc::Global;
+use std::collections::BTreeMap;
 use std::convert::AsSlice;
-use subst::{Error, VariableMap, laws, substitute_bytes};
+use subst::{Error, VariableMap, laws, substitute_bytes, substitute_bytes_owned, substitute_owned};
 
 /// Returns a source that has no dollar and no backslash: itself, under every map.
 ///
@@ -30,4 +33,39 @@ where
 {
     laws::law_8();
     substitute_bytes(alloc, source, variables)
+}
+
+/// Returns a source that is given away and has no dollar and no backslash: itself. Nothing can prevent that,
+/// so there is no error.
+pub fn handed_back<'a, M: VariableMap<'a>>(
+    alloc: Global,
+    source: Vec<u8>,
+    variables: &'a M,
+) -> Vec<u8>
+where
+    M::Value: AsSlice<u8> + Drop,
+    requires { All IsPlain source.items }
+    ensures { result ≡ source }
+{
+    match substitute_bytes_owned(alloc, source, variables) {
+        Ok(output) => output,
+        Err(_) => unreachable!(),
+    }
+}
+
+/// Returns a page that was read, filled in. It isn't copied if there is nothing to fill in.
+///
+/// # Errors
+///
+/// As `substitute`.
+pub fn page(
+    alloc: Global,
+    source: String,
+    variables: &BTreeMap<String, String>,
+) -> Result<String, Error>
+    ensures { IfSome (answer_of (λ output. string_bytes output) result)
+        (Answers (string_bytes source)
+        (λ name. option_map (λ v. string_bytes v) (get_by_text variables.now name))) }
+{
+    substitute_owned(alloc, source, variables)
 }

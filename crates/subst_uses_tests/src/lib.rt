@@ -2,7 +2,11 @@
 #![tactic(auto)]
 
 #[cfg(test)]
+mod any_map;
+#[cfg(test)]
 mod any_template;
+#[cfg(test)]
+mod asked_names;
 #[cfg(test)]
 mod cache;
 #[cfg(test)]
@@ -14,11 +18,15 @@ mod filled;
 #[cfg(test)]
 mod launcher;
 #[cfg(test)]
+mod layered;
+#[cfg(test)]
 mod letter;
 #[cfg(test)]
 mod lines;
 #[cfg(test)]
 mod maps;
+#[cfg(test)]
+mod missing;
 #[cfg(test)]
 mod own_map;
 #[cfg(test)]
@@ -26,8 +34,12 @@ mod plain;
 #[cfg(test)]
 mod report;
 #[cfg(test)]
+mod room;
+#[cfg(test)]
 mod settings;
 #[cfg(test)]
 mod texts;
+#[cfg(test)]
+mod two_kinds;
 #[cfg(test)]
 mod words;

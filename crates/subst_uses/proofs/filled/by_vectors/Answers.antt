@@ -3,4 +3,4 @@ use Rattle.std.proofs.Common.{refl}
 use Rattle.subst_uses.proofs.filled.by_vectors.Goals as goal
 
 pub returns : goal.returns
-returns c = c.substitute_bytes.ensures (λ v. v.items) (λ v. refl)
+returns c = c.substitute_bytes.ensures.answer (λ v. v.items) (λ v. refl)

@@ -32,7 +32,7 @@ none_settled s (Some g) settled one has same test f fault is =
 pub returns-clause-none : goal.returns-clause-none
 returns-clause-none c =
     let s = c.args.lines.now in
-    let one = c.law_1.ensures s in
+    let one = c.law_1.ensures.reading s in
     elim c.match-from_str.branch [
       | in-Ok w ↦
           let (t, spells) = w.in-Ok.ensures.ok.0 in

@@ -11,5 +11,5 @@ returns g c = λ bytes reads.
     let s = c.args.source.now in
     let look = look_up_of bytes (g.M.VariableMap.look_up c.args.variables.now) in
     let result = c.substitute_bytes.result in
-    IfSome_then (answer_of (λ output. output.items) result) (c.substitute_bytes.ensures bytes reads)
-    (λ answer h. answer_unique s look answer (Gives s) h (c.law_8.ensures s look c.requires))
+    IfSome_then (answer_of (λ output. output.items) result) (c.substitute_bytes.ensures.answer bytes reads)
+    (λ answer h. answer_unique s look answer (Gives s) h (c.law_8.ensures.itself s look c.requires))

@@ -14,4 +14,4 @@ returns c =
     ++? Some (codes "\n") ++? Some (string_bytes c.in_ok-underlined.underlined))
     (λ bs. string_bytes text ≡ bs)) =
     c.format.ensures.ok in
-    rw (c.source_position-line.ensures, c.in_ok-underlined.ensures) at written
+    rw (c.source_position-line.ensures.position, c.in_ok-underlined.ensures.highlighting) at written

@@ -4,9 +4,9 @@ use Rattle.toml.specs.View.{view}
 use Rattle.subst.proofs.Calling.{same_look_up}
 use Rattle.subst.specs.Calls.Maps.{first_value}
 use Rattle.subst.specs.ErrorFault.{error_fault}
+use Rattle.subst.specs.Language.Several.{IsFirstRefusal}
 use Rattle.subst.specs.Toml.Mapped.{strings, IsMapped}
 use Rattle.subst.specs.Toml.Outcome.{ReadsAsTree}
-use Rattle.subst.specs.Toml.Texts.{IsFirstRefusal}
 use Rattle.subst_uses.proofs.LoaderLemmas.{of_a_fault}
 use Rattle.subst_uses.proofs.settings.load.Goals as goal
 

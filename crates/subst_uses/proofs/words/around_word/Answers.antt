@@ -37,7 +37,7 @@ returns c = λ x y (t, begins, gives) ends.
     let is : source ≡ before ++ (space ++ rest) =
     c.as_str-2.ensures.value ∙ c.in_ok-source.ensures
     ∙ ap (λ v. before ++ (space ++ (v ++ (space ++ after))))
-    (c.as_str.ensures.value ∙ c.in_ok-word.ensures) in
+    (c.as_str.ensures.value ∙ c.in_ok-word.ensures.escaped) in
     let answer = x ++ (space ++ given) in
     let known = subst (λ s. Answers s look (Gives answer)) (sym is) whole in
     IfSome_then (answer_of (λ output. string_bytes output) c.substitute.result)

@@ -13,7 +13,7 @@ returns g c = λ bytes reads.
     let look = look_up_of bytes (g.M.VariableMap.look_up c.args.variables.now) in
     let text = c.args.text.now in
     let source = c.as_str.result.now in
-    let is : source ≡ escaped text = c.as_str.ensures.value ∙ c.in_ok-source.ensures in
+    let is : source ≡ escaped text = c.as_str.ensures.value ∙ c.in_ok-source.ensures.escaped in
     let known = subst (λ s. Answers s look (Gives text)) (sym is) (c.law_3.ensures.alone text look) in
     IfSome_then (answer_of (λ output. string_bytes output) c.substitute.result)
     (c.substitute.ensures.answer bytes reads)

@@ -4,4 +4,4 @@ use Rattle.subst.proofs.Calling.{answer_as_read}
 use Rattle.subst_uses.proofs.maps.bytes.env.Goals as goal
 
 pub returns : goal.returns
-returns c = answer_as_read _ _ _ (c.substitute_bytes.ensures (λ v. v) (λ v. refl))
+returns c = answer_as_read _ _ _ (c.substitute_bytes.ensures.answer (λ v. v) (λ v. refl))

@@ -3,4 +3,4 @@ use Rattle.std.proofs.Common.{refl}
 use Rattle.subst_uses.proofs.maps.bytes.hash_map_of_lent.Goals as goal
 
 pub returns : goal.returns
-returns g c = c.substitute_bytes.ensures g.V.AsSlice.items (λ v. refl)
+returns g c = c.substitute_bytes.ensures.answer g.V.AsSlice.items (λ v. refl)

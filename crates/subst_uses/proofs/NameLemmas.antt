@@ -1,0 +1,29 @@
+-- What holds of each of several names.
+use Rattle.std.proofs.Common.{◌≡◌, ℕ, zero, suc, ◌+◌, ◌<◌, List, [], ◌∷◌, map, get_or, length, refl, sym, subst, arith}
+use Rattle.std.proofs.Math.Decide.{ℕ_discrete}
+use Rattle.std.specs.List.{All}
+
+-- what holds of what each element is mapped to holds of each element of the mapped list
+pub all_mapped : {X Y : Type 0} (P : Y → Type 0) (f : X → Y) (xs : List X) → All (λ x. P (f x)) xs
+    → All P (map f xs)
+all_mapped P f [] each k d inside = absurd (omega arith)
+all_mapped P f (x ∷ xs) each zero d inside = each 0 x (omega arith)
+all_mapped P f (x ∷ xs) each (suc k) d inside =
+    all_mapped P f xs (λ j e l. each (suc j) e (omega arith)) k d (omega arith)
+
+-- an element within a list is the same whatever stands for one outside
+same_element : {X : Type 0} (xs : List X) (i : ℕ) (d e : X) → i < length xs → get_or xs i d ≡ get_or xs i e
+same_element [] i d e inside = absurd (omega arith)
+same_element (x ∷ xs) zero d e inside = refl
+same_element (x ∷ xs) (suc i) d e inside = same_element xs i d e (omega arith)
+
+-- what holds of the elements below an index and of that at it holds of those below the next
+pub one_more : {X : Type 0} (P : X → Type 0) (xs : List X) (i : ℕ) (e : X) → i < length xs
+    → ((k : ℕ) (d : X) → k < i → P (get_or xs k d)) → P (get_or xs i e)
+    → (k : ℕ) (d : X) → k < i + 1 → P (get_or xs k d)
+one_more {X} P xs i e inside before here k d below = of (ℕ_discrete k i)
+  where
+    of : Dec (k ≡ i) → P (get_or xs k d)
+    of (yes is) =
+        subst (λ (j : ℕ). P (get_or xs j d)) (sym is) (subst P (same_element xs i e d inside) here)
+    of (no other) = before k d (omega arith)

@@ -1,0 +1,6 @@
+-- The values are read as their bytes.
+use Rattle.std.proofs.Common.{refl, string_bytes}
+use Rattle.subst_uses.proofs.plain.page.Goals as goal
+
+pub returns : goal.returns
+returns c = c.substitute_owned.ensures.answer (λ v. string_bytes v) (λ v. refl)

@@ -1,0 +1,50 @@
+//! Maps of any kind: where a source is refused is known without knowing how values are read.
+
+ghost use Rattle.std.specs.Prelude.{◌≡◌, ◌≤◌, length, IfErr, IfOk};
+ghost use Rattle.subst.specs.ErrorFault.{error_fault};
+ghost use Rattle.subst.specs.Range.{range_of};
+ghost use Rattle.subst.specs.Language.Answer.{Answers, Refuses};
+ghost use Rattle.subst.specs.Language.Sentence.{IsSentence};
+ghost use Rattle.subst.specs.Calls.VariableMap.{ByNames};
+ghost use Rattle.subst.specs.Calls.Outcome.{OnFault};
+
+use std::alloc::Global;
+use std::convert::AsSlice;
+use std::ops::Range;
+use subst::{Error, VariableMap, substitute_bytes};
+
+/// Why a source isn't filled in, and where.
+#[derive(Debug, PartialEq, Eq, Drop)]
+pub struct Refusal {
+    pub error: Error,
+    /// The bytes of the source that the error is about; where memory ran out, none.
+    pub range: Range<usize>,
+}
+
+/// Returns a source with its variables filled in from a map of any kind, or why it isn't, and where.
+///
+/// # Errors
+///
+/// As `substitute_bytes`.
+pub fn filled_or_refused<'a, M: VariableMap<'a>>(
+    alloc: Global,
+    source: &[u8],
+    variables: &'a M,
+) -> Result<Vec<u8>, Refusal>
+where
+    M::Value: AsSlice<u8> + Drop,
+    ensures sentence { IfOk result (λ output. IsSentence source.now) }
+    ensures refusal { ByNames (M.look_up variables.now)
+        (λ look. OnFault (λ refusal. error_fault refusal.error) result
+        (λ f. Answers source.now look (Refuses f))) }
+    ensures place { IfErr result (λ refusal. refusal.range ≡ range_of (error_fault refusal.error)) }
+    ensures within { IfErr result (λ refusal. refusal.range.end ≤ length source.now) }
+{
+    match substitute_bytes(alloc, source, variables) {
+        Ok(output) => Ok(output),
+        Err(error) => {
+            let range = error.source_range();
+            Err(Refusal { error, range })
+        }
+    }
+}

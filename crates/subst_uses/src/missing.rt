@@ -1,0 +1,113 @@
+//! Missing variables: one that is asked for, and none where each name was looked for before.
+
+ghost use Rattle.std.specs.Prelude.{◌≡◌, ◌↔◌, ℕ, List, Some, map, IfOk, IfErr, IfSome, IfNone, IsSome, IsTrue, string_bytes};
+ghost use Rattle.std.specs.List.{All};
+ghost use Rattle.subst.specs.ErrorFault.{error_fault};
+ghost use Rattle.subst.specs.Fault.{NoSuchVariable};
+ghost use Rattle.subst.specs.Language.Answer.{Answers, Gives, Refuses};
+ghost use Rattle.subst.specs.Language.NamesIn.{names_in};
+ghost use Rattle.subst.specs.Language.Sentence.{ByTree};
+ghost use Rattle.subst.specs.Calls.Outcome.{answer_of};
+ghost use Rattle.subst_uses.specs.CommandLine.{texts_of};
+
+use crate::memory;
+use std::alloc::{AllocError, Global};
+use std::collections::BTreeMap;
+use subst::{Error, Template, laws, substitute};
+
+/// Who is asked for values of variables.
+pub trait Prompt {
+    /// Returns the value of a variable.
+    fn ask(&mut self, alloc: Global, name: &str) -> Result<String, AllocError>;
+}
+
+/// Returns a text filled in. Where a variable is missing, its value is asked for and added to the variables,
+/// and the text is filled in once more.
+///
+/// # Errors
+///
+/// As `substitute`, and never for the variable that was asked for.
+pub fn filled_or_asked<P: Prompt>(
+    alloc: Global,
+    source: &str,
+    variables: &mut BTreeMap<String, String>,
+    prompt: &mut P,
+) -> Result<String, Error>
+    ensures answer { IfSome (answer_of (λ output. string_bytes output) result)
+        (Answers source.now (texts_of variables.new)) }
+    ensures asked { (position q : ℕ) (name : List ℕ)
+        → Answers source.now (texts_of variables.old) (Refuses (NoSuchVariable position name))
+        → IfErr result (λ e. ¬ (error_fault e ≡ Some (NoSuchVariable q name))) }
+{
+    laws::missing_variables_are_missing();
+    match substitute(alloc, source, &*variables) {
+        Ok(output) => Ok(output),
+        Err(e) => match e {
+            Error::NoSuchVariable(missing) => {
+                let value = prompt.ask(alloc, missing.name.as_str())?;
+                add(variables, missing.name, value)?;
+                substitute(alloc, source, &*variables)
+            }
+            e => Err(e),
+        },
+    }
+}
+
+/// Adds a variable.
+fn add(
+    variables: &mut BTreeMap<String, String>,
+    name: String,
+    value: String,
+) -> Result<(), AllocError>
+    ensures { IfOk result (λ _. IsSome (texts_of variables.new (string_bytes name))) }
+{
+    let _ = variables.insert(name, value)?;
+    Ok(())
+}
+
+/// Returns what a template gives, or `None` where the variables have nothing for one of its names, which are
+/// looked for first.
+///
+/// # Errors
+///
+/// When allocation fails, and for nothing else.
+pub fn given_or_none(
+    alloc: Global,
+    template: &Template<'_>,
+    names: &[&str],
+    variables: &BTreeMap<String, String>,
+) -> Result<Option<String>, AllocError>
+    requires { ByTree template.now (λ t. names_in t ≡ map (λ n. n.now) names.now) }
+    ensures some { IfOk result (λ found. IfSome found (λ output.
+        Answers template.now (texts_of variables.now) (Gives (string_bytes output)))) }
+    ensures none { IfOk result (λ found. IfNone found
+        (¬ (All (λ n. IsSome (texts_of variables.now n.now)) names.now))) }
+{
+    laws::missing_variables_are_missing();
+    if !have_all(variables, names) {
+        return Ok(None);
+    }
+    match template.expand(alloc, variables) {
+        Ok(output) => Ok(Some(output)),
+        Err(e) => Err(memory::of_expanding(e)),
+    }
+}
+
+/// Whether the variables have something for each of the names.
+fn have_all(variables: &BTreeMap<String, String>, names: &[&str]) -> bool
+    ensures { IsTrue result ↔ All (λ n. IsSome (texts_of variables.now n.now)) names.now }
+{
+    for name in names {
+        if !has(variables, name) {
+            return false;
+        }
+    }
+    true
+}
+
+/// Whether the variables have something for a name.
+fn has(variables: &BTreeMap<String, String>, name: &str) -> bool
+    ensures { IsTrue result ↔ IsSome (texts_of variables.now name.now) }
+{
+    variables.get(name).is_some()
+}

@@ -1,0 +1,121 @@
+//! A map that writes down which names it is asked for: each variable that is visited, once and in order.
+//!
+//! No contract says how often `get` is called, or with which names.
+
+ghost use Rattle.std.specs.Prelude.{Some, None, codes, if◌then◌else◌, bytes_eq};
+
+use std::alloc::Global;
+use std::cell::Cell;
+use subst::{ByteTemplate, Template, VariableMap, substitute, substitute_bytes};
+
+/// The variable `1` alone. Names that it was asked for are the decimal digits of `asked`.
+#[derive(Drop)]
+struct Asked {
+    asked: Cell<u64>,
+}
+
+impl Asked {
+    fn new() -> Asked {
+        Asked {
+            asked: Cell::new(0),
+        }
+    }
+}
+
+impl<'a> VariableMap<'a> for Asked {
+    ghost use Rattle.std.specs.Prelude.{ℕ, List};
+
+    type Value = &'static str;
+
+    ghost Seen = { List ℕ };
+
+    ghost see = { λ v. v.now };
+
+    ghost look_up = { λ _ name. if bytes_eq name (codes "1") then Some (codes "one") else None };
+
+    fn get(&'a self, key: &str) -> Option<&'static str> {
+        let digit: u64 = key.parse().unwrap_or(0);
+        let asked = self.asked.get().wrapping_mul(10).wrapping_add(digit);
+        self.asked.set(asked);
+        if key == "1" { Some("one") } else { None }
+    }
+}
+
+/// The names that a text asks for.
+fn asked_by_text(alloc: Global, source: &str) -> u64 {
+    let variables = Asked::new();
+    let _ = substitute(alloc, source, &variables);
+    variables.asked.get()
+}
+
+/// The names that the bytes of a text ask for.
+fn asked_by_bytes(alloc: Global, source: &str) -> u64 {
+    let variables = Asked::new();
+    let _ = substitute_bytes(alloc, source.as_bytes(), &variables);
+    variables.asked.get()
+}
+
+/// The names that the template of a text asks for.
+fn asked_by_template(alloc: Global, source: &str) -> (u64, u64) {
+    let variables = Asked::new();
+    match Template::from_str(alloc, source) {
+        Ok(template) => {
+            let none = variables.asked.get();
+            let _ = template.expand(alloc, &variables);
+            (none, variables.asked.get())
+        }
+        Err(_) => (0, variables.asked.get()),
+    }
+}
+
+/// The same of bytes.
+fn asked_by_byte_template(alloc: Global, source: &str) -> (u64, u64) {
+    let variables = Asked::new();
+    match ByteTemplate::from_slice(alloc, source.as_bytes()) {
+        Ok(template) => {
+            let none = variables.asked.get();
+            let _ = template.expand(alloc, &variables);
+            (none, variables.asked.get())
+        }
+        Err(_) => (0, variables.asked.get()),
+    }
+}
+
+/// Whether a source asks for these names, in each way that it is filled in.
+fn asks_for(alloc: Global, source: &str, names: u64) -> bool {
+    asked_by_text(alloc, source) == names
+        && asked_by_bytes(alloc, source) == names
+        && asked_by_template(alloc, source) == (0, names)
+        && asked_by_byte_template(alloc, source) == (0, names)
+}
+
+/// The number of the first row that is wrong.
+fn wrong_row(alloc: Global, rows: &[(&str, u64)]) -> Option<usize> {
+    for (row, &(source, names)) in rows.iter().enumerate() {
+        if !asks_for(alloc, source, names) {
+            return Some(row);
+        }
+    }
+    None
+}
+
+#[test]
+fn asks_for_each_visited_variable_once_and_in_order(rt: HostRuntime) {
+    let rows = [
+        ("no name: \\$1", 0),
+        ("$1", 1),
+        ("$1 ${1} ${1?} ${1:x}", 1111),
+        ("${2?}${3:x}${4?}$1", 2341),
+        // A default that isn't used, with names in it.
+        ("${1:$2 ${3:$4} ${5?}}${6?}", 16),
+        // Defaults that are used.
+        ("${2:$1${3:${4?}$1}}${5?}", 213415),
+        // Nothing is asked for after a variable that is missing.
+        ("$1 $2 $1", 12),
+        ("${1:$7}${2:$3}$1", 123),
+        // A source that isn't a template.
+        ("$1 ${2?} $", 0),
+        ("$1 ${2", 0),
+    ];
+    assert_eq!(rt; wrong_row(rt.alloc(), rows.as_slice()), None);
+}
