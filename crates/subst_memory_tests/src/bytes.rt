@@ -5,7 +5,7 @@ use std::alloc::{AllocError, Global};
 use std::mem;
 use subst::error::{ExpandError, ParseError};
 use subst::steps::{Reads, Turns};
-use subst::{ByteTemplate, ByteTemplateBuf, Error, substitute_bytes};
+use subst::{ByteTemplate, ByteTemplateBuf, Error, substitute_bytes, substitute_bytes_owned};
 use subst_testing::calls::{begin, end, say_out_of_memory};
 use subst_testing::variables::{ByteValues, byte_values};
 
@@ -105,6 +105,28 @@ fn fill_in(rt: &HostRuntime, name: &str, source: &[u8]) -> Result<(), AllocError
     Ok(())
 }
 
+/// Fills in bytes that are given away, or another copy if the first one is gone.
+fn given_away(
+    alloc: Global,
+    bytes: &mut Option<Vec<u8>>,
+    source: &[u8],
+    map: &ByteValues<'_>,
+) -> Result<Vec<u8>, Error> {
+    match bytes.take() {
+        Some(bytes) => substitute_bytes_owned(alloc, bytes, map),
+        None => substitute_bytes_owned(alloc, Vec::from_slice(alloc, source)?, map),
+    }
+}
+
+fn fill_in_owned(rt: &HostRuntime, name: &str, source: &[u8]) -> Result<(), AllocError> {
+    let alloc = rt.alloc();
+    let mut bytes = Some(Vec::from_slice(alloc, source)?);
+    let map = byte_values(alloc, NAME)?;
+    again!(rt, name, [map, source],
+        Err(Error::OutOfMemory(_)) => given_away(alloc, &mut bytes, source, &map));
+    Ok(())
+}
+
 fn parse(rt: &HostRuntime, name: &str, source: &[u8]) {
     let alloc = rt.alloc();
     again!(rt, name, [source],
@@ -184,6 +206,7 @@ pub fn calls(rt: &HostRuntime) -> Result<(), Error> {
     fill_in(rt, "substitute_bytes of a sentence", SENTENCE)?;
     fill_in(rt, "substitute_bytes of a missing variable", MISSING)?;
     fill_in(rt, "substitute_bytes of a bad escape", BAD_ESCAPE)?;
+    fill_in_owned(rt, "substitute_bytes_owned of a sentence", SENTENCE)?;
     parse(rt, "ByteTemplate::from_slice of a sentence", SENTENCE);
     parse(rt, "ByteTemplate::from_slice of a bad escape", BAD_ESCAPE);
     parse_counted(rt);

@@ -7,7 +7,7 @@ use std::collections::{BTreeMap, HashMap};
 use subst::steps::{Reads, Turns};
 use subst::{
     ByteTemplate, ByteTemplateBuf, Env, Error, NoSubstitution, Template, TemplateBuf, VariableMap,
-    laws,
+    laws, substitute_bytes_owned, substitute_owned,
 };
 use subst_testing::calls::{begin, end};
 
@@ -119,12 +119,36 @@ fn templates(rt: &HostRuntime) -> Result<(), Error> {
     Ok(())
 }
 
+/// A source without dollars and backslashes, given away as a text and as bytes.
+fn plain_sources(rt: &HostRuntime) -> Result<(), Error> {
+    let alloc = rt.alloc();
+    let text = String::from_str(alloc, "{a: b}")?;
+    let bytes = Vec::from_slice(alloc, b"{a: b}")?;
+    begin(rt, "laws::is_plain");
+    let is_plain = laws::is_plain(&bytes);
+    end(rt);
+    say(rt, "plain:", if is_plain { "yes" } else { "no" });
+    begin(rt, "substitute_owned of a plain source");
+    let text = substitute_owned(alloc, text, &NoSubstitution);
+    end(rt);
+    say(rt, "text:", text?.as_str());
+    begin(rt, "substitute_bytes_owned of a plain source");
+    let bytes = substitute_bytes_owned(alloc, bytes, &NoSubstitution);
+    end(rt);
+    say_bytes(rt, "bytes:", bytes?.as_slice());
+    let _ = rt.println("");
+    Ok(())
+}
+
 fn steps_and_laws(rt: &HostRuntime) {
     begin(rt, "Reads::new and Turns::new");
     let _reads = Reads::new();
     let _turns = Turns::new();
     end(rt);
-    begin(rt, "law_1 to law_9, and the laws of texts, turns and trees");
+    begin(
+        rt,
+        "law_1 to law_9, and the laws of lengths, missing variables, texts, turns and trees",
+    );
     laws::law_1();
     laws::law_2();
     laws::law_3();
@@ -134,6 +158,8 @@ fn steps_and_laws(rt: &HostRuntime) {
     laws::law_7();
     laws::law_8();
     laws::law_9();
+    laws::missing_variables_are_missing();
+    laws::outputs_are_bounded();
     laws::texts_give_texts();
     laws::turns_are_bounded();
     laws::trees_have_one_outcome();
@@ -148,6 +174,7 @@ pub fn calls(rt: &HostRuntime) -> Result<(), Error> {
     get_of_env(rt)?;
     get(rt, "get of NoSubstitution", &NoSubstitution);
     templates(rt)?;
+    plain_sources(rt)?;
     steps_and_laws(rt);
     Ok(())
 }

@@ -4,7 +4,7 @@ use crate::calls::{Shown, again, clone, say, say_end, tell};
 use std::alloc::{AllocError, Global};
 use std::mem;
 use subst::error::{ExpandError, ParseError};
-use subst::{Error, Template, TemplateBuf, laws, substitute};
+use subst::{Error, Template, TemplateBuf, laws, substitute, substitute_owned};
 use subst_testing::calls::{begin, end, say_out_of_memory};
 use subst_testing::variables::{Texts, texts};
 
@@ -85,6 +85,28 @@ fn fill_in(rt: &HostRuntime, name: &str, source: &str) -> Result<(), AllocError>
     Ok(())
 }
 
+/// Fills in a text that is given away, or another copy if the first one is gone.
+fn given_away(
+    alloc: Global,
+    text: &mut Option<String>,
+    source: &str,
+    map: &Texts<'_>,
+) -> Result<String, Error> {
+    match text.take() {
+        Some(text) => substitute_owned(alloc, text, map),
+        None => substitute_owned(alloc, String::from_str(alloc, source)?, map),
+    }
+}
+
+fn fill_in_owned(rt: &HostRuntime, name: &str, source: &str) -> Result<(), AllocError> {
+    let alloc = rt.alloc();
+    let mut text = Some(String::from_str(alloc, source)?);
+    let map = texts(alloc, NAME)?;
+    again!(rt, name, [map, source],
+        Err(Error::OutOfMemory(_)) => given_away(alloc, &mut text, source, &map));
+    Ok(())
+}
+
 fn parse(rt: &HostRuntime, name: &str, source: &str) {
     let alloc = rt.alloc();
     again!(rt, name, [source],
@@ -147,6 +169,7 @@ pub fn calls(rt: &HostRuntime) -> Result<(), Error> {
     fill_in(rt, "substitute of a sentence", SENTENCE)?;
     fill_in(rt, "substitute of a missing variable", MISSING)?;
     fill_in(rt, "substitute of a bad escape", BAD_ESCAPE)?;
+    fill_in_owned(rt, "substitute_owned of a sentence", SENTENCE)?;
     parse(rt, "Template::from_str of a sentence", SENTENCE);
     expand(rt, "Template::expand of a sentence", SENTENCE)?;
     expand(rt, "Template::expand of a missing variable", MISSING)?;
