@@ -13,7 +13,8 @@ TOP = pathlib.Path(__file__).resolve().parent.parent
 HEAD = '''//! The examples of the library, one after the other.
 #![tactic(auto)]
 
-use subst::{ByteTemplate, Env, NoSubstitution, Template, TemplateBuf, json, substitute_bytes, toml};
+use subst::{ByteTemplate, Env, NoSubstitution, Template, TemplateBuf};
+use subst::{json, laws, substitute_bytes, substitute_bytes_owned, substitute_owned, toml};
 '''
 # The type of the errors of the calls of a crate.
 ERRORS = {'subst_json': 'json::Error', 'subst_toml': 'toml::Error'}

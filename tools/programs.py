@@ -33,6 +33,8 @@ ANSWERS_OUT_OF_MEMORY = b'subst_answers: out of memory\n'
 SPECIAL = b'\\${}:'
 # Every byte that stands for itself, also outside UTF-8.
 PLAIN = bytes(byte for byte in range(256) if byte not in b'\\$')
+# The bytes that names of variables are made of.
+NAME_BYTES = b'0123456789ABCDEFGHIJKLMNOPQRSTUVWXYZ_abcdefghijklmnopqrstuvwxyz'
 # Text that gives itself: all of it is more than a pipe holds.
 TEXT = b'Each line of this text is the same as all others.\n'
 # Each word of the filter, with a variable for those that take one.
@@ -276,6 +278,23 @@ def test_filter_takes_an_environment_of_10000_variables():
     expect(fill_in_from(variables, source.encode()), 0, output.encode())
 
 
+def test_filter_has_all_that_an_environment_has():
+    rng = random.Random(5)
+    # A long value, values of usual names, and names that can't be written in a source.
+    entries = [(b'LONG', b'v' * (100 * KIB)), (b'_', b'1'), (b'_A', b'2'), (b'1', b'3'), (b'a b', b'4'), (b'a.b', b'5')]
+    for _ in range(1000):
+        name = bytes(rng.choices(NAME_BYTES, k=rng.randrange(1, 20))) + rng.choice((b'', b'', b'', b'.', b' x'))
+        value = ''.join(rng.choices('ab=$\\{}: \n\t\u00e9\u2764', k=rng.choice((0, 5, 50, 5000))))
+        entries.append((name, value.encode()))
+    rng.shuffle(entries)
+    values = dict(reversed(entries))
+    written = [name for name in values if not name.strip(NAME_BYTES)]
+    source, output = (b'\n'.join(it) for it in ([b'${%b}' % name for name in written], map(values.get, written)))
+    entries.insert(500, (b'NOTHING',))
+    strings = [b'='.join(entry) for entry in entries]
+    expect(run('subst_filter', [], source + b'${NOTHING?}', **with_entries([b'env'], strings)), 0, output)
+
+
 def test_filter_fails_at_an_environment_outside_utf8():
     for variables in ({b'a': b'\xff'}, {b'\xff': b'a'}, {b'a': b'1', b'b': b'\xed\xa0\x80'}):
         with pipe() as (reader, writer):
@@ -316,8 +335,9 @@ def test_filter_highlights_faults_of_texts():
         expect(fill_in_from({}, source), 1, errors=errors + highlighting)
 
 
-WRONG_WORDS = ([], [''], ['bytes', 'name'], ['bytes', 'a=1', 'b'], ['bytes', ''], ['text', 'name'],
-               ['text', 'a=1', 'b'], ['env', 'a=1'], ['env', ''], ['env', 'env'], ['Bytes'], ['a=1'], ['--help'])
+WRONG_WORDS = ([], [''], ['', 'bytes', 'a=1'], ['', 'env'], ['bytes', 'name'], ['bytes', 'a=1', 'b'], ['bytes', ''],
+               ['text', 'name'], ['text', 'a=1', 'b'], ['env', 'a=1'], ['env', ''], ['env', 'env'], ['Bytes'], ['a=1'],
+               ['--help'])
 
 
 def test_filter_prints_usage_at_wrong_words():
@@ -536,6 +556,31 @@ def test_filter_reads_1_mib_of_escapes():
     expect(fill_in([], b''.join(b'\\%c' % byte for byte in output)), 0, output)
 
 
+def test_filter_copies_80_mib_before_an_escape_in_230_mib():
+    source = b'a' * (80 * MIB)
+    for words in WORDS:
+        expect(run('subst_filter', words, source + b'\\$', **in_memory(230 * MIB)), 0, source + b'$')
+
+
+def test_filter_reads_8_mib_of_escapes_in_100_mib():
+    for words in WORDS:
+        expect(run('subst_filter', words, b'\\$' * (4 * MIB), **in_memory(100 * MIB)), 0, b'$' * (4 * MIB))
+
+
+def test_filter_takes_10000_words_of_one_variable():
+    words = [f'a={number}' for number in range(10000)]
+    expect(fill_in(words, b'$a'), 0, b'9999')
+    expect(fill_text_in(words, b'$a'), 0, b'9999')
+
+
+def test_filter_takes_names_of_100_kb():
+    name = b'n' * 100000
+    expect(fill_in([name + b'=1'], b'$' + name), 0, b'1')
+    for word in ('bytes', 'text'):
+        end = run('subst_filter', [word], b'${%b}' % name)
+        expect(end, 1, errors=b'subst: No such variable: $%b\n' % name)
+
+
 def test_filter_takes_4000_words():
     words = [f'name{number % 2000}=value{number}' for number in range(4000)]
     source = ''.join(f'${{name{number}}} $name{number}\n' for number in range(2000))
@@ -736,6 +781,17 @@ def test_answers_reads_a_record_of_2_mib():
     line = record(text, variables)
     expect_that(len(line) > 2 * MIB, 'the record is too short for this test')
     expect(answer(record(b'a') + line + record(b'b')), 0, given(b'a') + given(output) + given(b'b'))
+
+
+def test_answers_fills_in_a_string_of_1_mib():
+    text, variables = MIB * b'x', [(b'a', b'1')]
+    expect(answer(record(b'["${a}%b"]' % text, variables, b'json')), 0, given(b'["1%b"]' % text))
+    expect(answer(record(b'k = "${a}%b"' % text, variables, b'toml')), 0, given(b'{"k":"1%b"}' % text))
+
+
+def test_answers_fills_in_an_array_of_300000_strings():
+    strings, outputs = (b'[%b]' % b','.join([text] * 300000) for text in (b'"$a"', b'"1"'))
+    expect(answer(record(strings, [(b'a', b'1')], b'json')), 0, given(outputs))
 
 
 def expect_failed(end, output=b''):

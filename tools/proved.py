@@ -27,6 +27,8 @@ HIDDEN = {
     'subst_raw/': '`subst` re-exports the module `steps` alone',
     'subst_raw/src/steps.rt': '',
     'subst_walk/': '`subst` has no item of it',
+    'subst_json/src/typed.rt': 'its module is private, and its trait is there for each type of `serde`',
+    'subst_toml/src/typed.rt': 'its module is private, and its trait is there for each type of `serde`',
     'subst_c/': 'its modules are private',
     'subst_c/src/lib.rt': '',
     'subst_answers_lib/': 'most of its modules are private',

@@ -1,10 +1,11 @@
 #!/usr/bin/env python3
-"""refuse-memory.py   Counts the requests for memory of each call, and refuses each of them.
+"""refuse-memory.py [--table]   Counts the requests for memory of each call and their bytes, and refuses each of them.
 
 The program subst_memory_tests makes each call between a line 'call: NAME' and a line 'end of call'. Before and after it,
 lines that begin with 'lent' show all that the call is lent, and its answer is in the lines in between. With no request
-refused the output has to be the stored one, and the calls and the numbers of their requests have to be those of
-docs/MEMORY.md. Then the program is run once for each request of each call, which is refused in that run alone.
+refused the output has to be the stored one, and the calls, the numbers of their requests and the bytes that these ask
+for have to be those of docs/MEMORY.md. Then the program is run once for each request of each call, which is refused in
+that run alone. With --table the rows that docs/MEMORY.md has to have are printed, and nothing is refused.
 
 Each such run has to print the stored output too, but for one thing: a call that is out of memory says so right after its
 end, and shows what it was lent, which has to be as before the call. The same call with memory then has to give its
@@ -23,17 +24,20 @@ from running import CRATES, TOP, expect_that, preloading, run, run_tests
 
 PROGRAM = 'subst_memory_tests'
 STORED = (CRATES / PROGRAM / 'stdout').read_text(encoding='utf-8').splitlines()
-# Each call of the tables, with the number of its requests.
-TABLE = {name: int(count) for name, count in
-         re.findall(r'^\| `(.*)` \| (\d+) \|$', (TOP / 'docs/MEMORY.md').read_text(encoding='utf-8'), re.MULTILINE)}
+# Each call of the tables, with the number of its requests and the bytes that they ask for, none in the second table.
+TABLE = {name: (int(count or '0'), int(size or '0')) for name, count, size in
+         re.findall(r'^\| `(.*)` \|(?: (\d+), (\d+) \|)?$', (TOP / 'docs/MEMORY.md').read_text(encoding='utf-8'),
+                    re.MULTILINE)}
 # What the library says of a request, and the program of a call.
-REQUEST, CALL, END, LENT, OUT_OF_MEMORY = 'request', 'call: ', 'end of call', 'lent', 'out of memory'
+REQUEST, CALL, END, LENT, OUT_OF_MEMORY = 'request ', 'call: ', 'end of call', 'lent', 'out of memory'
 
 
 class Call(NamedTuple):
-    """A call: how many requests come before it, how many it makes, and which line ends it."""
+    """A call: how many requests come before it, how many it makes, how many bytes these ask for, and which line ends
+    it."""
     before: int
     count: int
+    size: int
     end: int
 
 
@@ -51,16 +55,16 @@ def differences(found, wanted):
 @functools.cache
 def calls():
     """Runs the program with no request refused, and returns each call by its name."""
-    found, printed, requests = {}, [], 0
+    found, printed, sizes = {}, [], []
     for line in lines_of(REFUSE_NONE='1'):
-        if line == REQUEST:
-            requests += 1
+        if line.startswith(REQUEST):
+            sizes.append(int(line.removeprefix(REQUEST)))
             continue
         if line.startswith(CALL):
-            name, before = line.removeprefix(CALL), requests
+            name, before = line.removeprefix(CALL), len(sizes)
         elif line == END:
             expect_that(name not in found, f'two calls of the name {name}')
-            found[name] = Call(before, requests - before, len(printed))
+            found[name] = Call(before, len(sizes) - before, sum(sizes[before:]), len(printed))
         printed.append(line)
     expect_that(printed == STORED, differences(printed, STORED))
     return found
@@ -89,10 +93,12 @@ def refuse(call, request):
 
 
 def refuse_in_turn(name):
-    """The call makes as many requests as the table says, and each is refused."""
+    """The call makes as many requests as the table says, for as many bytes, and each is refused."""
     call = calls().get(name)
     expect_that(call is not None, 'no such call in the program')
-    expect_that(call.count == TABLE[name], f'{call.count} requests, and {TABLE[name]} in docs/MEMORY.md')
+    (count, size) = TABLE[name]
+    expect_that((call.count, call.size) == (count, size),
+                f'{call.count} requests for {call.size} bytes, and {count} for {size} in docs/MEMORY.md')
     times = sum(refuse(call, call.before + number + 1) for number in range(call.count))
     expect_that(times > 0 or call.count == 0, f'never out of memory with {call.count} requests refused in turn')
 
@@ -103,7 +109,16 @@ def are_in_the_table():
     expect_that(not others, f'not in docs/MEMORY.md: {", ".join(others)}')
 
 
+def print_table():
+    """Prints the rows of the calls that make requests."""
+    for name, call in calls().items():
+        if call.count > 0:
+            print(f'| `{name}` | {call.count}, {call.size} |')
+
+
 def main():
+    if sys.argv[1:] == ['--table']:
+        run_tests([('rows', print_table)], [PROGRAM])
     tests = [(name, functools.partial(refuse_in_turn, name)) for name in TABLE]
     run_tests([*tests, ('each call is in docs/MEMORY.md', are_in_the_table)], [PROGRAM])
 

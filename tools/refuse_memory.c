@@ -2,11 +2,13 @@
  *
  * REFUSE_REQUEST says which of the program's requests gets NULL, counted from 1. When that request comes, the file that
  * REFUSE_REPORT names is made, so that without it no request was refused. With REFUSE_NONE in its place none is refused,
- * and at each a line `request` is written to standard output. It needs GNU's C library.
+ * and at each a line `request N` is written to standard output, where N is how many bytes it asks for: of `realloc` all
+ * of the block. It needs GNU's C library.
  */
 #include <errno.h>
 #include <fcntl.h>
 #include <stddef.h>
+#include <stdio.h>
 #include <stdlib.h>
 #include <unistd.h>
 
@@ -28,12 +30,12 @@ __attribute__((constructor)) static void begin(void)
     are_told = getenv("REFUSE_NONE") != NULL;
 }
 
-/* Tells of a request. If that fails, the program ends with a status of its own. */
-static void tell(void)
+/* Tells of a request for this many bytes. If that fails, the program ends with a status of its own. */
+static void tell(size_t size)
 {
-    static const char line[] = "request\n";
-    const ssize_t length = sizeof line - 1;
-    if (write(STDOUT_FILENO, line, length) != length)
+    char line[40];
+    const int length = snprintf(line, sizeof line, "request %zu\n", size);
+    if (length < 0 || write(STDOUT_FILENO, line, length) != length)
         _exit(99);
 }
 
@@ -46,11 +48,11 @@ static void report(void)
         _exit(99);
 }
 
-/* Whether this request is the one to refuse. */
-static int is_refused(void)
+/* Whether this request, for this many bytes, is the one to refuse. */
+static int is_refused(size_t size)
 {
     if (are_told)
-        tell();
+        tell(size);
     if (requests_left == 0)
         return 0;
     requests_left -= 1;
@@ -63,27 +65,27 @@ static int is_refused(void)
 
 void *malloc(size_t size)
 {
-    return is_refused() ? NULL : __libc_malloc(size);
+    return is_refused(size) ? NULL : __libc_malloc(size);
 }
 
 void *calloc(size_t count, size_t size)
 {
-    return is_refused() ? NULL : __libc_calloc(count, size);
+    return is_refused(count * size) ? NULL : __libc_calloc(count, size);
 }
 
 void *realloc(void *block, size_t size)
 {
-    return is_refused() ? NULL : __libc_realloc(block, size);
+    return is_refused(size) ? NULL : __libc_realloc(block, size);
 }
 
 void *aligned_alloc(size_t alignment, size_t size)
 {
-    return is_refused() ? NULL : __libc_memalign(alignment, size);
+    return is_refused(size) ? NULL : __libc_memalign(alignment, size);
 }
 
 int posix_memalign(void **block, size_t alignment, size_t size)
 {
-    if (is_refused())
+    if (is_refused(size))
         return ENOMEM;
     void *made = __libc_memalign(alignment, size);
     if (made == NULL)

@@ -16,6 +16,8 @@ TOP = pathlib.Path(__file__).resolve().parent.parent
 CRATES = TOP / 'crates'
 # The programs, each with words for which it does its work.
 PROGRAMS = {'subst_filter': ['bytes'], 'subst_answers': []}
+# The program that does the library's work in process, with such words.
+BENCH, BENCH_WORDS = 'subst_bench', ['none', '0']
 # How long a program may run. Each run takes less than a second on a machine that does nothing else.
 SECONDS = 30
 KIB = 1 << 10
@@ -62,7 +64,8 @@ def build(program):
     if path.exists() and path.stat().st_mtime >= newest_source():
         return True
     print(f'{program}: proving and building the program', flush=True)
-    ran = subprocess.run(['rt', 'run', '--', *PROGRAMS.get(program, [])], cwd=CRATES / program, stdin=subprocess.DEVNULL,
+    words = BENCH_WORDS if program == BENCH else PROGRAMS.get(program, [])
+    ran = subprocess.run(['rt', 'run', '--', *words], cwd=CRATES / program, stdin=subprocess.DEVNULL,
                          stdout=subprocess.PIPE, stderr=subprocess.STDOUT)
     if ran.returncode != 0:
         sys.stdout.write(ran.stdout.decode(errors='replace'))

@@ -1,0 +1,127 @@
+#!/usr/bin/env python3
+"""slowness.py   Compares what the built programs take for n of something with what they take for four times as many.
+
+Each work takes 10 ms or more of processor time for 4n, and less than 8 times what n takes: where the time grows with
+the square of n, it is 16 times as much. Contracts bound the reads and the turns of a loop, and nothing else here. Of some
+runs the least time counts. Each test prints a line, and the last line is 'N passed, M failed'.
+"""
+import functools
+import os
+import resource
+import sys
+from typing import NamedTuple
+
+sys.dont_write_bytecode = True
+from running import BENCH, KIB, MIB, PROGRAMS, expect_that, run, run_tests
+
+# How often each work is done, how many times as long it may take, and the seconds below which a time says little.
+RUNS, MOST, LEAST = 3, 8, 0.01
+
+
+class Run(NamedTuple):
+    """A run of a program over a source."""
+    program: str
+    words: list
+    source: bytes
+
+
+def escape(count):
+    return Run(BENCH, ['escape', '1'], count * b'$')
+
+
+def fault_after_a_line(count):
+    return Run(BENCH, ['locate', '1'], count * b'a' + b'$')
+
+
+def fault_after_lines(count):
+    return Run(BENCH, ['locate', '1'], count * b'a\n' + b'$')
+
+
+def highlighting(count):
+    return Run('subst_filter', ['text'], count * b'a\n' + b'$')
+
+
+def names(count):
+    return [f'name_{number}' for number in range(count)]
+
+
+def source_of(count):
+    return ''.join(f'${{{name}}}' for name in names(count)).encode()
+
+
+def words(count):
+    return Run('subst_filter', ['bytes', *(f'{name}=1' for name in names(count))], b'$name_0')
+
+
+def words_of_one_name(count):
+    return Run('subst_filter', ['bytes', *(count * ['name=1'])], b'$name')
+
+
+def variables_in_a_hash_map(count):
+    return Run('subst_filter', ['bytes', *(f'{name}=1' for name in names(count))], 8 * source_of(count))
+
+
+def variables_in_a_tree(count):
+    return Run(BENCH, ['both', '8', *(f'{name}=1' for name in names(count))], source_of(count))
+
+
+def variables(count):
+    return Run('subst_filter', ['bytes', 'a=1'], count * b'$a ')
+
+
+def escapes(count):
+    return Run('subst_filter', ['bytes'], count * b'\\$')
+
+
+def nested_defaults(count):
+    return Run('subst_filter', ['bytes'], count * b'${a:' + count * b'}')
+
+
+def braces_in_a_default(count):
+    return Run('subst_filter', ['bytes'], b'${a:' + count * b'{' + count * b'}' + b'}')
+
+
+def unclosed_defaults(count):
+    return Run('subst_filter', ['bytes'], count * b'${a:\\x')
+
+
+# Each work, with its n.
+WORKS = {
+    escape: 2 * MIB, fault_after_a_line: 4 * MIB, fault_after_lines: 4 * MIB, highlighting: 4 * MIB,
+    words: 10000, words_of_one_name: 10000, variables_in_a_hash_map: 5000, variables_in_a_tree: 5000,
+    variables: 256 * KIB, escapes: MIB, nested_defaults: 256 * KIB, braces_in_a_default: 2 * MIB,
+    unclosed_defaults: 512 * KIB,
+}
+
+
+def time_of(it):
+    """The least processor time of some runs, in seconds."""
+    def spent():
+        used = resource.getrusage(resource.RUSAGE_CHILDREN)
+        return used.ru_utime + used.ru_stime
+
+    times = []
+    with open('source', 'w+b') as source:
+        source.write(it.source)
+        for _ in range(RUNS):
+            source.seek(0)
+            before = spent()
+            run(it.program, it.words, stdin=source)
+            times.append(spent() - before)
+    return min(times)
+
+
+def grows_little(work, count):
+    """Fails the test where four times as much takes too long."""
+    few, many = time_of(work(count)), time_of(work(4 * count))
+    expect_that(many >= LEAST, f'{many:.3f} s is too little to compare')
+    expect_that(many < MOST * few, f'{few:.3f} s for {count} and {many:.3f} s for {4 * count}')
+
+
+def main():
+    tests = [(work.__name__.replace('_', ' '), functools.partial(grows_little, work, count))
+             for work, count in WORKS.items()]
+    run_tests(tests, [*PROGRAMS, BENCH])
+
+
+main()
