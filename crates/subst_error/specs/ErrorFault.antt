@@ -9,6 +9,10 @@ use Rattle.subst_error.specs.declared.ParseError.{ParseError}
 use Rattle.subst_error.specs.declared.ParseError.TheVariants as parsing
 use Rattle.subst_error.specs.declared.ExpandError.{ExpandError}
 use Rattle.subst_error.specs.declared.ExpandError.TheVariants as expanding
+use Rattle.subst_error.specs.declared.lent.ExpandIntoError.{ExpandIntoError}
+use Rattle.subst_error.specs.declared.lent.ExpandIntoError.TheVariants as expanding_into
+use Rattle.subst_error.specs.declared.lent.SubstituteIntoError.{SubstituteIntoError}
+use Rattle.subst_error.specs.declared.lent.SubstituteIntoError.TheVariants as substituting_into
 
 -- of an unexpected character
 abbrev pub unexpected_fault : unexpected.UnexpectedCharacter → Fault
@@ -35,3 +39,13 @@ error_fault (error.UnexpectedCharacter e) = Some (unexpected_fault e)
 error_fault (error.MissingClosingBrace e) = Some (MissingClosingBrace e.position)
 error_fault (error.NoSuchVariable e) = Some (NoSuchVariable e.position (string_bytes e.name))
 error_fault (error.OutOfMemory e) = None
+
+-- of an error of expansion into an output that is lent
+abbrev pub expand_into_fault : ExpandIntoError → Option Fault
+expand_into_fault (expanding_into.NoSuchVariable e) = Some (NoSuchVariable e.position e.name.now)
+expand_into_fault (expanding_into.OutOfMemory e) = None
+
+-- of an error of substitution into an output that is lent
+abbrev pub substitute_into_fault : SubstituteIntoError → Option Fault
+substitute_into_fault (substituting_into.Parse e) = parse_fault e
+substitute_into_fault (substituting_into.Expand e) = expand_into_fault e

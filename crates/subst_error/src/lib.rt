@@ -8,6 +8,7 @@
 ghost use Rattle.std.specs.Prelude.{◌≡◌, ◌≤◌, length};
 ghost use Rattle.subst_error.specs.declared.TheConstants.{MESSAGE_CAPACITY};
 
+pub use lent::{ExpandIntoError, NoSuchVariableRef, SubstituteIntoError};
 pub use quoted::QuotedPrintable;
 use std::alloc::AllocError;
 use std::fmt;
@@ -17,6 +18,7 @@ mod conversions;
 mod display;
 mod highlighting;
 pub mod laws;
+mod lent;
 mod line;
 mod position;
 mod quoted;
