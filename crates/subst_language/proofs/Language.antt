@@ -29,3 +29,4 @@ pub mod UnsettledLemmas
 pub mod Utf8Lemmas
 pub mod ValueLemmas
 pub mod ValueLengthLemmas
+pub mod WrittenLemmas

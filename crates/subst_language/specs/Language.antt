@@ -20,3 +20,4 @@ pub mod Tree
 pub mod Value
 pub mod ValueLength
 pub mod WellFormed
+pub mod Written
