@@ -1,15 +1,16 @@
 -- Lists of parts: where they fit, what an expansion visits of them, and what they give.
-use Rattle.std.proofs.Common.{◌≡◌, ℕ, ◌+◌, ◌<◌, ◌≤◌, suc, lt-ltb, le-ltb, false, Option, Some, None, inl, inr, List, [], ◌∷◌, ◌++◌, length, length-append, refl, sym, ap, ◌∙◌, subst, arith}
+use Rattle.std.proofs.Common.{◌≡◌, ℕ, ◌+◌, ◌<◌, ◌≤◌, suc, lt-ltb, le-ltb, false, Option, Some, None, inl, inr, List, [], ◌∷◌, ◌++◌, length, length-append, append-nil, refl, sym, ap, ◌∙◌, subst, arith}
 use Rattle.std.proofs.lemmas.Bool.{cases_lt}
 use Rattle.subst_language.specs.Language.Name.{IsName}
 use Rattle.subst_language.specs.Language.Tree.{Item, Short, Braced, Optional, Tree, Empty, Then, text}
 use Rattle.subst_language.specs.Language.Tree as tree
 use Rattle.subst_language.specs.Language.LookUp.{LookUp}
-use Rattle.subst_language.specs.Language.Value.{Bytes, Missing, joined, found_or, item_value, value}
+use Rattle.subst_language.specs.Language.Value.{Value, Bytes, Missing, joined, found_or, item_value, value}
 use Rattle.subst_language.specs.Lemmas.PlainEnds.{ends_plain}
+use Rattle.subst_language.specs.Language.Written.{bytes_in, unless_missing, found_bytes, item_written, written}
 use Rattle.subst_language.specs.Language.Counts.{if_missing, visited_count_after, visited_count}
 use Rattle.subst_raw.specs.Span.{IsSpan, span_bytes}
-use Rattle.subst_raw.specs.Parts.{FitsAt, AllFit, part_value, if_found, resume_index, visited_parts, joined_value, PartsMean}
+use Rattle.subst_raw.specs.Parts.{FitsAt, AllFit, part_value, if_found, resume_index, visited_parts, joined_value, joined_written, PartsMean}
 use Rattle.subst_raw.specs.declared.part.Span.{Span}
 use Rattle.subst_raw.specs.declared.part.Part.{Part}
 use Rattle.subst_raw.specs.declared.part.Part.TheVariants.{Literal, Escaped, Variable, Default}
@@ -18,6 +19,7 @@ use Rattle.subst_language.specs.Language.Join.{join}
 use Rattle.subst_language.proofs.Language.TreeLemmas.{value-join}
 use Rattle.subst_language.proofs.Language.CountLemmas.{visited_count_after-join, visited_count-plains}
 use Rattle.subst_language.proofs.Language.ValueLemmas.{joined_assoc, joined-left, joined-right}
+use Rattle.subst_language.proofs.Language.WrittenLemmas.{unless_missing-nothing, unless_missing_assoc, written-join, written-plains}
 
 -- two lists of parts concatenated give the values of both concatenated
 pub joined_value-append : (xs ys : List Part) (s : List ℕ) (look : LookUp)
@@ -26,6 +28,18 @@ joined_value-append [] ys s look = sym (joined-left (joined_value ys s look))
 joined_value-append (part ∷ xs) ys s look =
     rw (joined_value-append xs ys s look)
     (sym (joined_assoc (part_value part s look) (joined_value xs s look) (joined_value ys s look)))
+
+-- for two lists of parts concatenated what is written for the first is written, and then for the second
+joined_written-append : (xs ys : List Part) (s : List ℕ) (look : LookUp)
+    → joined_written (xs ++ ys) s look
+    ≡ joined_written xs s look ++ unless_missing (joined_value xs s look) (joined_written ys s look)
+joined_written-append [] ys s look = refl
+joined_written-append (part ∷ xs) ys s look =
+    rw (
+      joined_written-append xs ys s look,
+      unless_missing_assoc (part_value part s look) (joined_value xs s look) (bytes_in (part_value part s look))
+      (joined_written xs s look) (joined_written ys s look),
+    ) refl
 
 -- a part that fits up to an end fits up to a later one
 pub fits_wider : (i end wider : ℕ) (s : List ℕ) (part : Part) → end ≤ wider → FitsAt i end s part
@@ -83,6 +97,14 @@ pub joined_value-first : (part : Part) (rest : List Part) (i from : ℕ) (s : Li
     (joined_value (visited_parts rest (i + 1) (resume_index part s look) s look) s look)
 joined_value-first part rest i from s look above =
     ap (λ visited. joined_value visited s look) (visited_parts-from part rest i from s look above)
+
+-- and what is written for it is what is written for that part, and then for what is visited
+pub joined_written-first : (part : Part) (rest : List Part) (i from : ℕ) (s : List ℕ) (look : LookUp) → from ≤ i
+    → joined_written (visited_parts (part ∷ rest) i from s look) s look
+    ≡ bytes_in (part_value part s look) ++ unless_missing (part_value part s look)
+    (joined_written (visited_parts rest (i + 1) (resume_index part s look) s look) s look)
+joined_written-first part rest i from s look above =
+    ap (λ visited. joined_written visited s look) (visited_parts-from part rest i from s look above)
 
 -- an expansion that goes on no later than a list begins visits as much of it as one that goes on anywhere
 pub visited_parts-anywhere : (parts : List Part) (i from : ℕ) (s : List ℕ) (look : LookUp) → from ≤ i
@@ -143,7 +165,12 @@ visited_parts-jumped i from s (part ∷ xs) look above =
 
 -- no parts mean nothing
 pub mean_nothing : (s : List ℕ) (i p : ℕ) → PartsMean s i [] p Empty
-mean_nothing s i p = record { fit = tt; same_value = λ look. refl; same_count = λ look. refl }
+mean_nothing s i p = record {
+  fit = tt;
+  same_value = λ look. refl;
+  same_written = λ look. refl;
+  same_count = λ look. refl;
+}
 
 -- two lists of parts concatenated mean the two trees that they mean, concatenated, where no run of plain
 -- bytes goes on from the first into the second
@@ -162,6 +189,12 @@ mean_append s i xs ys p t u apart first second = record {
       (visited_parts-append i (i + length xs) 0 s xs ys look first.fit (omega arith) (omega arith))
       ∙ joined_value-append (visited_parts xs i 0 s look) (visited_parts ys (i + length xs) 0 s look) s look
       ∙ rw (first.same_value look, second.same_value look) (sym (value-join p t u look));
+  same_written = λ look.
+      ap (λ visited. joined_written visited s look)
+      (visited_parts-append i (i + length xs) 0 s xs ys look first.fit (omega arith) (omega arith))
+      ∙ joined_written-append (visited_parts xs i 0 s look) (visited_parts ys (i + length xs) 0 s look) s look
+      ∙ rw (first.same_value look, first.same_written look, second.same_written look)
+      (sym (written-join p t u look));
   same_count = λ look.
       omega (
         arith,
@@ -178,12 +211,17 @@ mean_append s i xs ys p t u apart first second = record {
 -- a part that goes on after itself, and gives what an item gives, means the item
 mean_one : (s : List ℕ) (i : ℕ) (part : Part) (p : ℕ) (item : Item) → FitsAt i (i + 1) s part
     → ((look : LookUp) → part_value part s look ≡ item_value p item look)
+    → ((look : LookUp) → item_written p item look ≡ bytes_in (item_value p item look))
     → ((look : LookUp) → visited_count (Then item Empty) look ≡ 1)
     → PartsMean s i (part ∷ []) p (Then item Empty)
-mean_one s i part p item fits same one = record {
+mean_one s i part p item fits same writes one = record {
   fit = (fits, tt);
   same_value =
       λ look. joined_value-first part [] i 0 s look (omega arith) ∙ ap (λ v. joined v (Bytes [])) (same look);
+  same_written = λ look.
+      joined_written-first part [] i 0 s look (omega arith)
+      ∙ ap (λ v. bytes_in v ++ unless_missing v []) (same look)
+      ∙ ap (λ x. x ++ unless_missing (item_value p item look) []) (sym (writes look));
   same_count = λ look. ap length (visited_parts-from part [] i 0 s look (omega arith)) ∙ sym (one look);
 }
 
@@ -198,6 +236,11 @@ mean_literal s i span p x some inside reads = record {
       ∙ joined-right (Bytes (span_bytes span s))
       ∙ ap Bytes reads
       ∙ sym (value-plains p x look);
+  same_written = λ look.
+      joined_written-first (Literal span) [] i 0 s look (omega arith)
+      ∙ append-nil (span_bytes span s)
+      ∙ reads
+      ∙ sym (written-plains p x look);
   same_count = λ look. ap length (visited_parts-from (Literal span) [] i 0 s look (omega arith))
       ∙ sym (visited_count-plains x look some);
 }
@@ -206,6 +249,7 @@ mean_literal s i span p x some inside reads = record {
 pub mean_escaped : (s : List ℕ) (i b p : ℕ) → b < 256
     → PartsMean s i (Escaped b ∷ []) p (Then (tree.Escaped b) Empty)
 mean_escaped s i b p fits = mean_one s i (Escaped b) p (tree.Escaped b) fits (λ look. refl) (λ look. refl)
+    (λ look. refl)
 
 -- a variable whose name is after a dollar means the name without braces
 pub mean_short : (s : List ℕ) (i : ℕ) (name : Span) (p : ℕ) → IsSpan s name → IsName (span_bytes name s)
@@ -214,7 +258,7 @@ pub mean_short : (s : List ℕ) (i : ℕ) (name : Span) (p : ℕ) → IsSpan s n
 mean_short s i name p inside named starts =
     mean_one s i (Variable name) p (Short (span_bytes name s)) (inside, named)
     (λ look. ap (λ position. found_or (look (span_bytes name s)) (Missing position (span_bytes name s)))
-    starts) (λ look. refl)
+    starts) (λ look. refl) (λ look. refl)
 
 -- a variable whose name is after a dollar and a brace means the name in braces
 pub mean_braced : (s : List ℕ) (i : ℕ) (name : Span) (p : ℕ) → IsSpan s name → IsName (span_bytes name s)
@@ -223,7 +267,7 @@ pub mean_braced : (s : List ℕ) (i : ℕ) (name : Span) (p : ℕ) → IsSpan s 
 mean_braced s i name p inside named starts =
     mean_one s i (Variable name) p (Braced (span_bytes name s)) (inside, named)
     (λ look. ap (λ position. found_or (look (span_bytes name s)) (Missing position (span_bytes name s)))
-    starts) (λ look. refl)
+    starts) (λ look. refl) (λ look. refl)
 
 -- a default's part that jumps over no parts means the name with a question mark
 pub mean_optional : (s : List ℕ) (i : ℕ) (name : Span) (p : ℕ) → IsSpan s name → IsName (span_bytes name s)
@@ -231,7 +275,7 @@ pub mean_optional : (s : List ℕ) (i : ℕ) (name : Span) (p : ℕ) → IsSpan 
 mean_optional s i name p inside named =
     mean_one s i (Default name (i + 1)) p (Optional (span_bytes name s))
     (inside, named, omega arith, omega arith)
-    (λ look. refl) (λ look. refl)
+    (λ look. refl) (λ look. refl) (λ look. refl)
 
 -- what a default's part and the parts after it give: what was found, or else what the parts give
 joined_value-default : (found : Option (List ℕ)) (parts : List Part) (i : ℕ) (s : List ℕ) (look : LookUp)
@@ -243,6 +287,16 @@ joined_value-default (Some x) parts i s look =
     (visited_parts-jumped i (i + length parts) s parts look (omega arith)) ∙ joined-right (Bytes x)
 joined_value-default None parts i s look = joined-left (joined_value (visited_parts parts i 0 s look) s look)
 
+-- what is written for them: what was found, or else what is written for the parts
+joined_written-default : (found : Option (List ℕ)) (parts : List Part) (i : ℕ) (s : List ℕ) (look : LookUp)
+    → bytes_in (found_or found (Bytes [])) ++ unless_missing (found_or found (Bytes []))
+    (joined_written (visited_parts parts i (if_found found (i + length parts)) s look) s look)
+    ≡ found_bytes found (joined_written (visited_parts parts i 0 s look) s look)
+joined_written-default (Some x) parts i s look =
+    ap (λ visited. x ++ joined_written visited s look)
+    (visited_parts-jumped i (i + length parts) s parts look (omega arith)) ∙ append-nil x
+joined_written-default None parts i s look = refl
+
 -- the parts of a default are visited where nothing was found
 default_count : (found : Option (List ℕ)) (parts : List Part) (i : ℕ) (s : List ℕ) (look : LookUp)
     → length (visited_parts parts i (if_found found (i + length parts)) s look)
@@ -250,6 +304,11 @@ default_count : (found : Option (List ℕ)) (parts : List Part) (i : ℕ) (s : L
 default_count (Some x) parts i s look =
     ap length (visited_parts-jumped i (i + length parts) s parts look (omega arith))
 default_count None parts i s look = refl
+
+-- nothing is written after what was found, or else after a value
+written_one : (found : Option (List ℕ)) (v : Value) (x : List ℕ)
+    → found_bytes found x ++ unless_missing (found_or found v) [] ≡ found_bytes found x
+written_one found v x = rw (unless_missing-nothing (found_or found v)) (append-nil (found_bytes found x))
 
 -- a default's part that jumps over the parts after it means the name with the tree that those mean
 pub mean_default : (s : List ℕ) (i : ℕ) (name : Span) (parts : List Part) (p : ℕ) (t : Tree) → IsSpan s name
@@ -268,6 +327,12 @@ mean_default s i name parts p t inside named mean = record {
       ∙ ap (found_or (look (span_bytes name s))) (mean.same_value look)
       ∙ sym (joined-right
       (found_or (look (span_bytes name s)) (value (p + 3 + length (span_bytes name s)) t look)));
+  same_written = λ look.
+      joined_written-first (Default name (i + 1 + length parts)) parts i 0 s look (omega arith)
+      ∙ joined_written-default (look (span_bytes name s)) parts (i + 1) s look
+      ∙ ap (found_bytes (look (span_bytes name s))) (mean.same_written look)
+      ∙ sym (written_one (look (span_bytes name s)) (value (p + 3 + length (span_bytes name s)) t look)
+      (written (p + 3 + length (span_bytes name s)) t look));
   same_count = λ look.
       omega (
         arith,

@@ -1,4 +1,4 @@
--- What the parts of a template give, and how many of them are visited.
+-- What the parts of a template give, what is written for them, and how many of them are visited.
 use Rattle.std.proofs.Common.{◌≡◌, ◌≤◌, ℕ, Option, IfSome, List, [], ◌∷◌, length, ap, subst, ◌∙◌}
 use Rattle.subst_error.specs.Fault.{Fault}
 use Rattle.subst_error.specs.Range.{range_of}
@@ -9,7 +9,8 @@ use Rattle.subst_language.specs.Language.Sentence.{Spells}
 use Rattle.subst_language.specs.Language.LookUp.{LookUp}
 use Rattle.subst_language.specs.Language.Value.{value}
 use Rattle.subst_raw.specs.Filled.{mark, marks_of}
-use Rattle.subst_raw.specs.Parts.{IsTemplateOf, visited_parts, parts_value}
+use Rattle.subst_language.specs.Language.Written.{written}
+use Rattle.subst_raw.specs.Parts.{IsTemplateOf, visited_parts, parts_value, parts_written}
 use Rattle.subst_language.specs.Language.Counts.{visited_count}
 use Rattle.subst_raw.specs.declared.part.Part.{Part}
 use Rattle.subst_language.proofs.Language.AlikeLemmas.{missing_by_names}
@@ -23,6 +24,14 @@ pub template_value : (s : List ℕ) (parts : List Part) (t : Tree) (look : LookU
 template_value s parts t look template spells =
     template.mean.same_value look
     ∙ ap (λ u. value 0 u look) (tree_unique s template.tree t template.spells spells)
+
+-- what is written for the source's tree is written for the parts
+pub template_written : (s : List ℕ) (parts : List Part) (t : Tree) (look : LookUp) → IsTemplateOf s parts
+    → Spells t s
+    → parts_written parts s look ≡ written 0 t look
+template_written s parts t look template spells =
+    template.mean.same_written look
+    ∙ ap (λ u. written 0 u look) (tree_unique s template.tree t template.spells spells)
 
 -- the parts that an expansion visits are as many as it visits of the source's tree
 pub template_count : (s : List ℕ) (parts : List Part) (t : Tree) (look : LookUp) → IsTemplateOf s parts

@@ -1,10 +1,11 @@
 -- What a list of parts means over a source.
-use Rattle.std.specs.Prelude.{◌≡◌, ℕ, ◌+◌, ◌<◌, ◌≤◌, List, [], ◌∷◌, length, Option, Some, None, nat_lt, if◌then◌else◌}
+use Rattle.std.specs.Prelude.{◌≡◌, ℕ, ◌+◌, ◌<◌, ◌≤◌, List, [], ◌∷◌, ◌++◌, length, Option, Some, None, nat_lt, if◌then◌else◌}
 use Rattle.subst_language.specs.Language.Name.{IsName}
 use Rattle.subst_language.specs.Language.Tree.{Tree}
 use Rattle.subst_language.specs.Language.Sentence.{Spells}
 use Rattle.subst_language.specs.Language.LookUp.{LookUp}
 use Rattle.subst_language.specs.Language.Value.{Value, Bytes, Missing, joined, found_or, value}
+use Rattle.subst_language.specs.Language.Written.{bytes_in, unless_missing, written}
 use Rattle.subst_language.specs.Language.Counts.{visited_count}
 use Rattle.subst_raw.specs.Span.{IsSpan, span_bytes}
 use Rattle.std.specs.List.{slice_get}
@@ -63,10 +64,22 @@ joined_value (part ∷ rest) s look = joined (part_value part s look) (joined_va
 abbrev pub parts_value : List Part → List ℕ → LookUp → Value
 parts_value parts s look = joined_value (visited_parts parts 0 0 s look) s look
 
+-- what is written for parts, up to the first that is missing a variable
+abbrev pub joined_written : List Part → List ℕ → LookUp → List ℕ
+joined_written [] s look = []
+joined_written (part ∷ rest) s look =
+    bytes_in (part_value part s look) ++ unless_missing (part_value part s look) (joined_written rest s look)
+
+-- what is written for a list of parts: for those that an expansion visits
+abbrev pub parts_written : List Part → List ℕ → LookUp → List ℕ
+parts_written parts s look = joined_written (visited_parts parts 0 0 s look) s look
+
 -- the parts, the first of which has index i, mean the tree, whose text is at position p of the source
 pub record PartsMean (s : List ℕ) (i : ℕ) (parts : List Part) (p : ℕ) (t : Tree) : Type 0 where
   pub fit : AllFit i (i + length parts) s parts
   pub same_value : (look : LookUp) → joined_value (visited_parts parts i 0 s look) s look ≡ value p t look
+  pub same_written : (look : LookUp)
+      → joined_written (visited_parts parts i 0 s look) s look ≡ written p t look
   pub same_count : (look : LookUp) → length (visited_parts parts i 0 s look) ≡ visited_count t look
 
 -- the parts mean the tree of the source
