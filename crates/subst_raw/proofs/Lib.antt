@@ -8,6 +8,7 @@ pub mod FilledTextLemmas
 pub mod InnerLemmas
 pub mod LiftLemmas
 pub mod OpenPartLemmas
+pub mod OutputLemmas
 pub mod ParsedLemmas
 pub mod ParserLemmas
 pub mod PackedLemmas

@@ -5,10 +5,12 @@ pub mod Cost
 pub mod Filled
 pub mod Halt
 pub mod Inner
+pub mod Output
 pub mod Packed
 pub mod Parsing
 pub mod PartList
 pub mod PartLists
 pub mod Parts
 pub mod Placeholder
+pub mod SliceOutput
 pub mod Span

@@ -1,29 +1,49 @@
-//! The loop that expands a list of parts over its source, once for each width of parts. It returns the
-//! value of the parts under the map's look-up, or its missing variable, or that memory ran out, and
-//! counts its turns. Of any map, contracts say what is around the values, and which variable is missing.
+//! The loop that expands a list of parts over its source, once for each width of parts and each output. It
+//! appends the value of the parts under the map's look-up, or stops at a missing variable or a full output,
+//! and counts its turns. Of any map, contracts say what is around the values, and which variable is missing.
 
-ghost use Rattle.std.specs.Prelude.{◌≡◌, ◌≤◌, ◌+◌, length, IfErr, IfOk, IfSome, OnOk};
-ghost use Rattle.subst_error.specs.ErrorFault.{expand_fault};
-ghost use Rattle.subst_error.specs.Fault as fault;
+ghost use Rattle.std.specs.Prelude.{◌≡◌, ◌≤◌, ◌<◌, ◌+◌, ◌^◌, ◌++◌, length, Err, IfErr, IfOk, IfSome, OnErr, OnOk};
+ghost use Rattle.std.specs.Prelude.{vec_capacity, vec_len};
+ghost use Rattle.subst_error.specs.ErrorFault.{expand_fault, expand_into_fault};
 ghost use Rattle.subst_language.specs.Language.Answer.{IsMissing};
 ghost use Rattle.subst_language.specs.Language.Name.{IsName};
+ghost use Rattle.subst_language.specs.Language.Value.{Bytes, Missing};
 ghost use Rattle.subst_language.specs.Calls.VariableMap.{ByLookUp};
-ghost use Rattle.subst_language.specs.Calls.Outcome.{Expands};
+ghost use Rattle.subst_language.specs.Calls.Outcome.{Expands, ExpandsInto, ExpandsIntoSlice, OnOutOfMemory};
+ghost use Rattle.subst_raw.specs.Output.{AppendsFilled, AppendsValue, Appended, IfMissing, OnFull, fault_of};
 ghost use Rattle.subst_raw.specs.Span.{IsSpan, span_bytes};
 ghost use Rattle.subst_raw.specs.Packed.{unpacked_parts};
-ghost use Rattle.subst_raw.specs.Parts.{AllFit, parts_value, visited_parts};
+ghost use Rattle.subst_raw.specs.Parts.{AllFit, parts_value, parts_written, visited_parts};
 ghost use Rattle.subst_raw.specs.Filled.{FillsMarks, marks_of};
+ghost use Rattle.subst_raw.specs.declared.expand.Stop.TheVariants as stops;
 
+use crate::output::{Output, SliceOutput};
 use crate::packed_part::{Offset, PackedPart};
 use crate::part::{Part, Span};
 use crate::part_list::PartList;
 use crate::part_vec::{CowParts, PartSlice};
 use crate::read_value::ReadValue;
 use crate::steps::Turns;
-use std::alloc::Global;
+use std::alloc::{AllocError, Global};
 use std::{mem, str};
-use subst_error::{ExpandError, NoSuchVariable};
+use subst_error::{ExpandError, ExpandIntoError, NoSuchVariableRef};
 use subst_map::VariableMap;
+
+/// Why an expansion stopped.
+pub(crate) enum Stop {
+    /// The output is too short and can't grow.
+    Full(AllocError),
+    /// The variable with the name at this range is needed and has no value.
+    Missing(Span),
+}
+
+impl From<AllocError> for Stop {
+    ghost from_gives = { λ e stop. stop ≡ stops.Full e };
+
+    fn from(e: AllocError) -> Stop {
+        Stop::Full(e)
+    }
+}
 
 /// Returns what the parts of a source give, with the values of `variables` as `R` reads them. Each part
 /// that is visited is a turn.
@@ -59,31 +79,158 @@ where
     ensures missing { IfErr result (λ e. IfSome (expand_fault e)
         (IsMissing (parts_value parts.now source.now (marks_of (M.look_up variables.now))))) }
 {
-    match parts.as_slice() {
-        PartSlice::Narrow(packed) => {
-            expand_packed::<M, R, u32>(alloc, source, packed, variables, turns)
-        }
-        PartSlice::Wide(packed) => {
-            expand_packed::<M, R, usize>(alloc, source, packed, variables, turns)
+    let mut output = Vec::with_capacity(alloc, source.len())?;
+    match expand_into::<M, R>(source, parts, variables, turns, &mut output) {
+        Ok(()) => Ok(output),
+        Err(e) => Err(e.into_owned(alloc)),
+    }
+}
+
+/// Appends what `expand` returns to `output`.
+///
+/// # Errors
+///
+/// As `expand`. The items of `output` are then as before.
+pub fn expand_into<'s, 'a, M: VariableMap<'a>, R: ReadValue<M::Value>>(
+    source: &'s [u8],
+    parts: &CowParts<'_>,
+    variables: &'a M,
+    turns: &mut Turns,
+    output: &mut Vec<u8>,
+) -> Result<(), ExpandIntoError<'s>>
+where
+    M::Value: Drop,
+    requires { AllFit 0 (length parts.now) source.now parts.now }
+    ensures value { ByLookUp R.read M.see (M.look_up variables.now)
+        (λ look. ExpandsInto output.old.items result output.new.items
+        (parts_value parts.now source.now look)) }
+    ensures kept { OnErr result (output.new.items ≡ output.old.items) }
+
+    // Out of memory only with cause: the room is shorter than what is written.
+    ensures full { ByLookUp R.read M.see (M.look_up variables.now)
+        (λ look. OnOutOfMemory expand_into_fault result (vec_capacity output.old
+        < vec_len output.old + length (parts_written parts.now source.now look))) }
+    ensures capacity { vec_capacity output.old ≤ vec_capacity output.new }
+    ensures counted { ByLookUp R.read M.see (M.look_up variables.now)
+        (λ look. OnOk result
+        (turns.new ≡ turns.old + length (visited_parts parts.now 0 0 source.now look))) }
+    ensures at_most { ByLookUp R.read M.see (M.look_up variables.now)
+        (λ look. turns.new ≤ turns.old + length (visited_parts parts.now 0 0 source.now look)) }
+    ensures grown { turns.old ≤ turns.new }
+    ensures filled { OnOk result (AppendsFilled R.is_read
+        (parts_value parts.now source.now (marks_of (M.look_up variables.now)))
+        output.old.items output.new.items) }
+    ensures missing { IfErr result (λ e. IfSome (expand_into_fault e)
+        (IsMissing (parts_value parts.now source.now (marks_of (M.look_up variables.now))))) }
+{
+    let len = output.len();
+    match append::<M, R, Vec<u8>>(source, parts, variables, turns, output) {
+        Ok(()) => Ok(()),
+        Err(stop) => {
+            output.truncate(len);
+            Err(error_of(source, stop))
         }
     }
 }
 
-/// Returns what packed parts give, as `expand`.
-fn expand_packed<'a, M: VariableMap<'a>, R: ReadValue<M::Value>, O: Offset>(
-    alloc: Global,
+/// Writes what `expand` returns from the front of a slice on, and returns how many bytes that takes. Where the
+/// slice is shorter, what it has is unspecified.
+///
+/// # Errors
+///
+/// As `expand`, but out of memory only where the bytes are too many for a `usize`. What the slice has is then
+/// unspecified.
+pub fn expand_into_slice<'s, 'a, M: VariableMap<'a>, R: ReadValue<M::Value>>(
+    source: &'s [u8],
+    parts: &CowParts<'_>,
+    variables: &'a M,
+    slice: &mut [u8],
+) -> Result<usize, ExpandIntoError<'s>>
+where
+    M::Value: Drop,
+    requires { AllFit 0 (length parts.now) source.now parts.now }
+    ensures value { ByLookUp R.read M.see (M.look_up variables.now)
+        (λ look. ExpandsIntoSlice slice.old result slice.new
+        (parts_value parts.now source.now look)) }
+    ensures full { ByLookUp R.read M.see (M.look_up variables.now)
+        (λ look. OnOutOfMemory expand_into_fault result
+        (2 ^ 64 ≤ length (parts_written parts.now source.now look))) }
+    ensures missing { IfErr result (λ e. IfSome (expand_into_fault e)
+        (IsMissing (parts_value parts.now source.now (marks_of (M.look_up variables.now))))) }
+{
+    let mut output = SliceOutput { slice, written: 0 };
+    let outcome =
+        append::<M, R, SliceOutput<'_>>(source, parts, variables, &mut Turns::new(), &mut output);
+    match outcome {
+        Ok(()) => Ok(output.written),
+        Err(stop) => Err(error_of(source, stop)),
+    }
+}
+
+/// Appends what the parts of a source give, as `expand`, to any output.
+fn append<'a, M: VariableMap<'a>, R: ReadValue<M::Value>, W: Output>(
+    source: &[u8],
+    parts: &CowParts<'_>,
+    variables: &'a M,
+    turns: &mut Turns,
+    output: &mut W,
+) -> Result<(), Stop>
+where
+    M::Value: Drop,
+    requires { AllFit 0 (length parts.now) source.now parts.now }
+    ensures value { ByLookUp R.read M.see (M.look_up variables.now)
+        (λ look. AppendsValue W.holds result source.now (parts_value parts.now source.now look)
+        output.old output.new) }
+    ensures full { ByLookUp R.read M.see (M.look_up variables.now)
+        (λ look. OnFull result (W.room output.old
+        < W.len output.old + length (parts_written parts.now source.now look))) }
+    ensures begins { Appended W.holds (λ _. Unit {0}) output.old output.new }
+    ensures room { W.room output.old ≤ W.room output.new }
+    ensures counted { ByLookUp R.read M.see (M.look_up variables.now)
+        (λ look. OnOk result
+        (turns.new ≡ turns.old + length (visited_parts parts.now 0 0 source.now look))) }
+    ensures at_most { ByLookUp R.read M.see (M.look_up variables.now)
+        (λ look. turns.new ≤ turns.old + length (visited_parts parts.now 0 0 source.now look)) }
+    ensures grown { turns.old ≤ turns.new }
+    ensures filled { OnOk result (Appended W.holds (FillsMarks R.is_read
+        (parts_value parts.now source.now (marks_of (M.look_up variables.now))))
+        output.old output.new) }
+    ensures missing { IfMissing result (λ name.
+        parts_value parts.now source.now (marks_of (M.look_up variables.now))
+        ≡ Missing name.start (span_bytes name source.now)) }
+    ensures named { IfMissing result (λ name.
+        IsSpan source.now name × IsName (span_bytes name source.now)) }
+{
+    match parts.as_slice() {
+        PartSlice::Narrow(packed) => {
+            append_packed::<M, R, u32, W>(source, packed, variables, turns, output)
+        }
+        PartSlice::Wide(packed) => {
+            append_packed::<M, R, usize, W>(source, packed, variables, turns, output)
+        }
+    }
+}
+
+/// Appends what packed parts give, as `append`.
+fn append_packed<'a, M: VariableMap<'a>, R: ReadValue<M::Value>, O: Offset, W: Output>(
     source: &[u8],
     packed: &[PackedPart<O>],
     variables: &'a M,
     turns: &mut Turns,
-) -> Result<Vec<u8>, ExpandError>
+    output: &mut W,
+) -> Result<(), Stop>
 where
     M::Value: Drop,
     requires { let parts = unpacked_parts O.value packed.now in
         AllFit 0 (length parts) source.now parts }
     ensures value { ByLookUp R.read M.see (M.look_up variables.now)
-        (λ look. Expands (λ output. output.items) result
-        (parts_value (unpacked_parts O.value packed.now) source.now look)) }
+        (λ look. AppendsValue W.holds result source.now
+        (parts_value (unpacked_parts O.value packed.now) source.now look) output.old output.new) }
+    ensures full { ByLookUp R.read M.see (M.look_up variables.now)
+        (λ look. OnFull result (W.room output.old < W.len output.old
+        + length (parts_written (unpacked_parts O.value packed.now) source.now look))) }
+    ensures begins { Appended W.holds (λ _. Unit {0}) output.old output.new }
+    ensures room { W.room output.old ≤ W.room output.new }
     ensures counted { ByLookUp R.read M.see (M.look_up variables.now)
         (λ look. OnOk result (turns.new ≡ turns.old
         + length (visited_parts (unpacked_parts O.value packed.now) 0 0 source.now look))) }
@@ -91,32 +238,39 @@ where
         (λ look. turns.new ≤ turns.old
         + length (visited_parts (unpacked_parts O.value packed.now) 0 0 source.now look)) }
     ensures grown { turns.old ≤ turns.new }
-    ensures filled { IfOk result (λ output. FillsMarks R.is_read
+    ensures filled { OnOk result (Appended W.holds (FillsMarks R.is_read
         (parts_value (unpacked_parts O.value packed.now) source.now
-        (marks_of (M.look_up variables.now))) output.items) }
-    ensures missing { IfErr result (λ e. IfSome (expand_fault e)
-        (IsMissing (parts_value (unpacked_parts O.value packed.now) source.now
-        (marks_of (M.look_up variables.now))))) }
+        (marks_of (M.look_up variables.now)))) output.old output.new) }
+    ensures missing { IfMissing result (λ name.
+        parts_value (unpacked_parts O.value packed.now) source.now
+        (marks_of (M.look_up variables.now)) ≡ Missing name.start (span_bytes name source.now)) }
+    ensures named { IfMissing result (λ name.
+        IsSpan source.now name × IsName (span_bytes name source.now)) }
 {
     let mut list = PartList::new(packed, mem::replace(turns, Turns::new()));
-    let outcome = expand_list::<M, R, O>(alloc, source, &mut list, variables);
+    let outcome = append_list::<M, R, O, W>(source, &mut list, variables, output);
     *turns = list.into_turns();
     outcome
 }
 
-/// Returns what the parts of a list give, as `expand`.
-fn expand_list<'a, M: VariableMap<'a>, R: ReadValue<M::Value>, O: Offset>(
-    alloc: Global,
+/// Appends what the parts of a list give, as `append`.
+fn append_list<'a, M: VariableMap<'a>, R: ReadValue<M::Value>, O: Offset, W: Output>(
     source: &[u8],
     list: &mut PartList<'_, O>,
     variables: &'a M,
-) -> Result<Vec<u8>, ExpandError>
+    output: &mut W,
+) -> Result<(), Stop>
 where
     M::Value: Drop,
     requires { AllFit 0 (length list.old.parts) source.now list.old.parts }
     ensures value { ByLookUp R.read M.see (M.look_up variables.now)
-        (λ look. Expands (λ output. output.items) result
-        (parts_value list.old.parts source.now look)) }
+        (λ look. AppendsValue W.holds result source.now
+        (parts_value list.old.parts source.now look) output.old output.new) }
+    ensures full { ByLookUp R.read M.see (M.look_up variables.now)
+        (λ look. OnFull result (W.room output.old
+        < W.len output.old + length (parts_written list.old.parts source.now look))) }
+    ensures begins { Appended W.holds (λ _. Unit {0}) output.old output.new }
+    ensures room { W.room output.old ≤ W.room output.new }
     ensures counted { ByLookUp R.read M.see (M.look_up variables.now)
         (λ look. OnOk result (list.new.turns
         ≡ list.old.turns + length (visited_parts list.old.parts 0 0 source.now look))) }
@@ -124,42 +278,44 @@ where
         (λ look. list.new.turns
         ≤ list.old.turns + length (visited_parts list.old.parts 0 0 source.now look)) }
     ensures grown { list.old.turns ≤ list.new.turns }
-    ensures filled { IfOk result (λ output. FillsMarks R.is_read
-        (parts_value list.old.parts source.now (marks_of (M.look_up variables.now)))
-        output.items) }
-    ensures missing { IfErr result (λ e. IfSome (expand_fault e)
-        (IsMissing (parts_value list.old.parts source.now (marks_of (M.look_up variables.now))))) }
+    ensures filled { OnOk result (Appended W.holds (FillsMarks R.is_read
+        (parts_value list.old.parts source.now (marks_of (M.look_up variables.now))))
+        output.old output.new) }
+    ensures missing { IfMissing result (λ name.
+        parts_value list.old.parts source.now (marks_of (M.look_up variables.now))
+        ≡ Missing name.start (span_bytes name source.now)) }
+    ensures named { IfMissing result (λ name.
+        IsSpan source.now name × IsName (span_bytes name source.now)) }
     ensures same { list.new.parts ≡ list.old.parts }
 {
-    let mut output = Vec::with_capacity(alloc, source.len())?;
     let mut at = 0;
     while let Some(part) = list.part_at(at) {
         match part {
             Part::Literal(span) => {
-                output.extend_from_slice(bytes_at(source, span))?;
+                output.append_bytes(bytes_at(source, span))?;
                 at += 1;
             }
             Part::Escaped(byte) => {
-                output.push(byte)?;
+                output.append_byte(byte)?;
                 at += 1;
             }
             Part::Variable(name) => {
                 let Some(value) = variables.get(name_at(source, name)) else {
-                    return Err(no_such_variable(alloc, source, name));
+                    return Err(Stop::Missing(name));
                 };
-                output.extend_from_slice(R::bytes_of(&value))?;
+                output.append_bytes(R::bytes_of(&value))?;
                 at += 1;
             }
             Part::Default { name, next } => match variables.get(name_at(source, name)) {
                 Some(value) => {
-                    output.extend_from_slice(R::bytes_of(&value))?;
+                    output.append_bytes(R::bytes_of(&value))?;
                     at = next;
                 }
                 None => at += 1,
             },
         }
     }
-    Ok(output)
+    Ok(())
 }
 
 /// Returns the bytes of a range of the source.
@@ -180,19 +336,17 @@ fn name_at(source: &[u8], name: Span) -> &str
     unsafe { str::from_utf8_unchecked(bytes_at(source, name)) }
 }
 
-/// Returns the error for a name that has no value.
-fn no_such_variable(alloc: Global, source: &[u8], name: Span) -> ExpandError
-    requires inside { IsSpan source.now name }
-    requires name { IsName (span_bytes name source.now) }
-    ensures { IfSome (expand_fault result)
-        (λ f. f ≡ fault.NoSuchVariable name.start (span_bytes name source.now)) }
+/// Returns the error for what an expansion stopped at.
+fn error_of(source: &[u8], stop: Stop) -> ExpandIntoError<'_>
+    requires { IfMissing (Err stop) (λ name.
+        IsSpan source.now name × IsName (span_bytes name source.now)) }
+    ensures { expand_into_fault result ≡ fault_of stop source.now }
 {
-    match String::from_str(alloc, name_at(source, name)) {
-        Ok(text) => NoSuchVariable {
+    match stop {
+        Stop::Full(e) => e.into(),
+        Stop::Missing(name) => ExpandIntoError::NoSuchVariable(NoSuchVariableRef {
             position: name.start,
-            name: text,
-        }
-        .into(),
-        Err(e) => e.into(),
+            name: name_at(source, name),
+        }),
     }
 }

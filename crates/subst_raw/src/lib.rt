@@ -11,6 +11,7 @@ pub mod expand;
 pub mod expand_text;
 mod halt;
 mod item;
+mod output;
 mod packed_part;
 mod packed_vec;
 pub mod parse;

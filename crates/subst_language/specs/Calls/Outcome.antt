@@ -1,11 +1,12 @@
 -- What a call returns, unless memory runs out. An error that states no fault says that memory ran
 -- out. `bytes_of` tells the bytes of an output: of a `Vec` its items, of a `String` its bytes.
-use Rattle.std.specs.Prelude.{◌≡◌, ℕ, List, Option, Some, None, Result, Ok, Err, IfErr, IfSome}
+use Rattle.std.specs.Prelude.{◌≡◌, ◌≤◌, ℕ, List, ◌++◌, drop, length, Option, Some, None, Result, Ok, Err, IfErr, IfNone, IfSome}
 use Rattle.std.specs.Option.{option_map}
 use Rattle.subst_error.specs.Fault.{Fault}
-use Rattle.subst_error.specs.ErrorFault.{error_fault, expand_fault}
+use Rattle.subst_error.specs.ErrorFault.{error_fault, expand_fault, expand_into_fault}
 use Rattle.subst_error.specs.declared.Error.{Error}
 use Rattle.subst_error.specs.declared.ExpandError.{ExpandError}
+use Rattle.subst_error.specs.declared.lent.ExpandIntoError.{ExpandIntoError}
 use Rattle.subst_language.specs.Language.Value.{Value, Bytes}
 use Rattle.subst_language.specs.Language.Answer.{Answer, Gives, Refuses, IsMissing}
 
@@ -13,10 +14,28 @@ use Rattle.subst_language.specs.Language.Answer.{Answer, Gives, Refuses, IsMissi
 abbrev pub OnFault : {T E : Type 0} → (E → Option Fault) → Result T E → (Fault → Type 0) → Type 0
 OnFault fault_of result P = IfErr result (λ e. IfSome (fault_of e) P)
 
+-- P holds where an error says that memory ran out
+abbrev pub OnOutOfMemory : {T E : Type 0} → (E → Option Fault) → Result T E → Type 0 → Type 0
+OnOutOfMemory fault_of result P = IfErr result (λ e. IfNone (fault_of e) P)
+
 -- the output of an expansion has the bytes of the value, or its error states the missing variable
 abbrev pub Expands : {T : Type 0} → (T → List ℕ) → Result T ExpandError → Value → Type 0
 Expands bytes_of (Ok output) v = v ≡ Bytes (bytes_of output)
 Expands bytes_of (Err e) v = IfSome (expand_fault e) (IsMissing v)
+
+-- the bytes of the value are appended to an output, or the error states the missing variable
+abbrev pub ExpandsInto : {T : Type 0} → (before : List ℕ) → Result T ExpandIntoError → (after : List ℕ) → Value
+    → Type 0
+ExpandsInto before (Ok done) after v = (x : List ℕ) × (v ≡ Bytes x) × (after ≡ before ++ x)
+ExpandsInto before (Err e) after v = IfSome (expand_into_fault e) (IsMissing v)
+
+-- The value has `needed` bytes. A slice that is as long begins with them, and the rest of it stays. Or the
+-- error states the missing variable.
+abbrev pub ExpandsIntoSlice : (before : List ℕ) → Result ℕ ExpandIntoError → (after : List ℕ) → Value → Type 0
+ExpandsIntoSlice before (Ok needed) after v =
+    (x : List ℕ) × (v ≡ Bytes x) × (needed ≡ length x)
+    × (needed ≤ length before → after ≡ x ++ drop needed before)
+ExpandsIntoSlice before (Err e) after v = IfSome (expand_into_fault e) (IsMissing v)
 
 -- the answer that the result of a substitution states: the bytes of its output, or the fault of its error
 abbrev pub answer_of : {T : Type 0} → (T → List ℕ) → Result T Error → Option Answer
