@@ -2,11 +2,13 @@
 use Rattle.std.proofs.Common.{◌≡◌, ℕ, Some, None, Option, List, [], ◌∷◌, ◌++◌, sym, ◌∙◌, subst, append_assoc, arith}
 use Rattle.std.proofs.lemmas.Str.{IsUtf8-append}
 use Rattle.std.specs.Option.{option_map}
+use Rattle.std.specs.Prelude.{Result, Ok, Err, OnErr, OnOk}
 use Rattle.std.specs.Str.{IsUtf8}
 use Rattle.subst_language.specs.Language.LookUp.{GivesTexts}
 use Rattle.subst_raw.specs.Parts.{IsTemplateOf, parts_value}
 use Rattle.subst_raw.specs.Filled.{mark, marks_of, IsFilled, FillsMarks}
 use Rattle.subst_raw.specs.Filled.IsFilled.{empty, kept, filled}
+use Rattle.subst_raw.specs.Output.{AppendsFilled}
 use Rattle.subst_raw.specs.declared.part.Part.{Part}
 use Rattle.subst_language.proofs.Language.Utf8Lemmas.{cut_at, value_is_text, ascii_alone}
 
@@ -38,3 +40,13 @@ output_is_text s parts look_up output template is fills =
     marks_filled [] fills.filled
     (value_is_text t 0 look fills.marked template.spells.well_formed (marks_are_texts look_up)
     (subst IsUtf8 template.spells.spelled is) (sym (template.mean.same_value look) ∙ fills.given))
+
+-- a text with what was written appended is a text, and so is one that is as before
+pub text_after : {Seen T E : Type 0} (s : List ℕ) (parts : List Part) (look_up : List ℕ → Option Seen)
+    (result : Result T E) {before after : List ℕ} → IsTemplateOf s parts → IsUtf8 s → IsUtf8 before
+    → OnErr result (after ≡ before)
+    → OnOk result (AppendsFilled IsUtf8 (parts_value parts s (marks_of look_up)) before after) → IsUtf8 after
+text_after s parts look_up (Ok done) {before = before} template is first same (x, fills, appended) =
+    subst IsUtf8 (sym appended)
+    (IsUtf8-append before x first (output_is_text s parts look_up x template is fills))
+text_after s parts look_up (Err e) template is first same more = subst IsUtf8 (sym same) first

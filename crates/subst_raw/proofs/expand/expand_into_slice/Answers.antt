@@ -1,6 +1,5 @@
 -- What was written, from what the slice was at first.
 use Rattle.std.proofs.Common.{refl, rules, []}
-use Rattle.subst_raw.specs.SliceOutput.{SliceAtFirst}
 use Rattle.subst_raw.proofs.expand.expand_into_slice.Goals as goal
 
 pub returns-in-Ok-clause-value : goal.returns-in-Ok-clause-value

@@ -27,7 +27,7 @@ returns-in-Ok-clause-value g c bytes reads t spells =
     let same = ap (λ s. parts_value c.args.parts.now s look) c.as_bytes.ensures.value in
     let gives = template_value c.args.source.now c.args.parts.now t look c.requires spells in
     sym (same ∙ gives) ∙ c.in-Ok.ensures.value bytes reads
-    ∙ ap Bytes (sym c.text_of.ensures)
+    ∙ ap Bytes (sym c.text_of.ensures.bytes)
 
 pub returns-in-Err-clause-value : goal.returns-in-Err-clause-value
 returns-in-Err-clause-value g c bytes reads t spells =
