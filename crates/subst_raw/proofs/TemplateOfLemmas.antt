@@ -1,5 +1,5 @@
 -- What the parts of a template give, what is written for them, and how many of them are visited.
-use Rattle.std.proofs.Common.{◌≡◌, ◌≤◌, ℕ, Option, IfSome, List, [], ◌∷◌, length, ap, subst, ◌∙◌}
+use Rattle.std.proofs.Common.{◌≡◌, ◌≤◌, ℕ, Option, Result, Ok, Err, IfErr, IfSome, List, [], ◌∷◌, length, ap, subst, ◌∙◌}
 use Rattle.subst_error.specs.Fault.{Fault}
 use Rattle.subst_error.specs.Range.{range_of}
 use Rattle.subst_language.specs.Calls.VariableMap.{ByNames}
@@ -60,3 +60,21 @@ template_range s parts look_up stated template missing =
     let look = marks_of look_up in
     expand_error_within s template.tree look stated template.spells
     (subst (λ v. IfSome stated (IsMissing v)) (template.mean.same_value look) missing)
+
+-- the same of each error that a result may have, which states its fault
+pub errors_missing : {Seen T E : Type 0} (fault_of : E → Option Fault) (s : List ℕ) (parts : List Part)
+    (t : Tree) (look_up : List ℕ → Option Seen) (result : Result T E) → IsTemplateOf s parts → Spells t s
+    → IfErr result (λ e. IfSome (fault_of e) (IsMissing (parts_value parts s (marks_of look_up))))
+    → ByNames look_up (λ look. IfErr result (λ e. IfSome (fault_of e) (IsMissing (value 0 t look))))
+errors_missing fault_of s parts t look_up (Ok x) template spells missing look names = tt
+errors_missing fault_of s parts t look_up (Err e) template spells missing look names =
+    template_missing s parts t look_up (fault_of e) template spells missing look names
+
+-- and of its range
+pub errors_range : {Seen T E : Type 0} (fault_of : E → Option Fault) (s : List ℕ) (parts : List Part)
+    (look_up : List ℕ → Option Seen) (result : Result T E) → IsTemplateOf s parts
+    → IfErr result (λ e. IfSome (fault_of e) (IsMissing (parts_value parts s (marks_of look_up))))
+    → IfErr result (λ e. (range_of (fault_of e)).end ≤ length s)
+errors_range fault_of s parts look_up (Ok x) template missing = tt
+errors_range fault_of s parts look_up (Err e) template missing =
+    template_range s parts look_up (fault_of e) template missing

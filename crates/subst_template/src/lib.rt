@@ -12,6 +12,7 @@ ghost use Rattle.subst_language.specs.Language.Sentence.{IsSentence};
 ghost use Rattle.subst_language.specs.Calls.VariableMap.{ByLookUp, ByNames};
 ghost use Rattle.subst_language.specs.Calls.Outcome.{answer_of, refusal_of};
 
+pub use into::{substitute_bytes_into, substitute_into};
 pub use owned::{is_plain, substitute_bytes_owned, substitute_owned};
 use std::alloc::Global;
 use std::convert::{AsSlice, AsStr};
@@ -19,6 +20,7 @@ use subst_error::Error;
 use subst_map::VariableMap;
 pub use template::{ByteTemplate, ByteTemplateBuf, Template, TemplateBuf};
 
+mod into;
 mod owned;
 mod template;
 

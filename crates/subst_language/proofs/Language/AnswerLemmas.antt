@@ -1,7 +1,8 @@
 -- A source has one answer at most under a look-up.
 use Rattle.std.proofs.Common.{◌≡◌, ◌⊎◌, ℕ, List, Option, Some, None, Result, Ok, Err, IfSome, inl, inr, sym, ap, ◌∙◌, refl}
 use Rattle.std.specs.Option.{option_map}
-use Rattle.subst_error.specs.ErrorFault.{error_fault}
+use Rattle.subst_error.specs.ErrorFault.{error_fault, substitute_into_fault}
+use Rattle.subst_error.specs.declared.lent.SubstituteIntoError.{SubstituteIntoError}
 use Rattle.subst_error.specs.declared.Error.{Error}
 use Rattle.subst_language.specs.Language.Tree.{Tree}
 use Rattle.subst_language.specs.Language.Sentence.{Spells, IsSentence, ByTree}
@@ -54,5 +55,16 @@ refused_by_expansion s look (Err e) (t, spells) h = of (error_fault e) (h t spel
   where
     of : (o : Option Fault) → IfSome o (IsMissing (value 0 t look))
         → IfSome (option_map Refuses o) (Answers s look)
+    of None missing = tt
+    of (Some f) missing = inr (t, spells, missing)
+
+-- the same of an expansion into an output that is lent
+pub refused_into : {T : Type 0} (s : List ℕ) (look : LookUp) (r : Result T SubstituteIntoError) → IsSentence s
+    → ByTree s (λ t. OnFault substitute_into_fault r (IsMissing (value 0 t look)))
+    → OnFault substitute_into_fault r (λ f. Answers s look (Refuses f))
+refused_into s look (Ok done) sentence h = tt
+refused_into s look (Err e) (t, spells) h = of (substitute_into_fault e) (h t spells)
+  where
+    of : (o : Option Fault) → IfSome o (IsMissing (value 0 t look)) → IfSome o (λ f. Answers s look (Refuses f))
     of None missing = tt
     of (Some f) missing = inr (t, spells, missing)

@@ -3,12 +3,16 @@
 use Rattle.std.specs.Prelude.{◌≡◌, ◌≤◌, ℕ, List, ◌++◌, drop, length, Option, Some, None, Result, Ok, Err, IfErr, IfNone, IfSome}
 use Rattle.std.specs.Option.{option_map}
 use Rattle.subst_error.specs.Fault.{Fault}
-use Rattle.subst_error.specs.ErrorFault.{error_fault, expand_fault, expand_into_fault}
+use Rattle.subst_error.specs.ErrorFault.{error_fault, expand_fault, expand_into_fault, substitute_into_fault}
 use Rattle.subst_error.specs.declared.Error.{Error}
 use Rattle.subst_error.specs.declared.ExpandError.{ExpandError}
+use Rattle.subst_error.specs.declared.ParseError.{ParseError}
 use Rattle.subst_error.specs.declared.lent.ExpandIntoError.{ExpandIntoError}
+use Rattle.subst_error.specs.declared.lent.SubstituteIntoError.{SubstituteIntoError}
+use Rattle.subst_error.specs.declared.lent.SubstituteIntoError.TheVariants.{Parse, Expand}
 use Rattle.subst_language.specs.Language.Value.{Value, Bytes}
-use Rattle.subst_language.specs.Language.Answer.{Answer, Gives, Refuses, IsMissing}
+use Rattle.subst_language.specs.Language.LookUp.{LookUp}
+use Rattle.subst_language.specs.Language.Answer.{Answer, Answers, Gives, Refuses, IsMissing}
 
 -- P holds of the fault that an error states, where `fault_of` tells it
 abbrev pub OnFault : {T E : Type 0} → (E → Option Fault) → Result T E → (Fault → Type 0) → Type 0
@@ -46,3 +50,16 @@ answer_of bytes_of (Err e) = option_map Refuses (error_fault e)
 abbrev pub refusal_of : {T : Type 0} → Result T Error → Option Answer
 refusal_of (Ok output) = None
 refusal_of (Err e) = option_map Refuses (error_fault e)
+
+-- the bytes that a source gives are appended to an output, or the error states the fault that it is refused for
+abbrev pub SubstitutesInto : {T : Type 0} → (s : List ℕ) → (before : List ℕ) → Result T SubstituteIntoError
+    → (after : List ℕ) → LookUp → Type 0
+SubstitutesInto s before (Ok done) after look = (x : List ℕ) × Answers s look (Gives x) × (after ≡ before ++ x)
+SubstitutesInto s before (Err e) after look = IfSome (substitute_into_fault e) (λ f. Answers s look (Refuses f))
+
+-- P holds of the error of a parse, and Q of that of an expansion
+abbrev pub IfRefused : {T : Type 0} → Result T SubstituteIntoError → (ParseError → Type 0)
+    → (ExpandIntoError → Type 0) → Type 0
+IfRefused (Ok done) P Q = Unit {0}
+IfRefused (Err (Parse e)) P Q = P e
+IfRefused (Err (Expand e)) P Q = Q e

@@ -2,25 +2,28 @@
 //! has a template, and it expands to the value of the source's tree. Contracts bound the reads of a parse
 //! and count the turns of an expansion.
 
-ghost use Rattle.std.specs.Prelude.{◌≡◌, ◌+◌, ◌*◌, ◌≤◌, length, IfOk, IfErr, IfSome, OnOk};
-ghost use Rattle.subst_error.specs.ErrorFault.{expand_fault, parse_fault};
+ghost use Rattle.std.specs.Prelude.{◌≡◌, ◌+◌, ◌*◌, ◌^◌, ◌<◌, ◌≤◌, length, IfOk, IfErr, IfSome, OnErr, OnOk};
+ghost use Rattle.std.specs.Prelude.{vec_capacity, vec_len};
+ghost use Rattle.subst_error.specs.ErrorFault.{expand_fault, expand_into_fault, parse_fault};
 ghost use Rattle.subst_error.specs.Range.{range_of};
 ghost use Rattle.subst_language.specs.Language.Answer.{IsMissing};
 ghost use Rattle.subst_language.specs.Language.Sentence.{IsSentence, ByTree};
 ghost use Rattle.subst_language.specs.Language.BadItem.{HasFault};
 ghost use Rattle.subst_language.specs.Language.Value.{value};
+ghost use Rattle.subst_language.specs.Language.Written.{written};
 ghost use Rattle.subst_language.specs.Language.Counts.{visited_count};
 ghost use Rattle.subst_language.specs.Calls.VariableMap.{ByLookUp, ByNames};
 ghost use Rattle.subst_language.specs.Calls.Outcome.{OnFault, Expands};
+ghost use Rattle.subst_language.specs.Calls.Outcome.{ExpandsInto, ExpandsIntoSlice, OnOutOfMemory};
 
 use crate::template::byte_string::ByteString;
 use std::alloc::{AllocError, Global};
 use std::convert::AsSlice;
 use std::fmt;
 use std::marker::Model;
-use subst_error::{ExpandError, ParseError};
+use subst_error::{ExpandError, ExpandIntoError, ParseError};
 use subst_map::VariableMap;
-use subst_raw::expand::expand;
+use subst_raw::expand::{expand, expand_into, expand_into_slice};
 use subst_raw::parse::parse;
 use subst_raw::steps::{Reads, Turns};
 use subst_raw::{CowParts, SliceBytes};
@@ -157,6 +160,80 @@ impl<'a> ByteTemplate<'a> {
         ensures range { IfErr result (λ e. (range_of (expand_fault e)).end ≤ length self.now) }
     {
         expand::<M, SliceBytes>(alloc, self.source, &self.parts, variables, turns)
+    }
+
+    /// Appends the bytes of the source with its variables filled in from `variables` to `output`. Where
+    /// `output` has room for them, this takes no memory, also where a variable is missing.
+    ///
+    /// ```rust
+    /// let template = ByteTemplate::from_slice(alloc, b"Dear ${name:friend},")?;
+    /// let mut output = Vec::from_slice(alloc, b"> ")?;
+    /// let _ = template.expand_into(&mut output, &NoSubstitution);
+    /// // > Dear friend,
+    /// ```
+    ///
+    /// # Errors
+    ///
+    /// As `expand`, with the name of a missing variable lent from the source. `OutOfMemory` only where the
+    /// room that `output` had left is shorter than what is written, which are all the bytes, or those before
+    /// the missing variable. The items of `output` are then as before.
+    pub fn expand_into<'b, M: VariableMap<'b>>(
+        &self,
+        output: &mut Vec<u8>,
+        variables: &'b M,
+    ) -> Result<(), ExpandIntoError<'a>>
+    where
+        M::Value: AsSlice<u8> + Drop,
+        ensures value { ByLookUp M.Value.items M.see (M.look_up variables.now)
+            (λ look. ByTree self.now
+            (λ t. ExpandsInto output.old.items result output.new.items (value 0 t look))) }
+
+        // Whatever the map, an error leaves the items as they were, and the room only grows.
+        ensures kept { OnErr result (output.new.items ≡ output.old.items) }
+        ensures capacity { vec_capacity output.old ≤ vec_capacity output.new }
+
+        // Out of memory only with cause: the room is shorter than what is written.
+        ensures full { ByLookUp M.Value.items M.see (M.look_up variables.now)
+            (λ look. ByTree self.now (λ t. OnOutOfMemory expand_into_fault result
+            (vec_capacity output.old < vec_len output.old + length (written 0 t look)))) }
+        ensures sentence { IsSentence self.now }
+        ensures missing { ByNames (M.look_up variables.now) (λ look. ByTree self.now (λ t.
+            IfErr result (λ e. IfSome (expand_into_fault e) (IsMissing (value 0 t look))))) }
+        ensures range { IfErr result
+            (λ e. (range_of (expand_into_fault e)).end ≤ length self.now) }
+    {
+        let mut turns = Turns::new();
+        expand_into::<M, SliceBytes>(self.source, &self.parts, variables, &mut turns, output)
+    }
+
+    /// Writes the bytes of the source with its variables filled in from `variables` from the front of a
+    /// slice on, and returns how many they are, also where the slice is shorter. This takes no memory.
+    ///
+    /// Where the slice is shorter, and after an error, what it has is unspecified.
+    ///
+    /// # Errors
+    ///
+    /// As `expand_into`; `OutOfMemory` only where the bytes are too many for a `usize`.
+    pub fn expand_into_slice<'b, M: VariableMap<'b>>(
+        &self,
+        slice: &mut [u8],
+        variables: &'b M,
+    ) -> Result<usize, ExpandIntoError<'a>>
+    where
+        M::Value: AsSlice<u8> + Drop,
+        ensures value { ByLookUp M.Value.items M.see (M.look_up variables.now)
+            (λ look. ByTree self.now
+            (λ t. ExpandsIntoSlice slice.old result slice.new (value 0 t look))) }
+        ensures full { ByLookUp M.Value.items M.see (M.look_up variables.now)
+            (λ look. ByTree self.now (λ t. OnOutOfMemory expand_into_fault result
+            (2 ^ 64 ≤ length (written 0 t look)))) }
+        ensures sentence { IsSentence self.now }
+        ensures missing { ByNames (M.look_up variables.now) (λ look. ByTree self.now (λ t.
+            IfErr result (λ e. IfSome (expand_into_fault e) (IsMissing (value 0 t look))))) }
+        ensures range { IfErr result
+            (λ e. (range_of (expand_into_fault e)).end ≤ length self.now) }
+    {
+        expand_into_slice::<M, SliceBytes>(self.source, &self.parts, variables, slice)
     }
 }
 

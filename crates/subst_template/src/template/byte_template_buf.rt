@@ -1,15 +1,17 @@
 //! Templates that own their byte sources: a source and its parts. Each lends a `ByteTemplate` of the same
 //! source.
 
-ghost use Rattle.std.specs.Prelude.{◌≡◌, ◌≤◌, length, IfErr, IfOk, IfSome};
-ghost use Rattle.subst_error.specs.ErrorFault.{expand_fault, parse_fault};
+ghost use Rattle.std.specs.Prelude.{◌≡◌, ◌+◌, ◌<◌, ◌≤◌, length, IfErr, IfOk, IfSome, OnErr};
+ghost use Rattle.std.specs.Prelude.{vec_capacity, vec_len};
+ghost use Rattle.subst_error.specs.ErrorFault.{expand_fault, expand_into_fault, parse_fault};
 ghost use Rattle.subst_error.specs.Range.{range_of};
 ghost use Rattle.subst_language.specs.Language.Answer.{IsMissing};
 ghost use Rattle.subst_language.specs.Language.Sentence.{IsSentence, ByTree};
 ghost use Rattle.subst_language.specs.Language.BadItem.{HasFault};
 ghost use Rattle.subst_language.specs.Language.Value.{value};
+ghost use Rattle.subst_language.specs.Language.Written.{written};
 ghost use Rattle.subst_language.specs.Calls.VariableMap.{ByLookUp, ByNames};
-ghost use Rattle.subst_language.specs.Calls.Outcome.{OnFault, Expands};
+ghost use Rattle.subst_language.specs.Calls.Outcome.{OnFault, Expands, ExpandsInto, OnOutOfMemory};
 
 use crate::template::byte_string::ByteString;
 use crate::template::byte_template::ByteTemplate;
@@ -17,7 +19,7 @@ use std::alloc::{AllocError, Global};
 use std::convert::AsSlice;
 use std::fmt;
 use std::marker::Model;
-use subst_error::{ExpandError, ParseError};
+use subst_error::{ExpandError, ExpandIntoError, ParseError};
 use subst_map::VariableMap;
 use subst_raw::parse::parse;
 use subst_raw::steps::Reads;
@@ -134,6 +136,40 @@ impl ByteTemplateBuf {
         ensures range { IfErr result (λ e. (range_of (expand_fault e)).end ≤ length self.now) }
     {
         self.as_template().expand(alloc, variables)
+    }
+
+    /// Appends the bytes of the source with its variables filled in from `variables` to `output`, as
+    /// [`ByteTemplate::expand_into`].
+    ///
+    /// # Errors
+    ///
+    /// As [`ByteTemplate::expand_into`]. The items of `output` are then as before.
+    pub fn expand_into<'b, M: VariableMap<'b>>(
+        &self,
+        output: &mut Vec<u8>,
+        variables: &'b M,
+    ) -> Result<(), ExpandIntoError<'_>>
+    where
+        M::Value: AsSlice<u8> + Drop,
+        ensures value { ByLookUp M.Value.items M.see (M.look_up variables.now)
+            (λ look. ByTree self.now
+            (λ t. ExpandsInto output.old.items result output.new.items (value 0 t look))) }
+
+        // Whatever the map, an error leaves the items as they were, and the room only grows.
+        ensures kept { OnErr result (output.new.items ≡ output.old.items) }
+        ensures capacity { vec_capacity output.old ≤ vec_capacity output.new }
+
+        // Out of memory only with cause: the room is shorter than what is written.
+        ensures full { ByLookUp M.Value.items M.see (M.look_up variables.now)
+            (λ look. ByTree self.now (λ t. OnOutOfMemory expand_into_fault result
+            (vec_capacity output.old < vec_len output.old + length (written 0 t look)))) }
+        ensures sentence { IsSentence self.now }
+        ensures missing { ByNames (M.look_up variables.now) (λ look. ByTree self.now (λ t.
+            IfErr result (λ e. IfSome (expand_into_fault e) (IsMissing (value 0 t look))))) }
+        ensures range { IfErr result
+            (λ e. (range_of (expand_into_fault e)).end ≤ length self.now) }
+    {
+        self.as_template().expand_into(output, variables)
     }
 }
 

@@ -1,23 +1,25 @@
 //! Templates over texts that they borrow, with the contracts of `ByteTemplate` over the bytes of texts.
 
-ghost use Rattle.std.specs.Prelude.{◌≡◌, IfErr, IfOk, IfSome, string_bytes};
-ghost use Rattle.subst_error.specs.ErrorFault.{expand_fault, parse_fault};
+ghost use Rattle.std.specs.Prelude.{◌≡◌, ◌+◌, ◌<◌, ◌≤◌, length, IfErr, IfOk, IfSome, OnErr};
+ghost use Rattle.std.specs.Prelude.{string_bytes, string_capacity, string_len};
+ghost use Rattle.subst_error.specs.ErrorFault.{expand_fault, expand_into_fault, parse_fault};
 ghost use Rattle.subst_error.specs.Range.{range_of, IsRangeIn};
 ghost use Rattle.subst_language.specs.Language.Answer.{IsMissing};
 ghost use Rattle.subst_language.specs.Language.Sentence.{IsSentence, ByTree};
 ghost use Rattle.subst_language.specs.Language.BadItem.{HasFault};
 ghost use Rattle.subst_language.specs.Language.Value.{value};
+ghost use Rattle.subst_language.specs.Language.Written.{written};
 ghost use Rattle.subst_language.specs.Calls.VariableMap.{ByLookUp, ByNames};
-ghost use Rattle.subst_language.specs.Calls.Outcome.{OnFault, Expands};
+ghost use Rattle.subst_language.specs.Calls.Outcome.{OnFault, Expands, ExpandsInto, OnOutOfMemory};
 
 use std::alloc::{AllocError, Global};
 use std::convert::AsStr;
 use std::fmt;
 use std::marker::Model;
-use subst_error::{ExpandError, ParseError};
+use subst_error::{ExpandError, ExpandIntoError, ParseError};
 use subst_map::VariableMap;
 use subst_raw::CowParts;
-use subst_raw::expand_text::expand_text;
+use subst_raw::expand_text::{expand_text, expand_text_into};
 use subst_raw::parse::parse;
 use subst_raw::steps::Reads;
 
@@ -99,6 +101,49 @@ impl<'a> Template<'a> {
         ensures range { IfErr result (λ e. IsRangeIn self.now (range_of (expand_fault e))) }
     {
         expand_text(alloc, self.source, &self.parts, variables)
+    }
+
+    /// Appends the source with its variables filled in from `variables`, whose values are texts, to `output`.
+    /// Where `output` has room for it, this takes no memory, also where a variable is missing.
+    ///
+    /// ```rust
+    /// let template = Template::from_str(alloc, "Dear ${name:friend},")?;
+    /// let mut output = String::from_str(alloc, "> ")?;
+    /// let _ = template.expand_into(&mut output, &NoSubstitution);
+    /// // > Dear friend,
+    /// ```
+    ///
+    /// # Errors
+    ///
+    /// As `expand`, with the name of a missing variable lent from the source. `OutOfMemory` only where the
+    /// room that `output` had left is shorter than what is written, which is all the text, or what comes
+    /// before the missing variable. The text in `output` is then as before.
+    pub fn expand_into<'b, M: VariableMap<'b>>(
+        &self,
+        output: &mut String,
+        variables: &'b M,
+    ) -> Result<(), ExpandIntoError<'a>>
+    where
+        M::Value: AsStr + Drop,
+        ensures value { ByLookUp M.Value.text M.see (M.look_up variables.now)
+            (λ look. ByTree self.now (λ t. ExpandsInto (string_bytes output.old) result
+            (string_bytes output.new) (value 0 t look))) }
+
+        // Whatever the map, an error leaves the text as it was, and the room only grows.
+        ensures kept { OnErr result (string_bytes output.new ≡ string_bytes output.old) }
+        ensures capacity { string_capacity output.old ≤ string_capacity output.new }
+
+        // Out of memory only with cause: the room is shorter than what is written.
+        ensures full { ByLookUp M.Value.text M.see (M.look_up variables.now)
+            (λ look. ByTree self.now (λ t. OnOutOfMemory expand_into_fault result
+            (string_capacity output.old < string_len output.old + length (written 0 t look)))) }
+        ensures sentence { IsSentence self.now }
+        ensures missing { ByNames (M.look_up variables.now) (λ look. ByTree self.now (λ t.
+            IfErr result (λ e. IfSome (expand_into_fault e) (IsMissing (value 0 t look))))) }
+        ensures range { IfErr result
+            (λ e. IsRangeIn self.now (range_of (expand_into_fault e))) }
+    {
+        expand_text_into(self.source, &self.parts, variables, output)
     }
 }
 

@@ -10,7 +10,7 @@ use Rattle.subst_raw.specs.Filled.{marks_of}
 use Rattle.subst_raw.specs.Parts.{parts_value, parts_written}
 use Rattle.subst_language.proofs.Language.RangeLemmas.{expand_error_in_text}
 use Rattle.subst_raw.proofs.FilledTextLemmas.{text_after}
-use Rattle.subst_raw.proofs.TemplateOfLemmas.{template_value, template_written, template_missing}
+use Rattle.subst_raw.proofs.TemplateOfLemmas.{template_value, template_written, errors_missing}
 use Rattle.subst_raw.proofs.expand_text.expand_text_into.Goals as goal
 
 pub text_of-requires : goal.text_of-requires
@@ -45,13 +45,11 @@ returns-clause-full g c bytes reads t spells =
     (c.expand_into-outcome.ensures.full bytes reads)
 
 pub returns-clause-missing : goal.returns-clause-missing
-returns-clause-missing g c look names t spells =
+returns-clause-missing g c =
     let look_up = g.M.VariableMap.look_up c.args.variables.now in
-    let same = ap (λ s. parts_value c.args.parts.now s (marks_of look_up)) c.as_bytes-source.ensures.value in
-    IfErr-weaker c.expand_into-outcome.result _ _
-    (λ e missing. template_missing c.args.source.now c.args.parts.now t look_up (expand_into_fault e)
-    c.requires spells (subst (λ v. IfSome (expand_into_fault e) (IsMissing v)) same missing) look names)
-    c.expand_into-outcome.ensures.missing
+    λ look names t spells.
+    errors_missing expand_into_fault c.args.source.now c.args.parts.now t look_up c.expand_into-outcome.result
+    c.requires spells (rw (sym c.as_bytes-source.ensures.value) c.expand_into-outcome.ensures.missing) look names
 
 pub returns-clause-range : goal.returns-clause-range
 returns-clause-range g c =

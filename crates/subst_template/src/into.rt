@@ -1,0 +1,118 @@
+//! Substitutions into an output that is lent, whose errors take no memory.
+
+ghost use Rattle.std.specs.Prelude.{◌≡◌, ◌+◌, ◌<◌, ◌≤◌, length, IfErr, IfNone, IfOk, IfSome, OnErr};
+ghost use Rattle.std.specs.Prelude.{string_bytes, string_capacity, string_len, vec_capacity, vec_len};
+ghost use Rattle.subst_error.specs.ErrorFault.{expand_into_fault, parse_fault, substitute_into_fault};
+ghost use Rattle.subst_error.specs.Range.{range_of, IsRangeIn};
+ghost use Rattle.subst_language.specs.Language.Answer.{Answers, Refuses};
+ghost use Rattle.subst_language.specs.Language.BadItem.{HasFault};
+ghost use Rattle.subst_language.specs.Language.Sentence.{ByTree, IsSentence};
+ghost use Rattle.subst_language.specs.Language.Written.{written};
+ghost use Rattle.subst_language.specs.Calls.VariableMap.{ByLookUp, ByNames};
+ghost use Rattle.subst_language.specs.Calls.Outcome.{IfRefused, SubstitutesInto};
+
+use crate::{ByteTemplate, Template};
+use std::alloc::Global;
+use std::convert::{AsSlice, AsStr};
+use subst_error::SubstituteIntoError;
+use subst_map::VariableMap;
+
+/// Appends what [`substitute_bytes`](crate::substitute_bytes) returns to `output`.
+///
+/// ```rust
+/// let mut output = Vec::from_slice(alloc, b"> ")?;
+/// let _ = substitute_bytes_into(alloc, b"Hello ${name:nobody}!", &mut output, &NoSubstitution);
+/// // > Hello nobody!
+/// ```
+///
+/// # Errors
+///
+/// As [`substitute_bytes`](crate::substitute_bytes), with the name of a missing variable lent from the
+/// source. `Parse` of `OutOfMemory` where the parse runs out of memory; `Expand` of `OutOfMemory` only where
+/// the room that `output` had left is shorter than what is written, which are all the bytes, or those before
+/// the missing variable. The items of `output` are then as before.
+pub fn substitute_bytes_into<'s, 'a, M: VariableMap<'a>>(
+    alloc: Global,
+    source: &'s [u8],
+    output: &mut Vec<u8>,
+    variables: &'a M,
+) -> Result<(), SubstituteIntoError<'s>>
+where
+    M::Value: AsSlice<u8> + Drop,
+
+    // The answer of the source under the map's look-up: there is one, and it is this.
+    ensures answer { ByLookUp M.Value.items M.see (M.look_up variables.now)
+        (λ look. SubstitutesInto source.now output.old.items result output.new.items look) }
+
+    // Whatever the map, an error leaves the items as they were, and the room only grows.
+    ensures kept { OnErr result (output.new.items ≡ output.old.items) }
+    ensures capacity { vec_capacity output.old ≤ vec_capacity output.new }
+
+    // After the parse, out of memory only with cause: the room is shorter than what is written.
+    ensures full { ByLookUp M.Value.items M.see (M.look_up variables.now)
+        (λ look. ByTree source.now (λ t. IfRefused result (λ e. Unit {0})
+        (λ e. IfNone (expand_into_fault e)
+        (vec_capacity output.old < vec_len output.old + length (written 0 t look))))) }
+
+    // Only a sentence gives bytes or misses a variable; any other source has a fault. The range of an error
+    // ends within the source.
+    ensures sentence { IfOk result (λ done. IsSentence source.now) }
+    ensures kind { IfRefused result (λ e. IfSome (parse_fault e) (HasFault 0 source.now))
+        (λ e. IsSentence source.now) }
+    ensures refusal { ByNames (M.look_up variables.now) (λ look. IfErr result
+        (λ e. IfSome (substitute_into_fault e) (λ f. Answers source.now look (Refuses f)))) }
+    ensures range { IfErr result
+        (λ e. (range_of (substitute_into_fault e)).end ≤ length source.now) }
+{
+    let template = ByteTemplate::from_slice(alloc, source)?;
+    Ok(template.expand_into(output, variables)?)
+}
+
+/// Appends what [`substitute`](crate::substitute) returns to `output`.
+///
+/// ```rust
+/// let mut output = String::from_str(alloc, "> ")?;
+/// let _ = substitute_into(alloc, "Hello ${name:nobody}!", &mut output, &NoSubstitution);
+/// // > Hello nobody!
+/// ```
+///
+/// # Errors
+///
+/// As [`substitute_bytes_into`]. The text in `output` is then as before.
+pub fn substitute_into<'s, 'a, M: VariableMap<'a>>(
+    alloc: Global,
+    source: &'s str,
+    output: &mut String,
+    variables: &'a M,
+) -> Result<(), SubstituteIntoError<'s>>
+where
+    M::Value: AsStr + Drop,
+
+    // The answer of the source under the map's look-up: there is one, and it is this.
+    ensures answer { ByLookUp M.Value.text M.see (M.look_up variables.now)
+        (λ look. SubstitutesInto source.now (string_bytes output.old) result
+        (string_bytes output.new) look) }
+
+    // Whatever the map, an error leaves the text as it was, and the room only grows.
+    ensures kept { OnErr result (string_bytes output.new ≡ string_bytes output.old) }
+    ensures capacity { string_capacity output.old ≤ string_capacity output.new }
+
+    // After the parse, out of memory only with cause: the room is shorter than what is written.
+    ensures full { ByLookUp M.Value.text M.see (M.look_up variables.now)
+        (λ look. ByTree source.now (λ t. IfRefused result (λ e. Unit {0})
+        (λ e. IfNone (expand_into_fault e)
+        (string_capacity output.old < string_len output.old + length (written 0 t look))))) }
+
+    // Only a sentence gives a text or misses a variable; any other source has a fault. An error has its range
+    // in the source.
+    ensures sentence { IfOk result (λ done. IsSentence source.now) }
+    ensures kind { IfRefused result (λ e. IfSome (parse_fault e) (HasFault 0 source.now))
+        (λ e. IsSentence source.now) }
+    ensures refusal { ByNames (M.look_up variables.now) (λ look. IfErr result
+        (λ e. IfSome (substitute_into_fault e) (λ f. Answers source.now look (Refuses f)))) }
+    ensures range { IfErr result
+        (λ e. IsRangeIn source.now (range_of (substitute_into_fault e))) }
+{
+    let template = Template::from_str(alloc, source)?;
+    Ok(template.expand_into(output, variables)?)
+}
