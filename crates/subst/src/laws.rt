@@ -1,7 +1,7 @@
 //! Laws of the definitions that the contracts cite. Each is the contract of a function that does nothing. And
-//! [`escaped`] and [`is_plain`], of which one of them speaks each.
+//! [`escaped`], [`escape_into`] and [`is_plain`], of which one of them speaks each.
 
-pub use subst_escape::escaped;
+pub use subst_escape::{escape_into, escaped};
 pub use subst_json::laws::trees_have_one_outcome;
 pub use subst_language::laws::{
     law_1, law_2, law_3, law_4, law_5, law_6, law_7, law_8, law_9, missing_variables_are_missing,

@@ -4,14 +4,16 @@ ghost use Rattle.std.specs.Prelude.{Some, string_bytes};
 ghost use Rattle.std.specs.Fmt.{DisplaysOnOk, DisplaysStyledOnOk};
 ghost use Rattle.subst_error.specs.Display.{display_of_character, display_of_error, display_of_fault};
 ghost use Rattle.subst_error.specs.Display.{IsDisplayOfError, IsDisplayOfFault};
-ghost use Rattle.subst_error.specs.ErrorFault.{error_fault, expand_fault, parse_fault, unexpected_fault};
+ghost use Rattle.subst_error.specs.ErrorFault.{error_fault, expand_fault, expand_into_fault, parse_fault};
+ghost use Rattle.subst_error.specs.ErrorFault.{substitute_into_fault, unexpected_fault};
 ghost use Rattle.subst_error.specs.Fault as fault;
 ghost use Rattle.subst_error.specs.Writing.{WritesSome};
 
 use crate::shown::write_shown;
 use crate::{
-    CharOrByte, Error, ExpandError, InvalidEscapeSequence, MissingClosingBrace,
-    MissingVariableName, NoSuchVariable, ParseError, UnexpectedCharacter,
+    CharOrByte, Error, ExpandError, ExpandIntoError, InvalidEscapeSequence, MissingClosingBrace,
+    MissingVariableName, NoSuchVariable, NoSuchVariableRef, ParseError, SubstituteIntoError,
+    UnexpectedCharacter,
 };
 use std::fmt;
 
@@ -101,10 +103,24 @@ impl fmt::Display for NoSuchVariable {
     ghost styled_output = { λ e _.
         display_of_fault (fault.NoSuchVariable e.position (string_bytes e.name)) };
 
+    fn fmt<W: fmt::Write>(&self, f: &mut fmt::Formatter<W>) -> fmt::Result {
+        let missing = NoSuchVariableRef {
+            position: self.position,
+            name: self.name.as_str(),
+        };
+        fmt::Display::fmt(&missing, f)
+    }
+}
+
+impl fmt::Display for NoSuchVariableRef<'_> {
+    ghost output = { λ e. display_of_fault (fault.NoSuchVariable e.position e.name.now) };
+
+    ghost styled_output = { λ e _. display_of_fault (fault.NoSuchVariable e.position e.name.now) };
+
     #[tactic(auto, using(crate::proofs::StyledLemmas::styled_two))]
     fn fmt<W: fmt::Write>(&self, f: &mut fmt::Formatter<W>) -> fmt::Result {
         f.write_str("No such variable: $")?;
-        f.write_str(self.name.as_str())
+        f.write_str(self.name)
     }
 }
 
@@ -168,6 +184,39 @@ impl fmt::Display for ExpandError {
     }
 }
 
+impl fmt::Display for ExpandIntoError<'_> {
+    ghost output = { λ e. display_of_error (expand_into_fault e) };
+
+    ghost styled_output = { λ e _. display_of_error (expand_into_fault e) };
+
+    fn fmt<W: fmt::Write>(&self, f: &mut fmt::Formatter<W>) -> fmt::Result {
+        match self {
+            ExpandIntoError::NoSuchVariable(e) => fmt::Display::fmt(e, f),
+            ExpandIntoError::OutOfMemory(_) => f.write_str("out of memory"),
+        }
+    }
+}
+
+impl fmt::Display for SubstituteIntoError<'_> {
+    ghost output = { λ e. display_of_error (substitute_into_fault e) };
+
+    ghost styled_output = { λ e _. display_of_error (substitute_into_fault e) };
+
+    fn fmt<W: fmt::Write>(&self, f: &mut fmt::Formatter<W>) -> fmt::Result
+        ensures writes { DisplaysOnOk W.write_str_gives f.old result
+            (display_of_error (substitute_into_fault self.now)) f.new }
+        ensures styled { DisplaysStyledOnOk W.write_str_gives f.old result
+            (display_of_error (substitute_into_fault self.now)) f.new }
+        ensures text { WritesSome W.write_str_gives f.old result
+            (IsDisplayOfError (substitute_into_fault self.now)) f.new }
+    {
+        match self {
+            SubstituteIntoError::Parse(e) => fmt::Display::fmt(e, f),
+            SubstituteIntoError::Expand(e) => fmt::Display::fmt(e, f),
+        }
+    }
+}
+
 impl std::error::Error for InvalidEscapeSequence {}
 
 impl std::error::Error for MissingVariableName {}
@@ -178,8 +227,14 @@ impl std::error::Error for MissingClosingBrace {}
 
 impl std::error::Error for NoSuchVariable {}
 
+impl std::error::Error for NoSuchVariableRef<'_> {}
+
 impl std::error::Error for Error {}
 
 impl std::error::Error for ParseError {}
 
 impl std::error::Error for ExpandError {}
+
+impl std::error::Error for ExpandIntoError<'_> {}
+
+impl std::error::Error for SubstituteIntoError<'_> {}

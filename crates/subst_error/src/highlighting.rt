@@ -1,6 +1,6 @@
 //! The line of its source that an error is in, with the error underlined.
 
-ghost use Rattle.std.specs.Prelude.{◌≡◌, [], Some, IfOk, OnOk, MatchOption, string_bytes};
+ghost use Rattle.std.specs.Prelude.{◌≡◌, [], Some, IsOk, IfOk, OnOk, MatchOption, string_bytes};
 ghost use Rattle.std.specs.Fmt.{WritesText};
 ghost use Rattle.subst_error.specs.ErrorFault.{error_fault};
 ghost use Rattle.subst_error.specs.Highlighting.{highlighting_of, underlined};
@@ -76,11 +76,12 @@ impl Error {
     ///
     /// # Errors
     ///
-    /// When allocation fails.
+    /// When allocation fails. An empty text takes no memory, so it never fails.
     pub fn source_highlighting(&self, alloc: Global, source: &str) -> Result<String, AllocError>
         requires { IsRangeIn source.now (range_of (error_fault self.now)) }
         ensures highlighting { IfOk result (λ text.
             string_bytes text ≡ highlighting_of (error_fault self.now) source.now) }
+        ensures nothing { highlighting_of (error_fault self.now) source.now ≡ [] → IsOk result }
     {
         match self.underlined(source) {
             Some(underlined) => format!(in alloc; "{underlined}"),

@@ -1,7 +1,8 @@
 //! Laws of errors: what `==` and `clone` keep. Each is the contract of a function that does nothing.
 
-ghost use Rattle.std.specs.Prelude.{◌≡◌, ◌≢◌, ◌↔◌, IsTrue, None};
-ghost use Rattle.subst_error.specs.ErrorFault.{error_fault, expand_fault, parse_fault};
+ghost use Rattle.std.specs.Prelude.{◌≡◌, ◌≢◌, ◌↔◌, IsTrue, None, false};
+ghost use Rattle.subst_error.specs.ErrorFault.{error_fault, expand_fault, expand_into_fault};
+ghost use Rattle.subst_error.specs.ErrorFault.{parse_fault, substitute_into_fault};
 ghost use Rattle.subst_error.specs.Expected.{expected_text};
 ghost use Rattle.subst_error.specs.declared.CharOrByte.{CharOrByte};
 ghost use Rattle.subst_error.specs.declared.Error.{Error};
@@ -14,10 +15,16 @@ ghost use Rattle.subst_error.specs.declared.MissingVariableName.{MissingVariable
 ghost use Rattle.subst_error.specs.declared.NoSuchVariable.{NoSuchVariable};
 ghost use Rattle.subst_error.specs.declared.ParseError.{ParseError};
 ghost use Rattle.subst_error.specs.declared.UnexpectedCharacter.{UnexpectedCharacter};
+ghost use Rattle.subst_error.specs.declared.lent.ExpandIntoError.{ExpandIntoError};
+ghost use Rattle.subst_error.specs.declared.lent.ExpandIntoError.TheVariants as expanding_into;
+ghost use Rattle.subst_error.specs.declared.lent.NoSuchVariableRef.{NoSuchVariableRef};
+ghost use Rattle.subst_error.specs.declared.lent.SubstituteIntoError.{SubstituteIntoError};
+ghost use Rattle.subst_error.specs.declared.lent.SubstituteIntoError.TheVariants as substituting_into;
 
 use crate::{
-    CharOrByte, Error, ExpandError, ExpectedCharacter, InvalidEscapeSequence, MissingClosingBrace,
-    MissingVariableName, NoSuchVariable, ParseError, UnexpectedCharacter,
+    CharOrByte, Error, ExpandError, ExpandIntoError, ExpectedCharacter, InvalidEscapeSequence,
+    MissingClosingBrace, MissingVariableName, NoSuchVariable, NoSuchVariableRef, ParseError,
+    SubstituteIntoError, UnexpectedCharacter,
 };
 
 /// The law of clones. A clone of an error states the fault that the error states, or also out of memory.
@@ -30,6 +37,16 @@ pub fn clones_state_equal_faults()
         → expand_fault copy ≡ expand_fault e }
     ensures missing { (e copy : NoSuchVariable) → ⟦<NoSuchVariable as Clone>⟧.is_clone e copy
         → error_fault (stated.NoSuchVariable copy) ≡ error_fault (stated.NoSuchVariable e) }
+    ensures missing_lent { (e copy : NoSuchVariableRef)
+        → ⟦<NoSuchVariableRef<'static> as Clone>⟧.is_clone e copy
+        → expand_into_fault (expanding_into.NoSuchVariable copy)
+        ≡ expand_into_fault (expanding_into.NoSuchVariable e) }
+    ensures expanding_into { (e copy : ExpandIntoError)
+        → ⟦<ExpandIntoError<'static> as Clone>⟧.is_clone e copy
+        → expand_into_fault copy ≡ expand_into_fault e }
+    ensures substituting_into { (e copy : SubstituteIntoError)
+        → ⟦<SubstituteIntoError<'static> as Clone>⟧.is_clone e copy
+        → substitute_into_fault copy ≡ substitute_into_fault e }
 {}
 
 /// The law of clones without a name. An error that names no variable takes no memory to clone, so that never
@@ -48,9 +65,16 @@ pub fn clones_without_a_name_never_fail()
         → ⟦<UnexpectedCharacter as Clone>⟧.is_infallible e }
     ensures brace { (e : MissingClosingBrace)
         → ⟦<MissingClosingBrace as Clone>⟧.is_infallible e }
+    ensures missing_lent { (e : NoSuchVariableRef)
+        → ⟦<NoSuchVariableRef<'static> as Clone>⟧.is_infallible e }
+    ensures expanding_into { (e : ExpandIntoError)
+        → ⟦<ExpandIntoError<'static> as Clone>⟧.is_infallible e }
+    ensures substituting_into { (e : SubstituteIntoError)
+        → ⟦<SubstituteIntoError<'static> as Clone>⟧.is_infallible e }
 {}
 
-/// The law of equality. Errors are equal exactly where they state equal faults, or both out of memory.
+/// The law of equality. Errors are equal exactly where they state equal faults, or both out of memory. A
+/// `SubstituteIntoError` of parsing is never equal to one of expansion, also where both are out of memory.
 pub fn equal_errors_state_equal_faults()
     ensures error { (a b : Error) → IsTrue (⟦<Error as PartialEq>⟧.eq a b)
         ↔ (error_fault a ≡ error_fault b) }
@@ -58,6 +82,23 @@ pub fn equal_errors_state_equal_faults()
         ↔ (parse_fault a ≡ parse_fault b) }
     ensures expanding { (a b : ExpandError) → IsTrue (⟦<ExpandError as PartialEq>⟧.eq a b)
         ↔ (expand_fault a ≡ expand_fault b) }
+    ensures expanding_into { (a b : ExpandIntoError)
+        → IsTrue (⟦<ExpandIntoError<'static> as PartialEq>⟧.eq a b)
+        ↔ (expand_into_fault a ≡ expand_into_fault b) }
+    ensures substituting_into { (a b : SubstituteIntoError)
+        → IsTrue (⟦<SubstituteIntoError<'static> as PartialEq>⟧.eq a b)
+        → substitute_into_fault a ≡ substitute_into_fault b }
+    ensures parse { (a b : ParseError)
+        → IsTrue (⟦<SubstituteIntoError<'static> as PartialEq>⟧.eq
+        (substituting_into.Parse a) (substituting_into.Parse b))
+        ↔ (parse_fault a ≡ parse_fault b) }
+    ensures expand { (a b : ExpandIntoError)
+        → IsTrue (⟦<SubstituteIntoError<'static> as PartialEq>⟧.eq
+        (substituting_into.Expand a) (substituting_into.Expand b))
+        ↔ (expand_into_fault a ≡ expand_into_fault b) }
+    ensures apart { (a : ParseError) (b : ExpandIntoError)
+        → ⟦<SubstituteIntoError<'static> as PartialEq>⟧.eq
+        (substituting_into.Parse a) (substituting_into.Expand b) ≡ false }
 {}
 
 /// The same law of what an error holds: two of these are equal exactly where errors that hold them state
@@ -82,6 +123,10 @@ pub fn equal_parts_state_equal_faults()
     ensures variable { (a b : NoSuchVariable) → IsTrue (⟦<NoSuchVariable as PartialEq>⟧.eq a b)
         ↔ (error_fault (stated.NoSuchVariable a)
         ≡ error_fault (stated.NoSuchVariable b)) }
+    ensures variable_lent { (a b : NoSuchVariableRef)
+        → IsTrue (⟦<NoSuchVariableRef<'static> as PartialEq>⟧.eq a b)
+        ↔ (expand_into_fault (expanding_into.NoSuchVariable a)
+        ≡ expand_into_fault (expanding_into.NoSuchVariable b)) }
     ensures expected { (a b : ExpectedCharacter)
         → IsTrue (⟦<ExpectedCharacter as PartialEq>⟧.eq a b) ↔ (expected_text a ≡ expected_text b) }
     ensures either { (a b : CharOrByte) → IsTrue (⟦<CharOrByte as PartialEq>⟧.eq a b) ↔ (a ≡ b) }

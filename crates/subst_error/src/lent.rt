@@ -49,9 +49,11 @@ pub enum ExpandIntoError<'s> {
 }
 
 impl<'s> ExpandIntoError<'s> {
-    /// Returns the error with a name of its own, which is `OutOfMemory` where allocation fails.
+    /// Returns the error with a name of its own, which is `OutOfMemory` where allocation fails. An error that
+    /// names no variable takes no memory, and stays what it is.
     pub fn into_owned(self, alloc: Global) -> ExpandError
         ensures fault { IfSome (expand_fault result) (λ f. expand_into_fault self.entry ≡ Some f) }
+        ensures out_of_memory { expand_into_fault self.entry ≡ None → expand_fault result ≡ None }
     {
         match self {
             ExpandIntoError::NoSuchVariable(missing) => match missing.into_owned(alloc) {
@@ -81,11 +83,16 @@ pub enum SubstituteIntoError<'s> {
 }
 
 impl<'s> SubstituteIntoError<'s> {
-    /// Returns the error with a name of its own, which is `OutOfMemory` where allocation fails.
+    /// Returns the error with a name of its own, which is `OutOfMemory` where allocation fails. An error that
+    /// names no variable takes no memory, and stays what it is.
+    ///
+    /// [`Error::source_line`], [`Error::source_position`] and [`Error::source_highlighting`] say of the
+    /// result where in its source it is. [`SubstituteIntoError::source_range`] needs no memory.
     pub fn into_owned(self, alloc: Global) -> Error
         ensures fault { IfSome (error_fault result) (λ f. substitute_into_fault self.entry ≡ Some f) }
         ensures parsing { (e : _) → self.entry ≡ substituting_into.Parse e
             → error_fault result ≡ parse_fault e }
+        ensures out_of_memory { substitute_into_fault self.entry ≡ None → error_fault result ≡ None }
     {
         match self {
             SubstituteIntoError::Parse(e) => e.into(),

@@ -1,10 +1,10 @@
 //! Where in its source an error is.
 
 ghost use Rattle.std.specs.Prelude.{◌≡◌, ◌^◌, ◌<◌};
-ghost use Rattle.subst_error.specs.ErrorFault.{error_fault};
+ghost use Rattle.subst_error.specs.ErrorFault.{error_fault, expand_into_fault, substitute_into_fault};
 ghost use Rattle.subst_error.specs.Range as range;
 
-use crate::{CharOrByte, Error};
+use crate::{CharOrByte, Error, ExpandIntoError, SubstituteIntoError};
 use std::ops::Range;
 
 impl CharOrByte {
@@ -41,5 +41,37 @@ impl Error {
             Error::OutOfMemory(_) => (0, 0),
         };
         start..start + len
+    }
+}
+
+impl ExpandIntoError<'_> {
+    /// Returns the range of the source that the error is about, in byte offsets: the name. For `OutOfMemory`
+    /// it is `0..0`.
+    ///
+    /// The range has to end within a `usize`, as that of each error that an expansion returns does.
+    pub fn source_range(&self) -> Range<usize>
+        requires { (range.range_of (expand_into_fault self.now)).end < 2 ^ 64 }
+        ensures range { result ≡ range.range_of (expand_into_fault self.now) }
+    {
+        match self {
+            ExpandIntoError::NoSuchVariable(e) => e.position..e.position + e.name.len(),
+            ExpandIntoError::OutOfMemory(_) => 0..0,
+        }
+    }
+}
+
+impl SubstituteIntoError<'_> {
+    /// Returns the range of the source that the error is about, as [`Error::source_range`] does, without
+    /// allocating.
+    ///
+    /// The range has to end within a `usize`, as that of each error that a substitution returns does.
+    pub fn source_range(&self) -> Range<usize>
+        requires { (range.range_of (substitute_into_fault self.now)).end < 2 ^ 64 }
+        ensures range { result ≡ range.range_of (substitute_into_fault self.now) }
+    {
+        match self {
+            SubstituteIntoError::Parse(e) => Error::from(*e).source_range(),
+            SubstituteIntoError::Expand(e) => e.source_range(),
+        }
     }
 }

@@ -1,5 +1,5 @@
 -- Escaping up to the first special byte.
-use Rattle.std.proofs.Common.{◌≡◌, ℕ, zero, suc, ◌+◌, ◌<◌, ◌≤◌, true, false, List, [], ◌∷◌, ◌++◌, length, get_or, take, drop, Some, None, refl, sym, ap, ◌∙◌, arith, append_assoc}
+use Rattle.std.proofs.Common.{◌≡◌, ℕ, zero, suc, ◌+◌, ◌<◌, ◌≤◌, ◌-◌, true, false, List, [], ◌∷◌, ◌++◌, length, get_or, take, drop, Some, None, refl, sym, ap, ◌∙◌, arith, append_assoc, length-append, slice_range}
 use Rattle.std.specs.List.{position, position_or_len}
 use Rattle.std.proofs.lemmas.Grind.{common_steps}
 use Rattle.std.proofs.lemmas.List.Sums.{fails_before_first}
@@ -49,10 +49,34 @@ escaped-none x none =
     let past : length x ≤ position_or_len is_special x = grind (arith, common_steps) in
     escaped-all_plain x (λ j below. fails_before_first is_special x j 0 (omega arith))
 
+-- the byte at an index, as a text
+one_byte : (x : List ℕ) (k : ℕ) → k < length x → take 1 (drop k x) ≡ get_or x k 0 ∷ []
+one_byte [] k inside = absurd (omega arith)
+one_byte (b ∷ x) zero inside = refl
+one_byte (b ∷ x) (suc k) inside = one_byte x k (omega arith)
+
 -- one turn: what is before the first special byte, a backslash and the byte are written
-pub escaped_to_byte : (output rest text : List ℕ) (k : ℕ) → output ++ escaped rest ≡ escaped text
+pub escaped_turn : (part rest text : List ℕ) (k : ℕ) → part ++ escaped rest ≡ escaped text
     → position is_special rest ≡ Some k
-    → ((output ++ take k rest) ++ backslash ∷ []) ++ get_or rest k 0 ∷ [] ++ escaped (drop (k + 1) rest)
+    → (((part ++ take k rest) ++ backslash ∷ []) ++ slice_range rest k (k + 1)) ++ escaped (drop (k + 1) rest)
     ≡ escaped text
-escaped_to_byte output rest text k so_far found =
-    simp append_assoc (ap (λ y. output ++ y) (sym (escaped-found rest k found)) ∙ so_far)
+escaped_turn part rest text k so_far found =
+    let at = position-Some is_special rest k 0 found in
+    let one : k + 1 - k ≡ 1 = omega arith in
+    rw (one, one_byte rest k at.0)
+    (simp append_assoc (ap (λ y. part ++ y) (sym (escaped-found rest k found)) ∙ so_far))
+
+-- the length of the text escaped is that of what was written and of the rest escaped
+pub escaped_length : (part rest text : List ℕ) → part ++ escaped rest ≡ escaped text
+    → length part + length (escaped rest) ≡ length (escaped text)
+escaped_length part rest text so_far = sym (length-append part (escaped rest)) ∙ ap length so_far
+
+-- the lengths of one turn
+pub escaped_turn_length : (part rest text : List ℕ) (k : ℕ) → part ++ escaped rest ≡ escaped text
+    → position is_special rest ≡ Some k
+    → length part + (length (take k rest) + suc (suc (length (escaped (drop (k + 1) rest)))))
+    ≡ length (escaped text)
+escaped_turn_length part rest text k so_far found =
+    ap (λ n. length part + n) (sym (length-append (take k rest) _))
+    ∙ ap (λ y. length part + length y) (sym (escaped-found rest k found))
+    ∙ escaped_length part rest text so_far

@@ -1,10 +1,9 @@
-//! Escaping texts, so that templates give them as they are: `escaped` puts a backslash before each
-//! special byte.
+//! Escaping texts, so that templates give them as they are: a backslash is put before each special byte.
 #![tactic(auto)]
 
-ghost use Rattle.std.specs.Prelude.{◌≡◌, IfOk, string_bytes};
+ghost use Rattle.std.specs.Prelude.{◌≡◌, ◌≤◌, ◌<◌, ◌+◌, ◌++◌, ℕ, List, length, IfOk, OnOk, OnErr};
+ghost use Rattle.std.specs.Prelude.{string_bytes, string_capacity, string_len};
 ghost use Rattle.std.specs.List.{position};
-ghost use Rattle.std.specs.Str.{IsUtf8};
 ghost use Rattle.subst_language.specs.Language.Bytes as classes;
 ghost use Rattle.subst_language.specs.Language.Escaped as language;
 
@@ -19,23 +18,61 @@ use std::alloc::{AllocError, Global};
 pub fn escaped(alloc: Global, text: &str) -> Result<String, AllocError>
     ensures escaped { IfOk result (λ template. string_bytes template ≡ language.escaped text.now) }
 {
-    let mut output = Vec::with_capacity(alloc, text.len())?;
-    let mut rest = text.as_bytes();
+    let mut output = String::with_capacity(alloc, text.len())?;
+    escape_into(text, &mut output)?;
+    Ok(output)
+}
+
+/// Appends to `output` what [`escaped`] returns. Memory is asked for only where the output's capacity doesn't
+/// suffice.
+///
+/// # Errors
+///
+/// When the output has to grow and allocation fails. The output's text is as it was then.
+pub fn escape_into(text: &str, output: &mut String) -> Result<(), AllocError>
+    ensures escaped { OnOk result
+        (string_bytes output.new ≡ string_bytes output.old ++ language.escaped text.now) }
+    ensures unchanged { OnErr result (string_bytes output.new ≡ string_bytes output.old) }
+    ensures full { OnErr result
+        (string_capacity output.old < string_len output.old + length (language.escaped text.now)) }
+    ensures capacity { string_capacity output.old ≤ string_capacity output.new }
+{
+    let before = output.len();
+    let result = append_escaped(text, output);
+    if result.is_err() {
+        output.truncate(before);
+    }
+    result
+}
+
+/// Appends to `output` what [`escaped`] returns.
+///
+/// # Errors
+///
+/// When the output has to grow and allocation fails. A part may have been appended then.
+fn append_escaped(text: &str, output: &mut String) -> Result<(), AllocError>
+    ensures escaped { OnOk result
+        (string_bytes output.new ≡ string_bytes output.old ++ language.escaped text.now) }
+    ensures part { (part : List ℕ) × (string_bytes output.new ≡ string_bytes output.old ++ part) }
+    ensures full { OnErr result
+        (string_capacity output.old < string_len output.old + length (language.escaped text.now)) }
+    ensures capacity { string_capacity output.old ≤ string_capacity output.new }
+{
+    let mut rest = text;
     while let Some(at) = first_special(rest) {
-        output.extend_from_slice(&rest[..at])?;
-        output.push(b'\\')?;
-        output.push(rest[at])?;
+        output.push_str(&rest[..at])?;
+        output.push('\\')?;
+        output.push_str(&rest[at..at + 1])?;
         rest = &rest[at + 1..];
     }
-    output.extend_from_slice(rest)?;
-    Ok(text_of(output))
+    output.push_str(rest)
 }
 
 /// Returns the index of the first byte that a backslash escapes.
-fn first_special(bytes: &[u8]) -> Option<usize>
-    ensures { result ≡ position classes.is_special bytes.now }
+fn first_special(text: &str) -> Option<usize>
+    ensures { result ≡ position classes.is_special text.now }
 {
-    bytes.iter().position(|byte| is_special(*byte))
+    text.as_bytes().iter().position(|byte| is_special(*byte))
 }
 
 /// Returns whether a backslash escapes the byte.
@@ -43,12 +80,4 @@ fn is_special(byte: u8) -> bool
     ensures { result ≡ classes.is_special byte }
 {
     matches!(byte, b'\\' | b'$' | b'{' | b'}' | b':')
-}
-
-/// Returns bytes that are UTF-8 as a text, without looking at them.
-fn text_of(bytes: Vec<u8>) -> String
-    requires { IsUtf8 bytes.items }
-    ensures { string_bytes result ≡ bytes.items }
-{
-    unsafe { String::from_utf8_unchecked(bytes) }
 }

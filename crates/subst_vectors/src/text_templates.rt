@@ -192,5 +192,19 @@ fn special_bytes_are_escaped(rt: HostRuntime) {
     ];
     for (text, want) in rows {
         expect(&rt, text, laws::escaped(rt.alloc(), text), want);
+        expect(&rt, text, escaped_after(rt.alloc(), "", text), want);
     }
+}
+
+#[test]
+fn escaped_texts_are_appended(rt: HostRuntime) {
+    expect(&rt, "é:", escaped_after(rt.alloc(), "a$", "é:"), "a$é\\:");
+    expect(&rt, "", escaped_after(rt.alloc(), "a$", ""), "a$");
+}
+
+/// Returns the text before and then the other text escaped.
+fn escaped_after(alloc: Global, before: &str, text: &str) -> Result<String, AllocError> {
+    let mut output = String::from_str(alloc, before)?;
+    laws::escape_into(text, &mut output)?;
+    Ok(output)
 }
