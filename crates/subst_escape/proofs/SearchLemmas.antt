@@ -58,7 +58,7 @@ one_byte (b ∷ x) (suc k) inside = one_byte x k (omega arith)
 -- one turn: what is before the first special byte, a backslash and the byte are written
 pub escaped_turn : (part rest text : List ℕ) (k : ℕ) → part ++ escaped rest ≡ escaped text
     → position is_special rest ≡ Some k
-    → (((part ++ take k rest) ++ backslash ∷ []) ++ slice_range rest k (k + 1)) ++ escaped (drop (k + 1) rest)
+    → ((part ++ take k rest) ++ backslash ∷ slice_range rest k (k + 1)) ++ escaped (drop (k + 1) rest)
     ≡ escaped text
 escaped_turn part rest text k so_far found =
     let at = position-Some is_special rest k 0 found in

@@ -1,7 +1,7 @@
 //! Escaping texts, so that templates give them as they are: a backslash is put before each special byte.
 #![tactic(auto)]
 
-ghost use Rattle.std.specs.Prelude.{◌≡◌, ◌≤◌, ◌<◌, ◌+◌, ◌++◌, ℕ, List, length, IfOk, OnOk, OnErr};
+ghost use Rattle.std.specs.Prelude.{◌≡◌, ◌≤◌, ◌<◌, ◌+◌, ◌++◌, ℕ, List, ◌∷◌, length, IfOk, OnOk, OnErr};
 ghost use Rattle.std.specs.Prelude.{string_bytes, string_capacity, string_len};
 ghost use Rattle.std.specs.List.{position};
 ghost use Rattle.subst_language.specs.Language.Bytes as classes;
@@ -61,11 +61,27 @@ fn append_escaped(text: &str, output: &mut String) -> Result<(), AllocError>
     let mut rest = text;
     while let Some(at) = first_special(rest) {
         output.push_str(&rest[..at])?;
-        output.push('\\')?;
-        output.push_str(&rest[at..at + 1])?;
+        append_after_backslash(&rest[at..at + 1], output)?;
         rest = &rest[at + 1..];
     }
     output.push_str(rest)
+}
+
+/// Appends a backslash and the text to `output`.
+///
+/// # Errors
+///
+/// When the output has to grow and allocation fails. The backslash may have been appended then.
+fn append_after_backslash(text: &str, output: &mut String) -> Result<(), AllocError>
+    ensures escaped { OnOk result
+        (string_bytes output.new ≡ string_bytes output.old ++ classes.backslash ∷ text.now) }
+    ensures part { (part : List ℕ) × (string_bytes output.new ≡ string_bytes output.old ++ part) }
+    ensures full { OnErr result
+        (string_capacity output.old < string_len output.old + (1 + length text.now)) }
+    ensures capacity { string_capacity output.old ≤ string_capacity output.new }
+{
+    output.push('\\')?;
+    output.push_str(text)
 }
 
 /// Returns the index of the first byte that a backslash escapes.

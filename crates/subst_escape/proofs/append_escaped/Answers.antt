@@ -1,5 +1,5 @@
 -- What was written and the rest escaped stay the text escaped, up to the end.
-use Rattle.std.proofs.Common.{[], ◌∷◌, ◌++◌, ◌+◌, take, slice_range, sym, arith, rules}
+use Rattle.std.proofs.Common.{◌∷◌, ◌++◌, ◌+◌, take, slice_range, sym, arith, rules}
 use Rattle.std.proofs.lemmas.Grind.{common_steps}
 use Rattle.subst_language.specs.Language.Bytes.{backslash}
 use Rattle.subst_escape.proofs.BoundaryLemmas.{boundaries_of_special}
@@ -17,13 +17,6 @@ returns-in_err-push_str-clause-full c =
     (sym c.in-Some.ensures) in
     grind (arith, common_steps, turn)
 
-pub returns-in_err-push-clause-full : goal.returns-in_err-push-clause-full
-returns-in_err-push-clause-full c =
-    let so_far = c.loop-at.invariant.1 in
-    let turn = escaped_turn_length so_far.0 c.loop-at.rest.now c.args.text.now c.in-Some.at so_far.2
-    (sym c.in-Some.ensures) in
-    grind (arith, common_steps, turn)
-
 pub range-requires-in-Some-clause-start_boundary : goal.range-requires-in-Some-clause-start_boundary
 range-requires-in-Some-clause-start_boundary c = λ some.
     (boundaries_of_special c.loop-at.rest.now c.in-Some.at (sym c.in-Some.ensures) c.loop-at.invariant.0).0
@@ -32,8 +25,8 @@ pub range-requires-in-Some-clause-end_boundary : goal.range-requires-in-Some-cla
 range-requires-in-Some-clause-end_boundary c =
     (boundaries_of_special c.loop-at.rest.now c.in-Some.at (sym c.in-Some.ensures) c.loop-at.invariant.0).1
 
-pub returns-in_err-push_str-2-clause-full : goal.returns-in_err-push_str-2-clause-full
-returns-in_err-push_str-2-clause-full c =
+pub returns-in_err-append_after_backslash-clause-full : goal.returns-in_err-append_after_backslash-clause-full
+returns-in_err-append_after_backslash-clause-full c =
     let so_far = c.loop-at.invariant.1 in
     let turn = escaped_turn_length so_far.0 c.loop-at.rest.now c.args.text.now c.in-Some.at so_far.2
     (sym c.in-Some.ensures) in
@@ -51,7 +44,7 @@ loop-at-preserved c =
     let turn = escaped_turn so_far.0 rest c.args.text.now k so_far.2 (sym c.in-Some.ensures) in (
       search rules,
       (
-        ((so_far.0 ++ take k rest) ++ backslash ∷ []) ++ slice_range rest k (k + 1),
+        (so_far.0 ++ take k rest) ++ backslash ∷ slice_range rest k (k + 1),
         grind (arith, common_steps),
         rw c.range_from-rest.ensures.value turn,
         grind (arith, common_steps),
