@@ -10,16 +10,16 @@ use subst_testing::calls::{begin, end, say_out_of_memory};
 use subst_testing::variables::{ByteValues, byte_values};
 
 /// A default in a default, escapes, and a variable.
-const SENTENCE: &[u8] = b"Hi ${hi:\\{${who:you}\\}} and $name!";
+pub const SENTENCE: &[u8] = b"Hi ${hi:\\{${who:you}\\}} and $name!";
 
 /// A sentence that needs a variable which isn't there.
-const MISSING: &[u8] = b"Hi ${hi:$name and ${who:$absent}}!";
+pub const MISSING: &[u8] = b"Hi ${hi:$name and ${who:$absent}}!";
 
 /// A source with a bad escape in its inner default.
-const BAD_ESCAPE: &[u8] = b"Hi ${hi:$name and ${who:\\!}}!";
+pub const BAD_ESCAPE: &[u8] = b"Hi ${hi:$name and ${who:\\!}}!";
 
 /// A value that is longer than each source.
-const NAME: &str = "name=the whole round world with all that is in it";
+pub const NAME: &str = "name=the whole round world with all that is in it";
 
 impl Shown for &[u8] {
     fn show(&self, rt: &HostRuntime, word: &str) {
@@ -58,7 +58,7 @@ impl Shown for ByteTemplateBuf {
     }
 }
 
-fn owned(alloc: Global, source: &[u8]) -> Result<ByteTemplateBuf, ParseError> {
+pub fn owned(alloc: Global, source: &[u8]) -> Result<ByteTemplateBuf, ParseError> {
     ByteTemplateBuf::from_vec(Vec::from_slice(alloc, source)?)
 }
 

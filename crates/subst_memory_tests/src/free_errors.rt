@@ -7,8 +7,9 @@ use crate::runs::{status_of_run, words_of};
 use std::alloc::AllocError;
 use std::fmt::{Display, Write};
 use subst::error::{
-    CharOrByte, ExpandError, ExpectedCharacter, InvalidEscapeSequence, MissingClosingBrace,
-    MissingVariableName, ParseError, UnexpectedCharacter,
+    CharOrByte, ExpandError, ExpandIntoError, ExpectedCharacter, InvalidEscapeSequence,
+    MissingClosingBrace, MissingVariableName, NoSuchVariableRef, ParseError, SubstituteIntoError,
+    UnexpectedCharacter,
 };
 use subst::{Error, json, toml as filled};
 use subst_filter_lib::device::standard::{FromReader, ToWriter};
@@ -67,6 +68,15 @@ fn display_errors(rt: &HostRuntime) -> Result<(), AllocError> {
         &ExpandError::from(absent(rt.alloc())?),
     )?;
     display(rt, "Display of Error", &Error::from(unexpected()))?;
+    let missing = NoSuchVariableRef {
+        position: 3,
+        name: "absent",
+    };
+    display(rt, "Display of NoSuchVariableRef", &missing)?;
+    let missing = ExpandIntoError::NoSuchVariable(missing);
+    display(rt, "Display of ExpandIntoError", &missing)?;
+    let missing = SubstituteIntoError::Expand(missing);
+    display(rt, "Display of SubstituteIntoError", &missing)?;
     display(rt, "Display of OutOfMemory", &Error::from(AllocError))?;
     display(rt, "Display of RunError", &refusal(rt)?)
 }

@@ -9,6 +9,7 @@ mod errors;
 mod fakes;
 mod free_calls;
 mod free_errors;
+mod into;
 mod runs;
 mod texts;
 
@@ -17,6 +18,7 @@ use subst::Error;
 fn main(rt: HostRuntime) -> Result<(), Error> {
     texts::calls(&rt)?;
     bytes::calls(&rt)?;
+    into::calls(&rt)?;
     documents::json_calls(&rt)?;
     documents::toml_calls(&rt)?;
     errors::calls(&rt)?;

@@ -9,19 +9,19 @@ use subst_testing::calls::{begin, end, say_out_of_memory};
 use subst_testing::variables::{Texts, texts};
 
 /// A default in a default, escapes, and a variable.
-const SENTENCE: &str = "Hé ${hi:\\{${who:❤}\\}} and $name!";
+pub const SENTENCE: &str = "Hé ${hi:\\{${who:❤}\\}} and $name!";
 
 /// A sentence that needs a variable which isn't there.
-const MISSING: &str = "Hé ${hi:$name and ${who:$absent}}!";
+pub const MISSING: &str = "Hé ${hi:$name and ${who:$absent}}!";
 
 /// A source with a bad escape in its inner default.
-const BAD_ESCAPE: &str = "Hé ${hi:$name and ${who:\\!}}!";
+pub const BAD_ESCAPE: &str = "Hé ${hi:$name and ${who:\\!}}!";
 
 /// Defaults in defaults.
 const DEFAULTS: &str = "Hello ${a:cruel ${b:round ${c:world}}}!";
 
 /// A value that is longer than each source.
-const NAME: &str = "name=the whole round world with all that is in it";
+pub const NAME: &str = "name=the whole round world with all that is in it";
 
 impl Shown for Texts<'_> {
     fn show(&self, rt: &HostRuntime, word: &str) {
@@ -53,7 +53,7 @@ impl Shown for TemplateBuf {
     }
 }
 
-fn owned(alloc: Global, source: &str) -> Result<TemplateBuf, ParseError> {
+pub fn owned(alloc: Global, source: &str) -> Result<TemplateBuf, ParseError> {
     TemplateBuf::from_string(String::from_str(alloc, source)?)
 }
 

@@ -1,0 +1,210 @@
+//! Calls that append to an output that is lent, with hardly any room in it and with enough.
+
+use crate::calls::{Shown, again, say, say_end, tell};
+use crate::{bytes, texts};
+use std::alloc::{AllocError, Global};
+use subst::error::{
+    ExpandError, ExpandIntoError, NoSuchVariableRef, ParseError, SubstituteIntoError,
+};
+use subst::{ByteTemplate, Error, Template, laws, substitute_bytes_into, substitute_into};
+use subst_testing::calls::{begin, end, say_out_of_memory};
+use subst_testing::variables;
+
+/// Room for what an output begins with, and no more.
+const NONE: usize = 2;
+
+/// More room than each call writes.
+const ENOUGH: usize = 256;
+
+impl Shown for ExpandIntoError<'_> {
+    fn show(&self, rt: &HostRuntime, word: &str) {
+        match self {
+            ExpandIntoError::NoSuchVariable(fault) => {
+                let _ = rt.println(format_args!("{word} {}: {fault}", fault.position));
+            }
+            ExpandIntoError::OutOfMemory(fault) => fault.show(rt, word),
+        }
+    }
+}
+
+impl Shown for SubstituteIntoError<'_> {
+    fn show(&self, rt: &HostRuntime, word: &str) {
+        match self {
+            SubstituteIntoError::Parse(fault) => fault.show(rt, word),
+            SubstituteIntoError::Expand(fault) => fault.show(rt, word),
+        }
+    }
+}
+
+impl Shown for usize {
+    fn show(&self, rt: &HostRuntime, word: &str) {
+        let _ = rt.println(format_args!("{word} {self}"));
+    }
+}
+
+fn text_output(alloc: Global, room: usize) -> Result<String, AllocError> {
+    let mut output = String::with_capacity(alloc, room)?;
+    output.push_str("> ")?;
+    Ok(output)
+}
+
+fn byte_output(alloc: Global, room: usize) -> Result<Vec<u8>, AllocError> {
+    let mut output = Vec::with_capacity(alloc, room)?;
+    output.extend_from_slice(b"> ")?;
+    Ok(output)
+}
+
+fn expand_text(rt: &HostRuntime, name: &str, source: &str, room: usize) -> Result<(), Error> {
+    let alloc = rt.alloc();
+    let template = Template::from_str(alloc, source)?;
+    let map = variables::texts(alloc, texts::NAME)?;
+    let mut output = text_output(alloc, room)?;
+    again!(rt, name, [template, map, output],
+        Err(ExpandIntoError::OutOfMemory(_)) => template.expand_into(&mut output, &map));
+    Ok(())
+}
+
+fn expand_text_owner(rt: &HostRuntime, name: &str, room: usize) -> Result<(), Error> {
+    let alloc = rt.alloc();
+    let owner = texts::owned(alloc, texts::SENTENCE)?;
+    let map = variables::texts(alloc, texts::NAME)?;
+    let mut output = text_output(alloc, room)?;
+    again!(rt, name, [owner, map, output],
+        Err(ExpandIntoError::OutOfMemory(_)) => owner.expand_into(&mut output, &map));
+    Ok(())
+}
+
+fn expand_bytes(rt: &HostRuntime, name: &str, source: &[u8], room: usize) -> Result<(), Error> {
+    let alloc = rt.alloc();
+    let template = ByteTemplate::from_slice(alloc, source)?;
+    let map = variables::byte_values(alloc, bytes::NAME)?;
+    let mut output = byte_output(alloc, room)?;
+    again!(rt, name, [template, map, output],
+        Err(ExpandIntoError::OutOfMemory(_)) => template.expand_into(&mut output, &map));
+    Ok(())
+}
+
+fn expand_bytes_owner(rt: &HostRuntime, name: &str, room: usize) -> Result<(), Error> {
+    let alloc = rt.alloc();
+    let owner = bytes::owned(alloc, bytes::SENTENCE)?;
+    let map = variables::byte_values(alloc, bytes::NAME)?;
+    let mut output = byte_output(alloc, room)?;
+    again!(rt, name, [owner, map, output],
+        Err(ExpandIntoError::OutOfMemory(_)) => owner.expand_into(&mut output, &map));
+    Ok(())
+}
+
+fn expand_slice(rt: &HostRuntime, name: &str, source: &[u8]) -> Result<(), Error> {
+    let alloc = rt.alloc();
+    let template = ByteTemplate::from_slice(alloc, source)?;
+    let map = variables::byte_values(alloc, bytes::NAME)?;
+    let mut room = [b'.'; ENOUGH];
+    again!(rt, name, [template, map],
+        Err(ExpandIntoError::OutOfMemory(_)) => template.expand_into_slice(&mut room, &map));
+    Ok(())
+}
+
+fn fill_in_text(rt: &HostRuntime, name: &str, source: &str, room: usize) -> Result<(), Error> {
+    let alloc = rt.alloc();
+    let map = variables::texts(alloc, texts::NAME)?;
+    let mut output = text_output(alloc, room)?;
+    again!(rt, name, [map, output],
+        Err(
+            SubstituteIntoError::Parse(ParseError::OutOfMemory(_))
+            | SubstituteIntoError::Expand(ExpandIntoError::OutOfMemory(_)),
+        ) => substitute_into(alloc, source, &mut output, &map));
+    Ok(())
+}
+
+fn fill_in_bytes(rt: &HostRuntime, name: &str, source: &[u8], room: usize) -> Result<(), Error> {
+    let alloc = rt.alloc();
+    let map = variables::byte_values(alloc, bytes::NAME)?;
+    let mut output = byte_output(alloc, room)?;
+    again!(rt, name, [map, output],
+        Err(
+            SubstituteIntoError::Parse(ParseError::OutOfMemory(_))
+            | SubstituteIntoError::Expand(ExpandIntoError::OutOfMemory(_)),
+        ) => substitute_bytes_into(alloc, source, &mut output, &map));
+    Ok(())
+}
+
+fn escape(rt: &HostRuntime, name: &str, room: usize) -> Result<(), AllocError> {
+    let text = "a$b{c}:\\";
+    let mut output = text_output(rt.alloc(), room)?;
+    again!(rt, name, [text, output], Err(_) => laws::escape_into(text, &mut output));
+    Ok(())
+}
+
+fn owned_error(alloc: Global, fault: ExpandIntoError<'_>) -> Result<(), ExpandError> {
+    Err(fault.into_owned(alloc))
+}
+
+fn owned_refusal(alloc: Global, fault: SubstituteIntoError<'_>) -> Result<(), Error> {
+    Err(fault.into_owned(alloc))
+}
+
+/// Gives errors names of their own.
+fn own(rt: &HostRuntime) {
+    let alloc = rt.alloc();
+    let position = 3;
+    let missing = NoSuchVariableRef {
+        position,
+        name: "absent",
+    };
+    let in_expansion = ExpandIntoError::NoSuchVariable(missing);
+    let fault = SubstituteIntoError::Expand(in_expansion);
+    let name = "NoSuchVariableRef::into_owned";
+    again!(rt, name, [position], Err(_) => missing.into_owned(alloc));
+    let name = "ExpandIntoError::into_owned";
+    again!(rt, name, [in_expansion],
+        Err(ExpandError::OutOfMemory(_)) => owned_error(alloc, in_expansion));
+    let name = "SubstituteIntoError::into_owned";
+    again!(rt, name, [fault], Err(Error::OutOfMemory(_)) => owned_refusal(alloc, fault));
+}
+
+fn without_room(rt: &HostRuntime) -> Result<(), Error> {
+    let (sentence, missing) = (texts::SENTENCE, texts::MISSING);
+    expand_text(rt, "Template::expand_into", sentence, NONE)?;
+    let name = "Template::expand_into of a missing variable";
+    expand_text(rt, name, missing, NONE)?;
+    expand_text_owner(rt, "TemplateBuf::expand_into", NONE)?;
+    fill_in_text(rt, "substitute_into", sentence, NONE)?;
+    let name = "substitute_into of a missing variable";
+    fill_in_text(rt, name, missing, NONE)?;
+    let name = "substitute_into of a bad escape";
+    fill_in_text(rt, name, texts::BAD_ESCAPE, NONE)?;
+    let (sentence, missing) = (bytes::SENTENCE, bytes::MISSING);
+    expand_bytes(rt, "ByteTemplate::expand_into", sentence, NONE)?;
+    let name = "ByteTemplate::expand_into of a missing variable";
+    expand_bytes(rt, name, missing, NONE)?;
+    expand_bytes_owner(rt, "ByteTemplateBuf::expand_into", NONE)?;
+    fill_in_bytes(rt, "substitute_bytes_into", sentence, NONE)?;
+    Ok(escape(rt, "laws::escape_into", NONE)?)
+}
+
+fn with_room(rt: &HostRuntime) -> Result<(), Error> {
+    let (sentence, missing) = (texts::SENTENCE, texts::MISSING);
+    expand_text(rt, "Template::expand_into with room", sentence, ENOUGH)?;
+    let name = "Template::expand_into with room, of a missing variable";
+    expand_text(rt, name, missing, ENOUGH)?;
+    expand_text_owner(rt, "TemplateBuf::expand_into with room", ENOUGH)?;
+    fill_in_text(rt, "substitute_into with room", sentence, ENOUGH)?;
+    let (sentence, missing) = (bytes::SENTENCE, bytes::MISSING);
+    expand_bytes(rt, "ByteTemplate::expand_into with room", sentence, ENOUGH)?;
+    let name = "ByteTemplate::expand_into with room, of a missing variable";
+    expand_bytes(rt, name, missing, ENOUGH)?;
+    expand_bytes_owner(rt, "ByteTemplateBuf::expand_into with room", ENOUGH)?;
+    let name = "substitute_bytes_into with room, of a missing variable";
+    fill_in_bytes(rt, name, missing, ENOUGH)?;
+    expand_slice(rt, "ByteTemplate::expand_into_slice", sentence)?;
+    let name = "ByteTemplate::expand_into_slice of a missing variable";
+    expand_slice(rt, name, missing)?;
+    Ok(escape(rt, "laws::escape_into with room", ENOUGH)?)
+}
+
+pub fn calls(rt: &HostRuntime) -> Result<(), Error> {
+    without_room(rt)?;
+    with_room(rt)?;
+    own(rt);
+    Ok(())
+}
