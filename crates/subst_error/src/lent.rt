@@ -89,10 +89,12 @@ impl<'s> SubstituteIntoError<'s> {
     /// [`Error::source_line`], [`Error::source_position`] and [`Error::source_highlighting`] say of the
     /// result where in its source it is. [`SubstituteIntoError::source_range`] needs no memory.
     pub fn into_owned(self, alloc: Global) -> Error
-        ensures fault { IfSome (error_fault result) (λ f. substitute_into_fault self.entry ≡ Some f) }
+        ensures fault { IfSome (error_fault result)
+            (λ f. substitute_into_fault self.entry ≡ Some f) }
         ensures parsing { (e : _) → self.entry ≡ substituting_into.Parse e
             → error_fault result ≡ parse_fault e }
-        ensures out_of_memory { substitute_into_fault self.entry ≡ None → error_fault result ≡ None }
+        ensures out_of_memory { substitute_into_fault self.entry ≡ None
+            → error_fault result ≡ None }
     {
         match self {
             SubstituteIntoError::Parse(e) => e.into(),

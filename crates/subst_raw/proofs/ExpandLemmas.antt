@@ -1,13 +1,10 @@
 -- How far an expansion has come, and how many turns it has made.
 use Rattle.std.proofs.Common.{◌≡◌, ℕ, ◌+◌, ◌-◌, ◌<◌, ◌≤◌, zero, suc, Option, Some, None, List, [], ◌∷◌, ◌++◌, length, drop, take, append-nil, refl, sym, ap, ◌∙◌, subst, arith}
 use Rattle.std.proofs.lemmas.List.{drop_all, drop-drop, length-take-le}
-use Rattle.std.specs.Prelude.{IfSome}
 use Rattle.std.specs.List.{slice_get}
 use Rattle.std.specs.Option.{option_map}
 use Rattle.subst_language.specs.Language.LookUp.{LookUp}
 use Rattle.subst_language.specs.Language.Value.{Value, Bytes, Missing, joined, found_or}
-use Rattle.subst_error.specs.Fault.{Fault, NoSuchVariable}
-use Rattle.subst_language.specs.Language.Answer.{IsMissing}
 use Rattle.subst_language.specs.Calls.VariableMap.{ReadsAs, look_up_of}
 use Rattle.subst_raw.specs.Span.{span_bytes}
 use Rattle.subst_raw.specs.Parts.{FitsAt, AllFit, part_value, if_found, resume_index, visited_parts, joined_value, parts_value}
@@ -224,13 +221,6 @@ pub has_none : {Seen : Type 0} (bytes : Seen → List ℕ) (look_up : List ℕ �
     → None ≡ look_up key
     → look_up_of bytes look_up key ≡ None
 has_none bytes look_up has = ap (option_map bytes) (sym has)
-
--- a fault that states the missing variable of a value
-pub states_missing : (stated : Option Fault) {v : Value} {position : ℕ} {name : List ℕ}
-    → v ≡ Missing position name
-    → IfSome stated (λ f. f ≡ NoSuchVariable position name) → IfSome stated (IsMissing v)
-states_missing None missing is = tt
-states_missing (Some f) {position = position} {name = name} missing is = (position, name, missing, is)
 
 -- the turns so far, and the parts that are visited from the index `at` on, are as many as the parts that are
 -- visited

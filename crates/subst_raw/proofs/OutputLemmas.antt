@@ -1,7 +1,7 @@
 -- What was appended to an output, and how much is still to be written.
-use Rattle.std.proofs.Common.{◌≡◌, ℕ, ◌+◌, ◌<◌, ◌≤◌, List, [], ◌∷◌, ◌++◌, length, drop, Some, None, Result, Ok, Err, append-nil, append_assoc, length-append, refl, sym, ap, ◌∙◌, subst, arith}
+use Rattle.std.proofs.Common.{◌≡◌, ℕ, ◌+◌, ◌<◌, ◌≤◌, List, [], ◌++◌, length, drop, Some, None, Result, Ok, Err, append-nil, append_assoc, length-append, refl, sym, ap, ◌∙◌, subst, arith}
 use Rattle.subst_language.specs.Language.LookUp.{LookUp}
-use Rattle.subst_language.specs.Language.Value.{Value, Bytes, Missing}
+use Rattle.subst_language.specs.Language.Value.{Value, Bytes}
 use Rattle.subst_language.specs.Language.Written.{bytes_in, unless_missing}
 use Rattle.subst_raw.specs.Span.{span_bytes}
 use Rattle.subst_raw.specs.Parts.{part_value, visited_parts, joined_written, parts_written}
@@ -11,9 +11,8 @@ use Rattle.subst_raw.specs.declared.expand.Stop.TheVariants.{Full}
 use Rattle.subst_raw.specs.declared.expand.Stop.TheVariants as stop
 use Rattle.subst_raw.specs.declared.part.Span.{Span}
 use Rattle.subst_raw.specs.declared.part.Part.{Part}
-use Rattle.subst_raw.specs.declared.part.Part.TheVariants.{Literal, Escaped, Variable, Default}
-use Rattle.subst_language.proofs.Language.ListLemmas.{IsElementAt}
-use Rattle.subst_raw.proofs.ExpandLemmas.{GoesOn, goes_on_after, goes_on_there, goes_on_inside}
+use Rattle.subst_raw.specs.declared.part.Part.TheVariants.{Variable, Default}
+use Rattle.subst_raw.proofs.ExpandLemmas.{GoesOn}
 
 module _ {W First : Type 0} {holds : W → First → List ℕ → Type 0} where
   -- at first nothing was appended

@@ -37,8 +37,8 @@ joined_written-append [] ys s look = refl
 joined_written-append (part ∷ xs) ys s look =
     rw (
       joined_written-append xs ys s look,
-      unless_missing_assoc (part_value part s look) (joined_value xs s look) (bytes_in (part_value part s look))
-      (joined_written xs s look) (joined_written ys s look),
+      unless_missing_assoc (part_value part s look) (joined_value xs s look)
+      (bytes_in (part_value part s look)) (joined_written xs s look) (joined_written ys s look),
     ) refl
 
 -- a part that fits up to an end fits up to a later one
@@ -99,7 +99,8 @@ joined_value-first part rest i from s look above =
     ap (λ visited. joined_value visited s look) (visited_parts-from part rest i from s look above)
 
 -- and what is written for it is what is written for that part, and then for what is visited
-pub joined_written-first : (part : Part) (rest : List Part) (i from : ℕ) (s : List ℕ) (look : LookUp) → from ≤ i
+pub joined_written-first : (part : Part) (rest : List Part) (i from : ℕ) (s : List ℕ) (look : LookUp)
+    → from ≤ i
     → joined_written (visited_parts (part ∷ rest) i from s look) s look
     ≡ bytes_in (part_value part s look) ++ unless_missing (part_value part s look)
     (joined_written (visited_parts rest (i + 1) (resume_index part s look) s look) s look)

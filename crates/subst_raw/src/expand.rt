@@ -133,8 +133,8 @@ where
     }
 }
 
-/// Writes what `expand` returns from the front of a slice on, and returns how many bytes that takes. Where the
-/// slice is shorter, what it has is unspecified.
+/// Writes what `expand` returns from the front of a slice on, and returns how many bytes that takes. Where
+/// the slice is shorter, what it has is unspecified.
 ///
 /// # Errors
 ///

@@ -65,6 +65,7 @@ pub refused_into : {T : Type 0} (s : List ℕ) (look : LookUp) (r : Result T Sub
 refused_into s look (Ok done) sentence h = tt
 refused_into s look (Err e) (t, spells) h = of (substitute_into_fault e) (h t spells)
   where
-    of : (o : Option Fault) → IfSome o (IsMissing (value 0 t look)) → IfSome o (λ f. Answers s look (Refuses f))
+    of : (o : Option Fault) → IfSome o (IsMissing (value 0 t look))
+        → IfSome o (λ f. Answers s look (Refuses f))
     of None missing = tt
     of (Some f) missing = inr (t, spells, missing)

@@ -1,9 +1,7 @@
 -- Escaped texts: their trees, and what they give.
-use Rattle.std.proofs.Common.{◌≡◌, ◌≢◌, ℕ, ◌+◌, true, false, IsFalse, List, [], ◌∷◌, ◌++◌, length, None, refl, sym, ap, ◌∙◌, subst, append-nil, append_assoc, arith}
+use Rattle.std.proofs.Common.{◌≡◌, ◌≢◌, ℕ, ◌+◌, true, false, IsFalse, List, [], ◌∷◌, ◌++◌, length, None, refl, sym, ap, ◌∙◌, subst, append-nil}
 use Rattle.std.specs.Prelude.{if◌then◌else◌}
 use Rattle.std.proofs.lemmas.Bool.{cond_both, false≢true}
-use Rattle.std.proofs.lemmas.Str.{IsUtf8-append}
-use Rattle.std.specs.Str.{IsUtf8}
 use Rattle.subst_language.specs.Language.Bytes.{dollar, colon, backslash, opening_brace, closing_brace, is_special, IsSpecial}
 use Rattle.subst_language.specs.Language.Name.{IsName}
 use Rattle.subst_language.specs.Language.Tree.{Item, Plain, Escaped, Default, Tree, Empty, Then, item_text, text}
@@ -15,7 +13,6 @@ use Rattle.subst_language.specs.Language.Escaped.{escaped_byte, escaped}
 use Rattle.subst_language.specs.Language.LookUp.{LookUp}
 use Rattle.subst_language.specs.Language.Value.{Bytes, found_or, joined, item_value, value}
 use Rattle.subst_language.specs.Language.Answer.{Answers, Gives}
-use Rattle.subst_language.proofs.Language.Utf8Lemmas.{ascii_alone, between, cut_at, special_ascii}
 use Rattle.subst_language.proofs.Language.ValueLemmas.{joined-right}
 
 -- the item of a byte: escaped where it is special
@@ -127,22 +124,3 @@ escaped_default_gives n x look named none =
       },
       value-with_default n x look none,
     )
-
--- UTF-8 whose end is escaped is UTF-8
-escaped_end_is_text : (u x : List ℕ) → IsUtf8 (u ++ x) → IsUtf8 (u ++ escaped x)
-escaped_end_is_text u [] is = is
-escaped_end_is_text u (b ∷ x) is =
-    cond_both (is_special b) (backslash ∷ b ∷ []) (b ∷ []) (λ y. IsUtf8 (u ++ (y ++ escaped x)))
-    (λ special.
-    let ascii = special_ascii b special in
-    let (before, after) = cut_at u x b ascii is in
-    let pair = IsUtf8-append (backslash ∷ []) (b ∷ []) (ascii_alone backslash (omega arith))
-    (ascii_alone b ascii) in
-    between u (backslash ∷ b ∷ []) (escaped x) before pair (escaped_end_is_text [] x after))
-    (λ not_special.
-    subst IsUtf8 (append_assoc u (b ∷ []) (escaped x))
-    (escaped_end_is_text (u ++ b ∷ []) x (subst IsUtf8 (sym (append_assoc u (b ∷ []) x)) is)))
-
--- an escaped text is UTF-8 where the text is
-pub escaped_is_text : (x : List ℕ) → IsUtf8 x → IsUtf8 (escaped x)
-escaped_is_text x is = escaped_end_is_text [] x is

@@ -28,8 +28,8 @@ Expands bytes_of (Ok output) v = v ≡ Bytes (bytes_of output)
 Expands bytes_of (Err e) v = IfSome (expand_fault e) (IsMissing v)
 
 -- the bytes of the value are appended to an output, or the error states the missing variable
-abbrev pub ExpandsInto : {T : Type 0} → (before : List ℕ) → Result T ExpandIntoError → (after : List ℕ) → Value
-    → Type 0
+abbrev pub ExpandsInto : {T : Type 0} → (before : List ℕ) → Result T ExpandIntoError → (after : List ℕ)
+    → Value → Type 0
 ExpandsInto before (Ok done) after v = (x : List ℕ) × (v ≡ Bytes x) × (after ≡ before ++ x)
 ExpandsInto before (Err e) after v = IfSome (expand_into_fault e) (IsMissing v)
 
@@ -51,11 +51,14 @@ abbrev pub refusal_of : {T : Type 0} → Result T Error → Option Answer
 refusal_of (Ok output) = None
 refusal_of (Err e) = option_map Refuses (error_fault e)
 
--- the bytes that a source gives are appended to an output, or the error states the fault that it is refused for
+-- the bytes that a source gives are appended to an output, or the error states the fault that it is refused
+-- for
 abbrev pub SubstitutesInto : {T : Type 0} → (s : List ℕ) → (before : List ℕ) → Result T SubstituteIntoError
     → (after : List ℕ) → LookUp → Type 0
-SubstitutesInto s before (Ok done) after look = (x : List ℕ) × Answers s look (Gives x) × (after ≡ before ++ x)
-SubstitutesInto s before (Err e) after look = IfSome (substitute_into_fault e) (λ f. Answers s look (Refuses f))
+SubstitutesInto s before (Ok done) after look =
+    (x : List ℕ) × Answers s look (Gives x) × (after ≡ before ++ x)
+SubstitutesInto s before (Err e) after look =
+    IfSome (substitute_into_fault e) (λ f. Answers s look (Refuses f))
 
 -- P holds of the error of a parse, and Q of that of an expansion
 abbrev pub IfRefused : {T : Type 0} → Result T SubstituteIntoError → (ParseError → Type 0)

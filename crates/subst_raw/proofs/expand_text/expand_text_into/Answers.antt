@@ -28,8 +28,13 @@ returns-clause-value g c bytes reads t spells =
     let look = look_up_of bytes (g.M.VariableMap.look_up c.args.variables.now) in
     let same = ap (λ s. parts_value c.args.parts.now s look) c.as_bytes-source.ensures.value in
     let gives = template_value c.args.source.now c.args.parts.now t look c.requires spells in
-    rw (← c.replace.ensures.value, ← c.into_bytes-bytes.ensures.value, c.text_of.ensures.room, ← gives, ← same)
-    (c.expand_into-outcome.ensures.value bytes reads)
+    rw (
+      ← c.replace.ensures.value,
+      ← c.into_bytes-bytes.ensures.value,
+      c.text_of.ensures.room,
+      ← gives,
+      ← same,
+    ) (c.expand_into-outcome.ensures.value bytes reads)
 
 pub returns-clause-kept : goal.returns-clause-kept
 returns-clause-kept g c =
@@ -48,8 +53,9 @@ pub returns-clause-missing : goal.returns-clause-missing
 returns-clause-missing g c =
     let look_up = g.M.VariableMap.look_up c.args.variables.now in
     λ look names t spells.
-    errors_missing expand_into_fault c.args.source.now c.args.parts.now t look_up c.expand_into-outcome.result
-    c.requires spells (rw (sym c.as_bytes-source.ensures.value) c.expand_into-outcome.ensures.missing) look names
+    errors_missing expand_into_fault c.args.source.now c.args.parts.now t look_up
+    c.expand_into-outcome.result c.requires spells
+    (rw (sym c.as_bytes-source.ensures.value) c.expand_into-outcome.ensures.missing) look names
 
 pub returns-clause-range : goal.returns-clause-range
 returns-clause-range g c =
@@ -58,5 +64,6 @@ returns-clause-range g c =
     IfErr-weaker c.expand_into-outcome.result _ _
     (λ e missing. expand_error_in_text c.args.source.now c.requires.tree look (expand_into_fault e)
     c.utf8.source c.requires.spells
-    (subst (λ v. IfSome (expand_into_fault e) (IsMissing v)) (same ∙ c.requires.mean.same_value look) missing))
+    (subst (λ v. IfSome (expand_into_fault e) (IsMissing v)) (same ∙ c.requires.mean.same_value look)
+    missing))
     c.expand_into-outcome.ensures.missing

@@ -36,7 +36,9 @@ returns-clause-missing g c look names t spells =
 
 pub returns-clause-range : goal.returns-clause-range
 returns-clause-range g c =
-    let s = c.self.inside.source.now in
-    subst (λ (x : List ℕ). IfErr c.expand_into.result (λ e. (range_of (expand_into_fault e)).end ≤ length x)) c.self.view_is
-    (errors_range expand_into_fault s c.self.inside.parts (g.M.VariableMap.look_up c.args.variables.now)
-    c.expand_into.result c.self.invariant c.expand_into.ensures.missing)
+    let parts = c.self.inside.parts in
+    let look_up = g.M.VariableMap.look_up c.args.variables.now in
+    let within = errors_range expand_into_fault c.self.inside.source.now parts look_up c.expand_into.result
+    c.self.invariant c.expand_into.ensures.missing in
+    subst (λ (x : List ℕ). IfErr c.expand_into.result
+    (λ e. (range_of (expand_into_fault e)).end ≤ length x)) c.self.view_is within
