@@ -63,7 +63,8 @@ pub fn refuse(e: &Error, fault: &mut FaultRecord) -> u32
 /// Tells the variable that the error states as missing. Where it states none, the bytes were too many to be
 /// counted.
 pub fn refuse_missing(e: &ExpandIntoError, fault: &mut FaultRecord) -> u32
-    ensures refused { result ≡ REFUSED → IsToldOf (λ f. expand_into_fault e.now ≡ Some f) fault.new }
+    ensures refused { result ≡ REFUSED
+        → IsToldOf (λ f. expand_into_fault e.now ≡ Some f) fault.new }
     ensures end { result ≡ REFUSED
         → fault.new.position + fault.new.length ≡ (range_of (expand_into_fault e.now)).end }
     ensures kept { result ≢ REFUSED → fault.new ≡ fault.old }
