@@ -89,6 +89,25 @@ uint32_t subst_text(const uint8_t *source, size_t source_len,
                     uint8_t *room, size_t room_len, size_t *needed,
                     struct subst_fault *fault) SUBST_NO_NULL;
 
+/* Does what subst_bytes does, in one pass straight into the room: it asks for memory to parse the source alone, and
+ * copies nothing from one buffer to another. The room is unspecified unless the result is SUBST_DONE, and of a source
+ * that is no template it is as before. It is for large outputs, and for a room that is used again; where the room has
+ * to stay as it was without SUBST_DONE, use subst_bytes.
+ *
+ * The bytes after the room are never written, and `*needed` is that of subst_bytes. It is written with SUBST_DONE and
+ * SUBST_ROOM_TOO_SMALL alone, and `*fault` with SUBST_REFUSED alone. */
+uint32_t subst_bytes_into(const uint8_t *source, size_t source_len,
+                          const struct subst_pair *pairs, size_t pairs_len,
+                          uint8_t *room, size_t room_len, size_t *needed,
+                          struct subst_fault *fault) SUBST_NO_NULL;
+
+/* Does what subst_bytes_into does, where the source and all values are UTF-8; otherwise the result is SUBST_NOT_UTF8,
+ * and the room is as before. What is put into the room with SUBST_DONE is UTF-8 too. */
+uint32_t subst_text_into(const uint8_t *source, size_t source_len,
+                         const struct subst_pair *pairs, size_t pairs_len,
+                         uint8_t *room, size_t room_len, size_t *needed,
+                         struct subst_fault *fault) SUBST_NO_NULL;
+
 /* Does what subst_bytes does, for each row of variables, and parses the source once. After SUBST_DONE the room begins
  * with the outputs, one after the other, `*needed` bytes in all, and `ends[i]` is where the output of `rows[i]` ends.
  * After SUBST_REFUSED `*row` is the index of the first row that the source is refused for, and 0 for a fault that it

@@ -1,7 +1,7 @@
 #!/usr/bin/env bash
 # Tests the library for C: tools/c_library.c built as C, as C++ and with the sanitizers of the compiler, the same with
-# each request for memory refused in turn, and what tools/install puts in place, by the examples of docs/C.md. What the
-# machine lacks is said. The last line is 'N passed, M failed'.
+# each request for memory refused in turn, how often memory is asked for, and what tools/install puts in place, by the
+# examples of docs/C.md. What the machine lacks is said. The last line is 'N passed, M failed'.
 set -euo pipefail
 cd "$(dirname "$0")/.."
 ulimit -c 0
@@ -62,14 +62,16 @@ built_with_sanitizers() {
     runs "$folder/sanitized"
 }
 
+refusing=$folder/refuse_memory.so
+
 # Each request for memory is refused once, until no request is refused in a run. A run has to be out of memory at least
 # once, and the last one never.
 refused_in_turn() {
-  local request times=0 report=$folder/refused library=$folder/refuse_memory.so
-  runs "$compiler" "${strict[@]}" -shared -fPIC -o "$library" tools/refuse_memory.c || return
+  local request times=0 report=$folder/refused
+  runs "$compiler" "${strict[@]}" -shared -fPIC -o "$refusing" tools/refuse_memory.c || return
   for ((request = 1; request <= most_requests; request++)); do
     rm -f "$report"
-    runs env LD_PRELOAD="$library" REFUSE_REQUEST="$request" REFUSE_REPORT="$report" "$folder/c" small || return
+    runs env LD_PRELOAD="$refusing" REFUSE_REQUEST="$request" REFUSE_REPORT="$report" "$folder/c" small || return
     if [ ! -e "$report" ]; then
       ! grep -qx 'out of memory' "$output" || return
       printf '%d requests refused in turn, %d times out of memory\n' $((request - 1)) "$times" >"$output"
@@ -82,6 +84,20 @@ refused_in_turn() {
   done
   printf 'no end of requests\n' >"$output"
   return 1
+}
+
+# How many requests for memory a call makes for the rows of the tests.
+requests_of() {
+  runs env LD_PRELOAD="$refusing" REFUSE_NONE=1 "$folder/c" rows "$1" && grep -c '^request ' "$output"
+}
+
+# What subst_check asks for is what the parse takes. subst_bytes_into asks for no more, also to tell that a variable is
+# missing, and subst_bytes does.
+asked_by_the_parse_alone() {
+  local parse into bytes
+  parse=$(requests_of subst_check) && into=$(requests_of subst_bytes_into) && bytes=$(requests_of subst_bytes) || return
+  printf '%d requests by subst_check, %d by subst_bytes_into, %d by subst_bytes\n' "$parse" "$into" "$bytes" >"$output"
+  [ "$parse" -gt 0 ] && [ "$into" -eq "$parse" ] && [ "$bytes" -gt "$into" ]
 }
 
 # A block of docs/C.md in this language, of which there is one.
@@ -130,6 +146,7 @@ tools/install --library "$folder/prefix" || {
 }
 test_that 'as C' built_as_c
 test_that 'with memory refused' refused_in_turn
+test_that 'requests for memory' asked_by_the_parse_alone
 if command -v "${CXX:-c++}" >/dev/null; then
   test_that 'as C++' built_as_cpp
 else

@@ -144,6 +144,16 @@ static uint32_t text_call(const struct row *row, size_t room_len, struct written
     return fill(subst_text, row, room_len, written);
 }
 
+static uint32_t bytes_into_call(const struct row *row, size_t room_len, struct written *written)
+{
+    return fill(subst_bytes_into, row, room_len, written);
+}
+
+static uint32_t text_into_call(const struct row *row, size_t room_len, struct written *written)
+{
+    return fill(subst_text_into, row, room_len, written);
+}
+
 static uint32_t fault_text_call(const struct row *row, size_t room_len, struct written *written)
 {
     return say(subst_fault_text, row, room_len, written);
@@ -196,19 +206,62 @@ static int is_refused(row_call *call, const struct row *row)
     return is_fault(&fault, &row->fault) && is_untouched(&written);
 }
 
+/* Whether the bytes after a room of this length are untouched. */
+static int is_within(const struct written *written, size_t room_len)
+{
+    size_t i = room_len;
+    while (i < ROOM && written->room[i] == UNTOUCHED)
+        i += 1;
+    return i == ROOM;
+}
+
+/* Whether a call that writes straight into a room of this length does what the other one does, but for the room where
+ * the result isn't SUBST_DONE: of that only what is after it has to be untouched. */
+static int is_same(row_call *into, row_call *call, const struct row *row, size_t room_len)
+{
+    struct written written, wanted;
+    uint32_t result = call(row, room_len, &wanted);
+    return into(row, room_len, &written) == result && written.needed == wanted.needed
+        && is_fault(&written.fault, &wanted.fault) && is_within(&written, room_len)
+        && (result != SUBST_DONE || memcmp(written.room, wanted.room, ROOM) == 0);
+}
+
+/* The same for no room, one that is one byte too small, one that is just large enough, and a large one; where the
+ * source is refused, for small ones of any length. */
+static int is_same_in_rooms(row_call *into, row_call *call, const struct row *row)
+{
+    size_t length = row->wanted != NULL ? strlen(row->wanted) : 2;
+    return is_same(into, call, row, 0) && (length == 0 || is_same(into, call, row, length - 1))
+        && is_same(into, call, row, length) && is_same(into, call, row, ROOM);
+}
+
+static int is_template(const struct row *row)
+{
+    return row->wanted != NULL || row->fault.kind == SUBST_NO_SUCH_VARIABLE;
+}
+
 /* Whether subst_check says what it has to: a missing variable is none of its faults. */
 static int is_checked(const struct row *row)
 {
     struct written written;
-    int is_template = row->wanted != NULL || row->fault.kind == SUBST_NO_SUCH_VARIABLE;
-    if (check_call(row->source, &written) != (is_template ? SUBST_DONE : SUBST_REFUSED))
+    if (check_call(row->source, &written) != (is_template(row) ? SUBST_DONE : SUBST_REFUSED))
         return 0;
-    return is_fault(&written.fault, is_template ? &NO_FAULT : &row->fault);
+    return is_fault(&written.fault, is_template(row) ? &NO_FAULT : &row->fault);
+}
+
+/* The calls that write straight into the room. A source that is no template leaves that as it was. */
+static void test_into(const struct row *row)
+{
+    end_test("subst_bytes_into", row->source, is_same_in_rooms(bytes_into_call, bytes_call, row)
+             && (is_template(row) || is_refused(bytes_into_call, row)));
+    end_test("subst_text_into", row->source, is_same_in_rooms(text_into_call, text_call, row)
+             && (is_template(row) || is_refused(text_into_call, row)));
 }
 
 static void test_row(const struct row *row)
 {
     end_test("subst_check", row->source, is_checked(row));
+    test_into(row);
     if (row->wanted != NULL) {
         end_test("subst_bytes", row->source, is_put(bytes_call, row, row->wanted));
         end_test("subst_text", row->source, is_put(text_call, row, row->wanted));
@@ -249,8 +302,20 @@ static void test_no_text(void)
     end_test("subst_fault_text", "a source that is no text", is_put(fault_text_call, &source, "Missing variable name"));
 }
 
+static void test_no_text_into(void)
+{
+    static const struct row source = {"a\xFF$", {NULL}, NULL, {SUBST_MISSING_VARIABLE_NAME, 2, 1}, NULL};
+    static const struct row value = {"$a", {"a", "1", "b", "\xC3"}, "1", {0, 0, 0}, NULL};
+    static const struct row name = {"$a", {"\xC3", "0", "a", "1"}, "1", {0, 0, 0}, NULL};
+    end_test("subst_text_into", "a source that is no text", is_no_text(text_into_call, &source));
+    end_test("subst_text_into", "a value that is no text", is_no_text(text_into_call, &value));
+    end_test("subst_text_into", "a name that is no text", is_same_in_rooms(text_into_call, text_call, &name));
+    end_test("subst_bytes_into", "a source that is no text", is_refused(bytes_into_call, &source));
+    end_test("subst_bytes_into", "a value that is no text", is_same_in_rooms(bytes_into_call, bytes_call, &value));
+}
+
 /* Sources and values are bytes: a byte 0 in them, and no UTF-8. */
-static void test_bytes(void)
+static void test_bytes(const char *name, filling *call)
 {
     static const uint8_t source[] = {'<', 0, '$', 'a', 0xFF, '>'}, value[] = {'$', 0, 0xFE};
     static const uint8_t wanted[] = {'<', 0, '$', 0, 0xFE, 0xFF, '>'};
@@ -259,9 +324,9 @@ static void test_bytes(void)
     uint32_t result;
     do {
         written = untouched();
-        result = subst_bytes(source, sizeof source, &pair, 1, written.room, ROOM, &written.needed, &written.fault);
+        result = call(source, sizeof source, &pair, 1, written.room, ROOM, &written.needed, &written.fault);
     } while (is_out_of_memory(result, &written));
-    end_test("subst_bytes", "bytes that are no text",
+    end_test(name, "bytes that are no text",
              result == SUBST_DONE && written.needed == sizeof wanted && holds(&written, wanted, sizeof wanted));
 }
 
@@ -392,6 +457,15 @@ static void test_many_pairs(void)
     result = subst_text(bytes_of("$a999"), 5, many_pairs, MANY_PAIRS, large, LARGE - 1, &written.needed,
                         &written.fault);
     end_test("subst_text", "many pairs", result == SUBST_ROOM_TOO_SMALL && written.needed == LARGE);
+    written = large_untouched();
+    result = subst_text_into(bytes_of("$a999"), 5, many_pairs, MANY_PAIRS, large, LARGE, &written.needed,
+                             &written.fault);
+    end_test("subst_text_into", "many pairs", result == SUBST_DONE && is_filled(&written, LARGE, 'v'));
+    written = large_untouched();
+    result = subst_bytes_into(bytes_of("$a999"), 5, many_pairs, MANY_PAIRS, large, LARGE - 1, &written.needed,
+                              &written.fault);
+    end_test("subst_bytes_into", "many pairs", result == SUBST_ROOM_TOO_SMALL && written.needed == LARGE
+             && large[LARGE - 1] == UNTOUCHED);
 }
 
 /* Many rows, each of which gives one byte. */
@@ -469,6 +543,15 @@ static void test_long_source(void)
              && written.needed == strlen(shown) && memcmp(large, shown, strlen(shown)) == 0);
 }
 
+/* Whether a name of this length, which the source of many has, is told to be missing. */
+static int is_missing(filling *call, size_t length)
+{
+    struct large_written written = large_untouched();
+    return call(source_of_many, length + 1, many_pairs, 0, large, LARGE, &written.needed, &written.fault)
+        == SUBST_REFUSED && written.fault.kind == SUBST_NO_SUCH_VARIABLE && written.fault.position == 1
+        && written.fault.length == length;
+}
+
 /* A name of this length that is missing is told, and said with all its bytes. */
 static void test_long_name(size_t length)
 {
@@ -477,11 +560,8 @@ static void test_long_name(size_t length)
     uint32_t result;
     memset(source_of_many, 'n', length + 1);
     source_of_many[0] = '$';
-    written = large_untouched();
-    result = subst_bytes(source_of_many, length + 1, many_pairs, 0, large, LARGE, &written.needed,
-                         &written.fault);
-    end_test("subst_bytes", "a long name", result == SUBST_REFUSED && written.fault.kind == SUBST_NO_SUCH_VARIABLE
-             && written.fault.position == 1 && written.fault.length == length);
+    end_test("subst_bytes", "a long name", is_missing(subst_bytes, length));
+    end_test("subst_bytes_into", "a long name", is_missing(subst_bytes_into, length));
     written = large_untouched();
     result = subst_fault_text(source_of_many, length + 1, many_pairs, 0, large, LARGE, &written.needed);
     end_test("subst_fault_text", "a long name", result == SUBST_DONE && written.needed == strlen(said) + length
@@ -514,17 +594,39 @@ static const struct row rows[] = {
     {"1 ${a:$long_name}", {"b", "1"}, REFUSED(SUBST_NO_SUCH_VARIABLE, 7, 9, "No such variable: $long_name")},
 };
 
-/* An argument leaves out what is at a size: it asks for memory too often to refuse each request in turn. */
+/* Makes the call of this name once for each row, and nothing else, so that its requests for memory can be counted. */
+static void call_for_rows(const char *name)
+{
+    struct written written;
+    size_t i;
+    for (i = 0; i < sizeof rows / sizeof rows[0]; i++) {
+        if (strcmp(name, "subst_check") == 0)
+            check_call(rows[i].source, &written);
+        else if (strcmp(name, "subst_bytes_into") == 0)
+            bytes_into_call(&rows[i], ROOM, &written);
+        else
+            bytes_call(&rows[i], ROOM, &written);
+    }
+}
+
+/* The argument `small` leaves out what is at a size: it asks for memory too often to refuse each request in turn. With
+ * `rows`, and the name of a call, that call is made for each row, and nothing is tested. */
 int main(int argc, char **argv)
 {
     /* so that only the library asks for memory */
     static char buffer[BUFSIZ];
     size_t i;
     setvbuf(stdout, buffer, _IOFBF, sizeof buffer);
+    if (argc > 2 && strcmp(argv[1], "rows") == 0) {
+        call_for_rows(argv[2]);
+        return EXIT_SUCCESS;
+    }
     for (i = 0; i < sizeof rows / sizeof rows[0]; i++)
         test_row(&rows[i]);
-    test_bytes();
+    test_bytes("subst_bytes", subst_bytes);
+    test_bytes("subst_bytes_into", subst_bytes_into);
     test_no_text();
+    test_no_text_into();
     test_each();
     if (argc == 1 || strcmp(argv[1], "timed") == 0) {
         test_many_pairs();

@@ -19,10 +19,10 @@ use Rattle.subst_c.specs.Fault.{IsToldOf}
 use Rattle.subst_c.specs.Text.{IsHighlighting, SaysOf}
 use Rattle.subst_c.specs.declared.fault.FaultRecord.{FaultRecord}
 
--- what is told of an error is told of the fault for which the source is refused
-pub told_of_refusal : (e : Error) (IsSuch : Fault → Type 0) (told : FaultRecord)
-    → IfSome (error_fault e) IsSuch → IsToldOf (λ f. error_fault e ≡ Some f) told → IsToldOf IsSuch told
-told_of_refusal e IsSuch told such (f, states, is) = (f, subst (λ o. IfSome o IsSuch) states such, is)
+-- what is told of the fault that an error states is told of the one for which the source is refused
+pub told_of_refusal : (stated : Option Fault) (IsSuch : Fault → Type 0) (told : FaultRecord)
+    → IfSome stated IsSuch → IsToldOf (λ f. stated ≡ Some f) told → IsToldOf IsSuch told
+told_of_refusal stated IsSuch told such (f, states, is) = (f, subst (λ o. IfSome o IsSuch) states such, is)
 
 -- an error that states a refusal states a fault of which it is so
 pub refused_for : (e : Option Fault) (IsAnswer : Answer → Type 0) → IfSome (option_map Refuses e) IsAnswer

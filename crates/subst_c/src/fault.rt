@@ -2,13 +2,13 @@
 
 ghost use Rattle.std.specs.Prelude.{◌≡◌, ◌≢◌, ◌+◌, ◌^◌, ◌<◌, None, Some};
 ghost use Rattle.std.specs.Option.{option_map};
-ghost use Rattle.subst_error.specs.ErrorFault.{error_fault};
+ghost use Rattle.subst_error.specs.ErrorFault.{error_fault, expand_into_fault};
 ghost use Rattle.subst_error.specs.Range.{range_of};
 ghost use Rattle.subst_c.specs.Fault.{IsToldOf, record_of, kind_of};
 ghost use Rattle.subst_c.specs.declared.outcome.TheConstants.{REFUSED, OUT_OF_MEMORY};
 
 use crate::outcome::{OUT_OF_MEMORY, REFUSED};
-use subst_error::Error;
+use subst_error::{Error, ExpandIntoError};
 
 /// A backslash before a character that can't be escaped, or at the end of the source.
 pub const INVALID_ESCAPE_SEQUENCE: u32 = 1;
@@ -58,6 +58,30 @@ pub fn refuse(e: &Error, fault: &mut FaultRecord) -> u32
         length: range.end - range.start,
     };
     REFUSED
+}
+
+/// Tells the variable that the error states as missing. Where it states none, the bytes were too many to be
+/// counted.
+pub fn refuse_missing(e: &ExpandIntoError, fault: &mut FaultRecord) -> u32
+    ensures refused { result ≡ REFUSED
+        → IsToldOf (λ f. expand_into_fault e.now ≡ Some f) fault.new }
+    ensures end { result ≡ REFUSED
+        → fault.new.position + fault.new.length ≡ (range_of (expand_into_fault e.now)).end }
+    ensures kept { result ≢ REFUSED → fault.new ≡ fault.old }
+    ensures others { result ≢ REFUSED → result ≡ OUT_OF_MEMORY }
+    ensures memory { result ≢ REFUSED → expand_into_fault e.now ≡ None }
+{
+    match e {
+        ExpandIntoError::NoSuchVariable(missing) => {
+            *fault = FaultRecord {
+                kind: NO_SUCH_VARIABLE,
+                position: missing.position,
+                length: missing.name.len(),
+            };
+            REFUSED
+        }
+        ExpandIntoError::OutOfMemory(_) => OUT_OF_MEMORY,
+    }
 }
 
 /// Returns the number of the kind of fault that an error states.

@@ -29,6 +29,7 @@ use subst_template::ByteTemplate;
 mod answer;
 mod each;
 mod fault;
+mod into;
 pub mod outcome;
 mod pairs;
 mod room;
@@ -111,6 +112,85 @@ pub extern "C" fn subst_text(
         return NOT_UTF8;
     }
     subst_bytes(alloc, source, pairs, room, needed, fault)
+}
+
+/// Writes the bytes of `source` with its variables filled in from `pairs` straight into the room, from its
+/// front on. What the room has is unspecified unless the result is done. Memory is taken for the parse alone:
+/// after that, out of memory says that the bytes are too many for a `usize`.
+#[unsafe(no_mangle)]
+pub extern "C" fn subst_bytes_into(
+    alloc: Global,
+    source: &[u8],
+    pairs: &[Pair],
+    room: &mut [u8],
+    needed: &mut usize,
+    fault: &mut FaultRecord,
+) -> u32
+    // As `subst_bytes`.
+    ensures done { result ≡ DONE
+        → IsPut (λ x. Answers source.now (first_value pairs.now) (Gives x))
+        needed.new room.old room.new }
+    ensures refused { result ≡ REFUSED
+        → IsToldOf (λ f. Answers source.now (first_value pairs.now) (Refuses f)) fault.new }
+    ensures within { result ≡ REFUSED
+        → fault.new.position + fault.new.length ≤ length source.now }
+    ensures too_small { result ≡ ROOM_TOO_SMALL
+        → IsTooLong (λ x. Answers source.now (first_value pairs.now) (Gives x))
+        needed.new room.old }
+    ensures others { result ≢ DONE → result ≢ REFUSED → result ≢ ROOM_TOO_SMALL
+        → result ≡ OUT_OF_MEMORY }
+    ensures fault_kept { result ≢ REFUSED → fault.new ≡ fault.old }
+    ensures needed_kept { result ≢ DONE → result ≢ ROOM_TOO_SMALL → needed.new ≡ needed.old }
+
+    // Only what a sentence gives is written to the room.
+    ensures room_kept { ¬ (IsSentence source.now) → room.new ≡ room.old }
+{
+    match ByteTemplate::from_slice(alloc, source) {
+        Ok(template) => into::expand_into_room(&template, pairs, room, needed, fault),
+        Err(e) => fault::refuse(&Error::from(e), fault),
+    }
+}
+
+/// Does what `subst_bytes_into` does, where the source and all values are UTF-8. What is put into the room is
+/// then UTF-8 too.
+#[unsafe(no_mangle)]
+pub extern "C" fn subst_text_into(
+    alloc: Global,
+    source: &[u8],
+    pairs: &[Pair],
+    room: &mut [u8],
+    needed: &mut usize,
+    fault: &mut FaultRecord,
+) -> u32
+    // As `subst_bytes_into`, and what is put into the room is UTF-8.
+    ensures done { result ≡ DONE
+        → IsPut (λ x. IsUtf8 x × Answers source.now (first_value pairs.now) (Gives x))
+        needed.new room.old room.new }
+    ensures refused { result ≡ REFUSED
+        → IsToldOf (λ f. Answers source.now (first_value pairs.now) (Refuses f)) fault.new }
+    ensures within { result ≡ REFUSED
+        → fault.new.position + fault.new.length ≤ length source.now }
+    ensures too_small { result ≡ ROOM_TOO_SMALL
+        → IsTooLong (λ x. Answers source.now (first_value pairs.now) (Gives x))
+        needed.new room.old }
+
+    // The source or a value is told not to be UTF-8 exactly where one isn't.
+    ensures text { result ≢ NOT_UTF8 → are_texts source.now pairs.now ≡ true }
+    ensures not_text { result ≡ NOT_UTF8 → are_texts source.now pairs.now ≡ false }
+    ensures others { result ≢ DONE → result ≢ REFUSED → result ≢ ROOM_TOO_SMALL → result ≢ NOT_UTF8
+        → result ≡ OUT_OF_MEMORY }
+    ensures fault_kept { result ≢ REFUSED → fault.new ≡ fault.old }
+    ensures needed_kept { result ≢ DONE → result ≢ ROOM_TOO_SMALL → needed.new ≡ needed.old }
+
+    // Only what a sentence gives is written to the room, and only where all is UTF-8.
+    ensures room_kept { ¬ (IsSentence source.now) → room.new ≡ room.old }
+    ensures room_kept_of_no_text { result ≡ NOT_UTF8 → room.new ≡ room.old }
+{
+    laws::texts_give_texts();
+    if !answer::are_texts(source, pairs) {
+        return NOT_UTF8;
+    }
+    subst_bytes_into(alloc, source, pairs, room, needed, fault)
 }
 
 /// Puts what `source` gives under each row of pairs at the front of the room, one output after the other, and

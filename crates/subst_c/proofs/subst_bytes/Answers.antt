@@ -18,6 +18,6 @@ returns-in-Ok-clause-too_small c small =
 
 pub returns-in-Err-clause-refused : goal.returns-in-Err-clause-refused
 returns-in-Err-clause-refused c refused =
-    told_of_refusal c.in-Err.e _ _
+    told_of_refusal (error_fault c.in-Err.e) _ _
     (refused_for (error_fault c.in-Err.e) (Answers c.args.source.now (first_value c.args.pairs.now))
     c.in-Err.ensures.answer) (c.refuse.ensures.refused refused)

@@ -1,0 +1,12 @@
+-- What the template is refused for is what its source is.
+use Rattle.std.proofs.Common.{List, ℕ, subst}
+use Rattle.subst_language.specs.Language.Answer.{Answers, Refuses}
+use Rattle.subst_c.specs.Fault.{IsToldOf}
+use Rattle.subst_c.specs.Pairs.{first_value}
+use Rattle.subst_c.proofs.subst_bytes_into.Goals as goal
+
+pub returns-in-Ok-clause-refused : goal.returns-in-Ok-clause-refused
+returns-in-Ok-clause-refused c refused =
+    let look = first_value c.args.pairs.now in
+    subst (λ (s : List ℕ). IsToldOf (λ f. Answers s look (Refuses f)) c.expand_into_room.new.fault)
+    c.in-Ok.ensures.ok.1 (c.expand_into_room.ensures.refused refused)

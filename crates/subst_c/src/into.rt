@@ -1,0 +1,54 @@
+//! Filling in straight into the caller's room.
+
+ghost use Rattle.std.specs.Prelude.{◌≡◌, ◌≢◌, ◌+◌, ◌^◌, ◌≤◌, length};
+ghost use Rattle.subst_language.specs.Language.Answer.{Answers, Gives, Refuses};
+ghost use Rattle.subst_language.specs.Language.Sentence.{ByTree};
+ghost use Rattle.subst_language.specs.Language.Written.{written};
+ghost use Rattle.subst_c.specs.Fault.{IsToldOf};
+ghost use Rattle.subst_c.specs.Pairs.{first_value};
+ghost use Rattle.subst_c.specs.Room.{IsPut, IsTooLong};
+ghost use Rattle.subst_c.specs.declared.outcome.TheConstants.{DONE, REFUSED, OUT_OF_MEMORY, ROOM_TOO_SMALL};
+
+use crate::fault::{self, FaultRecord};
+use crate::outcome::{DONE, ROOM_TOO_SMALL};
+use crate::pairs::{Pair, Pairs};
+use subst_template::ByteTemplate;
+
+/// Writes what the template gives under the pairs from the front of the room on, and tells how many bytes it
+/// is, also where the room is shorter. This takes no memory: out of memory says that the bytes are too many
+/// for a `usize`. What the room has is unspecified unless all is done.
+pub fn expand_into_room(
+    template: &ByteTemplate,
+    pairs: &[Pair],
+    room: &mut [u8],
+    needed: &mut usize,
+    fault: &mut FaultRecord,
+) -> u32
+    ensures done { result ≡ DONE
+        → IsPut (λ x. Answers template.now (first_value pairs.now) (Gives x))
+        needed.new room.old room.new }
+    ensures refused { result ≡ REFUSED
+        → IsToldOf (λ f. Answers template.now (first_value pairs.now) (Refuses f)) fault.new }
+    ensures within { result ≡ REFUSED
+        → fault.new.position + fault.new.length ≤ length template.now }
+    ensures too_small { result ≡ ROOM_TOO_SMALL
+        → IsTooLong (λ x. Answers template.now (first_value pairs.now) (Gives x))
+        needed.new room.old }
+    ensures others { result ≢ DONE → result ≢ REFUSED → result ≢ ROOM_TOO_SMALL
+        → result ≡ OUT_OF_MEMORY }
+    ensures memory { result ≡ OUT_OF_MEMORY → ByTree template.now
+        (λ t. 2 ^ 64 ≤ length (written 0 t (first_value pairs.now))) }
+    ensures fault_kept { result ≢ REFUSED → fault.new ≡ fault.old }
+    ensures needed_kept { result ≢ DONE → result ≢ ROOM_TOO_SMALL → needed.new ≡ needed.old }
+{
+    match template.expand_into_slice(room, &Pairs { pairs }) {
+        Ok(length) => {
+            *needed = length;
+            if room.len() < length {
+                return ROOM_TOO_SMALL;
+            }
+            DONE
+        }
+        Err(e) => fault::refuse_missing(&e, fault),
+    }
+}
