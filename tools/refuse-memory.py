@@ -24,10 +24,12 @@ from running import CRATES, TOP, expect_that, preloading, run, run_tests
 
 PROGRAM = 'subst_memory_tests'
 STORED = (CRATES / PROGRAM / 'stdout').read_text(encoding='utf-8').splitlines()
-# Each call of the tables, with the number of its requests and the bytes that they ask for, none in the second table.
-TABLE = {name: (int(count or '0'), int(size or '0')) for name, count, size in
-         re.findall(r'^\| `(.*)` \|(?: (\d+), (\d+) \|)?$', (TOP / 'docs/MEMORY.md').read_text(encoding='utf-8'),
-                    re.MULTILINE)}
+PAGE = (TOP / 'docs/MEMORY.md').read_text(encoding='utf-8')
+BLOCKS = re.findall(r'^```text\n(.*?)^```$', PAGE, re.MULTILINE | re.DOTALL)
+# Each call of the two blocks, with the number of its requests and the bytes that they ask for, none in the second one.
+TABLE = {name: (int(count), int(size)) for name, count, size in
+         re.findall(r'^(.*\S) +(\d+) +(\d+)$', BLOCKS[0], re.MULTILINE)}
+TABLE.update((name, (0, 0)) for name in BLOCKS[1].splitlines())
 # What the library says of a request, and the program of a call.
 REQUEST, CALL, END, LENT, OUT_OF_MEMORY = 'request ', 'call: ', 'end of call', 'lent', 'out of memory'
 
@@ -113,7 +115,7 @@ def print_table():
     """Prints the rows of the calls that make requests."""
     for name, call in calls().items():
         if call.count > 0:
-            print(f'| `{name}` | {call.count}, {call.size} |')
+            print(f'{name:<58} {call.count:>8} {call.size:>6}')
 
 
 def main():

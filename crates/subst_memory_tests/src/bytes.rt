@@ -135,7 +135,7 @@ fn parse(rt: &HostRuntime, name: &str, source: &[u8]) {
 
 fn parse_counted(rt: &HostRuntime) {
     let (alloc, source) = (rt.alloc(), SENTENCE);
-    let name = "ByteTemplate::from_slice_counted of a sentence";
+    let name = "ByteTemplate::from_slice_counted";
     again!(rt, name, [source], Err(ParseError::OutOfMemory(_)) => parsed_counted(alloc, source));
 }
 
@@ -152,7 +152,7 @@ fn expand_counted(rt: &HostRuntime) -> Result<(), Error> {
     let alloc = rt.alloc();
     let template = ByteTemplate::from_slice(alloc, SENTENCE)?;
     let map = byte_values(alloc, NAME)?;
-    let name = "ByteTemplate::expand_counted of a sentence";
+    let name = "ByteTemplate::expand_counted";
     again!(rt, name, [template, map],
         Err(ExpandError::OutOfMemory(_)) => expanded_counted(alloc, &template, &map));
     Ok(())
@@ -170,7 +170,7 @@ fn expand_owner(rt: &HostRuntime) -> Result<(), Error> {
     let alloc = rt.alloc();
     let owner = owned(alloc, SENTENCE)?;
     let map = byte_values(alloc, NAME)?;
-    let name = "ByteTemplateBuf::expand of a sentence";
+    let name = "ByteTemplateBuf::expand";
     again!(rt, name, [owner, map], Err(ExpandError::OutOfMemory(_)) => owner.expand(alloc, &map));
     Ok(())
 }
@@ -203,17 +203,17 @@ fn copy_of(rt: &HostRuntime) -> Result<(), Error> {
 }
 
 pub fn calls(rt: &HostRuntime) -> Result<(), Error> {
-    fill_in(rt, "substitute_bytes of a sentence", SENTENCE)?;
+    fill_in(rt, "substitute_bytes", SENTENCE)?;
     fill_in(rt, "substitute_bytes of a missing variable", MISSING)?;
     fill_in(rt, "substitute_bytes of a bad escape", BAD_ESCAPE)?;
-    fill_in_owned(rt, "substitute_bytes_owned of a sentence", SENTENCE)?;
-    parse(rt, "ByteTemplate::from_slice of a sentence", SENTENCE);
+    fill_in_owned(rt, "substitute_bytes_owned", SENTENCE)?;
+    parse(rt, "ByteTemplate::from_slice", SENTENCE);
     parse(rt, "ByteTemplate::from_slice of a bad escape", BAD_ESCAPE);
     parse_counted(rt);
-    expand(rt, "ByteTemplate::expand of a sentence", SENTENCE)?;
+    expand(rt, "ByteTemplate::expand", SENTENCE)?;
     expand(rt, "ByteTemplate::expand of a missing variable", MISSING)?;
     expand_counted(rt)?;
-    take_over(rt, "ByteTemplateBuf::from_vec of a sentence", SENTENCE)?;
+    take_over(rt, "ByteTemplateBuf::from_vec", SENTENCE)?;
     take_over(rt, "ByteTemplateBuf::from_vec of a bad escape", BAD_ESCAPE)?;
     expand_owner(rt)?;
     copy(rt)?;

@@ -6,13 +6,13 @@ use subst::{Error, json, toml as filled};
 use subst_testing::calls::{begin, end, say_out_of_memory};
 use subst_testing::variables::texts;
 
-/// A tree of each kind of values, in its compact form.
+/// A tree of each kind, in its compact form.
 const JSON: &str = "{\"k\":[\"$name\",1,null,{\"$name\":\"${b:x}\"}],\"l\":\"${c:$name}/y\"}";
 
 /// A tree whose second string needs a variable which isn't there.
 const MISSING_IN_JSON: &str = "[\"$name\",[\"é$absent\"],\"$\"]";
 
-/// A document with a tree of each kind of values.
+/// A document with a tree of each kind.
 const TOML: &str =
     "d = 1979-05-27\nk = ['$name', 1, true, { '$name' = '${b:x}' }]\n[t]\nl = '${c:$name}/y'\n";
 
@@ -60,7 +60,7 @@ fn read_json(rt: &HostRuntime, name: &str, source: &str) -> Result<(), AllocErro
 fn read_json_of_bytes(rt: &HostRuntime) -> Result<(), AllocError> {
     let alloc = rt.alloc();
     let map = texts(alloc, VARIABLES)?;
-    again!(rt, "json::value_from_slice of each kind of values", [map],
+    again!(rt, "json::value_from_slice of each kind", [map],
         Err(json::Error::OutOfMemory(_)) => json::value_from_slice(alloc, JSON.as_bytes(), &map));
     Ok(())
 }
@@ -124,7 +124,7 @@ fn read_toml(rt: &HostRuntime, name: &str, source: &str) -> Result<(), AllocErro
 fn read_toml_of_bytes(rt: &HostRuntime) -> Result<(), AllocError> {
     let alloc = rt.alloc();
     let map = texts(alloc, VARIABLES)?;
-    again!(rt, "toml::value_from_slice of each kind of values", [map],
+    again!(rt, "toml::value_from_slice of each kind", [map],
         Err(filled::Error::OutOfMemory(_)) => filled::value_from_slice(alloc, TOML.as_bytes(), &map));
     Ok(())
 }
@@ -140,7 +140,7 @@ pub fn json_calls(rt: &HostRuntime) -> Result<(), AllocError> {
     fill_in_json(rt, name, MISSING_IN_JSON)?;
     fill_in_json(
         rt,
-        "json::substitute_string_values of each kind of values",
+        "json::substitute_string_values of each kind",
         JSON,
     )?;
     read_json_of_bytes(rt)?;
@@ -150,7 +150,7 @@ pub fn json_calls(rt: &HostRuntime) -> Result<(), AllocError> {
         "json::value_from_str of a missing variable",
         MISSING_IN_JSON,
     )?;
-    read_json(rt, "json::value_from_str of each kind of values", JSON)
+    read_json(rt, "json::value_from_str of each kind", JSON)
 }
 
 pub fn toml_calls(rt: &HostRuntime) -> Result<(), AllocError> {
@@ -158,7 +158,7 @@ pub fn toml_calls(rt: &HostRuntime) -> Result<(), AllocError> {
     fill_in_toml(rt, name, MISSING_IN_TOML)?;
     fill_in_toml(
         rt,
-        "toml::substitute_string_values of each kind of values",
+        "toml::substitute_string_values of each kind",
         TOML,
     )?;
     let array = "k = ['$a', '${b:x}']";
@@ -173,6 +173,6 @@ pub fn toml_calls(rt: &HostRuntime) -> Result<(), AllocError> {
         "toml::value_from_str of a missing variable",
         MISSING_IN_TOML,
     )?;
-    read_toml(rt, "toml::value_from_str of each kind of values", TOML)?;
+    read_toml(rt, "toml::value_from_str of each kind", TOML)?;
     read_toml(rt, "toml::value_from_str of k = '$a'", "k = '$a'")
 }

@@ -36,26 +36,26 @@ fn key(alloc: Global) -> Result<String, AllocError> {
 fn get_of_maps_with_own_keys(rt: &HostRuntime) -> Result<(), AllocError> {
     let mut tree = BTreeMap::new(rt.alloc());
     tree.insert(key(rt.alloc())?, "world")?;
-    get(rt, "get of a BTreeMap with keys String", &tree);
+    get(rt, "get of BTreeMap<String>", &tree);
     let mut hash = HashMap::new(rt.alloc());
     hash.insert(key(rt.alloc())?, "world")?;
-    get(rt, "get of a HashMap with keys String", &hash);
+    get(rt, "get of HashMap<String>", &hash);
     let mut index = IndexMap::new(rt.alloc());
     index.insert(key(rt.alloc())?, "world")?;
-    get(rt, "get of an IndexMap with keys String", &index);
+    get(rt, "get of IndexMap<String>", &index);
     Ok(())
 }
 
 fn get_of_maps_with_lent_keys(rt: &HostRuntime) -> Result<(), AllocError> {
     let mut tree = BTreeMap::new(rt.alloc());
     tree.insert("name", "world")?;
-    get(rt, "get of a BTreeMap with keys &str", &tree);
+    get(rt, "get of BTreeMap<&str>", &tree);
     let mut hash = HashMap::new(rt.alloc());
     hash.insert("name", "world")?;
-    get(rt, "get of a HashMap with keys &str", &hash);
+    get(rt, "get of HashMap<&str>", &hash);
     let mut index = IndexMap::new(rt.alloc());
     index.insert("name", "world")?;
-    get(rt, "get of an IndexMap with keys &str", &index);
+    get(rt, "get of IndexMap<&str>", &index);
     Ok(())
 }
 
@@ -70,7 +70,7 @@ fn get_of_env(rt: &HostRuntime) -> Result<(), AllocError> {
     let mut pairs = Vec::new(rt.alloc());
     pairs.push((key(rt.alloc())?, String::from_str(rt.alloc(), "world")?))?;
     let env = env_of(rt, pairs);
-    get(rt, "get of an Env", &env);
+    get(rt, "get of Env", &env);
     Ok(())
 }
 
@@ -81,7 +81,7 @@ fn say_source(rt: &HostRuntime, lent: Template<'_>, by_from: Template<'_>) {
 }
 
 fn take_text_apart(rt: &HostRuntime, owner: TemplateBuf) {
-    begin(rt, "as_template, from, source and into_source of texts");
+    begin(rt, "lending and sources of texts");
     say_source(rt, owner.as_template(), Template::from(&owner));
     say(rt, "source:", owner.source());
     let source = owner.into_source();
@@ -96,7 +96,7 @@ fn say_byte_source(rt: &HostRuntime, lent: ByteTemplate<'_>, by_from: ByteTempla
 }
 
 fn take_bytes_apart(rt: &HostRuntime, owner: ByteTemplateBuf) {
-    begin(rt, "as_template, from, source and into_source of bytes");
+    begin(rt, "lending and sources of bytes");
     say_byte_source(rt, owner.as_template(), ByteTemplate::from(&owner));
     say_bytes(rt, "source:", owner.source());
     let source = owner.into_source();
@@ -147,7 +147,7 @@ fn steps_and_laws(rt: &HostRuntime) {
     end(rt);
     begin(
         rt,
-        "law_1 to law_9, and the laws of lengths, missing variables, texts, turns and trees",
+        "the laws",
     );
     laws::law_1();
     laws::law_2();

@@ -83,14 +83,14 @@ fn display_errors(rt: &HostRuntime) -> Result<(), AllocError> {
 
 fn characters(rt: &HostRuntime) -> Result<(), AllocError> {
     let character = CharOrByte::Byte(0x81);
-    begin(rt, "source_len and quoted_printable of CharOrByte");
+    begin(rt, "calls of CharOrByte");
     let quoted = character.quoted_printable();
     let len = character.source_len();
     end(rt);
     let _ = rt.println(format_args!("{len} byte"));
     display(rt, "Display of CharOrByte", &character)?;
     display(rt, "Display of QuotedPrintable", &quoted)?;
-    begin(rt, "ExpectedCharacter::new and message");
+    begin(rt, "calls of ExpectedCharacter");
     let expected = ExpectedCharacter::new("a brace");
     say(rt, "gives", expected.message());
     end(rt);
@@ -175,7 +175,7 @@ fn report(rt: &HostRuntime) -> Result<(), AllocError> {
     let mut room = String::with_capacity(rt.alloc(), 128)?;
     let e = no_name();
     let source = "one\nHi $!";
-    begin(rt, "source_range, source_line and source_position");
+    begin(rt, "where an error is");
     let start = e.source_range().start;
     let line = e.source_line(source);
     let position = e.source_position(source);
@@ -227,7 +227,7 @@ fn run_wrongly(rt: &HostRuntime) -> Result<(), AllocError> {
 }
 
 fn make_devices(rt: &HostRuntime, drip: &mut Drip) {
-    begin(rt, "FromReader::new, ToWriter::new and failed");
+    begin(rt, "calls of FromReader and ToWriter");
     let input = FromReader::new(Trickle { rest: b"" });
     let output = ToWriter::new(drip);
     let have_failed = input.failed() || output.failed();

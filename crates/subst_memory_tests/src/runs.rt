@@ -234,7 +234,7 @@ fn make_values_of_pairs(rt: &HostRuntime, pairs: &Vec<(String, String)>) {
 pub fn calls(rt: &HostRuntime) -> Result<(), AllocError> {
     run_over_bytes(
         rt,
-        "run_bytes of a sentence",
+        "run_bytes",
         b"Hi ${hi:\\{${who:you}\\}} and $name!",
     )?;
     run_over_bytes(rt, "run_bytes of a plain source", b"Hi {you}!")?;
@@ -246,7 +246,7 @@ pub fn calls(rt: &HostRuntime) -> Result<(), AllocError> {
     )?;
     run_over_text(
         rt,
-        "run_text of a sentence",
+        "run_text",
         "${a:é}: ${b:\\{$name\\}}".as_bytes(),
     )?;
     run_over_text(rt, "run_text of a plain source", b"Hi {you}!")?;

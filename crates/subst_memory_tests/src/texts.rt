@@ -166,18 +166,18 @@ fn escape(rt: &HostRuntime) {
 }
 
 pub fn calls(rt: &HostRuntime) -> Result<(), Error> {
-    fill_in(rt, "substitute of a sentence", SENTENCE)?;
+    fill_in(rt, "substitute", SENTENCE)?;
     fill_in(rt, "substitute of a missing variable", MISSING)?;
     fill_in(rt, "substitute of a bad escape", BAD_ESCAPE)?;
-    fill_in_owned(rt, "substitute_owned of a sentence", SENTENCE)?;
-    parse(rt, "Template::from_str of a sentence", SENTENCE);
-    expand(rt, "Template::expand of a sentence", SENTENCE)?;
+    fill_in_owned(rt, "substitute_owned", SENTENCE)?;
+    parse(rt, "Template::from_str", SENTENCE);
+    expand(rt, "Template::expand", SENTENCE)?;
     expand(rt, "Template::expand of a missing variable", MISSING)?;
-    take_over(rt, "TemplateBuf::from_string of a sentence", SENTENCE)?;
+    take_over(rt, "TemplateBuf::from_string", SENTENCE)?;
     take_over(rt, "TemplateBuf::from_string of a bad escape", BAD_ESCAPE)?;
     let name = "TemplateBuf::from_string of defaults in defaults";
     take_over(rt, name, DEFAULTS)?;
-    expand_owner(rt, "TemplateBuf::expand of a sentence", SENTENCE, NAME)?;
+    expand_owner(rt, "TemplateBuf::expand", SENTENCE, NAME)?;
     let name = "TemplateBuf::expand of defaults in defaults";
     expand_owner(rt, name, DEFAULTS, "")?;
     copy(rt)?;

@@ -38,7 +38,7 @@ pub returns-clause-range : goal.returns-clause-range
 returns-clause-range g c =
     let parts = c.self.inside.parts in
     let look_up = g.M.VariableMap.look_up c.args.variables.now in
-    let within = errors_range expand_into_fault c.self.inside.source.now parts look_up c.expand_into_slice.result
-    c.self.invariant c.expand_into_slice.ensures.missing in
+    let within = errors_range expand_into_fault c.self.inside.source.now parts look_up
+    c.expand_into_slice.result c.self.invariant c.expand_into_slice.ensures.missing in
     subst (λ (x : List ℕ). IfErr c.expand_into_slice.result
     (λ e. (range_of (expand_into_fault e)).end ≤ length x)) c.self.view_is within
