@@ -1,20 +1,15 @@
 -- What is told of an answer is what it says.
-use Rattle.std.proofs.Common.{◌≡◌, ◌≢◌, ◌≤◌, ℕ, List, length, Option, Some, None, IfSome, Result, Ok, Err, IfOk, IfErr, String, string_bytes, inl, refl, subst, sym}
+use Rattle.std.proofs.Common.{◌≡◌, ◌≢◌, ℕ, ◌+◌, ◌-◌, List, length, Option, Some, None, IfSome, Result, Ok, Err, IfOk, String, string_bytes, refl, subst, ap, arith}
 use Rattle.std.specs.Global.{Global}
 use Rattle.std.specs.Option.{option_map}
 use Rattle.std.specs.declared.alloc.AllocError.{AllocError}
-use Rattle.subst_language.specs.Calls.Outcome.{answer_of}
-use Rattle.subst_language.specs.Language.Answer.{Answer, Answers, Refuses}
-use Rattle.subst_language.specs.Language.BadItem.{HasFault}
-use Rattle.subst_language.specs.Language.LookUp.{LookUp}
+use Rattle.subst_language.specs.Language.Answer.{Answer, Refuses}
 use Rattle.subst_error.specs.Display.{IsDisplayOfError, IsDisplayOfFault}
 use Rattle.subst_error.specs.ErrorFault.{error_fault}
-use Rattle.subst_error.specs.Fault.{Fault}
+use Rattle.subst_error.specs.Fault.{Fault, NoSuchVariable}
 use Rattle.subst_error.specs.Highlighting.{highlighting_of}
-use Rattle.subst_error.specs.Range.{range_of}
 use Rattle.subst_error.specs.declared.Error.{Error}
 use Rattle.subst_error.specs.declared.Error.TheVariants.{OutOfMemory}
-use Rattle.subst_language.proofs.CallingLemmas.{range_in_source}
 use Rattle.subst_c.specs.Fault.{IsToldOf}
 use Rattle.subst_c.specs.Text.{IsHighlighting, SaysOf}
 use Rattle.subst_c.specs.declared.fault.FaultRecord.{FaultRecord}
@@ -23,6 +18,17 @@ use Rattle.subst_c.specs.declared.fault.FaultRecord.{FaultRecord}
 pub told_of_refusal : (stated : Option Fault) (IsSuch : Fault → Type 0) (told : FaultRecord)
     → IfSome stated IsSuch → IsToldOf (λ f. stated ≡ Some f) told → IsToldOf IsSuch told
 told_of_refusal stated IsSuch told such (f, states, is) = (f, subst (λ o. IfSome o IsSuch) states such, is)
+
+-- a variable that is missing takes the bytes of its name
+pub told_of_missing : (stated : Option Fault) (position : ℕ) (name : List ℕ)
+    → stated ≡ Some (NoSuchVariable position name) → IsToldOf (λ f. stated ≡ Some f) (record {
+      kind = 5;
+      position = position;
+      length = length name;
+    })
+told_of_missing stated position name is =
+    let len : length name ≡ position + length name - position = omega arith in
+    (NoSuchVariable position name, is, ap (λ n. record { kind = 5; position = position; length = n }) len)
 
 -- an error that states a refusal states a fault of which it is so
 pub refused_for : (e : Option Fault) (IsAnswer : Answer → Type 0) → IfSome (option_map Refuses e) IsAnswer
@@ -67,23 +73,3 @@ pub highlighting_of_error : {E : Type 0} (e : Error) (IsAnswer : Answer → Type
 highlighting_of_error e IsAnswer s (Ok text) other refused shown =
     highlights_a_fault (error_fault e) IsAnswer s (string_bytes text) (states_a_fault e other) refused shown
 highlighting_of_error e IsAnswer s (Err x) other refused shown = tt
-
--- the range of an error ends within the source
-pub error_within : {T : Type 0} (bytes_of : T → List ℕ) (s : List ℕ) (look : LookUp) (r : Result T Error)
-    → IfSome (answer_of bytes_of r) (Answers s look)
-    → IfErr r (λ e. (range_of (error_fault e)).end ≤ length s)
-error_within bytes_of s look (Ok output) h = tt
-error_within bytes_of s look (Err e) h = range_in_source s look e h
-
--- so does that of an error of parsing
-pub fault_within : (s : List ℕ) (e : Error) (o : Option Fault) → error_fault e ≡ o → IfSome o (HasFault 0 s)
-    → (range_of (error_fault e)).end ≤ length s
-fault_within s e o states h =
-    let look : LookUp = λ _. None in
-    range_in_source s look e
-    (subst (λ x. IfSome (option_map Refuses x) (Answers s look)) (sym states) (refusal look o h))
-  where
-    refusal : (look : LookUp) (o : Option Fault) → IfSome o (HasFault 0 s)
-        → IfSome (option_map Refuses o) (Answers s look)
-    refusal look None h = tt
-    refusal look (Some f) h = inl h

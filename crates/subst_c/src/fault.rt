@@ -62,6 +62,7 @@ pub fn refuse(e: &Error, fault: &mut FaultRecord) -> u32
 
 /// Tells the variable that the error states as missing. Where it states none, the bytes were too many to be
 /// counted.
+#[tactic(auto, using(crate::proofs::AnswerLemmas::told_of_missing))]
 pub fn refuse_missing(e: &ExpandIntoError, fault: &mut FaultRecord) -> u32
     ensures refused { result ≡ REFUSED
         → IsToldOf (λ f. expand_into_fault e.now ≡ Some f) fault.new }
