@@ -33,7 +33,7 @@ pub use subst_map::{Env, NeverValue, NoSubstitution, VariableMap};
 pub use subst_raw::steps;
 pub use subst_template::{
     ByteTemplate, ByteTemplateBuf, Template, TemplateBuf, substitute, substitute_bytes,
-    substitute_bytes_owned, substitute_owned,
+    substitute_bytes_into, substitute_bytes_owned, substitute_into, substitute_owned,
 };
 
 pub mod json;
