@@ -126,10 +126,10 @@ def placeholder(rng, name):
     return ("$%s" if rng.random() < 0.5 else "${%s}") % name
 
 
-def pieces(rng, names):
-    """1 MiB in pieces of 50 bytes, each beginning with one of these variables."""
+def pieces(rng, names, length=MIB):
+    """This many bytes in pieces of 50, each beginning with one of these variables."""
     source = []
-    for _ in range(MIB // 50):
+    for _ in range(length // 50):
         prefix = (placeholder(rng, rng.choice(names)) + " ").encode()
         source.append(prefix + filler(rng, 50 - len(prefix)))
     return b"".join(source)
@@ -235,6 +235,18 @@ def two_byte_characters():
 
 # What is expanded as bytes and as a text.
 TEXTS = (many_variables, plain, two_byte_characters)
+
+
+def letter():
+    """4 KiB with one of 26 variables every 50 bytes."""
+    rng = random.Random(7)
+    variables = valued(rng, NAMES, 20)
+    source = pieces(rng, NAMES, 4096)
+    return Workload("letter, 4 KiB", source + filler(rng, 4096 - len(source)), variables)
+
+
+# What is expanded again and again, into an output of its own each time, or into one buffer.
+LETTERS = (small_configuration, letter)
 
 
 # Inputs that grow. Each family has its sizes with their workloads.
@@ -408,21 +420,34 @@ def count_in_process(workload, source):
     return parse, expand, both
 
 
-def count_by_kind(workload, source):
-    """How many instructions the library takes to expand the workload as bytes, and as a text: what a run takes more
-    than one without rounds, by their number."""
+def count_works(workload, works, source):
+    """How many instructions each of these works takes on the workload, from which the same length has to come out: what
+    a run takes more than one without rounds, by their number."""
     Path(source).write_bytes(workload.source)
     env = environment(BENCH, workload)
-    length, text_length = (output_of(bench(workload, work, 1), env, source) for work in ("expand", "text"))
-    if length != text_length:
-        sys.exit(f"{workload.name}: as a text something else comes out")
+    if len({output_of(bench(workload, work, 1), env, source) for work in works}) > 1:
+        sys.exit(f"{workload.name}: one of {works} gives something else")
     rounds = rounds_for(workload)
 
     def taken(work):
         with_rounds, without = (instructions(bench(workload, work, count), env, source) for count in (rounds, 0))
         return (with_rounds - without) / rounds
 
-    return taken("expand"), taken("text")
+    return [taken(work) for work in works]
+
+
+def requests(workload, work, rounds, source):
+    """How many requests for memory so many rounds make."""
+    env = environment(BENCH, workload)
+
+    def made(count):
+        command = ["valgrind", *bench(workload, work, count)]
+        streams = {"stdout": subprocess.DEVNULL, "stderr": subprocess.PIPE}
+        with open(source, "rb") as stdin:
+            run = subprocess.run(command, env=env, stdin=stdin, check=True, **streams)
+        return int(re.search(rb"total heap usage: ([\d,]+) allocs", run.stderr)[1].replace(b",", b""))
+
+    return made(rounds) - made(0)
 
 
 def result_of(workload, programs, arguments, source):
@@ -496,6 +521,21 @@ def table_of_texts(counts):
         "`Template`:"
     )
     return table(title, ["Input", "bytes", "text", "text to bytes"], rows)
+
+
+def table_of_letters(counts):
+    """A row for each workload, its two counts, and the requests for memory of 1,000 rounds of both."""
+    rows = []
+    for workload, kinds, made in counts:
+        rust = RUST.get(workload.name, 4 * (None,))[1]
+        cells = [*map(amount, kinds), ratio(kinds[1], kinds[0]), amount(rust), *map(amount, made)]
+        rows.append([workload.name, *cells])
+    title = (
+        "Instructions in process of `expand`, and of `expand_into` with one buffer, which is cleared before each round; "
+        "beside them those of the Rust crate's `expand`; and the requests for memory of 1,000 rounds, without the parse:"
+    )
+    columns = ["Input", "expand", "into one buffer", "into to expand", "Rust: expand", "requests: expand", "into"]
+    return table(title, columns, rows)
 
 
 def table_of_programs(results):
@@ -586,11 +626,26 @@ def measure_all(arguments, source):
     return results, families
 
 
+def chosen(makers, arguments):
+    """The workloads of these that are chosen, where instructions are counted."""
+    workloads = [make() for make in makers] if arguments.callgrind else []
+    return [workload for workload in workloads if is_chosen(workload, arguments)]
+
+
 def measure_texts(arguments, source):
     """The workloads that are expanded as bytes and as a text, and the two counts of each."""
-    workloads = [make() for make in TEXTS] if arguments.callgrind else []
-    chosen = [workload for workload in workloads if is_chosen(workload, arguments)]
-    return [(workload, count_by_kind(workload, source)) for workload in chosen]
+    workloads = chosen(TEXTS, arguments)
+    return [(workload, count_works(workload, ("expand", "text"), source)) for workload in workloads]
+
+
+def measure_letters(arguments, source):
+    """The workloads that are expanded into one buffer too, the two counts of each, and its requests for memory."""
+    rows = []
+    for workload in chosen(LETTERS, arguments):
+        works = ("expand", "into")
+        counts = count_works(workload, works, source)
+        rows.append((workload, counts, [requests(workload, work, 1000, source) for work in works]))
+    return rows
 
 
 def main():
@@ -600,11 +655,14 @@ def main():
         source = os.path.join(folder, "source")
         results, families = measure_all(arguments, source)
         texts = measure_texts(arguments, source)
+        letters = measure_letters(arguments, source)
     tables = [table_of_times(results, arguments.runs)]
     if arguments.callgrind:
         tables += [table_in_process(results), table_of_programs(results)]
     if texts:
         tables.append(table_of_texts(texts))
+    if letters:
+        tables.append(table_of_letters(letters))
     if any(families):
         tables.append(table_of_growth(families, results[0], arguments.callgrind))
     load = " ".join(f"{average:.1f}" for average in os.getloadavg())

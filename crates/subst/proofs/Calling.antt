@@ -37,6 +37,13 @@ pub use Rattle.subst_language.proofs.CallingLemmas.{parsed_memory_alone}
 pub use Rattle.subst_language.proofs.CallingLemmas.{expanded}
 -- a tree whose value is bytes: an error of its expansion says that memory ran out
 pub use Rattle.subst_language.proofs.CallingLemmas.{expanded_memory_alone}
+-- an expansion into an output appends what the source gives, or states what it is refused for
+pub use Rattle.subst_language.proofs.CallingLemmas.{given_into, missed_into}
+-- a source that gives bytes: its expansion into an output that has room for them succeeds
+pub use Rattle.subst_language.proofs.CallingLemmas.{given_in_room}
+-- where no value is longer than `longest`, an output with room for the source and for that much for each of its
+-- dollars is never too short
+pub use Rattle.subst_language.proofs.CallingLemmas.{never_full}
 -- where no value is longer than `longest`, an output has at most as many bytes as its source, and `longest`
 -- more for each dollar of the source
 pub use Rattle.subst_language.proofs.Language.ValueLengthLemmas.{output_at_most}

@@ -17,6 +17,8 @@ pub enum Work {
     Parse,
     /// Expands a template that is made before the first round.
     Expand,
+    /// The same into one buffer, which is cleared before each round.
+    ExpandInto,
     /// The same by a template over the source as a text; nothing if it isn't UTF-8.
     ExpandText,
     /// Both, by `substitute_bytes`.
@@ -38,6 +40,7 @@ impl Work {
         match word {
             "parse" => Some(Work::Parse),
             "expand" => Some(Work::Expand),
+            "into" => Some(Work::ExpandInto),
             "text" => Some(Work::ExpandText),
             "both" => Some(Work::Both),
             "escape" => Some(Work::Escape),
@@ -63,6 +66,7 @@ impl Work {
                 let template = ByteTemplate::from_slice(alloc, source)?;
                 last(rounds, || Ok(template.expand(alloc, variables)?.len()))
             }
+            Work::ExpandInto => last_into(alloc, rounds, source, variables),
             Work::ExpandText => {
                 let Ok(text) = str::from_utf8(source) else {
                     return Ok(0);
@@ -107,4 +111,23 @@ fn last<F: Fn() -> Result<usize, Error>>(rounds: u64, round: F) -> Result<usize,
         given = round();
     }
     given
+}
+
+/// Returns the length that the last round gives in one buffer, or 0 if there is none.
+fn last_into(
+    alloc: Global,
+    rounds: u64,
+    source: &[u8],
+    variables: &Variables,
+) -> Result<usize, Error> {
+    let template = ByteTemplate::from_slice(alloc, source)?;
+    let mut output = Vec::new(alloc);
+    for _ in 0..rounds {
+        output.clear();
+        match template.expand_into(&mut output, variables) {
+            Ok(()) => (),
+            Err(e) => return Err(e.into_owned(alloc).into()),
+        }
+    }
+    Ok(output.len())
 }

@@ -1,25 +1,27 @@
 -- What callers need beside the contracts of the calls: known answers, which memory alone can prevent.
-use Rattle.std.proofs.Common.{◌≡◌, ◌≤◌, ℕ, List, length, Option, Some, None, Result, Ok, Err, IfOk, IfSome, IsTrue, refl, subst, sym, arith}
+use Rattle.std.proofs.Common.{◌≡◌, ◌≤◌, ◌<◌, ◌+◌, ◌*◌, ◌==◌, ℕ, List, length, count_by, Option, Some, None, Result, Ok, Err, IfNone, IfOk, IfSome, IsOk, IsTrue, OnOk, ◌++◌, inr, refl, ap, subst, sym, arith}
 use Rattle.std.proofs.Math.Path.{fun_ext}
 use Rattle.std.proofs.lemmas.Iterator.Adapters.{option_map_id}
 use Rattle.std.specs.List.{All}
 use Rattle.std.specs.Option.{option_map}
 use Rattle.std.specs.Str.{IsUtf8}
 use Rattle.subst_error.specs.Fault.{Fault}
-use Rattle.subst_error.specs.ErrorFault.{error_fault, expand_fault, parse_fault}
+use Rattle.subst_error.specs.ErrorFault.{error_fault, expand_fault, expand_into_fault, parse_fault}
 use Rattle.subst_error.specs.Range.{range_of, IsRangeIn}
 use Rattle.subst_error.specs.declared.Error.{Error}
 use Rattle.subst_error.specs.declared.ExpandError.{ExpandError}
 use Rattle.subst_error.specs.declared.ParseError.{ParseError}
-use Rattle.subst_language.specs.Language.Bytes.{IsPlain}
+use Rattle.subst_error.specs.declared.lent.ExpandIntoError.{ExpandIntoError}
+use Rattle.subst_language.specs.Language.Bytes.{IsPlain, dollar}
 use Rattle.subst_language.specs.Language.Tree.{Tree, text}
-use Rattle.subst_language.specs.Language.Sentence.{Spells}
+use Rattle.subst_language.specs.Language.Sentence.{ByTree, IsSentence, Spells}
 use Rattle.subst_language.specs.Language.LookUp.{LookUp}
-use Rattle.subst_language.specs.Language.Value.{Value, Bytes}
+use Rattle.subst_language.specs.Language.Value.{Value, Bytes, value}
+use Rattle.subst_language.specs.Language.Written.{written}
 use Rattle.subst_language.specs.Language.BadItem.{HasFault}
 use Rattle.subst_language.specs.Language.Answer.{Answer, Answers, Gives, Refuses, IsMissing}
 use Rattle.subst_language.specs.Calls.VariableMap.{look_up_of}
-use Rattle.subst_language.specs.Calls.Outcome.{Expands, answer_of}
+use Rattle.subst_language.specs.Calls.Outcome.{Expands, ExpandsInto, OnFault, OnOutOfMemory, answer_of}
 use Rattle.subst_language.proofs.Language.FaultLemmas.{exclusive}
 use Rattle.subst_language.proofs.Language.ListLemmas.{each_by_recursion}
 use Rattle.subst_language.proofs.Language.PlainLemmas.{plains, text-plains, value-plains, well_formed_plains}
@@ -27,6 +29,8 @@ use Rattle.subst_language.proofs.WorkedExamples.Forms.{is_well_formed, well_form
 use Rattle.subst_language.proofs.Language.AnswerLemmas.{answer_unique}
 use Rattle.subst_language.proofs.Language.RangeLemmas.{error_in_text}
 use Rattle.subst_language.proofs.Language.RangeWithinLemmas.{refusal_within}
+use Rattle.subst_language.proofs.Language.ValueLengthLemmas.{value_length_within}
+use Rattle.subst_language.proofs.Language.WrittenLemmas.{written_at_most, written_whole}
 
 -- a tree that passes the test and whose text the source is, is the source's tree
 pub spells : (s : List ℕ) (t : Tree) → IsTrue (is_well_formed t) → s ≡ text t → Spells t s
@@ -91,6 +95,62 @@ expanded_memory_alone x v e known = nothing_missing (expand_fault e)
     nothing_missing : (o : Option Fault) → IfSome o (IsMissing v) → o ≡ None
     nothing_missing None h = refl
     nothing_missing (Some f) (position, name, missing, is) = absurd cc
+
+-- an expansion of a source into an output appends what the source gives
+pub given_into : {T : Type 0} (s : List ℕ) (look : LookUp) (before after : List ℕ)
+    (result : Result T ExpandIntoError) → IsSentence s
+    → ByTree s (λ t. ExpandsInto before result after (value 0 t look))
+    → OnOk result ((x : List ℕ) × Answers s look (Gives x) × (after ≡ before ++ x))
+given_into s look before after (Ok done) (t, spells) into =
+    let (x, gives, appended) = into t spells in (x, (t, spells, gives), appended)
+given_into s look before after (Err e) sentence into = tt
+
+-- or its error states what the source is refused for
+pub missed_into : {T : Type 0} (s : List ℕ) (look : LookUp) (before after : List ℕ)
+    (result : Result T ExpandIntoError) → IsSentence s
+    → ByTree s (λ t. ExpandsInto before result after (value 0 t look))
+    → OnFault expand_into_fault result (λ f. Answers s look (Refuses f))
+missed_into s look before after (Ok done) sentence into = tt
+missed_into s look before after (Err e) (t, spells) into = of (expand_into_fault e) (into t spells)
+  where
+    of : (o : Option Fault) → IfSome o (IsMissing (value 0 t look)) → IfSome o (λ f. Answers s look (Refuses f))
+    of None missing = tt
+    of (Some f) missing = inr (t, spells, missing)
+
+-- a source that gives the bytes x: its expansion into an output that has room for them succeeds
+pub given_in_room : {T : Type 0} (s x : List ℕ) (look : LookUp) (before after : List ℕ) (len capacity : ℕ)
+    (result : Result T ExpandIntoError) → Answers s look (Gives x) → len + length x ≤ capacity
+    → ByTree s (λ t. ExpandsInto before result after (value 0 t look))
+    → ByTree s (λ t. OnOutOfMemory expand_into_fault result (capacity < len + length (written 0 t look)))
+    → IsOk result
+given_in_room s x look before after len capacity (Ok done) given room into full = refl
+given_in_room s x look before after len capacity (Err e) (t, spells, gives) room into full =
+    absurd (no_error (expand_into_fault e) (into t spells) (full t spells))
+  where
+    no_error : (o : Option Fault) → IfSome o (IsMissing (value 0 t look))
+        → IfNone o (capacity < len + length (written 0 t look)) → ⊥
+    no_error None missing short =
+        let whole = ap length (written_whole 0 t look x gives) in omega (arith, room, short, whole)
+    no_error (Some f) (position, name, missing, is) short = absurd cc
+
+-- Where no value is longer than `longest`, an output with room for the source, and for `longest` for each
+-- dollar of the source, is never too short.
+pub never_full : {T : Type 0} (s : List ℕ) (look : LookUp) (longest len capacity : ℕ)
+    (result : Result T ExpandIntoError) → IsSentence s
+    → ((name y : List ℕ) → look name ≡ Some y → length y ≤ longest)
+    → len + (length s + count_by (λ b. b == dollar) s * longest) ≤ capacity
+    → ByTree s (λ t. OnOutOfMemory expand_into_fault result (capacity < len + length (written 0 t look)))
+    → OnOutOfMemory expand_into_fault result ⊥
+never_full s look longest len capacity (Ok done) sentence short room full = tt
+never_full s look longest len capacity (Err e) (t, spells) short room full =
+    of (expand_into_fault e) (full t spells)
+  where
+    of : (o : Option Fault) → IfNone o (capacity < len + length (written 0 t look)) → IfNone o ⊥
+    of None too_short =
+        let bound = value_length_within s t look longest spells short in
+        let most = written_at_most look t 0 in
+        absurd (omega (arith, room, too_short, bound, most))
+    of (Some f) too_short = tt
 
 -- values that are bytes already leave a look-up as it is
 pub same_look_up : (look : LookUp) → look_up_of (λ bytes. bytes) look ≡ look

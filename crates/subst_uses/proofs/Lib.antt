@@ -1,4 +1,5 @@
 pub mod LetterLemmas
+pub mod LettersLemmas
 pub mod LineLemmas
 pub mod LoaderLemmas
 pub mod NameLemmas

@@ -22,7 +22,11 @@ mod layered;
 #[cfg(test)]
 mod letter;
 #[cfg(test)]
+mod letters;
+#[cfg(test)]
 mod lines;
+#[cfg(test)]
+mod log_line;
 #[cfg(test)]
 mod maps;
 #[cfg(test)]

@@ -3,7 +3,7 @@
 use crate::expect::expect;
 use std::alloc::{AllocError, Global};
 use std::test::Fail;
-use subst::{ByteTemplate, ByteTemplateBuf, Error};
+use subst::{ByteTemplate, ByteTemplateBuf, Error, NoSubstitution, substitute_bytes_into};
 use subst_testing::variables::byte_values;
 
 /// Sources of copies, with what they give.
@@ -179,6 +179,73 @@ fn owned_templates_of_bytes_are_whole(rt: HostRuntime) -> Result<(), Fail> {
         );
     }
     Ok(())
+}
+
+/// What a template appends to bytes.
+fn appended(alloc: Global, source: &str) -> Told {
+    let template = lender(alloc, source)?;
+    let mut output = Vec::from_slice(alloc, b"> ")?;
+    match template.expand_into(&mut output, &byte_values(alloc, "name=world,b=2")?) {
+        Ok(()) => Ok(String::from_str(alloc, text(&output))?),
+        Err(e) => Err(e.into_owned(alloc).into()),
+    }
+}
+
+/// The same of one that owns its source.
+fn appended_by_owner(alloc: Global, source: &str) -> Told {
+    let template = owner(alloc, source)?;
+    let mut output = Vec::from_slice(alloc, b"> ")?;
+    match template.expand_into(&mut output, &byte_values(alloc, "name=world,b=2")?) {
+        Ok(()) => Ok(String::from_str(alloc, text(&output))?),
+        Err(e) => Err(e.into_owned(alloc).into()),
+    }
+}
+
+/// The same of a source that is filled in at once.
+fn appended_at_once(alloc: Global, source: &str) -> Told {
+    let variables = byte_values(alloc, "name=world,b=2")?;
+    let mut output = Vec::from_slice(alloc, b"> ")?;
+    match substitute_bytes_into(alloc, source.as_bytes(), &mut output, &variables) {
+        Ok(()) => Ok(String::from_str(alloc, text(&output))?),
+        Err(e) => Err(e.into_owned(alloc)),
+    }
+}
+
+#[test]
+fn bytes_are_appended(rt: HostRuntime) -> Result<(), Fail> {
+    for (source, given) in SOURCES {
+        let want = format!(in rt.alloc(); "> {given}")?;
+        expect(&rt, "lent", appended(rt.alloc(), source), &want);
+        expect(&rt, "owned", appended_by_owner(rt.alloc(), source), &want);
+        expect(&rt, "at once", appended_at_once(rt.alloc(), source), &want);
+    }
+    Ok(())
+}
+
+/// How many bytes a template needs, and a slice of this length, with as many dots before, where it is as
+/// long.
+fn in_slice(alloc: Global, length: usize) -> Told {
+    let template = ByteTemplate::from_slice(alloc, b"Hello ${name:you}!")?;
+    let mut dots = *b"..............";
+    let slice = &mut dots[..length.min(14)];
+    match template.expand_into_slice(slice, &NoSubstitution) {
+        Ok(needed) if needed <= length => Ok(format!(in alloc; "{needed}: {}", text(slice))?),
+        Ok(needed) => Ok(format!(in alloc; "{needed}")?),
+        Err(e) => Err(e.into_owned(alloc).into()),
+    }
+}
+
+#[test]
+fn bytes_are_written_in_slices(rt: HostRuntime) {
+    let rows = [
+        (0, "10"),
+        (5, "10"),
+        (10, "10: Hello you!"),
+        (12, "10: Hello you!.."),
+    ];
+    for (length, want) in rows {
+        expect(&rt, "a slice", in_slice(rt.alloc(), length), want);
+    }
 }
 
 fn shown(alloc: Global, source: &[u8]) -> Told {

@@ -6,8 +6,9 @@ use std::alloc::{AllocError, AllocFailed, Global};
 use std::fmt::{Debug, Display};
 use std::test::Fail;
 use subst::error::{
-    CharOrByte, Error, ExpandError, ExpectedCharacter, InvalidEscapeSequence, MissingClosingBrace,
-    MissingVariableName, NoSuchVariable, ParseError, UnexpectedCharacter,
+    CharOrByte, Error, ExpandError, ExpandIntoError, ExpectedCharacter, InvalidEscapeSequence,
+    MissingClosingBrace, MissingVariableName, NoSuchVariable, NoSuchVariableRef, ParseError,
+    SubstituteIntoError, UnexpectedCharacter,
 };
 use subst::{ByteTemplate, NoSubstitution};
 
@@ -260,6 +261,34 @@ fn equality_and_clones_of_missing_variables(rt: HostRuntime) {
     assert_eq!(rt; are_equal(rt.alloc(), 7, "name"), Ok([false; 3]));
     assert_eq!(rt; are_equal(rt.alloc(), 8, "game"), Ok([false; 3]));
     assert_eq!(rt; are_equal(rt.alloc(), 8, ""), Ok([false; 3]));
+}
+
+#[test]
+fn lent_names_are_copied(rt: HostRuntime) -> Result<(), Fail> {
+    let alloc = rt.alloc();
+    let lent = NoSuchVariableRef {
+        position: 8,
+        name: "name",
+    };
+    let expansion = ExpandIntoError::NoSuchVariable(lent);
+    let substitution = SubstituteIntoError::Expand(expansion);
+    assert_eq!(rt; lent.into_owned(alloc)?, absent(alloc, 8, "name")?);
+    let want = ExpandError::from(absent(alloc, 8, "name")?);
+    assert_eq!(rt; expansion.into_owned(alloc), want);
+    let want = Error::from(absent(alloc, 8, "name")?);
+    assert_eq!(rt; substitution.into_owned(alloc), want);
+    Ok(())
+}
+
+#[test]
+fn errors_without_names_are_kept(rt: HostRuntime) {
+    let alloc = rt.alloc();
+    let full = ExpandIntoError::from(AllocError);
+    assert_eq!(rt; full.into_owned(alloc), ExpandError::from(AllocError));
+    let full = SubstituteIntoError::from(full);
+    assert_eq!(rt; full.into_owned(alloc), Error::from(AllocError));
+    let refused = SubstituteIntoError::from(unclosed(6));
+    assert_eq!(rt; refused.into_owned(alloc), Error::from(unclosed(6)));
 }
 
 /// The text of an error that a call returns.

@@ -4,7 +4,7 @@
 use crate::expect::expect;
 use std::alloc::{AllocError, Global};
 use std::test::Fail;
-use subst::{Error, Template, TemplateBuf, laws};
+use subst::{Error, Template, TemplateBuf, laws, substitute_into};
 use subst_testing::variables::texts;
 
 /// Sources of copies, with what they give.
@@ -167,6 +167,47 @@ fn owned_templates_of_texts_are_whole(rt: HostRuntime) -> Result<(), Fail> {
             told_of_template(rt.alloc(), source),
             &want,
         );
+    }
+    Ok(())
+}
+
+/// What a template appends to a text.
+fn appended(alloc: Global, source: &str) -> Told {
+    let template = lender(alloc, source)?;
+    let mut output = String::from_str(alloc, "> ")?;
+    match template.expand_into(&mut output, &texts(alloc, "name=world,b=2")?) {
+        Ok(()) => Ok(output),
+        Err(e) => Err(e.into_owned(alloc).into()),
+    }
+}
+
+/// The same of one that owns its source.
+fn appended_by_owner(alloc: Global, source: &str) -> Told {
+    let template = owner(alloc, source)?;
+    let mut output = String::from_str(alloc, "> ")?;
+    match template.expand_into(&mut output, &texts(alloc, "name=world,b=2")?) {
+        Ok(()) => Ok(output),
+        Err(e) => Err(e.into_owned(alloc).into()),
+    }
+}
+
+/// The same of a source that is filled in at once.
+fn appended_at_once(alloc: Global, source: &str) -> Told {
+    let variables = texts(alloc, "name=world,b=2")?;
+    let mut output = String::from_str(alloc, "> ")?;
+    match substitute_into(alloc, source, &mut output, &variables) {
+        Ok(()) => Ok(output),
+        Err(e) => Err(e.into_owned(alloc)),
+    }
+}
+
+#[test]
+fn texts_are_appended(rt: HostRuntime) -> Result<(), Fail> {
+    for (source, given) in SOURCES {
+        let want = format!(in rt.alloc(); "> {given}")?;
+        expect(&rt, "lent", appended(rt.alloc(), source), &want);
+        expect(&rt, "owned", appended_by_owner(rt.alloc(), source), &want);
+        expect(&rt, "at once", appended_at_once(rt.alloc(), source), &want);
     }
     Ok(())
 }

@@ -9,6 +9,7 @@ use Rattle.subst_language.specs.Language.LookUp.{LookUp}
 use Rattle.subst_language.specs.Language.Value.{Value, Bytes, Missing, joined, found_or, item_value, value}
 use Rattle.subst_language.specs.Language.ValueLength.{found_length, length_of, item_value_length, value_length, item_visited_length, visited_length}
 use Rattle.subst_language.specs.Language.Answer.{Answers, Gives}
+use Rattle.subst_language.specs.Language.Sentence.{Spells}
 
 -- a value that is bytes has this length
 abbrev HasLength : Value → ℕ → Type 0
@@ -171,17 +172,25 @@ lengths_at_most look longest short name = of (look name) (short name)
     of (Some y) each = each y refl
     of None each = omega arith
 
--- Where no value is longer than `longest`, an output is at most as long as its source and `longest` for each
--- dollar of the source.
-pub output_at_most : (s x : List ℕ) (look : LookUp) (longest : ℕ)
-    → ((name y : List ℕ) → look name ≡ Some y → length y ≤ longest) → Answers s look (Gives x)
-    → length x ≤ length s + count_by (λ b. b == dollar) s * longest
-output_at_most s x look longest short (t, spells, gives) =
-    let exact = value_length_exact 0 t look x gives in
+-- Where no value is longer than `longest`, a value is at most as long as the text of its tree and `longest` for
+-- each dollar of the text.
+pub value_length_within : (s : List ℕ) (t : Tree) (look : LookUp) (longest : ℕ) → Spells t s
+    → ((name y : List ℕ) → look name ≡ Some y → length y ≤ longest)
+    → value_length t look ≤ length s + count_by (λ b. b == dollar) s * longest
+value_length_within s t look longest spells short =
     let bound = value_length_at_most t look in
     let values = visited_length_at_most t look in
     let each = sum_by-le (length_of look) longest (names_in t)
     (λ k d inside. lengths_at_most look longest short _) in
     let names : length (names_in t) * longest ≤ dollars (text t) * longest =
     mul-le-mul_right longest (names_at_most t) in
-    rw spells.spelled (omega (arith, exact, bound, values, each, names))
+    rw spells.spelled (omega (arith, bound, values, each, names))
+
+-- so is an output
+pub output_at_most : (s x : List ℕ) (look : LookUp) (longest : ℕ)
+    → ((name y : List ℕ) → look name ≡ Some y → length y ≤ longest) → Answers s look (Gives x)
+    → length x ≤ length s + count_by (λ b. b == dollar) s * longest
+output_at_most s x look longest short (t, spells, gives) =
+    let exact = value_length_exact 0 t look x gives in
+    let bound = value_length_within s t look longest spells short in
+    omega (arith, exact, bound)
