@@ -26,7 +26,7 @@ use Rattle.subst_language.proofs.Language.FaultLemmas.{exclusive}
 use Rattle.subst_language.proofs.Language.ListLemmas.{each_by_recursion}
 use Rattle.subst_language.proofs.Language.PlainLemmas.{plains, text-plains, value-plains, well_formed_plains}
 use Rattle.subst_language.proofs.WorkedExamples.Forms.{is_well_formed, well_formed_from_test}
-use Rattle.subst_language.proofs.Language.AnswerLemmas.{answer_unique}
+use Rattle.subst_language.proofs.Language.AnswerLemmas.{answer_unique, refused_for}
 use Rattle.subst_language.proofs.Language.RangeLemmas.{error_in_text}
 use Rattle.subst_language.proofs.Language.RangeWithinLemmas.{refusal_within}
 use Rattle.subst_language.proofs.Language.ValueLengthLemmas.{value_length_within}
@@ -111,11 +111,8 @@ pub missed_into : {T : Type 0} (s : List ℕ) (look : LookUp) (before after : Li
     → ByTree s (λ t. ExpandsInto before result after (value 0 t look))
     → OnFault expand_into_fault result (λ f. Answers s look (Refuses f))
 missed_into s look before after (Ok done) sentence into = tt
-missed_into s look before after (Err e) (t, spells) into = of (expand_into_fault e) (into t spells)
-  where
-    of : (o : Option Fault) → IfSome o (IsMissing (value 0 t look)) → IfSome o (λ f. Answers s look (Refuses f))
-    of None missing = tt
-    of (Some f) missing = inr (t, spells, missing)
+missed_into s look before after (Err e) (t, spells) into =
+    refused_for s t look spells (expand_into_fault e) (into t spells)
 
 -- a source that gives the bytes x: its expansion into an output that has room for them succeeds
 pub given_in_room : {T : Type 0} (s x : List ℕ) (look : LookUp) (before after : List ℕ) (len capacity : ℕ)

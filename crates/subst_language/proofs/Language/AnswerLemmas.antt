@@ -1,8 +1,7 @@
 -- A source has one answer at most under a look-up.
 use Rattle.std.proofs.Common.{◌≡◌, ◌⊎◌, ℕ, List, Option, Some, None, Result, Ok, Err, IfSome, inl, inr, sym, ap, ◌∙◌, refl}
 use Rattle.std.specs.Option.{option_map}
-use Rattle.subst_error.specs.ErrorFault.{error_fault, substitute_into_fault}
-use Rattle.subst_error.specs.declared.lent.SubstituteIntoError.{SubstituteIntoError}
+use Rattle.subst_error.specs.ErrorFault.{error_fault}
 use Rattle.subst_error.specs.declared.Error.{Error}
 use Rattle.subst_language.specs.Language.Tree.{Tree}
 use Rattle.subst_language.specs.Language.Sentence.{Spells, IsSentence, ByTree}
@@ -58,14 +57,15 @@ refused_by_expansion s look (Err e) (t, spells) h = of (error_fault e) (h t spel
     of None missing = tt
     of (Some f) missing = inr (t, spells, missing)
 
--- the same of an expansion into an output that is lent
-pub refused_into : {T : Type 0} (s : List ℕ) (look : LookUp) (r : Result T SubstituteIntoError) → IsSentence s
-    → ByTree s (λ t. OnFault substitute_into_fault r (IsMissing (value 0 t look)))
-    → OnFault substitute_into_fault r (λ f. Answers s look (Refuses f))
-refused_into s look (Ok done) sentence h = tt
-refused_into s look (Err e) (t, spells) h = of (substitute_into_fault e) (h t spells)
-  where
-    of : (o : Option Fault) → IfSome o (IsMissing (value 0 t look))
-        → IfSome o (λ f. Answers s look (Refuses f))
-    of None missing = tt
-    of (Some f) missing = inr (t, spells, missing)
+-- a sentence is refused for what its tree is missing
+pub refused_for : (s : List ℕ) (t : Tree) (look : LookUp) → Spells t s → (stated : Option Fault)
+    → IfSome stated (IsMissing (value 0 t look)) → IfSome stated (λ f. Answers s look (Refuses f))
+refused_for s t look spells None missing = tt
+refused_for s t look spells (Some f) missing = inr (t, spells, missing)
+
+-- so it is by each error that states that
+pub refused_into : {T E : Type 0} (fault_of : E → Option Fault) (s : List ℕ) (look : LookUp) (r : Result T E)
+    → IsSentence s → ByTree s (λ t. OnFault fault_of r (IsMissing (value 0 t look)))
+    → OnFault fault_of r (λ f. Answers s look (Refuses f))
+refused_into fault_of s look (Ok done) sentence h = tt
+refused_into fault_of s look (Err e) (t, spells) h = refused_for s t look spells (fault_of e) (h t spells)

@@ -2,6 +2,7 @@
 -- what the source is refused for.
 use Rattle.std.proofs.Common.{rules, subst, sym}
 use Rattle.subst_language.specs.Language.Sentence.{Spells}
+use Rattle.subst_error.specs.ErrorFault.{substitute_into_fault}
 use Rattle.subst_language.proofs.Language.AnswerLemmas.{refused_into}
 use Rattle.subst_template.proofs.into.substitute_into.Goals as goal
 
@@ -15,6 +16,6 @@ returns-clause-answer g c = λ bytes reads.
 pub returns-in_err-expand_into-clause-refusal : goal.returns-in_err-expand_into-clause-refusal
 returns-in_err-expand_into-clause-refusal g c look names =
     let result = c.from_residual-in_err-expand_into.result in
-    refused_into c.args.source.now look result (search rules) (λ t spells.
+    refused_into substitute_into_fault c.args.source.now look result (search rules) (λ t spells.
     let missed = c.in_err-expand_into.ensures.missing look names t in
     search (rules, missed, spells))
