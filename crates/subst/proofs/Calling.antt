@@ -41,8 +41,8 @@ pub use Rattle.subst_language.proofs.CallingLemmas.{expanded_memory_alone}
 pub use Rattle.subst_language.proofs.CallingLemmas.{given_into, missed_into}
 -- a source that gives bytes: its expansion into an output that has room for them succeeds
 pub use Rattle.subst_language.proofs.CallingLemmas.{given_in_room}
--- where no value is longer than `longest`, an output with room for the source and for that much for each of its
--- dollars is never too short
+-- where no value is longer than `longest`, an output with room for the source, and for `longest` for each of
+-- its dollars, is never too short
 pub use Rattle.subst_language.proofs.CallingLemmas.{never_full}
 -- where no value is longer than `longest`, an output has at most as many bytes as its source, and `longest`
 -- more for each dollar of the source

@@ -3,8 +3,9 @@
 //! `subst_bench WORK ROUNDS NAME=VALUE ..` reads a source from standard input, does the work as many times as
 //! `ROUNDS` says, and prints the length that the last round gave: of the output, of a parsed source, or of
 //! the text of an error. With no round it is 0. `WORK` is `parse`, `expand`, `into`, which expands the source
-//! into one buffer, `text`, which expands it as a text, `both`, `escape`, `locate`, which prints the column of
-//! a text's fault, or `none`, which does nothing; so rounds take what a run takes more than one with fewer.
+//! into one buffer, `text`, which expands it as a text, `both`, `escape`, `locate`, which prints the column
+//! of a text's fault, or `none`, which does nothing; so rounds take what a run takes more than one with
+//! fewer.
 #![tactic(auto)]
 
 use std::alloc::Global;

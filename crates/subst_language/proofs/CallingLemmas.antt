@@ -113,7 +113,8 @@ pub missed_into : {T : Type 0} (s : List ℕ) (look : LookUp) (before after : Li
 missed_into s look before after (Ok done) sentence into = tt
 missed_into s look before after (Err e) (t, spells) into = of (expand_into_fault e) (into t spells)
   where
-    of : (o : Option Fault) → IfSome o (IsMissing (value 0 t look)) → IfSome o (λ f. Answers s look (Refuses f))
+    of : (o : Option Fault) → IfSome o (IsMissing (value 0 t look))
+        → IfSome o (λ f. Answers s look (Refuses f))
     of None missing = tt
     of (Some f) missing = inr (t, spells, missing)
 

@@ -52,8 +52,8 @@ posted_more template people i person a b c letter inside is (letters, each, appe
     )
 
 -- a letter is refused, after those before it
-pub letter_refused : {X T : Type 0} (template : List ℕ) (people : List (BTreeMap (String X) (String X))) (i : ℕ)
-    (person : BTreeMap (String X) (String X)) (a b : Option (List ℕ)) (result : Result T PostError)
+pub letter_refused : {X T : Type 0} (template : List ℕ) (people : List (BTreeMap (String X) (String X)))
+    (i : ℕ) (person : BTreeMap (String X) (String X)) (a b : Option (List ℕ)) (result : Result T PostError)
     (e : ExpandIntoError) → IsErrAnd result (λ x. x ≡ Letter e) → i < length people
     → person ≡ get_or people i person → Posted template (take i people) a b
     → IfSome (expand_into_fault e) (λ f. Answers template (texts_of person) (Refuses f))

@@ -52,7 +52,8 @@ pub fn write_letter<'t>(
     person: &BTreeMap<String, String>,
     letter: &mut Vec<u8>,
 ) -> Result<(), ExpandIntoError<'t>>
-    ensures letter { OnOk result (Answers template.now (texts_of person.now) (Gives letter.new.items)) }
+    ensures letter { OnOk result
+        (Answers template.now (texts_of person.now) (Gives letter.new.items)) }
     ensures refused { OnFault expand_into_fault result
         (λ f. Answers template.now (texts_of person.now) (Refuses f)) }
     ensures room { (x : List ℕ) → Answers template.now (texts_of person.now) (Gives x)

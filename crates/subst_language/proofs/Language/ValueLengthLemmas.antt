@@ -172,8 +172,8 @@ lengths_at_most look longest short name = of (look name) (short name)
     of (Some y) each = each y refl
     of None each = omega arith
 
--- Where no value is longer than `longest`, a value is at most as long as the text of its tree and `longest` for
--- each dollar of the text.
+-- Where no value is longer than `longest`, the value of a tree is at most as long as its text and `longest`
+-- for each dollar of the text.
 pub value_length_within : (s : List ℕ) (t : Tree) (look : LookUp) (longest : ℕ) → Spells t s
     → ((name y : List ℕ) → look name ≡ Some y → length y ≤ longest)
     → value_length t look ≤ length s + count_by (λ b. b == dollar) s * longest

@@ -16,7 +16,8 @@ pub returns-clause-refused : goal.returns-clause-refused
 returns-clause-refused c =
     let look = texts_of c.args.person.now in
     let expands = c.expand_into.ensures in
-    missed_into _ look _ _ c.expand_into.result expands.sentence (expands.value (λ v. string_bytes v) (λ v. refl))
+    missed_into _ look _ _ c.expand_into.result expands.sentence
+    (expands.value (λ v. string_bytes v) (λ v. refl))
 
 pub returns-clause-room : goal.returns-clause-room
 returns-clause-room c x gives fits =
