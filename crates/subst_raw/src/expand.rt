@@ -91,6 +91,7 @@ where
 /// # Errors
 ///
 /// As `expand`. The items of `output` are then as before.
+#[inline(always)]
 pub fn expand_into<'s, 'a, M: VariableMap<'a>, R: ReadValue<M::Value>>(
     source: &'s [u8],
     parts: &CowParts<'_>,
@@ -168,6 +169,7 @@ where
 }
 
 /// Appends what the parts of a source give, as `expand`, to any output.
+#[inline(always)]
 fn append<'a, M: VariableMap<'a>, R: ReadValue<M::Value>, W: Output>(
     source: &[u8],
     parts: &CowParts<'_>,
@@ -212,6 +214,7 @@ where
 }
 
 /// Appends what packed parts give, as `append`.
+#[inline(always)]
 fn append_packed<'a, M: VariableMap<'a>, R: ReadValue<M::Value>, O: Offset, W: Output>(
     source: &[u8],
     packed: &[PackedPart<O>],
@@ -254,6 +257,7 @@ where
 }
 
 /// Appends what the parts of a list give, as `append`.
+#[inline(always)]
 fn append_list<'a, M: VariableMap<'a>, R: ReadValue<M::Value>, O: Offset, W: Output>(
     source: &[u8],
     list: &mut PartList<'_, O>,
