@@ -113,7 +113,8 @@ fn last<F: Fn() -> Result<usize, Error>>(rounds: u64, round: F) -> Result<usize,
     given
 }
 
-/// Returns the length that the last round gives in one buffer, or 0 if there is none.
+/// Returns the length that the last round gives in one buffer, which begins with room for twice the source, or 0
+/// if there is none.
 fn last_into(
     alloc: Global,
     rounds: u64,
@@ -121,7 +122,7 @@ fn last_into(
     variables: &Variables,
 ) -> Result<usize, Error> {
     let template = ByteTemplate::from_slice(alloc, source)?;
-    let mut output = Vec::new(alloc);
+    let mut output = Vec::with_capacity(alloc, source.len().saturating_mul(2))?;
     for _ in 0..rounds {
         output.clear();
         match template.expand_into(&mut output, variables) {

@@ -3,8 +3,8 @@
 use crate::expected::{expect_text, one_text};
 use std::alloc::{AllocError, Global};
 use std::test::Fail;
-use subst::{Error, Template};
-use subst_uses::missing::{Prompt, filled_or_asked, given_or_none};
+use subst::Error;
+use subst_uses::missing::{Prompt, filled_or_asked};
 
 // Who says `NAME!` for each name.
 #[derive(Drop)]
@@ -38,28 +38,5 @@ fn asks_once(rt: HostRuntime) -> Result<(), Fail> {
     let mut variables = one_text(alloc, "a", "1")?;
     let filled = filled_or_asked(alloc, "$b$a$c", &mut variables, &mut Loud);
     assert!(rt; is_missing(filled, "c"));
-    Ok(())
-}
-
-// The text of what is given, or `none`.
-fn text_of<E: Drop>(found: Result<Option<String>, E>, want: &str) -> bool {
-    match found {
-        Ok(Some(text)) => text.as_str() == want,
-        Ok(None) => want == "none",
-        Err(_) => false,
-    }
-}
-
-#[test]
-fn looks_for_each_name_first(rt: HostRuntime) -> Result<(), Fail> {
-    let alloc = rt.alloc();
-    let variables = one_text(alloc, "a", "1")?;
-    let one = Template::from_str(alloc, "$a?")?;
-    let two = Template::from_str(alloc, "$a${b?}")?;
-    let found = (
-        text_of(given_or_none(alloc, &one, &["a"], &variables), "1?"),
-        text_of(given_or_none(alloc, &two, &["a", "b"], &variables), "none"),
-    );
-    assert_eq!(rt; found, (true, true));
     Ok(())
 }
