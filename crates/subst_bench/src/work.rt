@@ -113,8 +113,8 @@ fn last<F: Fn() -> Result<usize, Error>>(rounds: u64, round: F) -> Result<usize,
     given
 }
 
-/// Returns the length that the last round gives in one buffer, which begins with room for twice the source, or 0
-/// if there is none.
+/// Returns the length that the last round gives in one buffer with room for twice the source, or 0 if there
+/// is none.
 fn last_into(
     alloc: Global,
     rounds: u64,

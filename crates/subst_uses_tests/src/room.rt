@@ -1,5 +1,5 @@
-//! Room for an output. No variable has a value here: that a map's values are short is what a caller proves, and
-//! no test does.
+//! Room for an output. No variable has a value here: that a map's values are short is what a caller proves,
+//! and no test does.
 
 use std::collections::BTreeMap;
 use std::test::Fail;
