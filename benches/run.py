@@ -531,8 +531,9 @@ def table_of_letters(counts):
         cells = [*map(amount, kinds), ratio(kinds[1], kinds[0]), amount(rust), *map(amount, made)]
         rows.append([workload.name, *cells])
     title = (
-        "Instructions in process of `expand`, and of `expand_into` with one buffer, which is cleared before each round; "
-        "beside them those of the Rust crate's `expand`; and the requests for memory of 1,000 rounds, without the parse:"
+        "Instructions in process of `expand`, and of `expand_into` with one buffer, which has room from the start and is "
+        "cleared before each round; beside them those of the Rust crate's `expand`; and the requests for memory of 1,000 "
+        "rounds, without the parse and that room:"
     )
     columns = ["Input", "expand", "into one buffer", "into to expand", "Rust: expand", "requests: expand", "into"]
     return table(title, columns, rows)
