@@ -14,7 +14,8 @@ HEAD = '''//! The examples of the library, one after the other.
 #![tactic(auto)]
 
 use subst::{ByteTemplate, Env, NoSubstitution, Template, TemplateBuf};
-use subst::{json, laws, substitute_bytes, substitute_bytes_owned, substitute_owned, toml};
+use subst::{json, laws, substitute_bytes, substitute_bytes_into, substitute_bytes_owned, substitute_into};
+use subst::{substitute_owned, toml};
 '''
 # The type of the errors of the calls of a crate.
 ERRORS = {'subst_json': 'json::Error', 'subst_toml': 'toml::Error'}
@@ -43,7 +44,7 @@ def function(number, crate, lines):
     """The function that an example becomes."""
     error = ERRORS.get(crate, 'Error')
     ends = 'Ok(String::from_str(alloc, std::str::from_utf8(&output).unwrap_or("not UTF-8"))?)' \
-        if any('substitute_bytes' in line for line in lines) else 'Ok(output)'
+        if any(word in line for word in ('substitute_bytes', 'Vec::from_slice') for line in lines) else 'Ok(output)'
     body = ''.join(f'    {line}\n' for line in [*lines, ends])
     return f'\nfn example_{number}(alloc: Global) -> Result<String, {error}> {{\n{body}}}\n'
 
