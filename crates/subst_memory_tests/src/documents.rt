@@ -138,11 +138,7 @@ pub fn json_calls(rt: &HostRuntime) -> Result<(), AllocError> {
     )?;
     let name = "json::substitute_string_values of a missing variable";
     fill_in_json(rt, name, MISSING_IN_JSON)?;
-    fill_in_json(
-        rt,
-        "json::substitute_string_values of each kind",
-        JSON,
-    )?;
+    fill_in_json(rt, "json::substitute_string_values of each kind", JSON)?;
     read_json_of_bytes(rt)?;
     read_json(rt, "json::value_from_str of [\"$a\"]", "[\"$a\"]")?;
     read_json(
@@ -156,11 +152,7 @@ pub fn json_calls(rt: &HostRuntime) -> Result<(), AllocError> {
 pub fn toml_calls(rt: &HostRuntime) -> Result<(), AllocError> {
     let name = "toml::substitute_string_values of a missing variable";
     fill_in_toml(rt, name, MISSING_IN_TOML)?;
-    fill_in_toml(
-        rt,
-        "toml::substitute_string_values of each kind",
-        TOML,
-    )?;
+    fill_in_toml(rt, "toml::substitute_string_values of each kind", TOML)?;
     let array = "k = ['$a', '${b:x}']";
     fill_in_toml(
         rt,

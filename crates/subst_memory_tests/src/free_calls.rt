@@ -145,10 +145,7 @@ fn steps_and_laws(rt: &HostRuntime) {
     let _reads = Reads::new();
     let _turns = Turns::new();
     end(rt);
-    begin(
-        rt,
-        "the laws",
-    );
+    begin(rt, "the laws");
     laws::law_1();
     laws::law_2();
     laws::law_3();

@@ -232,11 +232,7 @@ fn make_values_of_pairs(rt: &HostRuntime, pairs: &Vec<(String, String)>) {
 }
 
 pub fn calls(rt: &HostRuntime) -> Result<(), AllocError> {
-    run_over_bytes(
-        rt,
-        "run_bytes",
-        b"Hi ${hi:\\{${who:you}\\}} and $name!",
-    )?;
+    run_over_bytes(rt, "run_bytes", b"Hi ${hi:\\{${who:you}\\}} and $name!")?;
     run_over_bytes(rt, "run_bytes of a plain source", b"Hi {you}!")?;
     run_over_bytes(rt, "run_bytes of a missing variable", MISSING)?;
     run_over_bytes(
@@ -244,11 +240,7 @@ pub fn calls(rt: &HostRuntime) -> Result<(), AllocError> {
         "run_bytes of a bad escape",
         b"Hi ${hi:$name and ${who:\\!}}!",
     )?;
-    run_over_text(
-        rt,
-        "run_text",
-        "${a:é}: ${b:\\{$name\\}}".as_bytes(),
-    )?;
+    run_over_text(rt, "run_text", "${a:é}: ${b:\\{$name\\}}".as_bytes())?;
     run_over_text(rt, "run_text of a plain source", b"Hi {you}!")?;
     run_over_text(rt, "run_text of a missing variable", MISSING)?;
     run_over_text(rt, "run_text of Hi $!", b"Hi $!")?;

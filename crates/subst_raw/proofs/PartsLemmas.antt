@@ -38,7 +38,7 @@ joined_written-append (part ∷ xs) ys s look =
     rw (
       joined_written-append xs ys s look,
       unless_missing_assoc (part_value part s look) (joined_value xs s look)
-      (bytes_in (part_value part s look)) (joined_written xs s look) (joined_written ys s look),
+          (bytes_in (part_value part s look)) (joined_written xs s look) (joined_written ys s look),
     ) refl
 
 -- a part that fits up to an end fits up to a later one

@@ -160,8 +160,13 @@ where
         (IsMissing (parts_value parts.now source.now (marks_of (M.look_up variables.now))))) }
 {
     let mut output = SliceOutput { slice, written: 0 };
-    let outcome =
-        append::<M, R, SliceOutput<'_>>(source, parts, variables, &mut Turns::new(), &mut output);
+    let outcome = append::<M, R, SliceOutput<'_>>(
+        source,
+        parts,
+        variables,
+        &mut Turns::new(),
+        &mut output,
+    );
     match outcome {
         Ok(()) => Ok(output.written),
         Err(stop) => Err(error_of(source, stop)),

@@ -44,8 +44,7 @@ posted_more template people i person a b c letter inside is (letters, each, appe
     let people_more : take (i + 1) people ≡ so_far =
     take_more people i person inside ∙ ap (λ p. take i people ++ p ∷ []) (sym is) in
     let letters_more : concat (letters ++ letter ∷ []) ≡ concat letters ++ letter =
-    concat-append letters (letter ∷ []) ∙ ap (λ l. concat letters ++ l) (append-nil letter) in
-    (
+    concat-append letters (letter ∷ []) ∙ ap (λ l. concat letters ++ l) (append-nil letter) in (
       letters ++ letter ∷ [],
       rw people_more (each_more (to template) (take i people) letters person letter each gives),
       rw letters_more (Appends-trans a b c (concat letters) letter appended more),

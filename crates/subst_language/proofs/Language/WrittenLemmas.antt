@@ -37,8 +37,8 @@ written-join p (Then item rest) u look =
       ← add_assoc,
       written-join (p + length (item_text item)) rest u look,
       unless_missing_assoc (item_value p item look) (value (p + length (item_text item)) rest look)
-      (item_written p item look) (written (p + length (item_text item)) rest look)
-      (written (p + length (item_text item) + length (text rest)) u look),
+          (item_written p item look) (written (p + length (item_text item)) rest look)
+          (written (p + length (item_text item) + length (text rest)) u look),
     ) refl
 
 -- plain bytes are written as they are

@@ -11,7 +11,7 @@ unreachable-requires c =
     let source = c.args.line.now in
     let expands = c.expand_into.ensures in
     let room : vec_len c.args.log.now + (length source + count_by (λ b. b == dollar) source * LONGEST)
-        ≤ vec_capacity c.args.log.now = rw c.requires.line c.requires.room in
+    ≤ vec_capacity c.args.log.now = rw c.requires.line c.requires.room in
     let never = never_full source (texts_of c.args.fields.now) LONGEST (vec_len c.args.log.now)
     (vec_capacity c.args.log.now) c.expand_into.result expands.sentence c.requires.longest room
     (expands.full (λ v. string_bytes v) (λ v. refl)) in
