@@ -1,5 +1,5 @@
 -- What callers need beside the contracts of the calls: known answers, which memory alone can prevent.
-use Rattle.std.proofs.Common.{◌≡◌, ◌≤◌, ◌<◌, ◌+◌, ◌*◌, ◌==◌, ℕ, List, length, count_by, Option, Some, None, Result, Ok, Err, IfNone, IfOk, IfSome, IsOk, IsTrue, OnOk, ◌++◌, inr, refl, ap, subst, sym, arith}
+use Rattle.std.proofs.Common.{◌≡◌, ◌≤◌, ◌<◌, ◌+◌, ◌*◌, ◌==◌, ℕ, List, length, count_by, Option, Some, None, Result, Ok, Err, IfNone, IfOk, IfSome, IsOk, IsTrue, OnOk, ◌++◌, refl, ap, subst, sym, arith}
 use Rattle.std.proofs.Math.Path.{fun_ext}
 use Rattle.std.proofs.lemmas.Iterator.Adapters.{option_map_id}
 use Rattle.std.specs.List.{All}

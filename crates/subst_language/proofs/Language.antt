@@ -29,4 +29,5 @@ pub mod UnsettledLemmas
 pub mod Utf8Lemmas
 pub mod ValueLemmas
 pub mod ValueLengthLemmas
+pub mod VariablesLemmas
 pub mod WrittenLemmas

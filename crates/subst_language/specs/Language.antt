@@ -19,5 +19,6 @@ pub mod Several
 pub mod Tree
 pub mod Value
 pub mod ValueLength
+pub mod Variables
 pub mod WellFormed
 pub mod Written

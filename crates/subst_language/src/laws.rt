@@ -1,6 +1,7 @@
 //! Laws of the definitions that the contracts cite. Each is the contract of a function that does nothing.
 
-ghost use Rattle.std.specs.Prelude.{◌≡◌, ◌≤◌, ◌+◌, ◌∷◌, ◌++◌, [], ℕ, List, Some, None, IsSome, length, sum_by};
+ghost use Rattle.std.specs.Prelude.{◌≡◌, ◌↔◌, ◌≤◌, ◌+◌, ◌∷◌, ◌++◌, [], ℕ, List, Some, None, IsSome};
+ghost use Rattle.std.specs.Prelude.{length, map, sum_by};
 ghost use Rattle.std.specs.List.{All};
 ghost use Rattle.std.specs.Str.{IsUtf8};
 ghost use Rattle.subst_error.specs.Fault.{Fault, InvalidEscapeSequence, MissingClosingBrace, NoSuchVariable};
@@ -19,7 +20,8 @@ ghost use Rattle.subst_language.specs.Earlier.Extension.{KeepsReading};
 ghost use Rattle.subst_language.specs.Language.Tree.{Tree, text};
 ghost use Rattle.subst_language.specs.Language.LookUp.{LookUp, GivesTexts};
 ghost use Rattle.subst_language.specs.Language.Sentence.{ByTree, Spells};
-ghost use Rattle.subst_language.specs.Language.Value.{Bytes, value};
+ghost use Rattle.subst_language.specs.Language.Value.{Bytes, Missing, value};
+ghost use Rattle.subst_language.specs.Language.Variables.{all_missing, name_of, variables_of};
 ghost use Rattle.subst_language.specs.Language.ValueLength.{length_of, value_length, visited_length};
 ghost use Rattle.subst_language.specs.Language.Counts.{part_count, visited_count};
 
@@ -125,6 +127,26 @@ pub fn missing_variables_are_missing()
         → All (λ n. IsSome (look n)) (names_in t) → (x : List ℕ) × Answers s look (Gives x) }
     ensures retry { (s : List ℕ) (look : LookUp) (position : ℕ) (name : List ℕ) → IsSome (look name)
         → ¬ (Answers s look (Refuses (NoSuchVariable position name))) }
+{}
+
+/// The law of all that is missing. Nothing is missing exactly where the value is bytes; otherwise the first
+/// is the variable that the value is missing, which an expansion is refused for. Each is one that the look-up
+/// has nothing for. A look-up that has something for each, and for all that the first one has something for,
+/// gives bytes. And the names of a tree's variables are the names in the tree.
+pub fn missing_lists_are_whole()
+    ensures none { (p : ℕ) (t : Tree) (look : LookUp)
+        → (all_missing p t look ≡ [] ↔ ((x : List ℕ) × (value p t look ≡ Bytes x))) }
+    ensures first { (p position : ℕ) (t : Tree) (look : LookUp) (name : List ℕ)
+        → value p t look ≡ Missing position name
+        → (more : List Fault) × (all_missing p t look ≡ NoSuchVariable position name ∷ more) }
+    ensures lacked { (p : ℕ) (t : Tree) (look : LookUp)
+        → All (λ f. (position : ℕ) × (name : List ℕ) × (f ≡ NoSuchVariable position name)
+        × (look name ≡ None)) (all_missing p t look) }
+    ensures supplied { (p : ℕ) (t : Tree) (a b : LookUp)
+        → ((n : List ℕ) → IsSome (a n) → IsSome (b n))
+        → All (λ f. (position : ℕ) (name : List ℕ) → f ≡ NoSuchVariable position name
+        → IsSome (b name)) (all_missing p t a) → (x : List ℕ) × (value p t b ≡ Bytes x) }
+    ensures names { (p : ℕ) (t : Tree) → map name_of (variables_of p t) ≡ names_in t }
 {}
 
 /// The law of turns. An expansion visits at most as many parts as the source has, and a source has at most

@@ -1,7 +1,10 @@
-//! The template language: its definitions, its laws, and the lemmas on it. There is no code here.
+//! The template language: its definitions, its laws, the lemmas on it, and the variables that templates tell.
 //!
 //! The definitions are in `specs/`: `Language` says what is right, `Earlier` what the language was before
 //! `${name?}`, and `Calls` what maps and results mean in contracts of public calls.
 #![tactic(auto)]
 
 pub mod laws;
+mod variable;
+
+pub use variable::{Variable, VariableKind};

@@ -62,7 +62,7 @@ missing_alike (Missing p n) (Bytes y) f e missing = absurd cc
 missing_alike (Bytes x) w f e (position, name, is, fault) = absurd cc
 
 -- something is found where something was before its bytes were read
-found_as_read : {Seen : Type 0} (bytes : Seen → List ℕ) (o : Option Seen)
+pub found_as_read : {Seen : Type 0} (bytes : Seen → List ℕ) (o : Option Seen)
     → is_some (option_map bytes o) ≡ is_some o
 found_as_read bytes (Some v) = refl
 found_as_read bytes None = refl

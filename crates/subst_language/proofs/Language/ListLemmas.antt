@@ -1,9 +1,10 @@
 -- Lists: equal lists, a list at an index, the two ends of a stack, prefixes, and induction by length.
-use Rattle.std.proofs.Common.{◌≡◌, ℕ, zero, suc, ◌+◌, ◌-◌, ◌<◌, ◌≤◌, eqb, true, List, [], ◌∷◌, ◌++◌, length, get_or, take, drop, reverse, Option, Some, None, refl, sym, ap, ◌∙◌, append_assoc, length-append, length-drop, arith}
+use Rattle.std.proofs.Common.{◌≡◌, ℕ, zero, suc, ◌+◌, ◌-◌, ◌<◌, ◌≤◌, eqb, true, List, [], ◌∷◌, ◌++◌, length, map, get_or, take, drop, reverse, Option, Some, None, refl, sym, ap, ◌∙◌, subst, append_assoc, length-append, length-drop, arith}
 use Rattle.std.proofs.Math.Decide.{ℕ_discrete}
 use Rattle.std.proofs.Math.Seq.{take-append_seam}
 use Rattle.std.proofs.lemmas.Bool.{eqb-true, false≢true}
 use Rattle.std.proofs.lemmas.List.{reverse-append, drop_more, drop_all, drop-drop, take-append-drop}
+use Rattle.std.proofs.lemmas.List.Elements.{All-from_recursion}
 use Rattle.std.proofs.lemmas.Option.{slice_get_within, get_or_from_slice_get, slice_get-get_or}
 use Rattle.std.specs.List.{All, AllByRecursion, slice_get}
 use Rattle.std.specs.Option.{MatchOption, option_eq}
@@ -33,11 +34,29 @@ pub each_parts : {X : Type 0} (P : X → Type 0) (x y : List X) → AllByRecursi
 each_parts P [] y h = (tt, h)
 each_parts P (a ∷ x) y h = let parts = each_parts P x y h.1 in ((h.0, parts.0), parts.1)
 
+-- what follows of each element from what holds of it holds of each
+pub each_weaker : {X : Type 0} (P Q : X → Type 0) → ((a : X) → P a → Q a) → (x : List X) → AllByRecursion P x
+    → AllByRecursion Q x
+each_weaker P Q step [] each = tt
+each_weaker P Q step (a ∷ x) each = (step a each.0, each_weaker P Q step x each.1)
+
 -- what holds of each element holds of each by recursion
 pub each_by_recursion : {X : Type 0} (P : X → Type 0) (x : List X) → All P x → AllByRecursion P x
 each_by_recursion P [] each = tt
 each_by_recursion P (a ∷ x) each =
     (each 0 a (omega arith), each_by_recursion P x (λ k d h. each (suc k) d (omega arith)))
+
+-- what holds of each element of a list holds of each that is mapped to one
+mapped_by_recursion : {X Y : Type 0} (f : X → Y) (P : Y → Type 0) (x : List X) → AllByRecursion P (map f x)
+    → AllByRecursion (λ a. P (f a)) x
+mapped_by_recursion f P [] each = tt
+mapped_by_recursion f P (a ∷ x) each = (each.0, mapped_by_recursion f P x each.1)
+
+-- the same of the list that a list is mapped to
+pub each_mapped : {X Y : Type 0} (f : X → Y) (P : Y → Type 0) (x : List X) {y : List Y} → map f x ≡ y
+    → AllByRecursion P y → All (λ a. P (f a)) x
+each_mapped f P x is each =
+    All-from_recursion (λ a. P (f a)) x (mapped_by_recursion f P x (subst (AllByRecursion P) (sym is) each))
 
 -- what holds of a list where it holds of each shorter one holds of each list of at most k elements
 by_length_within : {X : Type 0} (P : List X → Type 0)

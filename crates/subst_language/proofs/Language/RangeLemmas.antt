@@ -1,11 +1,11 @@
 -- Where a text that is refused is at fault: the range begins and ends between characters.
-use Rattle.std.proofs.Common.{◌≡◌, ◌⊎◌, ℕ, ◌+◌, ◌<◌, Option, Some, None, IfSome, Result, Ok, Err, IfErr, List, [], ◌∷◌, ◌++◌, length, refl, sym, ap, ◌∙◌, subst, inl, inr, append_assoc, append-nil, length-append, encode_utf8, arith}
+use Rattle.std.proofs.Common.{◌≡◌, ℕ, ◌+◌, ◌<◌, Option, Some, None, IfSome, Result, Ok, Err, IfErr, List, [], ◌∷◌, ◌++◌, length, refl, sym, ap, ◌∙◌, subst, inl, inr, append_assoc, append-nil, length-append, encode_utf8, arith}
 use Rattle.std.proofs.lemmas.Bool.{and_parts}
 use Rattle.std.proofs.lemmas.Str.{IsUtf8-append, IsUtf8-nil, IsUtf8-encode, IsUtf8-past_char, IsCharBoundary-at_seam, IsCharBoundary-start}
 use Rattle.std.specs.Str.{IsUtf8, IsCharBoundary}
 use Rattle.std.specs.declared.ops.Range.{Range}
 use Rattle.subst_error.specs.ErrorFault.{parse_fault}
-use Rattle.subst_error.specs.Fault.{Fault, NoSuchVariable}
+use Rattle.subst_error.specs.Fault.{Fault}
 use Rattle.subst_error.specs.Range.{source_len, range_at, range_of, IsRangeIn}
 use Rattle.subst_error.specs.declared.CharOrByte.{CharOrByte}
 use Rattle.subst_error.specs.declared.CharOrByte.TheVariants.{Char, Byte}
@@ -17,13 +17,17 @@ use Rattle.subst_language.specs.Language.Tree.{Item, Plain, Escaped, Short, Brac
 use Rattle.subst_language.specs.Language.WellFormed.{IsItem, IsWellFormed}
 use Rattle.subst_language.specs.Language.LookUp.{LookUp}
 use Rattle.subst_language.specs.Language.Sentence.{Spells}
-use Rattle.subst_language.specs.Language.Value.{Value, Bytes, Missing, joined, found_or, item_value, value}
+use Rattle.subst_language.specs.Language.Value.{value}
 use Rattle.subst_language.specs.Language.BadItem.{IsBad, HasFault}
 use Rattle.subst_language.specs.Language.BadItem.IsBad.{escape_at_end, escape, dollar_at_end, dollar_alone, brace_at_end, brace_alone, name_at_end, name_alone, optional_at_end, optional_alone, unclosed, inside}
 use Rattle.subst_language.specs.Language.BadItem.HasFault.{fault_after}
 use Rattle.subst_language.specs.Language.Answer.{Answers, Refuses, IsMissing}
 use Rattle.subst_language.specs.Calls.Outcome.{OnFault}
+use Rattle.std.specs.List.{AllByRecursion}
+use Rattle.subst_language.specs.Language.Variables.{name_range, item_variables, variables_of, all_missing}
+use Rattle.subst_language.proofs.Language.ListLemmas.{each_append, each_weaker}
 use Rattle.subst_language.proofs.Language.NameLemmas.{name_is_utf8}
+use Rattle.subst_language.proofs.Language.VariablesLemmas.{first_missing, missing_among}
 use Rattle.subst_language.proofs.Language.Utf8Lemmas.{cut_at, after_ascii, after_name, in_braces, ascii_alone}
 
 -- The text s is at position p. The range is a part of it, and what is in the range and what is after it are
@@ -214,100 +218,96 @@ mutual
       subst (λ (w : List ℕ). IsPlaced p (text t ++ w) (range_of (Some f))) (append-nil r)
       (placed_inside p (p + length (text t)) (text t) r [] refl IsUtf8-nil of_item)
 
--- where something isn't found and what is there instead is missing, that is
-pub found_missing : (found : Option (List ℕ)) (v : Value) (position : ℕ) (name : List ℕ)
-    → found_or found v ≡ Missing position name → v ≡ Missing position name
-found_missing (Some x) v position name e = absurd cc
-found_missing None v position name e = e
-
--- where two values joined are missing a variable, one of them is
-pub joined_missing : (v w : Value) (position : ℕ) (name : List ℕ) → joined v w ≡ Missing position name
-    → (v ≡ Missing position name) ⊎ (w ≡ Missing position name)
-joined_missing (Bytes x) (Bytes y) position name e = absurd cc
-joined_missing (Bytes x) (Missing q n) position name e = inr e
-joined_missing (Missing q n) w position name e = inl e
-
--- the range of a name
-name_placed : (p start : ℕ) (x n z name : List ℕ) → start ≡ p + length x → name ≡ n → IsName n → IsUtf8 z
-    → IsPlaced p (x ++ (n ++ z)) (range_at start (length name))
-name_placed p start x n z name at same named after =
-    placed p x n z start (length name) at (ap length same) (name_is_utf8 n named) after
+-- the range of the name of a placeholder in braces, after the bytes u, and before the bytes w
+braced_placed : (p q position : ℕ) (u n x w : List ℕ) → q ≡ p + length u → position ≡ q + 2 → IsName n
+    → IsUtf8 (u ++ (dollar ∷ opening_brace ∷ ((n ++ x) ++ w)))
+    → IsPlaced p (u ++ (dollar ∷ opening_brace ∷ ((n ++ x) ++ w))) (range_at position (length n))
+braced_placed p q position u n x w at starts named is =
+    let head = dollar ∷ opening_brace ∷ [] in
+    let (before, after) = in_braces u n x w named is in
+    let parts : (u ++ head) ++ (n ++ (x ++ w)) ≡ u ++ (head ++ ((n ++ x) ++ w)) =
+    append_assoc u head (n ++ (x ++ w))
+    ∙ ap (λ (y : List ℕ). u ++ (head ++ y)) (sym (append_assoc n x w)) in
+    subst (λ (s : List ℕ). IsPlaced p s (range_at position (length n))) parts
+    (placed p (u ++ head) n (x ++ w) position (length n) (omega (arith, at, starts, length-append u head))
+    refl (name_is_utf8 n named) after)
 
 mutual
-  -- The range of the variable that an item is missing. The item is at position q, after the bytes u, which
-  -- are at position p, and before the bytes w.
-  item_placed : (item : Item) (next : Tree) (p q : ℕ) (look : LookUp) (u w : List ℕ) (position : ℕ)
-      (name : List ℕ) → q ≡ p + length u → IsItem item next → IsUtf8 (u ++ (item_text item ++ w))
-      → item_value q item look ≡ Missing position name
-      → IsPlaced p (u ++ (item_text item ++ w)) (range_at position (length name))
-  item_placed (Plain b) next p q look u w position name at fits is e = absurd cc
-  item_placed (Escaped b) next p q look u w position name at fits is e = absurd cc
-  item_placed (Short n) next p q look u w position name at fits is e =
-      let missing = found_missing (look n) (Missing (q + 1) n) position name e in
-      let here : q + 1 ≡ position = cc in
-      let same : name ≡ n = cc in
+  -- The ranges of the names of an item's variables. The item is at position q, after the bytes u, which are
+  -- at position p, and before the bytes w.
+  item_placed : (item : Item) (next : Tree) (p q : ℕ) (u w : List ℕ) → q ≡ p + length u → IsItem item next
+      → IsUtf8 (u ++ (item_text item ++ w))
+      → AllByRecursion (λ v. IsPlaced p (u ++ (item_text item ++ w)) (name_range v)) (item_variables q item)
+  item_placed (Plain b) next p q u w at fits is = tt
+  item_placed (Escaped b) next p q u w at fits is = tt
+  item_placed (Short n) next p q u w at fits is =
       let (before, after) = cut_at u (n ++ w) dollar (omega arith) is in
       let head = dollar ∷ [] in
-      subst (λ (s : List ℕ). IsPlaced p s (range_at position (length name))) (append_assoc u head (n ++ w))
-      (name_placed p position (u ++ head) n w name (omega (arith, length-append u head)) same fits.0
-      (after_name n w fits.0 after))
-  item_placed (Braced n) next p q look u w position name at fits is e =
-      let missing = found_missing (look n) (Missing (q + 2) n) position name e in
-      let here : q + 2 ≡ position = cc in
-      let same : name ≡ n = cc in
-      let head = dollar ∷ opening_brace ∷ [] in
-      let (before, after) = in_braces u n (closing_brace ∷ []) w fits is in
-      let parts : (u ++ head) ++ (n ++ (closing_brace ∷ w)) ≡ u ++ (item_text (Braced n) ++ w) =
-      append_assoc u head (n ++ (closing_brace ∷ w))
-      ∙ ap (λ (y : List ℕ). u ++ (head ++ y)) (sym (append_assoc n (closing_brace ∷ []) w)) in
-      subst (λ (s : List ℕ). IsPlaced p s (range_at position (length name))) parts
-      (name_placed p position (u ++ head) n (closing_brace ∷ w) name (omega (arith, length-append u head))
-      same fits after)
-  item_placed (Optional n) next p q look u w position name at fits is e =
-      let missing = found_missing (look n) (Bytes []) position name e in absurd cc
-  item_placed (Default n t) next p q look u w position name at fits is e =
-      let missing = found_missing (look n) (value (q + 3 + length n) t look) position name e in
+      let here =
+      subst (λ (s : List ℕ). IsPlaced p s (range_at (q + 1) (length n))) (append_assoc u head (n ++ w))
+      (placed p (u ++ head) n w (q + 1) (length n) (omega (arith, at, length-append u head)) refl
+      (name_is_utf8 n fits.0) (after_name n w fits.0 after)) in
+      (here, tt)
+  item_placed (Braced n) next p q u w at fits is =
+      (braced_placed p q (q + 2) u n (closing_brace ∷ []) w at refl fits is, tt)
+  item_placed (Optional n) next p q u w at fits is =
+      (braced_placed p q (q + 2) u n (question_mark ∷ closing_brace ∷ []) w at refl fits is, tt)
+  item_placed (Default n t) next p q u w at fits is =
       let (before, separated) = in_braces u n (colon ∷ text t ++ closing_brace ∷ []) w fits.0 is in
       let default = after_ascii ((text t ++ closing_brace ∷ []) ++ w) colon (omega arith) separated in
       let closing = subst IsUtf8 (append_assoc (text t) (closing_brace ∷ []) w) default in
       let (default_text, after) = cut_at (text t) w closing_brace (omega arith) closing in
       let at_default = q + 3 + length n in
-      let of_default =
-      tree_placed t at_default at_default look [] position name (omega arith) fits.1 default_text missing in
+      let of_default = tree_placed t at_default at_default [] (omega arith) fits.1 default_text in
       let parts : n ++ (colon ∷ (text t ++ closing_brace ∷ w))
       ≡ (n ++ (colon ∷ text t ++ closing_brace ∷ [])) ++ w =
       simp append_assoc in
-      let range = range_at position (length name) in
-      subst (λ (y : List ℕ). IsPlaced p (u ++ (dollar ∷ opening_brace ∷ y)) range) parts
-      (default_placed p q u n (text t) w at after of_default)
+      let here = braced_placed p q (q + 2) u n (colon ∷ text t ++ closing_brace ∷ []) w at refl fits.0 is in (
+        here,
+        each_weaker _ _
+            (λ v in_default.
+            subst (λ (y : List ℕ). IsPlaced p (u ++ (dollar ∷ opening_brace ∷ y)) (name_range v)) parts
+            (default_placed p q u n (text t) w at after in_default))
+            (variables_of at_default t) of_default,
+      )
 
-  -- the range of the variable that a tree is missing, whose text is after the bytes u
-  tree_placed : (t : Tree) (p q : ℕ) (look : LookUp) (u : List ℕ) (position : ℕ) (name : List ℕ)
-      → q ≡ p + length u → IsWellFormed t → IsUtf8 (u ++ text t) → value q t look ≡ Missing position name
-      → IsPlaced p (u ++ text t) (range_at position (length name))
-  tree_placed Empty p q look u position name at fits is e = absurd cc
-  tree_placed (Then item rest) p q look u position name at fits is e =
+  -- the ranges of the names of a tree's variables, where the tree's text is after the bytes u
+  tree_placed : (t : Tree) (p q : ℕ) (u : List ℕ) → q ≡ p + length u → IsWellFormed t → IsUtf8 (u ++ text t)
+      → AllByRecursion (λ v. IsPlaced p (u ++ text t) (name_range v)) (variables_of q t)
+  tree_placed Empty p q u at fits is = tt
+  tree_placed (Then item rest) p q u at fits is =
       let next = q + length (item_text item) in
       let further : u ++ (item_text item ++ text rest) ≡ (u ++ item_text item) ++ text rest =
       sym (append_assoc u (item_text item) (text rest)) in
-      elim (joined_missing (item_value q item look) (value next rest look) position name e) [
-        | inl here ↦ item_placed item rest p q look u (text rest) position name at fits.0 is here
-        | inr there ↦ subst (λ (s : List ℕ). IsPlaced p s (range_at position (length name))) (sym further)
-            (tree_placed rest p next look (u ++ item_text item) position name
-            (omega (arith, length-append u (item_text item))) fits.1 (subst IsUtf8 further is) there)
-      ]
+      let there = tree_placed rest p next (u ++ item_text item)
+      (omega (arith, at, length-append u (item_text item))) fits.1 (subst IsUtf8 further is) in
+      each_append _ (item_variables q item) (variables_of next rest)
+      (item_placed item rest p q u (text rest) at fits.0 is)
+      (subst (λ (s : List ℕ). AllByRecursion (λ v. IsPlaced p s (name_range v)) (variables_of next rest))
+      (sym further) there)
+
+-- each variable of a text has the range of its name in the text
+pub variables_in_text : (s : List ℕ) (t : Tree) → IsUtf8 s → Spells t s
+    → AllByRecursion (λ v. IsRangeIn s (name_range v)) (variables_of 0 t)
+variables_in_text s t is spells =
+    each_weaker _ _ (λ v. placed_in s (name_range v)) (variables_of 0 t)
+    (subst (λ (w : List ℕ). AllByRecursion (λ v. IsPlaced 0 w (name_range v)) (variables_of 0 t))
+    (sym spells.spelled) (tree_placed t 0 0 [] (omega arith) spells.well_formed
+    (subst IsUtf8 spells.spelled is)))
+
+-- so has each that a look-up has nothing for
+pub missing_in_text : (s : List ℕ) (t : Tree) (look : LookUp) → IsUtf8 s → Spells t s
+    → AllByRecursion (λ f. IsRangeIn s (range_of (Some f))) (all_missing 0 t look)
+missing_in_text s t look is spells =
+    missing_among (λ f. IsRangeIn s (range_of (Some f))) look t 0 (variables_in_text s t is spells)
 
 -- each refusal of a text has a range whose ends are character boundaries of the text
 pub refusal_in_text : (s : List ℕ) (look : LookUp) (f : Fault) → IsUtf8 s → Answers s look (Refuses f)
     → IsRangeIn s (range_of (Some f))
 refusal_in_text s look f is (inl fault) = placed_in s (range_of (Some f)) (fault_placed fault is)
-refusal_in_text s look f is (inr (t, spells, (position, name, missing, same))) =
-    let range = range_at position (length name) in
-    let spelled = subst IsUtf8 spells.spelled is in
-    let of_tree = tree_placed t 0 0 look [] position name (omega arith) spells.well_formed spelled missing in
-    let of_text = subst (λ (w : List ℕ). IsPlaced 0 w range) (sym spells.spelled) of_tree in
-    subst (λ (g : Fault). IsRangeIn s (range_of (Some g))) (sym same)
-    (placed_in s (range_of (Some (NoSuchVariable position name))) of_text)
+refusal_in_text s look f is (inr (t, spells, missing)) =
+    first_missing (λ g. IsRangeIn s (range_of (Some g))) t 0 look f missing
+    (missing_in_text s t look is spells)
 
 -- an error that a refusal of a text states has its range in the text; where memory ran out it is the empty
 -- one at the text's start

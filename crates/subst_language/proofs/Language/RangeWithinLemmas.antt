@@ -1,5 +1,5 @@
 -- Where a source that is refused is at fault: the range ends within the source, also where that is no text.
-use Rattle.std.proofs.Common.{◌≡◌, ℕ, ◌+◌, ◌≤◌, Option, Some, None, Result, Ok, Err, IfErr, IfSome, List, [], ◌∷◌, ◌++◌, length, ap, subst, sym, length-append, encode_utf8, inl, inr, arith}
+use Rattle.std.proofs.Common.{ℕ, ◌+◌, ◌≤◌, Option, Some, None, Result, Ok, Err, IfErr, IfSome, List, [], ◌∷◌, ◌++◌, length, ap, length-append, encode_utf8, inl, inr, arith}
 use Rattle.subst_error.specs.Fault.{Fault}
 use Rattle.subst_error.specs.ErrorFault.{parse_fault}
 use Rattle.subst_error.specs.Range.{source_len, range_of}
@@ -10,14 +10,17 @@ use Rattle.subst_language.specs.Language.Bytes.{colon, question_mark, closing_br
 use Rattle.subst_language.specs.Language.Character.{IsFrontCharacter}
 use Rattle.subst_language.specs.Language.Tree.{Item, Plain, Escaped, Short, Braced, Optional, Default, Tree, Empty, Then, item_text, text}
 use Rattle.subst_language.specs.Language.LookUp.{LookUp}
-use Rattle.subst_language.specs.Language.Value.{Bytes, Missing, item_value, value}
+use Rattle.subst_language.specs.Language.Value.{value}
 use Rattle.subst_language.specs.Language.BadItem.{IsBad, HasFault}
 use Rattle.subst_language.specs.Language.BadItem.IsBad.{escape_at_end, escape, dollar_at_end, dollar_alone, brace_at_end, brace_alone, name_at_end, name_alone, optional_at_end, optional_alone, unclosed, inside}
 use Rattle.subst_language.specs.Language.BadItem.HasFault.{fault_after}
 use Rattle.subst_language.specs.Language.Answer.{Answers, Refuses, IsMissing}
 use Rattle.subst_language.specs.Language.Sentence.{Spells}
 use Rattle.subst_language.specs.Calls.Outcome.{OnFault}
-use Rattle.subst_language.proofs.Language.RangeLemmas.{found_missing, joined_missing}
+use Rattle.std.specs.List.{AllByRecursion}
+use Rattle.subst_language.specs.Language.Variables.{Variable, name_range, item_variables, variables_of, all_missing}
+use Rattle.subst_language.proofs.Language.ListLemmas.{each_append, each_weaker}
+use Rattle.subst_language.proofs.Language.VariablesLemmas.{first_missing, missing_among}
 
 -- the character at the front of bytes takes at most as many as there are
 front_fits : (bytes : List ℕ) (c : CharOrByte) → IsFrontCharacter bytes c → source_len c ≤ length bytes
@@ -54,53 +57,58 @@ mutual
       → (range_of (Some f)).end ≤ p + length s
   fault_within (fault_after {r = r} t formed bad) = omega (arith, bad_within bad, length-append (text t) r)
 
+-- the variable's name ends at an offset at most
+abbrev EndsBy : ℕ → Variable → Type 0
+EndsBy end v = (name_range v).end ≤ end
+
 mutual
-  -- the name of the variable that an item is missing ends within the item
-  item_within : (item : Item) (q : ℕ) (look : LookUp) (position : ℕ) (name : List ℕ)
-      → item_value q item look ≡ Missing position name → position + length name ≤ q + length (item_text item)
-  item_within (Plain b) q look position name e = absurd cc
-  item_within (Escaped b) q look position name e = absurd cc
-  item_within (Short n) q look position name e =
-      let missing = found_missing (look n) (Missing (q + 1) n) position name e in
-      let here : q + 1 ≡ position = cc in
-      let same : n ≡ name = cc in
-      omega (arith, here, ap length same)
-  item_within (Braced n) q look position name e =
-      let missing = found_missing (look n) (Missing (q + 2) n) position name e in
-      let here : q + 2 ≡ position = cc in
-      let same : n ≡ name = cc in
-      omega (arith, here, ap length same, length-append n (closing_brace ∷ []))
-  item_within (Optional n) q look position name e =
-      let missing = found_missing (look n) (Bytes []) position name e in absurd cc
-  item_within (Default n t) q look position name e =
-      let missing = found_missing (look n) (value (q + 3 + length n) t look) position name e in
-      let of_default = tree_within t (q + 3 + length n) look position name missing in
-      omega (
-        arith,
-        of_default,
-        length-append n (colon ∷ text t ++ closing_brace ∷ []),
-        length-append (text t) (closing_brace ∷ []),
+  -- the names of an item's variables end within the item
+  item_within : (item : Item) (p : ℕ)
+      → AllByRecursion (EndsBy (p + length (item_text item))) (item_variables p item)
+  item_within (Plain b) p = tt
+  item_within (Escaped b) p = tt
+  item_within (Short n) p = (omega arith, tt)
+  item_within (Braced n) p = (omega (arith, length-append n (closing_brace ∷ [])), tt)
+  item_within (Optional n) p = (omega (arith, length-append n (question_mark ∷ closing_brace ∷ [])), tt)
+  item_within (Default n t) p =
+      let long = length-append n (colon ∷ text t ++ closing_brace ∷ []) in
+      let closed = length-append (text t) (closing_brace ∷ []) in
+      let q = p + 3 + length n in (
+        omega (arith, long),
+        each_weaker _ _ (λ v ends. omega (arith, ends, long, closed)) (variables_of q t)
+            (tree_within t q),
       )
 
-  -- and of that which a tree is missing, within the tree's text
-  tree_within : (t : Tree) (p : ℕ) (look : LookUp) (position : ℕ) (name : List ℕ)
-      → value p t look ≡ Missing position name → position + length name ≤ p + length (text t)
-  tree_within Empty p look position name e = absurd cc
-  tree_within (Then item rest) p look position name e =
+  -- and those of a tree's, within the tree's text
+  tree_within : (t : Tree) (p : ℕ) → AllByRecursion (EndsBy (p + length (text t))) (variables_of p t)
+  tree_within Empty p = tt
+  tree_within (Then item rest) p =
       let next = p + length (item_text item) in
       let long = length-append (item_text item) (text rest) in
-      elim (joined_missing (item_value p item look) (value next rest look) position name e) [
-        | inl here ↦ omega (arith, item_within item p look position name here, long)
-        | inr there ↦ omega (arith, tree_within rest next look position name there, long)
-      ]
+      each_append _ (item_variables p item) (variables_of next rest)
+      (each_weaker _ _ (λ v ends. omega (arith, ends, long)) (item_variables p item) (item_within item p))
+      (each_weaker _ _ (λ v ends. omega (arith, ends, long)) (variables_of next rest) (tree_within rest next))
+
+-- the name of each variable of a source ends within the source
+pub variables_within : (s : List ℕ) (t : Tree) → Spells t s
+    → AllByRecursion (λ v. (name_range v).end ≤ length s) (variables_of 0 t)
+variables_within s t spells =
+    each_weaker _ _ (λ v ends. omega (arith, ends, ap length spells.spelled)) (variables_of 0 t)
+    (tree_within t 0)
+
+-- so does that of each that a look-up has nothing for
+pub missing_within : (s : List ℕ) (t : Tree) (look : LookUp) → Spells t s
+    → AllByRecursion (λ f. (range_of (Some f)).end ≤ length s) (all_missing 0 t look)
+missing_within s t look spells =
+    missing_among (λ f. (range_of (Some f)).end ≤ length s) look t 0 (variables_within s t spells)
 
 -- each refusal of a source has a range that ends within the source
 pub refusal_within : (s : List ℕ) (look : LookUp) (f : Fault) → Answers s look (Refuses f)
     → (range_of (Some f)).end ≤ length s
 refusal_within s look f (inl fault) = omega (arith, fault_within fault)
-refusal_within s look f (inr (t, spells, (position, name, missing, same))) =
-    subst (λ (g : Fault). (range_of (Some g)).end ≤ length s) (sym same)
-    (omega (arith, tree_within t 0 look position name missing, ap length spells.spelled))
+refusal_within s look f (inr (t, spells, missing)) =
+    first_missing (λ g. (range_of (Some g)).end ≤ length s) t 0 look f missing
+    (missing_within s t look spells)
 
 -- so has an error of parsing; where memory ran out it is the empty range at the source's start
 pub parse_result_within : {T : Type 0} (s : List ℕ) (r : Result T ParseError)

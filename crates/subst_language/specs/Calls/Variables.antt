@@ -1,0 +1,32 @@
+-- What the variables that a template tells, and the errors of those that are missing, say.
+use Rattle.std.specs.Prelude.{ℕ, Some, string_bytes}
+use Rattle.std.specs.declared.ops.Range.{Range}
+use Rattle.subst_error.specs.Fault.{Fault, NoSuchVariable}
+use Rattle.subst_error.specs.Range.{range_of}
+use Rattle.subst_error.specs.declared.NoSuchVariable as errors
+use Rattle.subst_language.specs.Language.Variables as variables
+use Rattle.subst_language.specs.declared.variable.Variable.{Variable}
+use Rattle.subst_language.specs.declared.variable.VariableKind.{VariableKind}
+use Rattle.subst_language.specs.declared.variable.VariableKind.TheVariants.{Required, Optional, WithDefault}
+
+-- the kind of a variable
+abbrev pub kind_of : VariableKind → variables.Kind
+kind_of Required = variables.Required
+kind_of Optional = variables.OrNothing
+kind_of WithDefault = variables.OrDefault
+
+-- the variable
+abbrev pub variable_of : Variable → variables.Variable
+variable_of it = record { position = it.position; name = it.name.now; kind = kind_of it.kind }
+
+-- the fault of a variable that is missing
+abbrev pub missing_fault : errors.NoSuchVariable → Fault
+missing_fault e = NoSuchVariable e.position (string_bytes e.name)
+
+-- the range of its name in the source
+abbrev pub variable_range : Variable → Range ℕ
+variable_range it = variables.name_range (variable_of it)
+
+-- and of the name of one that is missing
+abbrev pub missing_range : errors.NoSuchVariable → Range ℕ
+missing_range e = range_of (Some (missing_fault e))
