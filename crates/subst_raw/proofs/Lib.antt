@@ -7,6 +7,7 @@ pub mod FilledLemmas
 pub mod FilledTextLemmas
 pub mod InnerLemmas
 pub mod LiftLemmas
+pub mod ListedLemmas
 pub mod OpenPartLemmas
 pub mod OutputLemmas
 pub mod ParsedLemmas
@@ -19,3 +20,4 @@ pub mod ScanLemmas
 pub mod StackHoldsLemmas
 pub mod TemplateOfLemmas
 pub mod TreeAtLemmas
+pub mod VariablesLemmas

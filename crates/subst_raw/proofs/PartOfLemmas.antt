@@ -1,7 +1,7 @@
 -- The part of each item of a source.
 use Rattle.std.proofs.Common.{ℕ, ◌+◌, ◌<◌, ◌≤◌, List, length, refl, ap, append-nil, length-drop, arith}
 use Rattle.std.proofs.lemmas.Bool.Decides.{nat_tests}
-use Rattle.subst_language.specs.Language.Bytes.{closing_brace, IsSpecial}
+use Rattle.subst_language.specs.Language.Bytes.{closing_brace, question_mark, IsSpecial}
 use Rattle.subst_language.specs.Language.Tree.{Tree, Empty, Then}
 use Rattle.subst_language.specs.Language.Tree as tree
 use Rattle.subst_raw.specs.Span.{span_bytes}
@@ -12,7 +12,8 @@ use Rattle.subst_raw.specs.declared.part.Part.TheVariants.{Escaped, Variable, De
 use Rattle.subst_language.proofs.Language.CountLemmas.{no_plain_ends}
 use Rattle.subst_language.proofs.Language.ItemLemmas.{escape_balanced, short_balanced, braced_balanced, optional_balanced}
 use Rattle.subst_raw.proofs.PartsLemmas.{mean_escaped, mean_short, mean_braced, mean_optional}
-use Rattle.subst_raw.proofs.TreeAtLemmas.{escape_tree_at, short_tree_at, braced_tree_at, optional_tree_at}
+use Rattle.subst_raw.specs.Parts.{kind_before}
+use Rattle.subst_raw.proofs.TreeAtLemmas.{after_name, escape_tree_at, short_tree_at, braced_tree_at, optional_tree_at}
 
 -- a special byte is a byte
 special_small : (b : ℕ) → IsSpecial b → b < 256
@@ -58,7 +59,9 @@ optional_part s at name i is = record {
   at = optional_tree_at s at name is;
   balanced = rw append-nil (optional_balanced (span_bytes name s) is.head.named.valid);
   ends = no_plain_ends (tree.Optional (span_bytes name s)) refl;
-  mean = mean_optional s i name at is.head.named.inside is.head.named.valid;
+  mean =
+      mean_optional s i name at is.head.named.inside is.head.named.valid is.head.starts
+      (ap kind_before (after_name s at name question_mark is.head));
 }
 
 -- an escape lies in the source

@@ -1,5 +1,5 @@
 -- Lists of parts: where they fit, what an expansion visits of them, and what they give.
-use Rattle.std.proofs.Common.{◌≡◌, ℕ, ◌+◌, ◌<◌, ◌≤◌, suc, lt-ltb, le-ltb, false, Option, Some, None, inl, inr, List, [], ◌∷◌, ◌++◌, length, length-append, append-nil, refl, sym, ap, ◌∙◌, subst, arith}
+use Rattle.std.proofs.Common.{◌≡◌, ℕ, ◌+◌, ◌<◌, ◌≤◌, suc, lt-ltb, le-ltb, false, Option, Some, None, inl, inr, List, [], ◌∷◌, ◌++◌, drop, length, length-append, append-nil, append_assoc, refl, sym, ap, ◌∙◌, subst, arith}
 use Rattle.std.proofs.lemmas.Bool.{cases_lt}
 use Rattle.subst_language.specs.Language.Name.{IsName}
 use Rattle.subst_language.specs.Language.Tree.{Item, Short, Braced, Optional, Tree, Empty, Then, text}
@@ -8,9 +8,11 @@ use Rattle.subst_language.specs.Language.LookUp.{LookUp}
 use Rattle.subst_language.specs.Language.Value.{Value, Bytes, Missing, joined, found_or, item_value, value}
 use Rattle.subst_language.specs.Lemmas.PlainEnds.{ends_plain}
 use Rattle.subst_language.specs.Language.Written.{bytes_in, unless_missing, found_bytes, item_written, written}
+use Rattle.subst_error.specs.Fault.{NoSuchVariable}
+use Rattle.subst_language.specs.Language.Variables.{Required, OrNothing, OrDefault, item_variables, unless_found, item_missing, all_missing}
 use Rattle.subst_language.specs.Language.Counts.{if_missing, visited_count_after, visited_count}
 use Rattle.subst_raw.specs.Span.{IsSpan, span_bytes}
-use Rattle.subst_raw.specs.Parts.{FitsAt, AllFit, part_value, if_found, resume_index, visited_parts, joined_value, joined_written, PartsMean}
+use Rattle.subst_raw.specs.Parts.{FitsAt, AllFit, part_value, if_found, resume_index, visited_parts, joined_value, joined_written, kind_before, part_variables, variables_in, part_missing, missing_in, PartsMean}
 use Rattle.subst_raw.specs.declared.part.Span.{Span}
 use Rattle.subst_raw.specs.declared.part.Part.{Part}
 use Rattle.subst_raw.specs.declared.part.Part.TheVariants.{Literal, Escaped, Variable, Default}
@@ -19,6 +21,7 @@ use Rattle.subst_language.specs.Language.Join.{join}
 use Rattle.subst_language.proofs.Language.TreeLemmas.{value-join}
 use Rattle.subst_language.proofs.Language.CountLemmas.{visited_count_after-join, visited_count-plains}
 use Rattle.subst_language.proofs.Language.ValueLemmas.{joined_assoc, joined-left, joined-right}
+use Rattle.subst_language.proofs.Language.VariablesLemmas.{variables_of-join, variables_of-plains, all_missing-join, all_missing-plains}
 use Rattle.subst_language.proofs.Language.WrittenLemmas.{unless_missing-nothing, unless_missing_assoc, written-join, written-plains}
 
 -- two lists of parts concatenated give the values of both concatenated
@@ -40,6 +43,18 @@ joined_written-append (part ∷ xs) ys s look =
       unless_missing_assoc (part_value part s look) (joined_value xs s look)
           (bytes_in (part_value part s look)) (joined_written xs s look) (joined_written ys s look),
     ) refl
+
+-- two lists of parts concatenated have the variables of both
+variables_in-append : (xs ys : List Part) (s : List ℕ)
+    → variables_in (xs ++ ys) s ≡ variables_in xs s ++ variables_in ys s
+variables_in-append [] ys s = refl
+variables_in-append (part ∷ xs) ys s = rw (variables_in-append xs ys s, append_assoc) refl
+
+-- and are missing what both are missing
+missing_in-append : (xs ys : List Part) (s : List ℕ) (look : LookUp)
+    → missing_in (xs ++ ys) s look ≡ missing_in xs s look ++ missing_in ys s look
+missing_in-append [] ys s look = refl
+missing_in-append (part ∷ xs) ys s look = rw (missing_in-append xs ys s look, append_assoc) refl
 
 -- a part that fits up to an end fits up to a later one
 pub fits_wider : (i end wider : ℕ) (s : List ℕ) (part : Part) → end ≤ wider → FitsAt i end s part
@@ -107,6 +122,14 @@ pub joined_written-first : (part : Part) (rest : List Part) (i from : ℕ) (s : 
 joined_written-first part rest i from s look above =
     ap (λ visited. joined_written visited s look) (visited_parts-from part rest i from s look above)
 
+-- and is missing what that part is missing, and then what is visited is missing
+pub missing_in-first : (part : Part) (rest : List Part) (i from : ℕ) (s : List ℕ) (look : LookUp) → from ≤ i
+    → missing_in (visited_parts (part ∷ rest) i from s look) s look
+    ≡ part_missing part s look
+    ++ missing_in (visited_parts rest (i + 1) (resume_index part s look) s look) s look
+missing_in-first part rest i from s look above =
+    ap (λ visited. missing_in visited s look) (visited_parts-from part rest i from s look above)
+
 -- an expansion that goes on no later than a list begins visits as much of it as one that goes on anywhere
 pub visited_parts-anywhere : (parts : List Part) (i from : ℕ) (s : List ℕ) (look : LookUp) → from ≤ i
     → visited_parts parts i from s look ≡ visited_parts parts i 0 s look
@@ -170,6 +193,8 @@ mean_nothing s i p = record {
   fit = tt;
   same_value = λ look. refl;
   same_written = λ look. refl;
+  same_missing = λ look. refl;
+  same_variables = refl;
   same_count = λ look. refl;
 }
 
@@ -196,6 +221,14 @@ mean_append s i xs ys p t u apart first second = record {
       ∙ joined_written-append (visited_parts xs i 0 s look) (visited_parts ys (i + length xs) 0 s look) s look
       ∙ rw (first.same_value look, first.same_written look, second.same_written look)
       (sym (written-join p t u look));
+  same_missing = λ look.
+      ap (λ visited. missing_in visited s look)
+      (visited_parts-append i (i + length xs) 0 s xs ys look first.fit (omega arith) (omega arith))
+      ∙ missing_in-append (visited_parts xs i 0 s look) (visited_parts ys (i + length xs) 0 s look) s look
+      ∙ rw (first.same_missing look, second.same_missing look) (sym (all_missing-join p t u look));
+  same_variables =
+      variables_in-append xs ys s
+      ∙ rw (first.same_variables, second.same_variables) (sym (variables_of-join p t u));
   same_count = λ look.
       omega (
         arith,
@@ -213,9 +246,11 @@ mean_append s i xs ys p t u apart first second = record {
 mean_one : (s : List ℕ) (i : ℕ) (part : Part) (p : ℕ) (item : Item) → FitsAt i (i + 1) s part
     → ((look : LookUp) → part_value part s look ≡ item_value p item look)
     → ((look : LookUp) → item_written p item look ≡ bytes_in (item_value p item look))
+    → ((look : LookUp) → part_missing part s look ≡ item_missing p item look)
+    → part_variables part s ≡ item_variables p item
     → ((look : LookUp) → visited_count (Then item Empty) look ≡ 1)
     → PartsMean s i (part ∷ []) p (Then item Empty)
-mean_one s i part p item fits same writes one = record {
+mean_one s i part p item fits same writes misses has one = record {
   fit = (fits, tt);
   same_value =
       λ look. joined_value-first part [] i 0 s look (omega arith) ∙ ap (λ v. joined v (Bytes [])) (same look);
@@ -223,6 +258,9 @@ mean_one s i part p item fits same writes one = record {
       joined_written-first part [] i 0 s look (omega arith)
       ∙ ap (λ v. bytes_in v ++ unless_missing v []) (same look)
       ∙ ap (λ x. x ++ unless_missing (item_value p item look) []) (sym (writes look));
+  same_missing = λ look.
+      missing_in-first part [] i 0 s look (omega arith) ∙ ap (λ faults. faults ++ []) (misses look);
+  same_variables = ap (λ found. found ++ []) has;
   same_count = λ look. ap length (visited_parts-from part [] i 0 s look (omega arith)) ∙ sym (one look);
 }
 
@@ -242,6 +280,9 @@ mean_literal s i span p x some inside reads = record {
       ∙ append-nil (span_bytes span s)
       ∙ reads
       ∙ sym (written-plains p x look);
+  same_missing = λ look.
+      missing_in-first (Literal span) [] i 0 s look (omega arith) ∙ sym (all_missing-plains p x look);
+  same_variables = sym (variables_of-plains p x);
   same_count = λ look. ap length (visited_parts-from (Literal span) [] i 0 s look (omega arith))
       ∙ sym (visited_count-plains x look some);
 }
@@ -250,7 +291,7 @@ mean_literal s i span p x some inside reads = record {
 pub mean_escaped : (s : List ℕ) (i b p : ℕ) → b < 256
     → PartsMean s i (Escaped b ∷ []) p (Then (tree.Escaped b) Empty)
 mean_escaped s i b p fits = mean_one s i (Escaped b) p (tree.Escaped b) fits (λ look. refl) (λ look. refl)
-    (λ look. refl)
+    (λ look. refl) refl (λ look. refl)
 
 -- a variable whose name is after a dollar means the name without braces
 pub mean_short : (s : List ℕ) (i : ℕ) (name : Span) (p : ℕ) → IsSpan s name → IsName (span_bytes name s)
@@ -259,7 +300,11 @@ pub mean_short : (s : List ℕ) (i : ℕ) (name : Span) (p : ℕ) → IsSpan s n
 mean_short s i name p inside named starts =
     mean_one s i (Variable name) p (Short (span_bytes name s)) (inside, named)
     (λ look. ap (λ position. found_or (look (span_bytes name s)) (Missing position (span_bytes name s)))
-    starts) (λ look. refl) (λ look. refl)
+    starts) (λ look. refl)
+    (λ look. ap (λ position. unless_found (look (span_bytes name s))
+    (NoSuchVariable position (span_bytes name s) ∷ [])) starts)
+    (ap (λ position. record { position = position; name = span_bytes name s; kind = Required } ∷ []) starts)
+    (λ look. refl)
 
 -- a variable whose name is after a dollar and a brace means the name in braces
 pub mean_braced : (s : List ℕ) (i : ℕ) (name : Span) (p : ℕ) → IsSpan s name → IsName (span_bytes name s)
@@ -268,15 +313,21 @@ pub mean_braced : (s : List ℕ) (i : ℕ) (name : Span) (p : ℕ) → IsSpan s 
 mean_braced s i name p inside named starts =
     mean_one s i (Variable name) p (Braced (span_bytes name s)) (inside, named)
     (λ look. ap (λ position. found_or (look (span_bytes name s)) (Missing position (span_bytes name s)))
-    starts) (λ look. refl) (λ look. refl)
+    starts) (λ look. refl)
+    (λ look. ap (λ position. unless_found (look (span_bytes name s))
+    (NoSuchVariable position (span_bytes name s) ∷ [])) starts)
+    (ap (λ position. record { position = position; name = span_bytes name s; kind = Required } ∷ []) starts)
+    (λ look. refl)
 
 -- a default's part that jumps over no parts means the name with a question mark
 pub mean_optional : (s : List ℕ) (i : ℕ) (name : Span) (p : ℕ) → IsSpan s name → IsName (span_bytes name s)
+    → name.start ≡ p + 2 → kind_before (drop name.end s) ≡ OrNothing
     → PartsMean s i (Default name (i + 1) ∷ []) p (Then (Optional (span_bytes name s)) Empty)
-mean_optional s i name p inside named =
+mean_optional s i name p inside named starts kind =
     mean_one s i (Default name (i + 1)) p (Optional (span_bytes name s))
     (inside, named, omega arith, omega arith)
     (λ look. refl) (λ look. refl) (λ look. refl)
+    (rw (starts, kind) refl) (λ look. refl)
 
 -- what a default's part and the parts after it give: what was found, or else what the parts give
 joined_value-default : (found : Option (List ℕ)) (parts : List Part) (i : ℕ) (s : List ℕ) (look : LookUp)
@@ -298,6 +349,15 @@ joined_written-default (Some x) parts i s look =
     (visited_parts-jumped i (i + length parts) s parts look (omega arith)) ∙ append-nil x
 joined_written-default None parts i s look = refl
 
+-- and is missing: nothing, or else what the parts are missing
+missing_in-default : (found : Option (List ℕ)) (parts : List Part) (i : ℕ) (s : List ℕ) (look : LookUp)
+    → missing_in (visited_parts parts i (if_found found (i + length parts)) s look) s look
+    ≡ unless_found found (missing_in (visited_parts parts i 0 s look) s look)
+missing_in-default (Some x) parts i s look =
+    ap (λ visited. missing_in visited s look)
+    (visited_parts-jumped i (i + length parts) s parts look (omega arith))
+missing_in-default None parts i s look = refl
+
 -- the parts of a default are visited where nothing was found
 default_count : (found : Option (List ℕ)) (parts : List Part) (i : ℕ) (s : List ℕ) (look : LookUp)
     → length (visited_parts parts i (if_found found (i + length parts)) s look)
@@ -313,11 +373,11 @@ written_one found v x = rw (unless_missing-nothing (found_or found v)) (append-n
 
 -- a default's part that jumps over the parts after it means the name with the tree that those mean
 pub mean_default : (s : List ℕ) (i : ℕ) (name : Span) (parts : List Part) (p : ℕ) (t : Tree) → IsSpan s name
-    → IsName (span_bytes name s)
+    → IsName (span_bytes name s) → name.start ≡ p + 2 → kind_before (drop name.end s) ≡ OrDefault
     → PartsMean s (i + 1) parts (p + 3 + length (span_bytes name s)) t
     → PartsMean s i (Default name (i + 1 + length parts) ∷ parts) p
     (Then (tree.Default (span_bytes name s) t) Empty)
-mean_default s i name parts p t inside named mean = record {
+mean_default s i name parts p t inside named starts kind mean = record {
   fit = (
     (inside, named, omega arith, omega arith),
     fit_widen (i + 1) (i + 1 + length parts) (i + suc (length parts)) s parts (omega arith) mean.fit,
@@ -334,6 +394,20 @@ mean_default s i name parts p t inside named mean = record {
       ∙ ap (found_bytes (look (span_bytes name s))) (mean.same_written look)
       ∙ sym (written_one (look (span_bytes name s)) (value (p + 3 + length (span_bytes name s)) t look)
       (written (p + 3 + length (span_bytes name s)) t look));
+  same_missing = λ look.
+      missing_in-first (Default name (i + 1 + length parts)) parts i 0 s look (omega arith)
+      ∙ missing_in-default (look (span_bytes name s)) parts (i + 1) s look
+      ∙ ap (unless_found (look (span_bytes name s))) (mean.same_missing look)
+      ∙ sym (append-nil (unless_found (look (span_bytes name s))
+      (all_missing (p + 3 + length (span_bytes name s)) t look)));
+  same_variables =
+      ap (λ position.
+      record { position = position; name = span_bytes name s; kind = kind_before (drop name.end s) }
+      ∷ variables_in parts s) starts
+      ∙ ap (λ k. record { position = p + 2; name = span_bytes name s; kind = k } ∷ variables_in parts s) kind
+      ∙ ap (λ rest. record { position = p + 2; name = span_bytes name s; kind = OrDefault } ∷ rest)
+      mean.same_variables
+      ∙ sym (append-nil (item_variables p (tree.Default (span_bytes name s) t)));
   same_count = λ look.
       omega (
         arith,

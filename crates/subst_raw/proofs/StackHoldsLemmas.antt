@@ -11,7 +11,7 @@ use Rattle.subst_raw.specs.Inner.{IsInner}
 use Rattle.subst_language.specs.Language.Bytes.{IsPlain}
 use Rattle.subst_raw.specs.Span.{span_bytes}
 use Rattle.subst_raw.specs.Placeholder.{IsInBraces}
-use Rattle.subst_raw.specs.Parts.{PartsMean}
+use Rattle.subst_raw.specs.Parts.{kind_before, PartsMean}
 use Rattle.subst_language.specs.Lemmas.PlainEnds.{HasNoPlainEnds}
 use Rattle.subst_language.specs.Lemmas.Closing.{ChangesDepth}
 use Rattle.subst_raw.specs.Parsing.{IsTreeAt, IsParsedWithTail, IsOpenDefault, StackHolds, StackHoldsFlushed}
@@ -27,7 +27,7 @@ use Rattle.subst_raw.proofs.ByteRunLemmas.{run_append, run_nothing, run_one}
 use Rattle.subst_raw.proofs.InnerLemmas.{inner_balanced, run_of_inner}
 use Rattle.subst_raw.proofs.PartsLemmas.{mean_nothing, mean_default}
 use Rattle.subst_raw.proofs.ParsedLemmas.{add_item, current_any, give_part, no_part}
-use Rattle.subst_raw.proofs.TreeAtLemmas.{default_tree_at}
+use Rattle.subst_raw.proofs.TreeAtLemmas.{after_name, default_tree_at}
 use Rattle.subst_raw.proofs.DepthLemmas.{depth_append, depth_balanced, depth_opening, depth_closing}
 
 -- a step of the text inside a default
@@ -256,7 +256,8 @@ holds_closed s default defaults depth parts at closes reads inside =
     (λ next. PartsMean s (length inside.before) (Default inside.name next ∷ inside.own) inside.position
     (Then (tree.Default n t) Empty)) (sym count)
     (mean_default s (length inside.before) inside.name inside.own inside.position t inside.head.named.inside
-    inside.head.named.valid
+    inside.head.named.valid inside.head.starts
+    (ap kind_before (after_name s inside.position inside.name colon inside.head))
     (subst (λ p. PartsMean s (length inside.before + 1) inside.own p t) start level.mean)) in
     let added =
     holds_tree s defaults default.depth inside.before

@@ -1,6 +1,8 @@
 -- The items of a source, each as a tree of one item.
-use Rattle.std.proofs.Common.{◌≡◌, ℕ, ◌+◌, List, [], ◌∷◌, ◌++◌, length, drop, refl, ◌∙◌, append_assoc, append-nil, length-append, arith}
-use Rattle.subst_language.specs.Language.Bytes.{colon, question_mark, closing_brace}
+use Rattle.std.proofs.Common.{◌≡◌, ℕ, ◌+◌, List, [], ◌∷◌, ◌++◌, length, drop, refl, sym, ap, ◌∙◌, append_assoc, append-nil, length-append, arith}
+use Rattle.std.proofs.Math.Seq.{drop-append_seam}
+use Rattle.std.proofs.lemmas.List.{drop-drop}
+use Rattle.subst_language.specs.Language.Bytes.{dollar, opening_brace, colon, question_mark, closing_brace}
 use Rattle.subst_language.specs.Language.Tree.{Item, Escaped, Short, Braced, Optional, Default, Tree, Empty, Then, item_text, text}
 use Rattle.subst_language.specs.Language.WellFormed.{IsItem, IsWellFormed}
 use Rattle.subst_language.specs.Language.Followed.{IsFollowed}
@@ -9,6 +11,17 @@ use Rattle.subst_raw.specs.Span.{span_bytes}
 use Rattle.subst_raw.specs.Placeholder.{IsEscape, IsShort, IsInBraces, IsOptional}
 use Rattle.subst_raw.specs.declared.part.Span.{Span}
 use Rattle.subst_raw.specs.Parsing.{IsTreeAt}
+
+-- the byte after a name in braces
+pub after_name : (s : List ℕ) (at : ℕ) (name : Span) (b : ℕ) → IsInBraces s at name b
+    → drop name.end s ≡ b ∷ drop (name.end + 1) s
+after_name s at name b is =
+    let head = dollar ∷ opening_brace ∷ span_bytes name s in
+    let ends : name.end ≡ at + length head = omega (arith, is.starts, is.named.ends) in
+    ap (λ n. drop n s) ends
+    ∙ sym (drop-drop (length head) at s)
+    ∙ ap (drop (length head)) is.spelled
+    ∙ drop-append_seam head (b ∷ drop (name.end + 1) s)
 
 -- an item that is well-formed before any text that may follow it
 one_tree_at : (s : List ℕ) (at to : ℕ) (item : Item) → IsItem item Empty

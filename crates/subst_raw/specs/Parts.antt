@@ -1,5 +1,5 @@
 -- What a list of parts means over a source.
-use Rattle.std.specs.Prelude.{◌≡◌, ℕ, ◌+◌, ◌<◌, ◌≤◌, List, [], ◌∷◌, ◌++◌, length, Option, Some, None, nat_lt, if◌then◌else◌}
+use Rattle.std.specs.Prelude.{◌≡◌, ℕ, ◌+◌, ◌<◌, ◌≤◌, List, [], ◌∷◌, ◌++◌, ◌==◌, drop, length, Option, Some, None, nat_lt, if◌then◌else◌}
 use Rattle.subst_language.specs.Language.Name.{IsName}
 use Rattle.subst_language.specs.Language.Tree.{Tree}
 use Rattle.subst_language.specs.Language.Sentence.{Spells}
@@ -7,6 +7,10 @@ use Rattle.subst_language.specs.Language.LookUp.{LookUp}
 use Rattle.subst_language.specs.Language.Value.{Value, Bytes, Missing, joined, found_or, value}
 use Rattle.subst_language.specs.Language.Written.{bytes_in, unless_missing, written}
 use Rattle.subst_language.specs.Language.Counts.{visited_count}
+use Rattle.subst_language.specs.Language.Bytes.{question_mark}
+use Rattle.subst_language.specs.Language.Variables as variables
+use Rattle.subst_language.specs.Language.Variables.{Kind, variables_of, unless_found, all_missing}
+use Rattle.subst_error.specs.Fault.{Fault, NoSuchVariable}
 use Rattle.subst_raw.specs.Span.{IsSpan, span_bytes}
 use Rattle.std.specs.List.{slice_get}
 use Rattle.subst_raw.specs.declared.part.Span.{Span}
@@ -74,12 +78,48 @@ joined_written (part ∷ rest) s look =
 abbrev pub parts_written : List Part → List ℕ → LookUp → List ℕ
 parts_written parts s look = joined_written (visited_parts parts 0 0 s look) s look
 
+-- the kind of a variable whose name this text follows: a question mark first, or the colon of a default
+abbrev pub kind_before : List ℕ → Kind
+kind_before [] = variables.OrDefault
+kind_before (b ∷ rest) = if b == question_mark then variables.OrNothing else variables.OrDefault
+
+-- the variable of a part, if it has one
+abbrev pub part_variables : Part → List ℕ → List variables.Variable
+part_variables (Variable name) s =
+    record { position = name.start; name = span_bytes name s; kind = variables.Required } ∷ []
+part_variables (Default name next) s =
+    record { position = name.start; name = span_bytes name s; kind = kind_before (drop name.end s) } ∷ []
+part_variables part s = []
+
+-- the variables of a list of parts
+abbrev pub variables_in : List Part → List ℕ → List variables.Variable
+variables_in [] s = []
+variables_in (part ∷ rest) s = part_variables part s ++ variables_in rest s
+
+-- the variable that a part needs and the look-up has nothing for, if there is one
+abbrev pub part_missing : Part → List ℕ → LookUp → List Fault
+part_missing (Variable name) s look =
+    unless_found (look (span_bytes name s)) (NoSuchVariable name.start (span_bytes name s) ∷ [])
+part_missing part s look = []
+
+-- what parts are missing
+abbrev pub missing_in : List Part → List ℕ → LookUp → List Fault
+missing_in [] s look = []
+missing_in (part ∷ rest) s look = part_missing part s look ++ missing_in rest s look
+
+-- what a list of parts is missing: those that an expansion visits
+abbrev pub parts_missing : List Part → List ℕ → LookUp → List Fault
+parts_missing parts s look = missing_in (visited_parts parts 0 0 s look) s look
+
 -- the parts, the first of which has index i, mean the tree, whose text is at position p of the source
 pub record PartsMean (s : List ℕ) (i : ℕ) (parts : List Part) (p : ℕ) (t : Tree) : Type 0 where
   pub fit : AllFit i (i + length parts) s parts
   pub same_value : (look : LookUp) → joined_value (visited_parts parts i 0 s look) s look ≡ value p t look
   pub same_written : (look : LookUp)
       → joined_written (visited_parts parts i 0 s look) s look ≡ written p t look
+  pub same_missing : (look : LookUp)
+      → missing_in (visited_parts parts i 0 s look) s look ≡ all_missing p t look
+  pub same_variables : variables_in parts s ≡ variables_of p t
   pub same_count : (look : LookUp) → length (visited_parts parts i 0 s look) ≡ visited_count t look
 
 -- the parts mean the tree of the source
@@ -87,3 +127,9 @@ pub record IsTemplateOf (s : List ℕ) (parts : List Part) : Type 0 where
   pub tree : Tree
   pub spells : Spells tree s
   pub mean : PartsMean s 0 parts 0 tree
+
+-- the name of a part, if it has one, is a name in the source
+abbrev pub NamesFit : List ℕ → Part → Type 0
+NamesFit s (Variable name) = IsSpan s name × IsName (span_bytes name s)
+NamesFit s (Default name next) = IsSpan s name × IsName (span_bytes name s)
+NamesFit s part = Unit {0}

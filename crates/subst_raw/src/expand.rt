@@ -336,7 +336,7 @@ fn bytes_at(source: &[u8], span: Span) -> &[u8]
 }
 
 /// Returns the name at a range of the source.
-fn name_at(source: &[u8], name: Span) -> &str
+pub(crate) fn name_at(source: &[u8], name: Span) -> &str
     requires inside { IsSpan source.now name }
     requires name { IsName (span_bytes name source.now) }
     ensures { result.now ≡ span_bytes name source.now }

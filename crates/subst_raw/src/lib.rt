@@ -22,6 +22,7 @@ mod read_value;
 mod scan;
 pub mod steps;
 mod tape;
+pub mod variables;
 
 pub use packed_vec::PackedVec;
 pub use part::{Part, Span};

@@ -1,0 +1,64 @@
+-- What the lists of variables, and of what is missing, say of the source's tree.
+use Rattle.std.proofs.Common.{◌≡◌, ℕ, List, [], ◌∷◌, map, Option, Result, Vec, Global, IfOk, ap, ◌∙◌}
+use Rattle.std.proofs.lemmas.Result.{IfOk-weaker}
+use Rattle.std.specs.List.{All, AllByRecursion}
+use Rattle.subst_error.specs.Fault.{Fault}
+use Rattle.subst_error.specs.declared.NoSuchVariable as errors
+use Rattle.subst_language.specs.Calls.VariableMap.{ByNames}
+use Rattle.subst_language.specs.Calls.Variables.{variable_of, missing_fault}
+use Rattle.subst_language.specs.Language.LookUp.{LookUp}
+use Rattle.subst_language.specs.Language.Sentence.{ByTree}
+use Rattle.subst_language.specs.Language.Tree.{Tree}
+use Rattle.subst_language.specs.Language.Variables as variables
+use Rattle.subst_language.specs.Language.Variables.{variables_of, all_missing}
+use Rattle.subst_language.specs.declared.variable.Variable as declared
+use Rattle.subst_language.proofs.Language.AlikeLemmas.{found_as_read}
+use Rattle.subst_language.proofs.Language.ListLemmas.{each_mapped}
+use Rattle.subst_language.proofs.Language.OneTreeLemmas.{tree_unique}
+use Rattle.subst_raw.specs.Filled.{mark, marks_of}
+use Rattle.subst_raw.specs.Parts.{IsTemplateOf, variables_in, parts_missing}
+use Rattle.subst_raw.specs.declared.part.Part.{Part}
+
+module _ {E : Type 0} (s : List ℕ) (own : List Part) {parts : List Part} (template : IsTemplateOf s parts)
+    (same : own ≡ parts) where
+  -- a list of the variables of the parts is one of those of the source's tree
+  pub lists_variables : (result : Result (Vec declared.Variable Global) E)
+      → IfOk result (λ list. map variable_of list.items ≡ variables_in own s)
+      → IfOk result (λ list. ByTree s (λ t. map variable_of list.items ≡ variables_of 0 t))
+  lists_variables result =
+      IfOk-weaker result _ _ (λ list is t spells.
+      is ∙ ap (λ (xs : List Part). variables_in xs s) same ∙ template.mean.same_variables
+      ∙ ap (variables_of 0) (tree_unique s template.tree t template.spells spells))
+
+  -- what holds of each variable of the tree holds of each that is listed
+  pub each_variable : (P : variables.Variable → Type 0) (result : Result (Vec declared.Variable Global) E)
+      → AllByRecursion P (variables_of 0 template.tree)
+      → IfOk result (λ list. map variable_of list.items ≡ variables_in own s)
+      → IfOk result (λ list. All (λ v. P (variable_of v)) list.items)
+  each_variable P result each =
+      IfOk-weaker result _ _ (λ list is. each_mapped variable_of P list.items
+      (is ∙ ap (λ (xs : List Part). variables_in xs s) same ∙ template.mean.same_variables) each)
+
+  module _ {Seen : Type 0} (look_up : List ℕ → Option Seen)
+      (result : Result (Vec errors.NoSuchVariable Global) E)
+      (lists : ByNames look_up (λ look. IfOk result
+      (λ list. map missing_fault list.items ≡ parts_missing own s look))) where
+    -- a list of what the parts are missing is one of what the source's tree is missing
+    pub lists_missing : ByNames look_up (λ look. ByTree s (λ t. IfOk result
+        (λ list. map missing_fault list.items ≡ all_missing 0 t look)))
+    lists_missing look names t spells =
+        IfOk-weaker result _ _ (λ list is.
+        is ∙ ap (λ (xs : List Part). parts_missing xs s look) same ∙ template.mean.same_missing look
+        ∙ ap (λ (u : Tree). all_missing 0 u look) (tree_unique s template.tree t template.spells spells))
+        (lists look names)
+
+    -- what holds of each that the tree is missing holds of each that is listed
+    pub each_missing : (P : Fault → Type 0)
+        → ((look : LookUp) → AllByRecursion P (all_missing 0 template.tree look))
+        → IfOk result (λ list. All (λ e. P (missing_fault e)) list.items)
+    each_missing P each =
+        let look = marks_of look_up in
+        IfOk-weaker result _ _ (λ list is. each_mapped missing_fault P list.items
+        (is ∙ ap (λ (xs : List Part). parts_missing xs s look) same ∙ template.mean.same_missing look)
+        (each look))
+        (lists look (λ name. found_as_read (λ _. mark ∷ []) (look_up name)))
