@@ -2,8 +2,9 @@
 //! has a template, and it expands to the value of the source's tree. Contracts bound the reads of a parse
 //! and count the turns of an expansion.
 
-ghost use Rattle.std.specs.Prelude.{◌≡◌, ◌+◌, ◌*◌, ◌^◌, ◌<◌, ◌≤◌, length, IfOk, IfErr, IfSome, OnErr, OnOk};
+ghost use Rattle.std.specs.Prelude.{◌≡◌, ◌+◌, ◌*◌, ◌^◌, ◌<◌, ◌≤◌, length, IfOk, IfErr, IfSome, OnErr, OnOk, map};
 ghost use Rattle.std.specs.Prelude.{vec_capacity, vec_len};
+ghost use Rattle.std.specs.List.{All};
 ghost use Rattle.subst_error.specs.ErrorFault.{expand_fault, expand_into_fault, parse_fault};
 ghost use Rattle.subst_error.specs.Range.{range_of};
 ghost use Rattle.subst_language.specs.Language.Answer.{IsMissing};
@@ -12,6 +13,8 @@ ghost use Rattle.subst_language.specs.Language.BadItem.{HasFault};
 ghost use Rattle.subst_language.specs.Language.Value.{value};
 ghost use Rattle.subst_language.specs.Language.Written.{written};
 ghost use Rattle.subst_language.specs.Language.Counts.{visited_count};
+ghost use Rattle.subst_language.specs.Language.Variables.{all_missing, variables_of};
+ghost use Rattle.subst_language.specs.Calls.Variables.{missing_fault, missing_range, variable_of, variable_range};
 ghost use Rattle.subst_language.specs.Calls.VariableMap.{ByLookUp, ByNames};
 ghost use Rattle.subst_language.specs.Calls.Outcome.{OnFault, Expands};
 ghost use Rattle.subst_language.specs.Calls.Outcome.{ExpandsInto, ExpandsIntoSlice, OnOutOfMemory};
@@ -21,11 +24,13 @@ use std::alloc::{AllocError, Global};
 use std::convert::AsSlice;
 use std::fmt;
 use std::marker::Model;
-use subst_error::{ExpandError, ExpandIntoError, ParseError};
+use subst_error::{ExpandError, ExpandIntoError, NoSuchVariable, ParseError};
+use subst_language::Variable;
 use subst_map::VariableMap;
 use subst_raw::expand::{expand, expand_into, expand_into_slice};
 use subst_raw::parse::parse;
 use subst_raw::steps::{Reads, Turns};
+use subst_raw::variables::{missing, variables};
 use subst_raw::{CowParts, SliceBytes};
 
 /// A template over a byte source that it borrows. Contracts see it as its source.
@@ -234,6 +239,46 @@ impl<'a> ByteTemplate<'a> {
             (λ e. (range_of (expand_into_fault e)).end ≤ length self.now) }
     {
         expand_into_slice::<M, SliceBytes>(self.source, &self.parts, variables, slice)
+    }
+
+    /// Returns the variables of the source, each with the byte offset of its name and its kind, in the order
+    /// of the source, also those in defaults. A name that is in the source twice is returned twice.
+    ///
+    /// # Errors
+    ///
+    /// When allocation fails.
+    pub fn variables(&self, alloc: Global) -> Result<Vec<Variable<'a>>, AllocError>
+        ensures variables { IfOk result (λ list.
+            ByTree self.now (λ t. map variable_of list.items ≡ variables_of 0 t)) }
+        ensures sentence { IsSentence self.now }
+        ensures range { IfOk result (λ list.
+            All (λ v. (variable_range v).end ≤ length self.now) list.items) }
+    {
+        variables(alloc, self.source, &self.parts)
+    }
+
+    /// Returns each variable that an expansion needs and `variables` has no value for, in the order of the
+    /// source; the names in a default that isn't used aren't needed. There is none exactly where the template
+    /// expands, and otherwise the first is the one that `expand` returns. A name that is missing twice is
+    /// returned twice, each time with its position. No value is read.
+    ///
+    /// # Errors
+    ///
+    /// When allocation fails.
+    pub fn missing<'b, M: VariableMap<'b>>(
+        &self,
+        alloc: Global,
+        variables: &'b M,
+    ) -> Result<Vec<NoSuchVariable>, AllocError>
+    where
+        M::Value: Drop,
+        ensures missing { ByNames (M.look_up variables.now) (λ look. ByTree self.now
+            (λ t. IfOk result (λ list. map missing_fault list.items ≡ all_missing 0 t look))) }
+        ensures sentence { IsSentence self.now }
+        ensures range { IfOk result (λ list.
+            All (λ e. (missing_range e).end ≤ length self.now) list.items) }
+    {
+        missing(alloc, self.source, &self.parts, variables)
     }
 }
 

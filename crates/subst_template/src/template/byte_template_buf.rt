@@ -1,8 +1,9 @@
 //! Templates that own their byte sources: a source and its parts. Each lends a `ByteTemplate` of the same
 //! source.
 
-ghost use Rattle.std.specs.Prelude.{◌≡◌, ◌+◌, ◌<◌, ◌≤◌, length, IfErr, IfOk, IfSome, OnErr};
+ghost use Rattle.std.specs.Prelude.{◌≡◌, ◌+◌, ◌<◌, ◌≤◌, length, IfErr, IfOk, IfSome, OnErr, map};
 ghost use Rattle.std.specs.Prelude.{vec_capacity, vec_len};
+ghost use Rattle.std.specs.List.{All};
 ghost use Rattle.subst_error.specs.ErrorFault.{expand_fault, expand_into_fault, parse_fault};
 ghost use Rattle.subst_error.specs.Range.{range_of};
 ghost use Rattle.subst_language.specs.Language.Answer.{IsMissing};
@@ -10,6 +11,8 @@ ghost use Rattle.subst_language.specs.Language.Sentence.{IsSentence, ByTree};
 ghost use Rattle.subst_language.specs.Language.BadItem.{HasFault};
 ghost use Rattle.subst_language.specs.Language.Value.{value};
 ghost use Rattle.subst_language.specs.Language.Written.{written};
+ghost use Rattle.subst_language.specs.Language.Variables.{all_missing, variables_of};
+ghost use Rattle.subst_language.specs.Calls.Variables.{missing_fault, missing_range, variable_of, variable_range};
 ghost use Rattle.subst_language.specs.Calls.VariableMap.{ByLookUp, ByNames};
 ghost use Rattle.subst_language.specs.Calls.Outcome.{OnFault, Expands, ExpandsInto, OnOutOfMemory};
 
@@ -19,7 +22,8 @@ use std::alloc::{AllocError, Global};
 use std::convert::AsSlice;
 use std::fmt;
 use std::marker::Model;
-use subst_error::{ExpandError, ExpandIntoError, ParseError};
+use subst_error::{ExpandError, ExpandIntoError, NoSuchVariable, ParseError};
+use subst_language::Variable;
 use subst_map::VariableMap;
 use subst_raw::parse::parse;
 use subst_raw::steps::Reads;
@@ -170,6 +174,42 @@ impl ByteTemplateBuf {
             (λ e. (range_of (expand_into_fault e)).end ≤ length self.now) }
     {
         self.as_template().expand_into(output, variables)
+    }
+
+    /// Returns the variables of the source, as [`ByteTemplate::variables`].
+    ///
+    /// # Errors
+    ///
+    /// When allocation fails.
+    pub fn variables(&self, alloc: Global) -> Result<Vec<Variable<'_>>, AllocError>
+        ensures variables { IfOk result (λ list.
+            ByTree self.now (λ t. map variable_of list.items ≡ variables_of 0 t)) }
+        ensures sentence { IsSentence self.now }
+        ensures range { IfOk result (λ list.
+            All (λ v. (variable_range v).end ≤ length self.now) list.items) }
+    {
+        self.as_template().variables(alloc)
+    }
+
+    /// Returns each variable that is missing, as [`ByteTemplate::missing`].
+    ///
+    /// # Errors
+    ///
+    /// When allocation fails.
+    pub fn missing<'b, M: VariableMap<'b>>(
+        &self,
+        alloc: Global,
+        variables: &'b M,
+    ) -> Result<Vec<NoSuchVariable>, AllocError>
+    where
+        M::Value: Drop,
+        ensures missing { ByNames (M.look_up variables.now) (λ look. ByTree self.now
+            (λ t. IfOk result (λ list. map missing_fault list.items ≡ all_missing 0 t look))) }
+        ensures sentence { IsSentence self.now }
+        ensures range { IfOk result (λ list.
+            All (λ e. (missing_range e).end ≤ length self.now) list.items) }
+    {
+        self.as_template().missing(alloc, variables)
     }
 }
 

@@ -1,7 +1,8 @@
 //! Templates that own their texts, with the contracts of `ByteTemplateBuf` over the bytes of texts.
 
-ghost use Rattle.std.specs.Prelude.{◌≡◌, ◌+◌, ◌<◌, ◌≤◌, length, IfErr, IfOk, IfSome, OnErr};
+ghost use Rattle.std.specs.Prelude.{◌≡◌, ◌+◌, ◌<◌, ◌≤◌, length, IfErr, IfOk, IfSome, OnErr, map};
 ghost use Rattle.std.specs.Prelude.{string_bytes, string_capacity, string_len};
+ghost use Rattle.std.specs.List.{All};
 ghost use Rattle.subst_error.specs.ErrorFault.{expand_fault, expand_into_fault, parse_fault};
 ghost use Rattle.subst_error.specs.Range.{range_of, IsRangeIn};
 ghost use Rattle.subst_language.specs.Language.Answer.{IsMissing};
@@ -9,6 +10,8 @@ ghost use Rattle.subst_language.specs.Language.Sentence.{IsSentence, ByTree};
 ghost use Rattle.subst_language.specs.Language.BadItem.{HasFault};
 ghost use Rattle.subst_language.specs.Language.Value.{value};
 ghost use Rattle.subst_language.specs.Language.Written.{written};
+ghost use Rattle.subst_language.specs.Language.Variables.{all_missing, variables_of};
+ghost use Rattle.subst_language.specs.Calls.Variables.{missing_fault, missing_range, variable_of, variable_range};
 ghost use Rattle.subst_language.specs.Calls.VariableMap.{ByLookUp, ByNames};
 ghost use Rattle.subst_language.specs.Calls.Outcome.{OnFault, Expands, ExpandsInto, OnOutOfMemory};
 
@@ -17,7 +20,8 @@ use std::alloc::{AllocError, Global};
 use std::convert::AsStr;
 use std::fmt;
 use std::marker::Model;
-use subst_error::{ExpandError, ExpandIntoError, ParseError};
+use subst_error::{ExpandError, ExpandIntoError, NoSuchVariable, ParseError};
+use subst_language::Variable;
 use subst_map::VariableMap;
 use subst_raw::parse::parse;
 use subst_raw::steps::Reads;
@@ -178,6 +182,42 @@ impl TemplateBuf {
             (λ e. IsRangeIn self.now (range_of (expand_into_fault e))) }
     {
         self.as_template().expand_into(output, variables)
+    }
+
+    /// Returns the variables of the source, as [`Template::variables`].
+    ///
+    /// # Errors
+    ///
+    /// When allocation fails.
+    pub fn variables(&self, alloc: Global) -> Result<Vec<Variable<'_>>, AllocError>
+        ensures variables { IfOk result (λ list.
+            ByTree self.now (λ t. map variable_of list.items ≡ variables_of 0 t)) }
+        ensures sentence { IsSentence self.now }
+        ensures range { IfOk result (λ list.
+            All (λ v. IsRangeIn self.now (variable_range v)) list.items) }
+    {
+        self.as_template().variables(alloc)
+    }
+
+    /// Returns each variable that is missing, as [`Template::missing`].
+    ///
+    /// # Errors
+    ///
+    /// When allocation fails.
+    pub fn missing<'b, M: VariableMap<'b>>(
+        &self,
+        alloc: Global,
+        variables: &'b M,
+    ) -> Result<Vec<NoSuchVariable>, AllocError>
+    where
+        M::Value: Drop,
+        ensures missing { ByNames (M.look_up variables.now) (λ look. ByTree self.now
+            (λ t. IfOk result (λ list. map missing_fault list.items ≡ all_missing 0 t look))) }
+        ensures sentence { IsSentence self.now }
+        ensures range { IfOk result (λ list.
+            All (λ e. IsRangeIn self.now (missing_range e)) list.items) }
+    {
+        self.as_template().missing(alloc, variables)
     }
 }
 
