@@ -12,7 +12,8 @@
 //!
 //! [`substitute`] fills in a text from texts, and [`substitute_bytes`] bytes from bytes. A source that is
 //! used more than once is parsed once: [`Template`] and [`ByteTemplate`] borrow it, [`TemplateBuf`] and
-//! [`ByteTemplateBuf`] own it. All read one language: a text gives the text whose bytes its bytes give.
+//! [`ByteTemplateBuf`] own it. All read one language: a text gives the text whose bytes its bytes give. A
+//! template tells its variables, and all that a map is missing, by `variables` and `missing`.
 //!
 //! Functions that allocate take an allocator and return `OutOfMemory` when allocation fails. After an
 //! error, sources, maps and templates that were lent are as before.
@@ -29,6 +30,7 @@
 
 pub use subst_error as error;
 pub use subst_error::Error;
+pub use subst_language::{Variable, VariableKind};
 pub use subst_map::{Env, NeverValue, NoSubstitution, VariableMap};
 pub use subst_raw::steps;
 pub use subst_template::{
