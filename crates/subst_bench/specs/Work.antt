@@ -1,11 +1,12 @@
 -- The words that name kinds of work.
 use Rattle.std.specs.Prelude.{◌≡◌, ◌≢◌, ℕ, List, codes, Option, Some, None}
 use Rattle.subst_bench.specs.declared.work.Work.{Work}
-use Rattle.subst_bench.specs.declared.work.Work.TheVariants.{Parse, Expand, ExpandInto, ExpandText, Both, Escape, Locate, Nothing}
+use Rattle.subst_bench.specs.declared.work.Work.TheVariants.{Parse, Variables, Expand, ExpandInto, ExpandText, Both, Escape, Locate, Nothing}
 
 -- the word that names a kind of work
 abbrev pub word_of : Work → List ℕ
 word_of Parse = codes "parse"
+word_of Variables = codes "variables"
 word_of Expand = codes "expand"
 word_of ExpandInto = codes "into"
 word_of ExpandText = codes "text"

@@ -2,10 +2,10 @@
 //!
 //! `subst_bench WORK ROUNDS NAME=VALUE ..` reads a source from standard input, does the work as many times as
 //! `ROUNDS` says, and prints the length that the last round gave: of the output, of a parsed source, or of
-//! the text of an error. With no round it is 0. `WORK` is `parse`, `expand`, `into`, which expands the source
-//! into one buffer, `text`, which expands it as a text, `both`, `escape`, `locate`, which prints the column
-//! of a text's fault, or `none`, which does nothing; so rounds take what a run takes more than one with
-//! fewer.
+//! the text of an error. With no round it is 0. `WORK` is `parse`, `variables`, which parses and lists the
+//! variables, `expand`, `into`, which expands the source into one buffer, `text`, which expands it as a text,
+//! `both`, `escape`, `locate`, which prints the column of a text's fault, or `none`, which does nothing; so
+//! rounds take what a run takes more than one with fewer.
 #![tactic(auto)]
 
 use std::alloc::Global;
@@ -46,6 +46,6 @@ fn variables(alloc: Global, words: &[String]) -> io::Result<Variables> {
 
 fn wrong_words() -> io::Error {
     io::Error::other(
-        "usage: subst_bench parse|expand|into|text|both|escape|locate|none ROUNDS [NAME=VALUE]...",
+        "usage: subst_bench parse|variables|expand|into|text|both|escape|locate|none ROUNDS [NAME=VALUE]...",
     )
 }

@@ -15,6 +15,8 @@ pub type Variables = BTreeMap<String, String>;
 pub enum Work {
     /// Parses the source.
     Parse,
+    /// The same, and lists the variables of the template.
+    Variables,
     /// Expands a template that is made before the first round.
     Expand,
     /// The same into one buffer, which is cleared before each round.
@@ -39,6 +41,7 @@ impl Work {
     {
         match word {
             "parse" => Some(Work::Parse),
+            "variables" => Some(Work::Variables),
             "expand" => Some(Work::Expand),
             "into" => Some(Work::ExpandInto),
             "text" => Some(Work::ExpandText),
@@ -61,6 +64,10 @@ impl Work {
         match self {
             Work::Parse => last(rounds, || {
                 Ok(ByteTemplate::from_slice(alloc, source)?.source().len())
+            }),
+            Work::Variables => last(rounds, || {
+                let template = ByteTemplate::from_slice(alloc, source)?;
+                Ok(template.variables(alloc)?.len())
             }),
             Work::Expand => {
                 let template = ByteTemplate::from_slice(alloc, source)?;
