@@ -1,5 +1,5 @@
 -- What the lists of variables, and of what is missing, say of the source's tree.
-use Rattle.std.proofs.Common.{◌≡◌, ℕ, List, [], ◌∷◌, map, Option, Result, Vec, Global, IfOk, ap, ◌∙◌}
+use Rattle.std.proofs.Common.{is_some, ◌≡◌, ℕ, List, [], ◌∷◌, map, Option, Result, Vec, Global, IfOk, ap, ◌∙◌}
 use Rattle.std.proofs.lemmas.Result.{IfOk-weaker}
 use Rattle.std.specs.List.{All, AllByRecursion}
 use Rattle.subst_error.specs.Fault.{Fault}
@@ -18,6 +18,11 @@ use Rattle.subst_language.proofs.Language.OneTreeLemmas.{tree_unique}
 use Rattle.subst_raw.specs.Filled.{mark, marks_of}
 use Rattle.subst_raw.specs.Parts.{IsTemplateOf, variables_in, parts_missing}
 use Rattle.subst_raw.specs.declared.part.Part.{Part}
+
+-- a look-up of marks has something for the same names as the map
+pub marks_by_names : {Seen : Type 0} (look_up : List ℕ → Option Seen) (name : List ℕ)
+    → is_some (marks_of look_up name) ≡ is_some (look_up name)
+marks_by_names look_up name = found_as_read (λ _. mark ∷ []) (look_up name)
 
 module _ {E : Type 0} (s : List ℕ) (own : List Part) {parts : List Part} (template : IsTemplateOf s parts)
     (same : own ≡ parts) where
@@ -61,4 +66,4 @@ module _ {E : Type 0} (s : List ℕ) (own : List Part) {parts : List Part} (temp
         IfOk-weaker result _ _ (λ list is. each_mapped missing_fault P list.items
         (is ∙ ap (λ (xs : List Part). parts_missing xs s look) same ∙ template.mean.same_missing look)
         (each look))
-        (lists look (λ name. found_as_read (λ _. mark ∷ []) (look_up name)))
+        (lists look (marks_by_names look_up))

@@ -1,13 +1,12 @@
 -- How far a pass over the parts has come that lists their variables, or what is missing.
-use Rattle.std.proofs.Common.{◌≡◌, ◌⊎◌, inl, inr, ℕ, ◌+◌, ◌<◌, Bool, true, false, Option, Some, None, is_some, List, [], ◌∷◌, ◌++◌, map, drop, append_assoc, refl, sym, ap, ◌∙◌}
+use Rattle.std.proofs.Common.{arith, ◌≡◌, ℕ, ◌+◌, ◌<◌, ◌≤◌, Option, Some, None, List, [], ◌∷◌, ◌++◌, map, drop, append_assoc, refl, sym, ap, ◌∙◌}
 use Rattle.std.proofs.lemmas.List.{map-append}
-use Rattle.subst_error.specs.Fault.{NoSuchVariable}
 use Rattle.subst_error.specs.declared.NoSuchVariable as errors
 use Rattle.subst_language.specs.Language.LookUp.{LookUp}
 use Rattle.subst_language.specs.Calls.Variables.{variable_of, missing_fault}
 use Rattle.subst_language.specs.declared.variable.Variable as declared
 use Rattle.subst_language.proofs.Language.ListLemmas.{IsElementAt}
-use Rattle.subst_raw.specs.Parts.{FitsAt, NamesFit, part_variables, variables_in, part_missing, missing_in, parts_missing, visited_parts}
+use Rattle.subst_raw.specs.Parts.{FitsAt, NamesFit, part_variables, variables_in, part_missing, missing_in, parts_missing, visited_parts, next_index, next_if_found}
 use Rattle.subst_raw.specs.declared.part.Part.{Part}
 use Rattle.subst_raw.specs.declared.part.Part.TheVariants.{Literal, Escaped, Variable, Default}
 use Rattle.subst_raw.specs.Span.{span_bytes}
@@ -59,97 +58,55 @@ pub record ListsSoFar (parts : List Part) (s : List ℕ) (look : LookUp) (list :
   pub together : map missing_fault list ++ missing_in (visited_parts (drop at parts) at 0 s look) s look
       ≡ parts_missing parts s look
 
--- after a part that is missing nothing
-pub lists_on : {parts : List Part} {s : List ℕ} {look : LookUp} {list : List errors.NoSuchVariable}
-    {at next : ℕ} {part : Part}
-    → ListsSoFar parts s look list at → GoesOn parts s look at part next → part_missing part s look ≡ []
-    → ListsSoFar parts s look list next
-lists_on {parts = parts} {s = s} {look = look} {list = list} {next = next} so_far goes_on nothing = record {
-  together =
-      ap (λ faults. map missing_fault list ++ (faults
-      ++ missing_in (visited_parts (drop next parts) next 0 s look) s look)) (sym nothing)
-      ∙ ap (λ visited. map missing_fault list ++ missing_in visited s look) (sym goes_on.visits)
-      ∙ so_far.together;
-}
+-- where an expansion goes on after a part with a default that is at an index
+goes_on_default : (parts : List Part) (s : List ℕ) (look : LookUp) (at : ℕ) (name : Span) (next : ℕ)
+    (found : Option (List ℕ)) → IsElementAt parts at (Default name next) → at < next
+    → look (span_bytes name s) ≡ found
+    → GoesOn parts s look at (Default name next) (next_if_found found next (at + 1))
+goes_on_default parts s look at name next (Some x) here forward is = goes_on_there here forward refl is
+goes_on_default parts s look at name next None here forward is = goes_on_inside here refl is
 
--- after a part that is missing the variable that is put at the end of the list
-pub lists_more : {parts : List Part} {s : List ℕ} {look : LookUp} {list grown : List errors.NoSuchVariable}
-    {at next : ℕ} {part : Part} (e : errors.NoSuchVariable)
-    → ListsSoFar parts s look list at → GoesOn parts s look at part next
-    → part_missing part s look ≡ missing_fault e ∷ [] → grown ≡ list ++ e ∷ []
-    → ListsSoFar parts s look grown next
-lists_more {parts = parts} {s = s} {look = look} {list = list} {next = next} e so_far goes_on this is =
-    let rest = missing_in (visited_parts (drop next parts) next 0 s look) s look in
+-- where it goes on after any part
+goes_on : {parts : List Part} {s : List ℕ} {look : LookUp} {at : ℕ} (end : ℕ) (part : Part)
+    → IsElementAt parts at part → FitsAt at end s part
+    → GoesOn parts s look at part (next_index part s look (at + 1))
+goes_on end (Literal span) here fits = goes_on_after here refl
+goes_on end (Escaped b) here fits = goes_on_after here refl
+goes_on end (Variable name) here fits = goes_on_after here refl
+goes_on {parts = parts} {s = s} {look = look} {at = at} end (Default name next) here fits =
+    goes_on_default parts s look at name next (look (span_bytes name s)) here fits.2 refl
+
+-- after a part, with what it is missing put at the end of the list
+pub lists_next : {parts : List Part} {s : List ℕ} {look : LookUp} {list grown : List errors.NoSuchVariable}
+    {at next : ℕ} (end : ℕ) (part : Part) (these : List errors.NoSuchVariable)
+    → ListsSoFar parts s look list at → IsElementAt parts at part → FitsAt at end s part
+    → map missing_fault these ≡ part_missing part s look → grown ≡ list ++ these
+    → next ≡ next_index part s look (at + 1) → ListsSoFar parts s look grown next
+lists_next {parts = parts} {s = s} {look = look} {list = list} {at = at} {next = next} end part these
+    so_far here fits this is goes =
+    let rest = λ (i : ℕ). missing_in (visited_parts (drop i parts) i 0 s look) s look in
+    let there = goes_on end part here fits in
     record {
       together =
-          ap (λ faults. faults ++ rest)
-          (ap (map missing_fault) is ∙ map-append missing_fault list (e ∷ []))
-          ∙ append_assoc (map missing_fault list) (missing_fault e ∷ []) rest
-          ∙ ap (λ faults. map missing_fault list ++ (faults ++ rest)) (sym this)
-          ∙ ap (λ visited. map missing_fault list ++ missing_in visited s look) (sym goes_on.visits)
+          ap (λ faults. faults ++ rest next) (ap (map missing_fault) is ∙ map-append missing_fault list these)
+          ∙ append_assoc (map missing_fault list) (map missing_fault these) (rest next)
+          ∙ ap (λ faults. map missing_fault list ++ (faults ++ rest next)) this
+          ∙ ap (λ i. map missing_fault list ++ (part_missing part s look ++ rest i)) goes
+          ∙ ap (λ visited. map missing_fault list ++ missing_in visited s look) (sym there.visits)
           ∙ so_far.together;
     }
 
--- where there is something, it is this
-some_of : {X : Type 0} (found : Option X) → is_some found ≡ true → (x : X) × (found ≡ Some x)
-some_of (Some x) is = (x, refl)
-some_of None is = absurd cc
+-- what was found or not, the next index is after that of a part with a default, and within the list
+found_within : (at next end : ℕ) (found : Option (List ℕ)) → at < next → next ≤ end → at < end
+    → (at < next_if_found found next (at + 1)) × (next_if_found found next (at + 1) ≤ end)
+found_within at next end (Some x) forward inside below = (forward, inside)
+found_within at next end None forward inside below = (omega arith, omega (arith, below))
 
--- where there is nothing, there is none
-none_of : {X : Type 0} (found : Option X) → is_some found ≡ false → found ≡ None
-none_of (Some x) is = absurd cc
-none_of None is = refl
-
--- a look-up that has something for the same names as a map has something for a name where the map says so
-pub told : {Seen : Type 0} (look_up : List ℕ → Option Seen) (look : LookUp)
-    → ((name : List ℕ) → is_some (look name) ≡ is_some (look_up name))
-    → {key name : List ℕ} {answer b : Bool} → answer ≡ is_some (look_up key) → key ≡ name → answer ≡ b
-    → is_some (look name) ≡ b
-told look_up look names answered key is =
-    names _ ∙ ap (λ k. is_some (look_up k)) (sym key) ∙ sym answered ∙ is
-
--- after a variable that has a value
-pub after_found : {parts : List Part} {s : List ℕ} {look : LookUp} {list : List errors.NoSuchVariable}
-    {at : ℕ} {name : Span}
-    → ListsSoFar parts s look list at → IsElementAt parts at (Variable name)
-    → is_some (look (span_bytes name s)) ≡ true → ListsSoFar parts s look list (at + 1)
-after_found {s = s} {look = look} {name = name} so_far here found =
-    let some = some_of (look (span_bytes name s)) found in
-    lists_on so_far (goes_on_after here refl) (rw some.1 refl)
-
--- after a variable that has none, and that is listed
-pub after_lacking : {parts : List Part} {s : List ℕ} {look : LookUp} {list grown : List errors.NoSuchVariable}
-    {at : ℕ} {name : Span} (e : errors.NoSuchVariable)
-    → ListsSoFar parts s look list at → IsElementAt parts at (Variable name)
-    → is_some (look (span_bytes name s)) ≡ false
-    → missing_fault e ≡ NoSuchVariable name.start (span_bytes name s) → grown ≡ list ++ e ∷ []
-    → ListsSoFar parts s look grown (at + 1)
-after_lacking {s = s} {look = look} {name = name} e so_far here lacking states is =
-    let none = none_of (look (span_bytes name s)) lacking in
-    lists_more e so_far (goes_on_after here refl) (rw (none, states) refl) is
-
--- after the jump of a default whose name has a value
-pub after_jump : {parts : List Part} {s : List ℕ} {look : LookUp} {list : List errors.NoSuchVariable}
-    {at next : ℕ} {name : Span}
-    → ListsSoFar parts s look list at → IsElementAt parts at (Default name next) → at < next
-    → is_some (look (span_bytes name s)) ≡ true → ListsSoFar parts s look list next
-after_jump {s = s} {look = look} {name = name} so_far here forward found =
-    let some = some_of (look (span_bytes name s)) found in
-    lists_on so_far (goes_on_there here forward refl some.1) refl
-
--- at the first part of a default whose name has none
-pub into_default : {parts : List Part} {s : List ℕ} {look : LookUp} {list : List errors.NoSuchVariable}
-    {at next : ℕ} {name : Span}
-    → ListsSoFar parts s look list at → IsElementAt parts at (Default name next)
-    → is_some (look (span_bytes name s)) ≡ false → ListsSoFar parts s look list (at + 1)
-into_default {s = s} {look = look} {name = name} so_far here lacking =
-    lists_on so_far (goes_on_inside here refl (none_of (look (span_bytes name s)) lacking)) refl
-
--- after a part that has no name
-pub after_nameless : {parts : List Part} {s : List ℕ} {look : LookUp} {list : List errors.NoSuchVariable}
-    {at : ℕ} {part : Part}
-    → ListsSoFar parts s look list at → IsElementAt parts at part
-    → ((span : Span) × (part ≡ Literal span)) ⊎ ((b : ℕ) × (part ≡ Escaped b))
-    → ListsSoFar parts s look list (at + 1)
-after_nameless so_far here (inl (span, is)) = lists_on so_far (goes_on_after here (rw is refl)) (rw is refl)
-after_nameless so_far here (inr (b, is)) = lists_on so_far (goes_on_after here (rw is refl)) (rw is refl)
+-- so is it after any part
+pub next_within : {at end : ℕ} (s : List ℕ) (look : LookUp) (part : Part) → FitsAt at end s part → at < end
+    → (at < next_index part s look (at + 1)) × (next_index part s look (at + 1) ≤ end)
+next_within s look (Literal span) fits below = (omega arith, omega (arith, below))
+next_within s look (Escaped b) fits below = (omega arith, omega (arith, below))
+next_within s look (Variable name) fits below = (omega arith, omega (arith, below))
+next_within {at = at} {end = end} s look (Default name next) fits below =
+    found_within at next end (look (span_bytes name s)) fits.2 fits.3 below

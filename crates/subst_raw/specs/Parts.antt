@@ -102,6 +102,16 @@ part_missing (Variable name) s look =
     unless_found (look (span_bytes name s)) (NoSuchVariable name.start (span_bytes name s) ∷ [])
 part_missing part s look = []
 
+-- next where something was found, else the index right after the part
+abbrev pub next_if_found : Option (List ℕ) → ℕ → ℕ → ℕ
+next_if_found (Some x) next after = next
+next_if_found None next after = after
+
+-- the index that an expansion goes on at after a part, where the index right after the part is `after`
+abbrev pub next_index : Part → List ℕ → LookUp → ℕ → ℕ
+next_index (Default name next) s look after = next_if_found (look (span_bytes name s)) next after
+next_index part s look after = after
+
 -- what parts are missing
 abbrev pub missing_in : List Part → List ℕ → LookUp → List Fault
 missing_in [] s look = []

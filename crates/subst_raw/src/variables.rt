@@ -1,12 +1,11 @@
 //! The variables of a list of parts, and those that a map has nothing for. Each is one pass over the parts,
 //! and allocates its list alone.
 
-ghost use Rattle.std.specs.Prelude.{◌≡◌, ◌∷◌, ◌≤◌, [], IfOk, MatchOption, is_some, length, map};
+ghost use Rattle.std.specs.Prelude.{◌≡◌, ◌∷◌, ◌≤◌, [], IfOk, MatchOption};
+ghost use Rattle.std.specs.Prelude.{is_some, length, map, option_to_list};
 ghost use Rattle.std.specs.List.{All};
 ghost use Rattle.std.specs.Str.{IsUtf8};
-ghost use Rattle.subst_error.specs.Fault as fault;
 ghost use Rattle.subst_error.specs.Range.{IsRangeIn};
-ghost use Rattle.subst_language.specs.Language.Name.{IsName};
 ghost use Rattle.subst_language.specs.Language.Sentence.{ByTree};
 ghost use Rattle.subst_language.specs.Language.Variables.{all_missing, variables_of};
 ghost use Rattle.subst_language.specs.Calls.VariableMap.{ByNames};
@@ -14,13 +13,12 @@ ghost use Rattle.subst_language.specs.Calls.Variables.{kind_of, missing_fault, m
 ghost use Rattle.subst_language.specs.Calls.Variables.{variable_range};
 ghost use Rattle.subst_raw.specs.Packed.{unpacked_parts};
 ghost use Rattle.subst_raw.specs.Parts.{AllFit, IsTemplateOf, NamesFit};
-ghost use Rattle.subst_raw.specs.Parts.{part_variables, parts_missing, variables_in};
+ghost use Rattle.subst_raw.specs.Parts.{part_missing, part_variables, parts_missing, variables_in};
 ghost use Rattle.subst_raw.specs.Parts as parts;
-ghost use Rattle.subst_raw.specs.Span.{IsSpan, span_bytes};
 
 use crate::expand::name_at;
 use crate::packed_part::{Offset, PackedPart};
-use crate::part::{Part, Span};
+use crate::part::Part;
 use crate::part_vec::{CowParts, PartSlice};
 use std::alloc::{AllocError, Global};
 use subst_error::{NoSuchVariable, NoSuchVariableRef};
@@ -145,24 +143,60 @@ where
     let mut list = Vec::new(alloc);
     let mut at = 0;
     while let Some(part) = packed.get(at) {
-        at = match part.unpack() {
-            Part::Literal(_) | Part::Escaped(_) => at + 1,
-            Part::Variable(name) => {
-                if !has(variables, name_at(source, name)) {
-                    list.push(missing_at(alloc, source, name)?)?;
-                }
-                at + 1
-            }
-            Part::Default { name, next } => {
-                if has(variables, name_at(source, name)) {
-                    next
-                } else {
-                    at + 1
-                }
-            }
-        };
+        let part = part.unpack();
+        if let Some(missing) = missing_at(alloc, source, part, variables)? {
+            list.push(missing)?;
+        }
+        at = next_index(source, part, at + 1, variables);
     }
     Ok(list)
+}
+
+/// Returns the variable that a part needs and `variables` has nothing for, if there is one.
+///
+/// # Errors
+///
+/// When allocation fails.
+fn missing_at<'a, M: VariableMap<'a>>(
+    alloc: Global,
+    source: &[u8],
+    part: Part,
+    variables: &'a M,
+) -> Result<Option<NoSuchVariable>, AllocError>
+where
+    M::Value: Drop,
+    requires { NamesFit source.now part }
+    ensures { ByNames (M.look_up variables.now) (λ look. IfOk result (λ missing.
+        map missing_fault (option_to_list missing) ≡ part_missing part source.now look)) }
+{
+    let Part::Variable(span) = part else {
+        return Ok(None);
+    };
+    let name = name_at(source, span);
+    if has(variables, name) {
+        return Ok(None);
+    }
+    let position = span.start;
+    Ok(Some(NoSuchVariableRef { position, name }.into_owned(alloc)?))
+}
+
+/// Returns the index that an expansion goes on at after a part, which is `after` unless it jumps.
+fn next_index<'a, M: VariableMap<'a>>(
+    source: &[u8],
+    part: Part,
+    after: usize,
+    variables: &'a M,
+) -> usize
+where
+    M::Value: Drop,
+    requires { NamesFit source.now part }
+    ensures { ByNames (M.look_up variables.now)
+        (λ look. result ≡ parts.next_index part source.now look after) }
+{
+    match part {
+        Part::Default { name, next } if has(variables, name_at(source, name)) => next,
+        _ => after,
+    }
 }
 
 /// Returns whether a map has a value for a name.
@@ -172,22 +206,4 @@ where
     ensures { result ≡ is_some (M.look_up variables.now name.now) }
 {
     variables.get(name).is_some()
-}
-
-/// Returns the missing variable whose name is at a range of the source.
-///
-/// # Errors
-///
-/// When allocation fails.
-fn missing_at(alloc: Global, source: &[u8], name: Span) -> Result<NoSuchVariable, AllocError>
-    requires inside { IsSpan source.now name }
-    requires name { IsName (span_bytes name source.now) }
-    ensures { IfOk result (λ e. missing_fault e
-        ≡ fault.NoSuchVariable name.start (span_bytes name source.now)) }
-{
-    let missing = NoSuchVariableRef {
-        position: name.start,
-        name: name_at(source, name),
-    };
-    missing.into_owned(alloc)
 }
