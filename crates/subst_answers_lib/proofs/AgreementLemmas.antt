@@ -11,29 +11,36 @@ use Rattle.subst_answers_lib.specs.Printing.{IsTrueLine}
 use Rattle.subst_answers_lib.specs.declared.answer.Answer.{Answer}
 use Rattle.subst_answers_lib.specs.declared.answer.Answer.TheVariants as answers
 
-module _ (s : List ℕ) (look : LookUp) where
-  -- what states an answer of the source states the same as another such
-  same_statement : (a b : Option spec.Answer) → IsSomeAnd a (spec.Answers s look)
-      → IsSomeAnd b (spec.Answers s look) → IsSome a × (a ≡ b)
-  same_statement (Some a) (Some b) h k = (refl, ap Some (answer_unique s look a b h k))
+module _ (P : spec.Answer → Type 0) (unique : (a b : spec.Answer) → P a → P b → a ≡ b) where
+  -- what states an answer that P holds of states the same as another such
+  same_statement : (a b : Option spec.Answer) → IsSomeAnd a P → IsSomeAnd b P → IsSome a × (a ≡ b)
+  same_statement (Some a) (Some b) h k = (refl, ap Some (unique a b h k))
   same_statement (Some a) None h k = absurd k
   same_statement None b h k = absurd h
 
   -- an answer that two ways give is the answer
-  pub agreement : (whole other answer : Answer) → IsTrueAnswer s look whole → IsTrueAnswer s look other
+  pub agreement_on : (whole other answer : Answer) → IsSomeAnd (stated_by whole) P
+      → IsSomeAnd (stated_by other) P
       → (IsSome (stated_by whole) → stated_by whole ≡ stated_by other → answer ≡ whole)
-      → IsTrueAnswer s look answer
-  agreement whole other answer is is_too same =
+      → IsSomeAnd (stated_by answer) P
+  agreement_on whole other answer is is_too same =
       let stated = same_statement (stated_by whole) (stated_by other) is is_too in
-      subst (IsTrueAnswer s look) (sym (same stated.0 stated.1)) is
+      subst (λ (a : Answer). IsSomeAnd (stated_by a) P) (sym (same stated.0 stated.1)) is
 
-  -- an answer that states an answer of the source is true
-  pub true_if_stated : {E : Type 0} (r : Result Answer E) (o : Option spec.Answer)
-      → IfOk r (λ answer. stated_by answer ≡ o) → IfOk r (λ answer. IsSome (stated_by answer))
-      → IfSome o (spec.Answers s look) → IfOk r (IsTrueAnswer s look)
-  true_if_stated (Ok answer) (Some stated) is some holds = rw is holds
-  true_if_stated (Ok answer) None is some holds = cc (ap is_some is)
-  true_if_stated (Err e) o is some holds = tt
+-- the same of an answer of the source
+pub agreement : (s : List ℕ) (look : LookUp) (whole other answer : Answer) → IsTrueAnswer s look whole
+    → IsTrueAnswer s look other
+    → (IsSome (stated_by whole) → stated_by whole ≡ stated_by other → answer ≡ whole)
+    → IsTrueAnswer s look answer
+agreement s look = agreement_on (spec.Answers s look) (answer_unique s look)
+
+-- an answer that states one which P holds of
+pub true_if_stated : {E : Type 0} (P : spec.Answer → Type 0) (r : Result Answer E) (o : Option spec.Answer)
+    → IfOk r (λ answer. stated_by answer ≡ o) → IfOk r (λ answer. IsSome (stated_by answer))
+    → IfSome o P → IfOk r (λ answer. IsSomeAnd (stated_by answer) P)
+true_if_stated P (Ok answer) (Some stated) is some holds = rw is holds
+true_if_stated P (Ok answer) None is some holds = cc (ap is_some is)
+true_if_stated P (Err e) o is some holds = tt
 
 -- a true answer that is a refusal is one of the source
 pub own_refusal : (s : List ℕ) (look : LookUp) (answer : Answer) → IsTrueAnswer s look answer

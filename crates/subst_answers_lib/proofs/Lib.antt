@@ -2,6 +2,7 @@ pub mod AgreementLemmas
 pub mod AnswerLineLemmas
 pub mod ColumnLemmas
 pub mod JsonLemmas
+pub mod ListLemmas
 pub mod PairLemmas
 pub mod PlaceLemmas
 pub mod PrintingLemmas

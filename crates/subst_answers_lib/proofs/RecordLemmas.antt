@@ -31,6 +31,8 @@ kind_has_no_tab kinds.Bytes = search rules
 kind_has_no_tab kinds.Text = search rules
 kind_has_no_tab kinds.Json = search rules
 kind_has_no_tab kinds.Toml = search rules
+kind_has_no_tab kinds.Variables = search rules
+kind_has_no_tab kinds.Missing = search rules
 
 -- a line whose first column is the name of no kind begins with no kind's name
 pub no_kind : (line prefix : List ℕ) (rest : Option (List ℕ)) → IsCutAt tab line prefix rest

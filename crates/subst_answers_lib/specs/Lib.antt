@@ -6,6 +6,7 @@ pub mod DocumentLine
 pub mod Failure
 pub mod FaultColumns
 pub mod JsonAnswer
+pub mod Listing
 pub mod PlaceColumns
 pub mod Printing
 pub mod Record

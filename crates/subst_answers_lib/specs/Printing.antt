@@ -7,6 +7,7 @@ use Rattle.subst.specs.Language.LookUp.{LookUp}
 use Rattle.subst_answers_lib.specs.AnswerLine.{IsLineOf}
 use Rattle.subst_answers_lib.specs.DocumentLine.{IsDocumentLine}
 use Rattle.subst_answers_lib.specs.JsonAnswer.{IsJsonAnswer}
+use Rattle.subst_answers_lib.specs.Listing.{IsTrueList}
 use Rattle.subst_answers_lib.specs.TomlAnswer.{IsTomlAnswer}
 use Rattle.subst_answers_lib.specs.Record.{HoldsDocument, IsMalformed, IsRecord}
 use Rattle.subst_answers_lib.specs.Agreement.{IsTrueAnswer, values_of}
@@ -14,6 +15,8 @@ use Rattle.subst_answers_lib.specs.declared.answer.Answer.{Answer}
 use Rattle.subst_answers_lib.specs.declared.document.DocumentAnswer.{DocumentAnswer}
 use Rattle.subst_answers_lib.specs.declared.failure.Failure.{Failure}
 use Rattle.subst_answers_lib.specs.declared.failure.Failure.TheVariants.{Malformed, Differs, Read, Write, OutOfMemory}
+use Rattle.subst_answers_lib.specs.declared.lists.Wanted.{Wanted}
+use Rattle.subst_answers_lib.specs.declared.lists.Wanted.TheVariants as lists
 use Rattle.subst_answers_lib.specs.declared.record.Record.{Record}
 use Rattle.subst_answers_lib.specs.declared.record.Record.TheVariants as records
 
@@ -44,6 +47,12 @@ pub record IsTomlLine (source : List ℕ) (look : LookUp) (printed : List ℕ) :
   pub is : IsTomlAnswer source look answer
   pub shown : IsDocumentLine answer printed
 
+-- the same, where a list of the source's template is asked for
+pub record IsListLine (wanted : Wanted) (source : List ℕ) (look : LookUp) (printed : List ℕ) : Type 0 where
+  pub answer : Answer
+  pub is : IsTrueList wanted source look answer
+  pub shown : IsLineOf source answer printed
+
 -- the printed line is that of the answer to the record, of whichever kind
 abbrev pub IsLineFor : Record → List ℕ → Type 0
 IsLineFor (records.Bytes asked) printed =
@@ -54,6 +63,10 @@ IsLineFor (records.Json asked) printed =
     IsJsonLine asked.source.items (values_of (λ v. string_bytes v) asked.pairs) printed
 IsLineFor (records.Toml asked) printed =
     IsTomlLine asked.source.items (values_of (λ v. string_bytes v) asked.pairs) printed
+IsLineFor (records.Variables asked) printed =
+    IsListLine lists.Variables asked.source.items (values_of (λ v. v.items) asked.pairs) printed
+IsLineFor (records.Missing asked) printed =
+    IsListLine lists.Missing asked.source.items (values_of (λ v. v.items) asked.pairs) printed
 
 -- the printed line is that of the answer to the line's record
 pub record IsAnswered (line printed : List ℕ) : Type 0 where

@@ -42,6 +42,8 @@ kind_name kind.Bytes = codes "bytes"
 kind_name kind.Text = codes "text"
 kind_name kind.Json = codes "json"
 kind_name kind.Toml = codes "toml"
+kind_name kind.Variables = codes "variables"
+kind_name kind.Missing = codes "missing"
 
 -- the name is that of the kind, or of none
 abbrev pub IsNameOf : List ℕ → Option Kind → Type 0
@@ -54,6 +56,8 @@ source_form kind.Bytes = of_bytes
 source_form kind.Text = of_text
 source_form kind.Json = of_bytes
 source_form kind.Toml = of_bytes
+source_form kind.Variables = of_bytes
+source_form kind.Missing = of_bytes
 
 -- what the values of a kind are
 abbrev pub value_form : Kind → Form
@@ -61,6 +65,8 @@ value_form kind.Bytes = of_bytes
 value_form kind.Text = of_text
 value_form kind.Json = of_text
 value_form kind.Toml = of_text
+value_form kind.Variables = of_bytes
+value_form kind.Missing = of_bytes
 
 -- a variable and its value, as they are written
 abbrev pub pair_text : List ℕ → List ℕ → List ℕ
@@ -144,6 +150,10 @@ IsRecord line (records.Json asked) =
     IsLineOfRecord line kind.Json asked.source.items (values_of (λ v. string_bytes v) asked.pairs)
 IsRecord line (records.Toml asked) =
     IsLineOfRecord line kind.Toml asked.source.items (values_of (λ v. string_bytes v) asked.pairs)
+IsRecord line (records.Variables asked) =
+    IsLineOfRecord line kind.Variables asked.source.items (values_of (λ v. v.items) asked.pairs)
+IsRecord line (records.Missing asked) =
+    IsLineOfRecord line kind.Missing asked.source.items (values_of (λ v. v.items) asked.pairs)
 
 -- the source of the record is a document
 abbrev pub IsOfDocument : Record → Type 0
@@ -151,6 +161,8 @@ IsOfDocument (records.Bytes asked) = ⊥
 IsOfDocument (records.Text asked) = ⊥
 IsOfDocument (records.Json asked) = ⊤
 IsOfDocument (records.Toml asked) = ⊤
+IsOfDocument (records.Variables asked) = ⊥
+IsOfDocument (records.Missing asked) = ⊥
 
 -- the line is that of a record whose source is a document
 pub record HoldsDocument (line : List ℕ) : Type 0 where

@@ -7,11 +7,15 @@
 //!
 //! - `KIND` says how the source is filled in: `bytes` is by `substitute_bytes`, `text` by `substitute`, and
 //!   `json` and `toml` are by `value_from_slice` of these modules. The other ways to an answer are compared
-//!   with it: templates, the calls that count, and of a document `value_from_str` and its tree filled in.
+//!   with it: templates, the calls that count, and of a document `value_from_str` and its tree filled in. Of
+//!   the kinds `variables` and `missing` it isn't filled in, but the list of this name is asked of each type
+//!   of template, of those of texts only if it is UTF-8. What is missing is compared with `substitute_bytes`
+//!   too: nothing is exactly where that gives bytes, and the first is else the one that it is refused for.
 //! - `SOURCE` is the source, in lower-case hexadecimal. An empty byte string is `-`, here and everywhere. The
 //!   source of a text is UTF-8.
 //! - `PAIRS` is `-`, or `NAME=VALUE` for each variable, separated by commas, with names and values in
-//!   hexadecimal. A name is UTF-8 and comes once. The values are UTF-8, except those of the kind `bytes`.
+//!   hexadecimal. A name is UTF-8 and comes once. The values are UTF-8, except those of the kinds `bytes`,
+//!   `variables` and `missing`.
 //!
 //! An answer is `ok` and the output, or `fault`, the case, its position, its detail, the words for what was
 //! expected (`-` if the case has none), the text of the error, its range as `start..end`, the line of the
@@ -23,6 +27,10 @@
 //! that of the first string that is refused, and its position and range are offsets in that string, whose
 //! line isn't known: the last two columns are `.`. A source that isn't JSON has the answer `refused` and
 //! `Json`, one that isn't TOML `refused` and `Toml`, or `refused` and `InvalidUtf8` if it isn't UTF-8.
+//!
+//! The output of the kind `variables` is a text with the line `KIND@POSITION=NAME` for each variable, where
+//! `KIND` is `required`, `optional` or `default`, and of the kind `missing` with the line `POSITION=NAME`. A
+//! position is the byte offset of the first byte of the name.
 //!
 //! The detail of an invalid escape sequence is its character or `none`, of a missing variable name the length
 //! in decimal, of an unexpected character the character, of a missing closing brace `-`, and of an absent
@@ -47,6 +55,8 @@ pub mod failure;
 mod fault;
 mod json_document;
 mod json_ways;
+mod listed;
+mod lists;
 mod place_columns;
 pub mod process;
 mod record;

@@ -21,6 +21,10 @@ pub enum Kind {
     Json,
     /// By `toml::value_from_slice`.
     Toml,
+    /// Not at all: the variables of its templates are listed.
+    Variables,
+    /// Not at all: what its templates are missing is listed.
+    Missing,
 }
 
 impl Kind {
@@ -32,6 +36,8 @@ impl Kind {
             b"text" => Some(Kind::Text),
             b"json" => Some(Kind::Json),
             b"toml" => Some(Kind::Toml),
+            b"variables" => Some(Kind::Variables),
+            b"missing" => Some(Kind::Missing),
             _ => None,
         }
     }
@@ -102,6 +108,10 @@ pub enum Record {
     Json(Asked<Vec<u8>, String>),
     /// Of the kind `toml`. Here too the reader refuses such a source.
     Toml(Asked<Vec<u8>, String>),
+    /// Of the kind `variables`.
+    Variables(Asked<Vec<u8>, Vec<u8>>),
+    /// Of the kind `missing`.
+    Missing(Asked<Vec<u8>, Vec<u8>>),
 }
 
 /// A column of a record.
@@ -173,6 +183,8 @@ impl Record {
             Kind::Text => Ok(Record::Text(Asked::read(alloc, after_kind)?)),
             Kind::Json => Ok(Record::Json(Asked::read(alloc, after_kind)?)),
             Kind::Toml => Ok(Record::Toml(Asked::read(alloc, after_kind)?)),
+            Kind::Variables => Ok(Record::Variables(Asked::read(alloc, after_kind)?)),
+            Kind::Missing => Ok(Record::Missing(Asked::read(alloc, after_kind)?)),
         }
     }
 }

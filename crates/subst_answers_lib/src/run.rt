@@ -7,8 +7,9 @@ ghost use Rattle.subst_answers_lib.specs.Printing.{is_comment, AppendsPart, Fail
 ghost use Rattle.subst_answers_lib.specs.Record.{IsOfDocument};
 
 use crate::failure::Failure;
+use crate::lists::Wanted;
 use crate::record::Record;
-use crate::{bytes, json_document, json_ways, text, toml_document, toml_ways};
+use crate::{bytes, json_document, json_ways, lists, text, toml_document, toml_ways};
 use std::alloc::{AllocError, Global};
 use std::io;
 use std::io::{BufRead, ErrorKind, Write};
@@ -86,6 +87,7 @@ fn ways_agree(alloc: Global, asked: &Record) -> Result<bool, AllocError>
 {
     match asked {
         Record::Bytes(_) | Record::Text(_) => Ok(true),
+        Record::Variables(_) | Record::Missing(_) => Ok(true),
         Record::Json(asked) => json_ways::agree(alloc, asked),
         Record::Toml(asked) => toml_ways::agree(alloc, asked),
     }
@@ -100,6 +102,8 @@ fn line_for(alloc: Global, asked: &Record) -> Result<String, AllocError>
         Record::Text(asked) => text::line(alloc, asked),
         Record::Json(asked) => json_document::line(alloc, asked),
         Record::Toml(asked) => toml_document::line(alloc, asked),
+        Record::Variables(asked) => lists::line(alloc, Wanted::Variables, asked),
+        Record::Missing(asked) => lists::line(alloc, Wanted::Missing, asked),
     }
 }
 

@@ -1,0 +1,74 @@
+-- Each source has one list of a kind, and how lists are written.
+use Rattle.std.proofs.Common.{◌≡◌, List, ℕ, Option, Some, None, Result, Ok, Err, String, Global, IfOk, string_bytes, refl, sym, ap, map, subst, ◌∙◌, inl}
+use Rattle.std.specs.Prelude.{IsSomeAnd}
+use Rattle.std.specs.List.{flat_map}
+use Rattle.std.specs.Option.{is_some, option_map}
+use Rattle.std.proofs.lemmas.List.Folds.{flat_map-map}
+use Rattle.subst.specs.ErrorFault.{error_fault}
+use Rattle.subst.specs.Fault.{Fault}
+use Rattle.subst.specs.Language.Answer as spec
+use Rattle.subst.specs.Language.LookUp.{LookUp}
+use Rattle.subst.specs.Language.Sentence.{ByTree, IsSentence}
+use Rattle.subst.specs.Language.Tree.{Tree}
+use Rattle.subst.proofs.Calling.{answer_unique, exclusive}
+use Rattle.subst_answers_lib.specs.Agreement.{IsOwnRefusal}
+use Rattle.subst_answers_lib.specs.AnswerLine.{IsLineOf}
+use Rattle.subst_answers_lib.specs.Listing.{list_text, IsTrueList, Lists}
+use Rattle.subst_answers_lib.specs.Printing.{IsListLine}
+use Rattle.subst_answers_lib.specs.declared.answer.Answer.{Answer}
+use Rattle.subst_answers_lib.specs.declared.answer.Answer.TheVariants as answers
+use Rattle.subst_answers_lib.specs.declared.lists.Wanted.{Wanted}
+
+-- what a source gives as its list, or is refused for, is one
+pub list_unique : (wanted : Wanted) (s : List ℕ) (look : LookUp) (a b : spec.Answer) → Lists wanted s look a
+    → Lists wanted s look b → a ≡ b
+list_unique wanted s look (spec.Gives x) (spec.Gives y) is is_too =
+    ap spec.Gives (is.1 is.0.0 is.0.1 ∙ sym (is_too.1 is.0.0 is.0.1))
+list_unique wanted s look (spec.Gives x) (spec.Refuses f) is fault =
+    absurd (exclusive s is.0.0 0 f is.0.1 fault)
+list_unique wanted s look (spec.Refuses f) (spec.Gives y) fault is =
+    absurd (exclusive s is.0.0 0 f is.0.1 fault)
+list_unique wanted s look (spec.Refuses f) (spec.Refuses g) fault other =
+    answer_unique s look (spec.Refuses f) (spec.Refuses g) (inl fault) (inl other)
+
+-- a template that lists what its tree has: the lines of the list are what its source gives
+pub list_given : {X Y : Type 0} (wanted : Wanted) (t s : List ℕ) (look : LookUp) (line : Y → List ℕ) (see : X → Y)
+    (of : Tree → List Y) (list items : List X) (bytes : List ℕ)
+    → ((tree : Tree) → list_text wanted tree look ≡ flat_map line (of tree)) → t ≡ s → list ≡ items
+    → IsSentence t → ByTree t (λ tree. map see items ≡ of tree) → bytes ≡ flat_map (λ x. line (see x)) list
+    → Lists wanted s look (spec.Gives bytes)
+list_given wanted t s look line see of list items bytes text same all sentence tells written = rw (← same) (
+  sentence,
+  λ tree spells. written ∙ ap (flat_map (λ x. line (see x))) all ∙ sym (flat_map-map line see items)
+      ∙ ap (flat_map line) (tells tree spells) ∙ sym (text tree),
+)
+
+-- there are the bytes of a value where there is the value
+pub there : {V : Type 0} (bytes_of : V → List ℕ) (value : Option V)
+    → is_some (option_map bytes_of value) ≡ is_some value
+there bytes_of (Some v) = refl
+there bytes_of None = refl
+
+-- a fault of the source is an answer of it
+refusal : (wanted : Wanted) (s : List ℕ) (look : LookUp) (o : Option Fault)
+    → IsSomeAnd (option_map spec.Refuses o) (Lists wanted s look)
+    → IsSomeAnd (option_map spec.Refuses o) (spec.Answers s look)
+refusal wanted s look (Some f) fault = inl fault
+refusal wanted s look None fault = absurd fault
+
+-- an answer that is a refusal is one of the source
+pub own_fault : (wanted : Wanted) (s : List ℕ) (look : LookUp) (answer : Answer)
+    → IsTrueList wanted s look answer → IsOwnRefusal s answer
+own_fault wanted s look (answers.Gives bytes) is = tt
+own_fault wanted s look (answers.Refuses e) is = (look, refusal wanted s look (error_fault e) is)
+own_fault wanted s look answers.Differs is = tt
+
+-- the line of the answer
+pub list_line : {E : Type 0} (wanted : Wanted) (s t : List ℕ) (look : LookUp) (answer : Answer)
+    (r : Result (String Global) E) → s ≡ t → IsTrueList wanted s look answer
+    → IfOk r (λ line. IsLineOf s answer (string_bytes line))
+    → IfOk r (λ line. IsListLine wanted t look (string_bytes line))
+list_line wanted s t look answer (Ok line) same is shown =
+    subst (λ (source : List ℕ). IsListLine wanted source look (string_bytes line)) same
+    (record { answer = answer; is = is; shown = shown })
+list_line wanted s t look answer (Err e) same is shown = tt
