@@ -1,5 +1,5 @@
 -- Each source has one list of a kind, and how lists are written.
-use Rattle.std.proofs.Common.{◌≡◌, List, ℕ, Option, Some, None, Result, Ok, Err, String, Global, IfOk, string_bytes, refl, sym, ap, map, subst, ◌∙◌, inl}
+use Rattle.std.proofs.Common.{◌≡◌, List, ℕ, Option, Some, None, Result, Ok, Err, String, Vec, Global, IfOk, string_bytes, refl, sym, ap, map, subst, ◌∙◌, inl}
 use Rattle.std.specs.Prelude.{IsSomeAnd}
 use Rattle.std.specs.List.{flat_map}
 use Rattle.std.specs.Option.{is_some, option_map}
@@ -8,16 +8,18 @@ use Rattle.subst.specs.ErrorFault.{error_fault}
 use Rattle.subst.specs.Fault.{Fault}
 use Rattle.subst.specs.Language.Answer as spec
 use Rattle.subst.specs.Language.LookUp.{LookUp}
+use Rattle.subst.specs.Calls.VariableMap.{look_up_of, ByNames}
 use Rattle.subst.specs.Language.Sentence.{ByTree, IsSentence}
-use Rattle.subst.specs.Language.Tree.{Tree}
+use Rattle.subst.specs.Language.Variables.{all_missing, variables_of, Variable}
 use Rattle.subst.proofs.Calling.{answer_unique, exclusive}
 use Rattle.subst_answers_lib.specs.Agreement.{IsOwnRefusal}
 use Rattle.subst_answers_lib.specs.AnswerLine.{IsLineOf}
-use Rattle.subst_answers_lib.specs.Listing.{list_text, IsTrueList, Lists}
+use Rattle.subst_answers_lib.specs.Listing.{missing_line, variable_line, IsTrueList, Lists}
 use Rattle.subst_answers_lib.specs.Printing.{IsListLine}
 use Rattle.subst_answers_lib.specs.declared.answer.Answer.{Answer}
 use Rattle.subst_answers_lib.specs.declared.answer.Answer.TheVariants as answers
 use Rattle.subst_answers_lib.specs.declared.lists.Wanted.{Wanted}
+use Rattle.subst_answers_lib.specs.declared.lists.Wanted.TheVariants.{Variables, Missing}
 
 -- what a source gives as its list, or is refused for, is one
 pub list_unique : (wanted : Wanted) (s : List ℕ) (look : LookUp) (a b : spec.Answer) → Lists wanted s look a
@@ -31,23 +33,46 @@ list_unique wanted s look (spec.Refuses f) (spec.Gives y) fault is =
 list_unique wanted s look (spec.Refuses f) (spec.Refuses g) fault other =
     answer_unique s look (spec.Refuses f) (spec.Refuses g) (inl fault) (inl other)
 
--- a template that lists what its tree has: the lines of the list are what its source gives
-pub list_given : {X Y : Type 0} (wanted : Wanted) (t s : List ℕ) (look : LookUp) (line : Y → List ℕ) (see : X → Y)
-    (of : Tree → List Y) (list items : List X) (bytes : List ℕ)
-    → ((tree : Tree) → list_text wanted tree look ≡ flat_map line (of tree)) → t ≡ s → list ≡ items
-    → IsSentence t → ByTree t (λ tree. map see items ≡ of tree) → bytes ≡ flat_map (λ x. line (see x)) list
-    → Lists wanted s look (spec.Gives bytes)
-list_given wanted t s look line see of list items bytes text same all sentence tells written = rw (← same) (
-  sentence,
-  λ tree spells. written ∙ ap (flat_map (λ x. line (see x))) all ∙ sym (flat_map-map line see items)
-      ∙ ap (flat_map line) (tells tree spells) ∙ sym (text tree),
-)
-
 -- there are the bytes of a value where there is the value
-pub there : {V : Type 0} (bytes_of : V → List ℕ) (value : Option V)
+there : {V : Type 0} (bytes_of : V → List ℕ) (value : Option V)
     → is_some (option_map bytes_of value) ≡ is_some value
 there bytes_of (Some v) = refl
 there bytes_of None = refl
+
+module _ {X Y : Type 0} (line : Y → List ℕ) (see : X → Y) (items list : List X) (of given : Vec ℕ Global)
+    (all : list ≡ items) (is : of ≡ given) (written : given.items ≡ flat_map (λ x. line (see x)) list) where
+  -- the lines of what a template lists are those of what its tree has
+  lines_given : (ys : List Y) → map see items ≡ ys → of.items ≡ flat_map line ys
+  lines_given ys same =
+      ap (λ v. v.items) is ∙ written ∙ ap (flat_map (λ x. line (see x))) all
+      ∙ sym (flat_map-map line see items) ∙ ap (flat_map line) same
+
+-- a template that lists its variables: their lines are what its source gives
+pub variables_given : {X : Type 0} (wanted : Wanted) (t s : List ℕ) (look : LookUp) (see : X → Variable)
+    (items list : List X) (of given : Vec ℕ Global) → wanted ≡ Variables → t ≡ s → IsSentence t
+    → ByTree t (λ tree. map see items ≡ variables_of 0 tree) → list ≡ items → of ≡ given
+    → given.items ≡ flat_map (λ x. variable_line (see x)) list → Lists wanted s look (spec.Gives of.items)
+variables_given wanted t s look see items list of given is same sentence tells all gives written =
+    rw (is, ← same) (
+      sentence,
+      λ tree spells. lines_given variable_line see items list of given all gives written _
+          (tells tree spells),
+    )
+
+-- the same of those that are missing
+pub missing_given : {X V : Type 0} (wanted : Wanted) (t s : List ℕ) (bytes_of : V → List ℕ)
+    (look_up : List ℕ → Option V) (see : X → Fault) (items list : List X) (of given : Vec ℕ Global)
+    → wanted ≡ Missing → t ≡ s → IsSentence t
+    → ByNames look_up (λ look. ByTree t (λ tree. map see items ≡ all_missing 0 tree look)) → list ≡ items
+    → of ≡ given → given.items ≡ flat_map (λ x. missing_line (see x)) list
+    → Lists wanted s (look_up_of bytes_of look_up) (spec.Gives of.items)
+missing_given wanted t s bytes_of look_up see items list of given is same sentence tells all gives written =
+    let look = look_up_of bytes_of look_up in
+    rw (is, ← same) (
+      sentence,
+      λ tree spells. lines_given missing_line see items list of given all gives written _
+          (tells look (λ name. there bytes_of (look_up name)) tree spells),
+    )
 
 -- a fault of the source is an answer of it
 refusal : (wanted : Wanted) (s : List ℕ) (look : LookUp) (o : Option Fault)

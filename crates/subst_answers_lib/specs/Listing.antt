@@ -21,7 +21,8 @@ kind_word OrDefault = codes "default"
 
 -- the line of a variable
 abbrev pub variable_line : Variable → List ℕ
-variable_line v = kind_word v.kind ++ (codes "@" ++ (decimal v.position ++ (codes "=" ++ (v.name ++ codes "\n"))))
+variable_line v =
+    kind_word v.kind ++ (codes "@" ++ (decimal v.position ++ (codes "=" ++ (v.name ++ codes "\n"))))
 
 -- the line of a variable that is missing
 abbrev pub missing_line : Fault → List ℕ

@@ -13,5 +13,6 @@ returns-in_ok-by_templates-in-Ok c =
     let of_text = c.in_ok-by_templates-in-Ok.field-0 in
     agreement_on (Lists wanted source look) (list_unique wanted source look) c.in_ok-of_bytes.of_bytes
     of_text c.agreed_with.result c.in_ok-of_bytes.ensures
-    (subst (λ (s : List ℕ). IsTrueList wanted s look of_text) (search rules) c.in_ok-by_templates-in-Ok.ensures)
+    (subst (λ (s : List ℕ). IsTrueList wanted s look of_text) (search rules)
+    c.in_ok-by_templates-in-Ok.ensures)
     c.agreed_with.ensures.same

@@ -7,6 +7,7 @@ use Rattle.subst_answers_lib.proofs.text.at_once.Goals as goal
 
 pub returns : goal.returns
 returns c =
-    true_if_stated (Answers c.args.source.now (values_of (λ v. string_bytes v) c.args.pairs.now)) c.of_text.result
+    let look = values_of (λ v. string_bytes v) c.args.pairs.now in
+    true_if_stated (Answers c.args.source.now look) c.of_text.result
     (answer_of (λ output. string_bytes output) c.substitute.result) c.of_text.ensures.stated
     c.of_text.ensures.some (c.substitute.ensures.answer (λ v. string_bytes v) (λ v. refl))
