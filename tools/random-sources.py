@@ -4,9 +4,10 @@
 Half of the sources are of the grammar, and half are damaged at one place. `subst_answers` answers each as bytes, and
 those of text once more as texts, and as the one string of a JSON document; it finds an answer in several ways, and
 prints `differs` where they disagree. All columns of the kinds have to be the same, and the output, or the fault and its
-place, have to be what the few lines of `answer_of` say, which are written from the rules of the language. Some sources
-are then given to `subst_filter`, which has to end as the answers say. The seed is fixed, unless SEED gives another; each
-failure names it with the record. Each test prints a line, and the last line is 'N passed, M failed'.
+place, have to be what the few lines of tools/rules.py say, which are written from the rules of the language. So have the
+lists of all variables and of those that are missing. Some sources are then given to `subst_filter`, which has to end as
+the answers say. The seed is fixed, unless SEED gives another; each failure names it with the record. Each test prints a
+line, and the last line is 'N passed, M failed'.
 """
 import argparse
 import functools
@@ -17,6 +18,7 @@ import sys
 from concurrent.futures import ThreadPoolExecutor
 
 sys.dont_write_bytecode = True
+import rules
 from running import PROGRAMS, Wrong, column, expect, run, run_tests
 
 # How many sources are answered by one run of the program.
@@ -27,6 +29,8 @@ FILTERED = 300
 PIECES = 1000
 
 NAMES = ('a', 'b', 'c', 'd', '9', '_', 'a1', 'none', 'none_2')
+# The kinds of records whose answers are compared with the rules.
+RULED = (b'bytes', b'variables', b'missing')
 # The variables that sources are filled in from: no value of a name that begins with `none`.
 VARIABLES = {'a': '1', 'b': '', 'c': '$a\\}', 'd': '${', '9': 'two\nlines', '_': '=', 'a1': ':'}
 TEXTS, BYTES = ('\u00e9', '\u2764', '\U0001f600', '\u200b'), ('\xe9', '\xff', '\xc3', '\x9f')
@@ -36,90 +40,34 @@ ESCAPES = ('\\\\', '\\$', '\\{', '\\}', '\\:')
 DAMAGE = ('', '', '', '$', '$', '${', '${a:', '{', '{', '}', '}', '\\', '\\', ':', '?', '-', 'a', '\n')
 
 
-# The rules
+# What the rules say
 
 
-class Refused(Exception):
-    """The case and the position of a fault, or of a missing variable."""
-
-
-NAME = re.compile(rb'[0-9A-Za-z_]+')
-PLAIN_BYTES = re.compile(rb'[^$\\]+')
-BRACE = re.compile(rb'\\.|[{}]', re.DOTALL)
-
-
-def answer_of(source, variables):
-    """The first columns of the answer of a source."""
+def answer_of(items, variables):
+    """The first columns of the answer of a template."""
     try:
-        return b'ok\t' + column(b''.join(values(parsed(source, 0, len(source)), variables)))
-    except Refused as refused:
-        return b'fault\t%b\t%d\t' % refused.args
+        return b'ok\t' + column(b''.join(rules.values(items, variables)))
+    except rules.Refused as refused:
+        return fault_of(refused)
 
 
-def parsed(source, at, end):
-    """The items of the source between two places: bytes, or a variable as its place, its name and its default."""
-    items = []
-    while at < end:
-        if plain := PLAIN_BYTES.match(source, at, end):
-            items.append(plain[0])
-            at = plain.end()
-        elif source[at:at + 1] == b'\\':
-            if at + 1 == end or source[at + 1] not in b'\\${}:':
-                raise Refused(b'InvalidEscapeSequence', at)
-            items.append(source[at + 1:at + 2])
-            at += 2
-        else:
-            item, at = placeholder(source, at, end)
-            items.append(item)
-    return items
+def fault_of(refused):
+    return b'fault\t%b\t%d\t' % refused.args
 
 
-def placeholder(source, at, end):
-    """The variable that begins at this dollar, and the place after it."""
-    brace = at + 1 if source[at + 1:min(at + 2, end)] == b'{' else None
-    name = NAME.match(source, at + 1 if brace is None else at + 2, end)
-    if name is None:
-        raise Refused(b'MissingVariableName', at)
-    after = name.end()
-    if brace is None or source[after:min(after + 1, end)] == b'}':
-        return (name.start(), name[0], None), after if brace is None else after + 1
-    if after == end:
-        raise Refused(b'MissingClosingBrace', brace)
-    if source[after:after + 1] == b':':
-        closing = closing_brace(source, after + 1, end, brace)
-        return (name.start(), name[0], parsed(source, after + 1, closing)), closing + 1
-    if source[after:after + 1] != b'?':
-        raise Refused(b'UnexpectedCharacter', after)
-    if after + 1 == end:
-        raise Refused(b'MissingClosingBrace', brace)
-    if source[after + 1:after + 2] != b'}':
-        raise Refused(b'UnexpectedCharacter', after + 1)
-    return (name.start(), name[0], []), after + 2
+def answers_of(source, variables):
+    """The same of a source, by each kind whose answer isn't that of the kind `bytes`."""
+    try:
+        items = rules.template(source)
+    except rules.Refused as refused:
+        return {b'bytes': fault_of(refused)}
+    lists = rules.variable_entries(items), rules.missing_entries(items, variables)
+    return dict(zip(RULED, (answer_of(items, variables), *map(answer_of_list, lists))))
 
 
-def closing_brace(source, at, end, brace):
-    """The place of the brace that closes the default which begins here."""
-    depth = 1
-    for found in BRACE.finditer(source, at, end):
-        depth += {b'{': 1, b'}': -1}.get(found[0], 0)
-        if depth == 0:
-            return found.start()
-    raise Refused(b'MissingClosingBrace', brace)
-
-
-def values(items, variables):
-    """The bytes that items give, one after the other."""
-    for item in items:
-        if isinstance(item, bytes):
-            yield item
-            continue
-        place, name, default = item
-        if name in variables:
-            yield variables[name]
-        elif default is None:
-            raise Refused(b'NoSuchVariable', place)
-        else:
-            yield from values(default, variables)
+def answer_of_list(entries):
+    """The answer that has these entries, one a line."""
+    return b'ok\t' + column(b''.join(entry + b'\n' for entry in entries))
 
 
 # Sources
@@ -208,17 +156,17 @@ def compare(seed, make, encoding, characters, chunks):
     with ThreadPoolExecutor() as pool:
         for _ in range(chunks):
             sources = [source.encode(encoding) for source in make(rng, characters)]
-            kinds = {b'bytes': sources}
+            kinds = dict.fromkeys(RULED, sources)
             if encoding == 'utf-8':
                 kinds |= {b'text': sources, b'json': [document(source) for source in sources]}
             running = {kind: pool.submit(answers, kind, made, pairs) for kind, made in kinds.items()}
-            # The answers as bytes are compared with the rules, and the others with these answers.
-            wanted = [answer_of(source, variables) for source in sources]
+            # The answers as bytes and of lists are compared with the rules, and the others with those as bytes.
+            ruled = [answers_of(source, variables) for source in sources]
+            of_bytes = running[b'bytes'].result()
+            wanted = {kind: [answer.get(kind, line) for answer, line in zip(ruled, of_bytes)] for kind in RULED}
+            wanted |= {b'text': of_bytes, b'json': map(document_answer, of_bytes)}
             for kind, lines in running.items():
-                if kind == b'json':
-                    wanted = [document_answer(line) for line in wanted]
-                expect_same(seed, kind, kinds[kind], pairs, lines.result(), wanted)
-                wanted = lines.result()
+                expect_same(seed, kind, kinds[kind], pairs, lines.result(), wanted[kind])
 
 
 def filter_ends_as_the_answers_say(seed):

@@ -2,10 +2,11 @@
 """stored-answers.py [--check | --run]   Makes the stored run of subst_answers from the files of answers in tests/data.
 
 Writes crates/subst_answers/stdin, each record of the answers to bytes as a record of the kind `bytes`, after these each
-whose source and values are UTF-8 once more, of the kind `text`, and then those to documents, each of its own kind; and
-crates/subst_answers/stdout, the answer that the files have for each, with all its columns. With --check it writes nothing,
-and fails where one of the two isn't what it would write. With --run it runs the built program, and shows each record
-whose answer is another one, with what was expected and what came. The last line of both is 'N passed, M failed'.
+whose source and values are UTF-8 once more, of the kind `text`, then those to documents, each of its own kind, and then
+the lists of variables and of those that are missing; and crates/subst_answers/stdout, the answer that the files have for
+each, with all its columns. With --check it writes nothing, and fails where one of the two isn't what it would write, or a
+list isn't what the rules say. With --run it runs the built program, and shows each record whose answer is another one,
+with what was expected and what came. The last line of both is 'N passed, M failed'.
 """
 import itertools
 import pathlib
@@ -13,6 +14,9 @@ import re
 import subprocess
 import sys
 import urllib.parse
+
+sys.dont_write_bytecode = True
+import rules
 
 TOP = pathlib.Path(__file__).resolve().parent.parent
 DATA = TOP / 'tests' / 'data'
@@ -22,6 +26,8 @@ CRATE = pathlib.Path('crates', 'subst_answers')
 COLUMNS = {'ok': 2, 'fault': 9, 'refused': 2}
 # The kinds of records whose source is a document; the answers to each are in a file of its name.
 DOCUMENTS = ['json', 'toml']
+# Those whose answer is a list, in the order of the columns of variables.tsv.
+LISTS = ['variables', 'missing']
 # Those of a fault that say what was expected.
 EXPECTED, DISPLAY = 4, 5
 # What may come after a name in braces, as the Rust crate says it, and as it is with `${name?}`.
@@ -69,6 +75,32 @@ def rows_by_hand():
     return rows
 
 
+def rows_of_lists():
+    """The rows of lists: each the source, the pairs, and the entries of each list."""
+    for line in (DATA / 'variables.tsv').read_text(encoding='utf-8').split('\n'):
+        if line and not line.startswith('#'):
+            source, pairs, *lists = line.split('\t')
+            if len(lists) != len(LISTS):
+                sys.exit(f'variables.tsv: a row of another form: {line!r}')
+            entries = [[] if column == '-' else column.split(',') for column in lists]
+            yield hexadecimal_of(source), pairs_in_hexadecimal(pairs), entries
+
+
+def lists_by_kind(rows, bytes_by_hand):
+    """The records of lists, by their kind. A source that isn't a template has the answer of the kind `bytes`."""
+    refused = [row for row in bytes_by_hand if row[2][0] == 'fault' and row[2][1] != 'NoSuchVariable']
+    return {kind: [(source, pairs, ['ok', ''.join(entry + '\n' for entry in entries[at]).encode().hex() or '-'])
+                   for source, pairs, entries in rows] + refused for at, kind in enumerate(LISTS)}
+
+
+def lists_by_the_rules(source, pairs):
+    """The entries of each list of a source, as the rules say."""
+    columns = [[bytes.fromhex(word.strip('-')) for word in pair.split('=')] for pair in pairs.split(',') if pair != '-']
+    items = rules.template(bytes.fromhex(source.strip('-')))
+    lists = rules.variable_entries(items), rules.missing_entries(items, dict(columns))
+    return [[entry.decode('ascii') for entry in entries] for entries in lists]
+
+
 def hexadecimal_of(column):
     """An empty text is written as a dash."""
     return '-' if column == '-' else hexadecimal(column)
@@ -101,10 +133,10 @@ def are_texts(source, pairs):
     return all(map(is_text, [source] + values))
 
 
-def stored_run(rows, documents):
-    """The text of each file of the stored run, by its name."""
+def stored_run(rows, others):
+    """The text of each file of the stored run, by its name. The other rows are by their kind."""
     asked = [('bytes', *row) for row in rows] + [('text', *row) for row in rows if are_texts(*row[:2])]
-    asked += [(kind, *row) for kind, rows in documents.items() for row in rows]
+    asked += [(kind, *row) for kind, rows in others.items() for row in rows]
     stdin = ['\t'.join((kind, source, pairs)) + '\n' for kind, source, pairs, _ in asked]
     stdout = ['\t'.join(answer) + '\n' for _, _, _, answer in asked]
     return {'stdin': ''.join(stdin), 'stdout': ''.join(stdout)}
@@ -118,9 +150,13 @@ def difference(stored, made):
     return next(number for number, (a, b) in enumerate(pairs, 1) if a != b)
 
 
-def check(run):
-    """Compares the stored files with the run, and counts those that are the same."""
-    passed = 0
+def check(run, lists):
+    """Compares the stored files with the run, and the lists with the rules, and counts what is the same."""
+    others = [row for row in lists if lists_by_the_rules(*row[:2]) != row[2]]
+    for source, pairs, entries in others:
+        print(f'variables.tsv: {readable(source)} with {pairs}: {entries}, and by the rules '
+              f'{lists_by_the_rules(source, pairs)}')
+    passed = 0 if others else 1
     for file, text in run.items():
         path = TOP / CRATE / file
         line = difference(path.read_bytes() if path.exists() else b'', text.encode('ascii'))
@@ -129,7 +165,7 @@ def check(run):
         else:
             print(f'{CRATE / file} is not what the files in tests/data make: line {line} differs. '
                   'To make it anew: python3 tools/stored-answers.py')
-    failed = len(run) - passed
+    failed = len(run) + 1 - passed
     print(f'{passed} passed, {failed} failed')
     return failed == 0
 
@@ -181,15 +217,20 @@ def main():
     print(f'{len(optional)} with optional variables')
     by_hand = rows_by_hand()
     print(', '.join(f'{len(rows)} {kind}' for kind, rows in by_hand.items()) + ' worked out by hand')
-    documents = {}
+    others = {}
     for kind in DOCUMENTS:
         rows = list(records(f'{kind}.tsv'))
-        documents[kind] = list(with_optional_variables(rows))
-        said(f'{kind} documents', rows, documents[kind])
-        documents[kind] += by_hand[kind]
-    run = stored_run(kept + optional + by_hand['bytes'], documents)
-    if sys.argv[1:]:
-        sys.exit(0 if {'--check': check, '--run': run_and_compare}[sys.argv[1]](run) else 1)
+        others[kind] = list(with_optional_variables(rows))
+        said(f'{kind} documents', rows, others[kind])
+        others[kind] += by_hand[kind]
+    lists = list(rows_of_lists())
+    others |= lists_by_kind(lists, by_hand['bytes'])
+    print(f'{len(lists)} templates with their lists')
+    run = stored_run(kept + optional + by_hand['bytes'], others)
+    if sys.argv[1:] == ['--check']:
+        sys.exit(0 if check(run, lists) else 1)
+    if sys.argv[1:] == ['--run']:
+        sys.exit(0 if run_and_compare(run) else 1)
     for file, text in run.items():
         (TOP / CRATE / file).write_text(text, encoding='ascii')
 

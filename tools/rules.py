@@ -1,0 +1,113 @@
+"""The rules of the language in a hundred lines, written apart from the library: what its answers are compared with.
+
+Sources, names and values are bytes, and variables are a dictionary. A source that isn't a template has a fault.
+"""
+import re
+from typing import NamedTuple
+
+REQUIRED, OPTIONAL, WITH_DEFAULT = b'required', b'optional', b'default'
+NAME = re.compile(rb'[0-9A-Za-z_]+')
+PLAIN_BYTES = re.compile(rb'[^$\\]+')
+BRACE = re.compile(rb'\\.|[{}]', re.DOTALL)
+
+
+class Refused(Exception):
+    """The case and the position of a fault, or of a missing variable."""
+
+
+class Variable(NamedTuple):
+    """A variable: its kind, the place of its name, the name, and what stands for it where it has no value."""
+    kind: bytes
+    place: int
+    name: bytes
+    default: list
+
+
+def parsed(source, at, end):
+    """The items of the source between two places: bytes, or a variable."""
+    items = []
+    while at < end:
+        if plain := PLAIN_BYTES.match(source, at, end):
+            items.append(plain[0])
+            at = plain.end()
+        elif source[at:at + 1] == b'\\':
+            if at + 1 == end or source[at + 1] not in b'\\${}:':
+                raise Refused(b'InvalidEscapeSequence', at)
+            items.append(source[at + 1:at + 2])
+            at += 2
+        else:
+            item, at = placeholder(source, at, end)
+            items.append(item)
+    return items
+
+
+def placeholder(source, at, end):
+    """The variable that begins at this dollar, and the place after it."""
+    brace = at + 1 if source[at + 1:min(at + 2, end)] == b'{' else None
+    name = NAME.match(source, at + 1 if brace is None else at + 2, end)
+    if name is None:
+        raise Refused(b'MissingVariableName', at)
+    after = name.end()
+    if brace is None or source[after:min(after + 1, end)] == b'}':
+        return Variable(REQUIRED, name.start(), name[0], []), after if brace is None else after + 1
+    if after == end:
+        raise Refused(b'MissingClosingBrace', brace)
+    if source[after:after + 1] == b':':
+        closing = closing_brace(source, after + 1, end, brace)
+        return Variable(WITH_DEFAULT, name.start(), name[0], parsed(source, after + 1, closing)), closing + 1
+    if source[after:after + 1] != b'?':
+        raise Refused(b'UnexpectedCharacter', after)
+    if after + 1 == end:
+        raise Refused(b'MissingClosingBrace', brace)
+    if source[after + 1:after + 2] != b'}':
+        raise Refused(b'UnexpectedCharacter', after + 1)
+    return Variable(OPTIONAL, name.start(), name[0], []), after + 2
+
+
+def closing_brace(source, at, end, brace):
+    """The place of the brace that closes the default which begins here."""
+    depth = 1
+    for found in BRACE.finditer(source, at, end):
+        depth += {b'{': 1, b'}': -1}.get(found[0], 0)
+        if depth == 0:
+            return found.start()
+    raise Refused(b'MissingClosingBrace', brace)
+
+
+def template(source):
+    """The items of a whole source."""
+    return parsed(source, 0, len(source))
+
+
+def values(items, variables):
+    """The bytes that items give, one after the other."""
+    for item in items:
+        if isinstance(item, bytes):
+            yield item
+        elif item.name in variables:
+            yield variables[item.name]
+        elif item.kind == REQUIRED:
+            raise Refused(b'NoSuchVariable', item.place)
+        else:
+            yield from values(item.default, variables)
+
+
+def variable_entries(items):
+    """The variables of items as they are written in an answer, in the order of the source, also those in defaults."""
+    entries = []
+    for item in items:
+        if isinstance(item, Variable):
+            entries.append(b'%b@%d=%b' % (item.kind, item.place, item.name))
+            entries += variable_entries(item.default)
+    return entries
+
+
+def missing_entries(items, variables):
+    """Those that items need and that have no value, written so."""
+    entries = []
+    for item in items:
+        if isinstance(item, Variable) and item.name not in variables:
+            if item.kind == REQUIRED:
+                entries.append(b'%d=%b' % (item.place, item.name))
+            entries += missing_entries(item.default, variables)
+    return entries
