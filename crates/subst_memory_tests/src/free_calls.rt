@@ -155,6 +155,7 @@ fn steps_and_laws(rt: &HostRuntime) {
     laws::law_7();
     laws::law_8();
     laws::law_9();
+    laws::missing_lists_are_whole();
     laws::missing_variables_are_missing();
     laws::outputs_are_bounded();
     laws::texts_give_texts();

@@ -10,6 +10,7 @@ mod fakes;
 mod free_calls;
 mod free_errors;
 mod into;
+mod lists;
 mod runs;
 mod texts;
 
@@ -19,6 +20,7 @@ fn main(rt: HostRuntime) -> Result<(), Error> {
     texts::calls(&rt)?;
     bytes::calls(&rt)?;
     into::calls(&rt)?;
+    lists::calls(&rt)?;
     documents::json_calls(&rt)?;
     documents::toml_calls(&rt)?;
     errors::calls(&rt)?;

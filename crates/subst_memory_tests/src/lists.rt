@@ -1,0 +1,92 @@
+//! Calls that list the variables of templates, and those that a map has nothing for.
+
+use crate::calls::{Shown, again, say, say_end, tell};
+use crate::{bytes, texts};
+use subst::error::NoSuchVariable;
+use subst::{ByteTemplate, Error, Template, Variable};
+use subst_testing::calls::{begin, end, say_out_of_memory};
+use subst_testing::variables::{byte_values, texts as text_values};
+
+/// Names that are missing: one twice, and two in a default.
+const LACKING: &str = "Hé $a, ${b:$c and ${d:$e}}, ${f?} and $a!";
+
+/// Each of them, one a line.
+impl Shown for Vec<Variable<'_>> {
+    fn show(&self, rt: &HostRuntime, word: &str) {
+        if self.is_empty() {
+            say(rt, word, "no variable");
+        }
+        for variable in self {
+            let (position, name, kind) = (variable.position, variable.name, variable.kind);
+            let _ = rt.println(format_args!("{word} {position}: {name} {kind:?}"));
+        }
+    }
+}
+
+/// Each of them, one a line.
+impl Shown for Vec<NoSuchVariable> {
+    fn show(&self, rt: &HostRuntime, word: &str) {
+        if self.is_empty() {
+            say(rt, word, "all there");
+        }
+        for fault in self {
+            fault.show(rt, word);
+        }
+    }
+}
+
+fn of_text(rt: &HostRuntime) -> Result<(), Error> {
+    let alloc = rt.alloc();
+    let template = Template::from_str(alloc, LACKING)?;
+    let map = text_values(alloc, texts::NAME)?;
+    again!(rt, "Template::variables", [template], Err(_) => template.variables(alloc));
+    again!(rt, "Template::missing", [template, map], Err(_) => template.missing(alloc, &map));
+    Ok(())
+}
+
+fn of_text_owner(rt: &HostRuntime) -> Result<(), Error> {
+    let alloc = rt.alloc();
+    let owner = texts::owned(alloc, LACKING)?;
+    let map = text_values(alloc, texts::NAME)?;
+    again!(rt, "TemplateBuf::variables", [owner], Err(_) => owner.variables(alloc));
+    again!(rt, "TemplateBuf::missing", [owner, map], Err(_) => owner.missing(alloc, &map));
+    Ok(())
+}
+
+fn of_bytes(rt: &HostRuntime) -> Result<(), Error> {
+    let alloc = rt.alloc();
+    let template = ByteTemplate::from_slice(alloc, LACKING.as_bytes())?;
+    let map = byte_values(alloc, bytes::NAME)?;
+    again!(rt, "ByteTemplate::variables", [template], Err(_) => template.variables(alloc));
+    again!(rt, "ByteTemplate::missing", [template, map], Err(_) => template.missing(alloc, &map));
+    Ok(())
+}
+
+fn of_byte_owner(rt: &HostRuntime) -> Result<(), Error> {
+    let alloc = rt.alloc();
+    let owner = bytes::owned(alloc, LACKING.as_bytes())?;
+    let map = byte_values(alloc, bytes::NAME)?;
+    again!(rt, "ByteTemplateBuf::variables", [owner], Err(_) => owner.variables(alloc));
+    again!(rt, "ByteTemplateBuf::missing", [owner, map], Err(_) => owner.missing(alloc, &map));
+    Ok(())
+}
+
+/// Lists that are empty: a text without variables, and a map that all needed ones are in.
+fn of_nothing(rt: &HostRuntime) -> Result<(), Error> {
+    let alloc = rt.alloc();
+    let plain = Template::from_str(alloc, "Hé \\$a!")?;
+    again!(rt, "Template::variables of none", [plain], Err(_) => plain.variables(alloc));
+    let template = ByteTemplate::from_slice(alloc, bytes::SENTENCE)?;
+    let map = byte_values(alloc, bytes::NAME)?;
+    let name = "ByteTemplate::missing of none";
+    again!(rt, name, [template, map], Err(_) => template.missing(alloc, &map));
+    Ok(())
+}
+
+pub fn calls(rt: &HostRuntime) -> Result<(), Error> {
+    of_text(rt)?;
+    of_text_owner(rt)?;
+    of_bytes(rt)?;
+    of_byte_owner(rt)?;
+    of_nothing(rt)
+}
