@@ -3,4 +3,5 @@ pub mod LettersLemmas
 pub mod LineLemmas
 pub mod LoaderLemmas
 pub mod NameLemmas
+pub mod ReportLemmas
 pub mod WarningLemmas

@@ -11,6 +11,13 @@ all_mapped P f (x ∷ xs) each zero d inside = each 0 x (omega arith)
 all_mapped P f (x ∷ xs) each (suc k) d inside =
     all_mapped P f xs (λ j e l. each (suc j) e (omega arith)) k d (omega arith)
 
+-- what holds of each element once it is mapped, and mapped again, holds of each element of the list of these
+pub all_mapped_twice : {X Y Z : Type 0} (P : Z → Type 0) (f : X → Y) (g : Y → Z) (xs : List X) (ys : List Y)
+    (zs : List Z) → map f xs ≡ ys → map g ys ≡ zs → All (λ x. P (g (f x))) xs → All P zs
+all_mapped_twice P f g xs ys zs once twice each =
+    let below = subst (All (λ y. P (g y))) once (all_mapped (λ y. P (g y)) f xs each) in
+    subst (All P) twice (all_mapped P g ys below)
+
 -- an element within a list is the same whatever stands for one outside
 same_element : {X : Type 0} (xs : List X) (i : ℕ) (d e : X) → i < length xs → get_or xs i d ≡ get_or xs i e
 same_element [] i d e inside = absurd (omega arith)

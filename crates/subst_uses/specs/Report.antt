@@ -1,10 +1,16 @@
 -- What people are shown of a text that is refused.
-use Rattle.std.specs.Prelude.{◌≡◌, ℕ, List, Option, Some, IfSome, codes, string_bytes}
+use Rattle.std.specs.Prelude.{◌≡◌, ◌⊎◌, ℕ, List, [], Option, Some, IfSome, codes, map, string_bytes}
 use Rattle.std.specs.Fmt.{decimal, ◌++?◌}
+use Rattle.std.specs.List.{concat}
 use Rattle.subst.specs.Display.{display_of_error}
 use Rattle.subst.specs.Fault.{Fault}
 use Rattle.subst.specs.Highlighting.{highlighting_of}
-use Rattle.subst.specs.Language.Answer.{Answer, Gives, Refuses}
+use Rattle.subst.specs.Language.Answer.{Answer, Answers, Gives, Refuses}
+use Rattle.subst.specs.Language.BadItem.{HasFault}
+use Rattle.subst.specs.Language.LookUp.{LookUp}
+use Rattle.subst.specs.Language.Sentence.{Spells}
+use Rattle.subst.specs.Language.Tree.{Tree}
+use Rattle.subst.specs.Language.Variables.{all_missing}
 use Rattle.subst.specs.Position.{position_of}
 use Rattle.subst_uses.specs.declared.report.Outcome.{Outcome}
 use Rattle.subst_uses.specs.declared.report.Outcome.TheVariants.{Output, Report}
@@ -25,3 +31,16 @@ abbrev pub IsOutcome : (Answer → Type 0) → List ℕ → List ℕ → Outcome
 IsOutcome IsAnswer file s (Output output) = IsAnswer (Gives (string_bytes output))
 IsOutcome IsAnswer file s (Report text) =
     (f : Fault) × IsAnswer (Refuses f) × IsReport file (Some f) s (string_bytes text)
+
+-- the text is the reports of the faults, one for each, in their order
+abbrev pub AreReports : List ℕ → List Fault → List ℕ → List ℕ → Type 0
+AreReports file faults s text = (reports : List (List ℕ))
+    × (map (λ f. report_of file (Some f) s) faults ≡ map Some reports) × (text ≡ concat reports)
+
+-- what the source gives; or the report of its fault, where it is no template; or that of all that it is missing
+abbrev pub IsWholeOutcome : LookUp → List ℕ → List ℕ → Outcome → Type 0
+IsWholeOutcome look file s (Output output) = Answers s look (Gives (string_bytes output))
+IsWholeOutcome look file s (Report text) =
+    ((f : Fault) × HasFault 0 s f × IsReport file (Some f) s (string_bytes text))
+    ⊎ ((t : Tree) × Spells t s × (¬ (all_missing 0 t look ≡ []))
+    × AreReports file (all_missing 0 t look) s (string_bytes text))

@@ -1,8 +1,7 @@
 //! A cache: what a template gave is used again where the variables changed, but not those of the template.
 
-ghost use Rattle.std.specs.Prelude.{◌≡◌, ◌↔◌, IsTrue, map};
+ghost use Rattle.std.specs.Prelude.{◌≡◌, ◌↔◌, IsTrue};
 ghost use Rattle.std.specs.List.{All};
-ghost use Rattle.subst.specs.Language.NamesIn.{names_in};
 ghost use Rattle.subst.specs.Language.Sentence.{ByTree};
 ghost use Rattle.subst.specs.Language.Value.{Bytes, value};
 ghost use Rattle.subst.specs.Calls.Outcome.{Expands};
@@ -11,11 +10,11 @@ ghost use Rattle.subst_uses.specs.CommandLine.{texts_of};
 use std::alloc::Global;
 use std::collections::BTreeMap;
 use subst::error::ExpandError;
-use subst::{ByteTemplate, laws};
+use subst::{ByteTemplate, Variable, laws};
 
-/// Returns what a template gives under new variables, where `names` are the names in the template, and
-/// `output` is what it gave under the old variables. It isn't expanded again where the old and the new have
-/// the same for each of the names.
+/// Returns what a template gives under new variables, where `output` is what it gave under the old ones. It
+/// isn't expanded again where the old and the new have the same for each name in the template, also for
+/// those in defaults.
 ///
 /// # Errors
 ///
@@ -23,28 +22,33 @@ use subst::{ByteTemplate, laws};
 pub fn refilled(
     alloc: Global,
     template: &ByteTemplate,
-    names: &[&str],
     old: &BTreeMap<String, String>,
     output: Vec<u8>,
     new: &BTreeMap<String, String>,
 ) -> Result<Vec<u8>, ExpandError>
-    ensures { ByTree template.now (λ t. names_in t ≡ map (λ n. n.now) names.now
-        → value 0 t (texts_of old.now) ≡ Bytes output.items
+    ensures { ByTree template.now (λ t. value 0 t (texts_of old.now) ≡ Bytes output.items
         → Expands (λ output. output.items) result (value 0 t (texts_of new.now))) }
 {
     laws::law_4();
-    if agree(names, old, new) {
+    laws::missing_lists_are_whole();
+    let variables = template.variables(alloc)?;
+    if agree(&variables, old, new) {
         return Ok(output);
     }
     template.expand(alloc, new)
 }
 
-/// Whether two maps have the same for each of the names: equal values, or none.
-fn agree(names: &[&str], a: &BTreeMap<String, String>, b: &BTreeMap<String, String>) -> bool
-    ensures { IsTrue result ↔ All (λ n. texts_of a.now n.now ≡ texts_of b.now n.now) names.now }
+/// Whether two maps have the same for the name of each of the variables: equal values, or none.
+fn agree(
+    variables: &[Variable],
+    a: &BTreeMap<String, String>,
+    b: &BTreeMap<String, String>,
+) -> bool
+    ensures { IsTrue result
+        ↔ All (λ v. texts_of a.now v.name.now ≡ texts_of b.now v.name.now) variables.now }
 {
-    for name in names {
-        if !has_same(name, a, b) {
+    for variable in variables {
+        if !has_same(variable.name, a, b) {
             return false;
         }
     }

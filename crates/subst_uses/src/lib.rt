@@ -3,6 +3,7 @@
 //! Each has a contract of its own, proved from the contracts of `subst` and its lemmas for callers.
 #![tactic(auto)]
 
+pub mod all_missing;
 pub mod any_map;
 pub mod any_template;
 pub mod cache;

@@ -1,6 +1,6 @@
 //! A text filled in, or a report of what is wrong with it, as compilers write them.
 
-ghost use Rattle.std.specs.Prelude.{IfOk, string_bytes};
+ghost use Rattle.std.specs.Prelude.{Some, IfOk, IsSomeAnd, string_bytes};
 ghost use Rattle.std.specs.Option.{option_map};
 ghost use Rattle.std.specs.BTreeMap.{get_by_text};
 ghost use Rattle.subst.specs.ErrorFault.{error_fault};
@@ -17,7 +17,7 @@ use subst::{Error, substitute};
 pub enum Outcome {
     /// The text, filled in.
     Output(String),
-    /// `file:line:column: fault`, and then the line of the fault, underlined.
+    /// `file:line:column: fault`, and then the line of the fault, underlined; so for each fault.
     Report(String),
 }
 
@@ -39,15 +39,33 @@ pub fn filled(
 {
     match substitute(alloc, source, variables) {
         Ok(output) => Ok(Outcome::Output(output)),
-        Err(e) => match e {
-            Error::OutOfMemory(e) => Err(e),
-            e => Ok(Outcome::Report(report(alloc, file, source, &e)?)),
-        },
+        Err(e) => Ok(Outcome::Report(fault_report(alloc, file, source, e)?)),
+    }
+}
+
+/// Returns the report of the fault that an error states.
+///
+/// # Errors
+///
+/// When allocation fails, and where the error says that it did.
+pub(crate) fn fault_report(
+    alloc: Global,
+    file: &str,
+    source: &str,
+    e: Error,
+) -> Result<String, AllocError>
+    requires { IsRangeIn source.now (range_of (error_fault e)) }
+    ensures { IfOk result (λ text. IsSomeAnd (error_fault e)
+        (λ f. IsReport file.now (Some f) source.now (string_bytes text))) }
+{
+    match e {
+        Error::OutOfMemory(e) => Err(e),
+        e => report(alloc, file, source, &e),
     }
 }
 
 /// Returns the report of an error.
-fn report(alloc: Global, file: &str, source: &str, e: &Error) -> Result<String, AllocError>
+pub(crate) fn report(alloc: Global, file: &str, source: &str, e: &Error) -> Result<String, AllocError>
     requires { IsRangeIn source.now (range_of (error_fault e.now)) }
     ensures { IfOk result (λ text.
         IsReport file.now (error_fault e.now) source.now (string_bytes text)) }

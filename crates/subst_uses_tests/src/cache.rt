@@ -18,7 +18,6 @@ fn variables(alloc: Global, b: &str) -> Result<Texts, AllocError> {
 fn gives(
     alloc: Global,
     template: &ByteTemplate<'_>,
-    name: &str,
     variables: (&Texts, &Texts),
     output: &str,
     want: &str,
@@ -26,24 +25,24 @@ fn gives(
     let (old, new) = variables;
     match Vec::from_slice(alloc, output.as_bytes()) {
         Ok(output) => are_bytes(
-            refilled(alloc, template, &[name], old, output, new),
+            refilled(alloc, template, old, output, new),
             want.as_bytes(),
         ),
         Err(_) => false,
     }
 }
 
-// The number of the first row that is wrong: a source, its name, what it gave where `b` was 2, and what it
-// gives where `b` is 3.
+// The number of the first row that is wrong: a source, what it gave where `b` was 2, and what it gives where
+// `b` is 3.
 fn wrong_row(
     alloc: Global,
     variables: (&Texts, &Texts),
-    rows: &[(&str, &str, &str, &str)],
+    rows: &[(&str, &str, &str)],
 ) -> Option<usize> {
-    for (row, &(source, name, output, want)) in rows.iter().enumerate() {
+    for (row, &(source, output, want)) in rows.iter().enumerate() {
         match ByteTemplate::from_slice(alloc, source.as_bytes()) {
             Ok(template) => {
-                if !gives(alloc, &template, name, variables, output, want) {
+                if !gives(alloc, &template, variables, output, want) {
                     return Some(row);
                 }
             }
@@ -56,7 +55,11 @@ fn wrong_row(
 #[test]
 fn fills_in_again_where_a_name_of_the_template_changed(rt: HostRuntime) -> Result<(), Fail> {
     let alloc = rt.alloc();
-    let rows = [("$a?", "a", "1?", "1?"), ("$b?", "b", "2?", "3?")];
+    let rows = [
+        ("$a?", "1?", "1?"),
+        ("$a$b?", "12?", "13?"),
+        ("${c:${b?}}", "2", "3"),
+    ];
     let old = variables(alloc, "2")?;
     let new = variables(alloc, "3")?;
     assert_eq!(rt; wrong_row(alloc, (&old, &new), rows.as_slice()), None);

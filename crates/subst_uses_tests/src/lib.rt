@@ -2,6 +2,8 @@
 #![tactic(auto)]
 
 #[cfg(test)]
+mod all_missing;
+#[cfg(test)]
 mod any_map;
 #[cfg(test)]
 mod any_template;
