@@ -1,6 +1,6 @@
 //! Missing variables: one that is asked for, and none where each name was looked for before.
 
-ghost use Rattle.std.specs.Prelude.{◌≡◌, ◌↔◌, ℕ, List, Some, map, IfOk, IfErr, IfSome, IfNone, IsSome, IsTrue, string_bytes};
+ghost use Rattle.std.specs.Prelude.{◌≡◌, ◌↔◌, ℕ, List, Some, IfOk, IfErr, IfSome, IfNone, IsSome, IsTrue, string_bytes};
 ghost use Rattle.std.specs.List.{All};
 ghost use Rattle.subst.specs.ErrorFault.{error_fault};
 ghost use Rattle.subst.specs.Fault.{NoSuchVariable};
@@ -13,7 +13,7 @@ ghost use Rattle.subst_uses.specs.CommandLine.{texts_of};
 use crate::memory;
 use std::alloc::{AllocError, Global};
 use std::collections::BTreeMap;
-use subst::{Error, Template, laws, substitute};
+use subst::{Error, Template, Variable, laws, substitute};
 
 /// Who is asked for values of variables.
 pub trait Prompt {
@@ -65,8 +65,8 @@ fn add(
     Ok(())
 }
 
-/// Returns what a template gives, or `None` where the variables have nothing for one of its names, which are
-/// looked for first.
+/// Returns what a template gives, or `None` where the variables have nothing for one of the names in it, which
+/// are looked for first, also those in defaults.
 ///
 /// # Errors
 ///
@@ -74,17 +74,17 @@ fn add(
 pub fn given_or_none(
     alloc: Global,
     template: &Template<'_>,
-    names: &[&str],
     variables: &BTreeMap<String, String>,
 ) -> Result<Option<String>, AllocError>
-    requires { ByTree template.now (λ t. names_in t ≡ map (λ n. n.now) names.now) }
     ensures some { IfOk result (λ found. IfSome found (λ output.
         Answers template.now (texts_of variables.now) (Gives (string_bytes output)))) }
-    ensures none { IfOk result (λ found. IfNone found
-        (¬ (All (λ n. IsSome (texts_of variables.now n.now)) names.now))) }
+    ensures none { IfOk result (λ found. IfNone found (ByTree template.now
+        (λ t. ¬ (All (λ n. IsSome (texts_of variables.now n)) (names_in t))))) }
 {
     laws::missing_variables_are_missing();
-    if !have_all(variables, names) {
+    laws::missing_lists_are_whole();
+    let needed = template.variables(alloc)?;
+    if !have_all(variables, &needed) {
         return Ok(None);
     }
     match template.expand(alloc, variables) {
@@ -93,12 +93,12 @@ pub fn given_or_none(
     }
 }
 
-/// Whether the variables have something for each of the names.
-fn have_all(variables: &BTreeMap<String, String>, names: &[&str]) -> bool
-    ensures { IsTrue result ↔ All (λ n. IsSome (texts_of variables.now n.now)) names.now }
+/// Whether the variables have something for the name of each of those that are needed.
+fn have_all(variables: &BTreeMap<String, String>, needed: &[Variable]) -> bool
+    ensures { IsTrue result ↔ All (λ v. IsSome (texts_of variables.now v.name.now)) needed.now }
 {
-    for name in names {
-        if !has(variables, name) {
+    for variable in needed {
+        if !has(variables, variable.name) {
             return false;
         }
     }

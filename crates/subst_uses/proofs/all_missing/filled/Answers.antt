@@ -1,5 +1,5 @@
 -- Where nothing is missing, the template gives a text.
-use Rattle.std.proofs.Common.{◌≡◌, ℕ, [], List, Option, Some, None, map, refl, sym, ap, ◌∙◌, string_bytes, arith}
+use Rattle.std.proofs.Common.{◌≡◌, [], Option, Some, None, map, refl, sym, ap, ◌∙◌, string_bytes, arith}
 use Rattle.std.proofs.lemmas.Bool.Decides.{nat_tests}
 use Rattle.std.proofs.lemmas.List.{nil_from_length}
 use Rattle.std.specs.Option.{is_some, option_map}

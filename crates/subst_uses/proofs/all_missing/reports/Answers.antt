@@ -1,11 +1,10 @@
 -- Each turn adds the report of one more variable.
-use Rattle.std.proofs.Common.{◌≡◌, [], ◌∷◌, ◌++◌, map, refl, sym, ap, ◌∙◌, append_assoc, string_bytes}
+use Rattle.std.proofs.Common.{◌≡◌, [], ◌∷◌, ◌++◌, map, sym, ap, ◌∙◌, append_assoc, string_bytes}
 use Rattle.std.proofs.lemmas.List.{map_push}
 use Rattle.std.proofs.lemmas.List.Elements.{All-head, All-rest, All-same}
 use Rattle.std.specs.Vec.Iter.{into_iter_items}
 use Rattle.subst.specs.Calls.Variables.{missing_fault, missing_range}
 use Rattle.subst.specs.Range.{IsRangeIn}
-use Rattle.subst_uses.specs.Report.{AreReports}
 use Rattle.subst_uses.proofs.ReportLemmas.{report_added}
 use Rattle.subst_uses.proofs.all_missing.reports.Goals as goal
 

@@ -8,9 +8,10 @@ pub returns-then-agree : goal.returns-then-agree
 returns-then-agree c = λ t spells gave.
     let old = texts_of c.args.old.now in
     let new = texts_of c.args.new.now in
-    let each = all_mapped_twice (λ (n : List ℕ). old n ≡ new n) _ _ _ _ _
-    (c.in_ok-variables.ensures.variables t spells) (c.missing_lists_are_whole.ensures.names 0 t)
-    (rw c.deref.ensures.value at (c.agree.ensures.0 c.if-agree.true)) in
+    let agree = rw c.deref.ensures.value at (c.agree.ensures.0 c.if-agree.true) in
+    let each =
+    (all_mapped_twice (λ (n : List ℕ). old n ≡ new n) _ _ _ _ _
+    (c.in_ok-variables.ensures.variables t spells) (c.missing_lists_are_whole.ensures.names 0 t)).0 agree in
     sym (c.law_4.ensures.same 0 t old new each) ∙ gave
 
 pub returns : goal.returns
