@@ -154,6 +154,15 @@ impl<'a> Template<'a> {
     /// Returns the variables of the source, each with the byte offset of its name and its kind, in the order
     /// of the source, also those in defaults. A name that is in the source twice is returned twice.
     ///
+    /// ```rust
+    /// let template = Template::from_str(alloc, "$a ${b:${c?}$a}")?;
+    /// let mut output = String::new(alloc);
+    /// for variable in template.variables(alloc)? {
+    ///     output.push_str(variable.name)?;
+    /// }
+    /// // abca
+    /// ```
+    ///
     /// # Errors
     ///
     /// When allocation fails.
@@ -171,6 +180,15 @@ impl<'a> Template<'a> {
     /// source; the names in a default that isn't used aren't needed. There is none exactly where the template
     /// expands, and otherwise the first is the one that `expand` returns. A name that is missing twice is
     /// returned twice, each time with its position. No value is read.
+    ///
+    /// ```rust
+    /// let template = Template::from_str(alloc, "$a ${b:${c?}$a}")?;
+    /// let mut output = String::new(alloc);
+    /// for e in template.missing(alloc, &NoSubstitution)? {
+    ///     output.push_str(format!(in alloc; "{}@{};", e.name, e.position)?.as_str())?;
+    /// }
+    /// // a@1;a@13;
+    /// ```
     ///
     /// # Errors
     ///
