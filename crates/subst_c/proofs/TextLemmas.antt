@@ -69,5 +69,5 @@ puts_text law s pairs needed old new are put =
     (found_is_text pairs name (second_passes (is_utf8 s) _ are)) found in
     let source = IsUtf8-from_is_utf8 s (first_passes (is_utf8 s) _ are) in
     let tree = put.wanted in
-    let is = law s put.bytes 0 (first_value pairs) source texts tree.0 tree.1 tree.2 in
-    record { bytes = put.bytes; wanted = (is, put.wanted); counted = put.counted; put = put.put }
+    let is = law s put.items 0 (first_value pairs) source texts tree.0 tree.1 tree.2 in
+    record { items = put.items; wanted = (is, put.wanted); counted = put.counted; put = put.put }

@@ -15,7 +15,7 @@ returns-then-room-length-clause-too_small c small =
     let (t, spells) = c.in-Ok.ensures.sentence in
     let (x, gives, counted, put) = c.in-Ok.ensures.value (λ v. v) (λ v. refl) t spells in
     record {
-      bytes = x;
+      items = x;
       wanted = gives_value c.args.template.now x (first_value c.args.pairs.now) t spells gives;
       counted = counted;
       longer = search (rules, arith);
@@ -27,7 +27,7 @@ returns-else-room-length-clause-done c done =
     let (x, gives, counted, put) = c.in-Ok.ensures.value (λ v. v) (λ v. refl) t spells in
     let fits : c.in-Ok.length ≤ length c.args.room.now = search (rules, arith) in
     record {
-      bytes = x;
+      items = x;
       wanted = gives_value c.args.template.now x (first_value c.args.pairs.now) t spells gives;
       counted = counted;
       put = put fits;
