@@ -1,4 +1,5 @@
 mod AnswerLemmas
 mod EachLemmas
+mod RecordsLemmas
 mod RoomLemmas
 mod TextLemmas

@@ -1,5 +1,6 @@
 pub mod Each
 pub mod Fault
 pub mod Pairs
+pub mod Records
 pub mod Room
 pub mod Text

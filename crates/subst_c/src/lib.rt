@@ -5,7 +5,8 @@
 //! written overlaps nothing else that is passed.
 #![tactic(auto)]
 
-ghost use Rattle.std.specs.Prelude.{◌≡◌, ◌≢◌, ◌⊎◌, ◌+◌, ◌<◌, ◌≤◌, ◌++◌, ℕ, List, drop, length, true, false};
+ghost use Rattle.std.specs.Prelude.{◌≡◌, ◌≢◌, ◌⊎◌, ◌↔◌, ◌+◌, ◌<◌, ◌≤◌, ◌++◌, ℕ, List, drop, length, take, true, false};
+ghost use Rattle.std.specs.List.{All};
 ghost use Rattle.std.specs.Str.{IsUtf8};
 ghost use Rattle.subst_error.specs.Display.{IsDisplayOfFault};
 ghost use Rattle.subst_language.specs.Language.Answer.{Answers, Gives, Refuses};
@@ -14,17 +15,20 @@ ghost use Rattle.subst_language.specs.Language.Sentence.{IsSentence};
 ghost use Rattle.subst_c.specs.Each.{AreOutputs, IsRefusedIn};
 ghost use Rattle.subst_c.specs.Fault.{IsToldOf};
 ghost use Rattle.subst_c.specs.Pairs.{first_value};
+ghost use Rattle.subst_c.specs.Records.{HasRecords, missing_records, variable_records};
 ghost use Rattle.subst_c.specs.Room.{IsPut, IsTooLong};
 ghost use Rattle.subst_c.specs.Text.{IsHighlighting, SaysOf, are_texts};
 ghost use Rattle.subst_c.specs.declared.outcome.TheConstants.{DONE, REFUSED, OUT_OF_MEMORY, ROOM_TOO_SMALL, NOT_UTF8};
 
 pub use fault::FaultRecord;
 use outcome::{DONE, NOT_UTF8, OUT_OF_MEMORY, REFUSED};
+use pairs::Pairs;
 pub use pairs::{Pair, Row};
 use std::alloc::Global;
 use subst_error::Error;
 use subst_language::laws;
 use subst_template::ByteTemplate;
+pub use variables::VariableRecord;
 
 mod answer;
 mod each;
@@ -33,6 +37,7 @@ mod into;
 pub mod outcome;
 mod pairs;
 mod room;
+mod variables;
 
 /// Puts the bytes of `source` with its variables filled in from `pairs` at the front of the room.
 #[unsafe(no_mangle)]
@@ -252,6 +257,91 @@ pub extern "C" fn subst_check(alloc: Global, source: &[u8], fault: &mut FaultRec
 {
     match ByteTemplate::from_slice(alloc, source) {
         Ok(_) => DONE,
+        Err(e) => fault::refuse(&Error::from(e), fault),
+    }
+}
+
+/// Puts a record for each variable of `source` at the front of the room: its kind, the byte offset of its name
+/// and how many bytes that takes. They are in the order of the source, also those in defaults, and a name that
+/// is there twice has two.
+#[unsafe(no_mangle)]
+pub extern "C" fn subst_variables(
+    alloc: Global,
+    source: &[u8],
+    room: &mut [VariableRecord],
+    needed: &mut usize,
+    fault: &mut FaultRecord,
+) -> u32
+    // The room begins with the records of the variables of the source's tree.
+    ensures done { result ≡ DONE
+        → IsPut (HasRecords source.now variable_records) needed.new room.old room.new }
+
+    // Each name lies in the source.
+    ensures names_within { result ≡ DONE
+        → All (λ r. r.position + r.length ≤ length source.now) (take needed.new room.new) }
+
+    // The source is no sentence, and the fault is that which it is refused for.
+    ensures refused { result ≡ REFUSED → IsToldOf (HasFault 0 source.now) fault.new }
+    ensures within { result ≡ REFUSED
+        → fault.new.position + fault.new.length ≤ length source.now }
+
+    // The variables are more than the room has records.
+    ensures too_small { result ≡ ROOM_TOO_SMALL
+        → IsTooLong (HasRecords source.now variable_records) needed.new room.old }
+    ensures others { result ≢ DONE → result ≢ REFUSED → result ≢ ROOM_TOO_SMALL
+        → result ≡ OUT_OF_MEMORY }
+    ensures room_kept { result ≢ DONE → room.new ≡ room.old }
+    ensures fault_kept { result ≢ REFUSED → fault.new ≡ fault.old }
+    ensures needed_kept { result ≢ DONE → result ≢ ROOM_TOO_SMALL → needed.new ≡ needed.old }
+{
+    match ByteTemplate::from_slice(alloc, source) {
+        Ok(template) => match template.variables(alloc) {
+            Ok(list) => variables::deliver(&list, room, needed),
+            Err(_) => OUT_OF_MEMORY,
+        },
+        Err(e) => fault::refuse(&Error::from(e), fault),
+    }
+}
+
+/// Puts a record for each variable that `source` needs and that no pair names at the front of the room, as
+/// `subst_variables`, each of the kind `REQUIRED`. The result is done also where there are such variables. The
+/// names in a default that isn't used aren't needed.
+#[unsafe(no_mangle)]
+pub extern "C" fn subst_missing(
+    alloc: Global,
+    source: &[u8],
+    pairs: &[Pair],
+    room: &mut [VariableRecord],
+    needed: &mut usize,
+    fault: &mut FaultRecord,
+) -> u32
+    // As `subst_variables`, of all that the source's tree is missing.
+    ensures done { result ≡ DONE
+        → IsPut (HasRecords source.now (missing_records (first_value pairs.now)))
+        needed.new room.old room.new }
+    ensures names_within { result ≡ DONE
+        → All (λ r. r.position + r.length ≤ length source.now) (take needed.new room.new) }
+
+    // Nothing is missing exactly where the source gives bytes.
+    ensures none { result ≡ DONE → (needed.new ≡ 0
+        ↔ ((x : List ℕ) × Answers source.now (first_value pairs.now) (Gives x))) }
+    ensures refused { result ≡ REFUSED → IsToldOf (HasFault 0 source.now) fault.new }
+    ensures within { result ≡ REFUSED
+        → fault.new.position + fault.new.length ≤ length source.now }
+    ensures too_small { result ≡ ROOM_TOO_SMALL
+        → IsTooLong (HasRecords source.now (missing_records (first_value pairs.now)))
+        needed.new room.old }
+    ensures others { result ≢ DONE → result ≢ REFUSED → result ≢ ROOM_TOO_SMALL
+        → result ≡ OUT_OF_MEMORY }
+    ensures room_kept { result ≢ DONE → room.new ≡ room.old }
+    ensures fault_kept { result ≢ REFUSED → fault.new ≡ fault.old }
+    ensures needed_kept { result ≢ DONE → result ≢ ROOM_TOO_SMALL → needed.new ≡ needed.old }
+{
+    match ByteTemplate::from_slice(alloc, source) {
+        Ok(template) => match template.missing(alloc, &Pairs { pairs }) {
+            Ok(list) => variables::deliver(&list, room, needed),
+            Err(_) => OUT_OF_MEMORY,
+        },
         Err(e) => fault::refuse(&Error::from(e), fault),
     }
 }

@@ -1,0 +1,92 @@
+//! What a caller in C is told of variables.
+
+ghost use Rattle.std.specs.Prelude.{◌≡◌, ◌≢◌, ◌++◌, ◌<◌, drop, length, map};
+ghost use Rattle.subst_c.specs.declared.outcome.TheConstants.{DONE, ROOM_TOO_SMALL};
+ghost use Rattle.subst_c.specs.declared.variables.VariableRecord.{VariableRecord};
+
+use crate::outcome::{DONE, ROOM_TOO_SMALL};
+use subst_error::NoSuchVariable;
+use subst_language::{Variable, VariableKind};
+
+/// `$name` or `${name}`: it is a fault that the variable has no value.
+pub const REQUIRED: u32 = 0;
+
+/// `${name?}`: without a value there is nothing in its place.
+pub const OPTIONAL: u32 = 1;
+
+/// `${name:default}`: without a value there is the default in its place.
+pub const WITH_DEFAULT: u32 = 2;
+
+/// The number of a variable's kind, and where its name is: the byte offset of its first byte, and how many
+/// bytes it takes.
+#[repr(C)]
+#[derive(Clone, Copy)]
+pub struct VariableRecord {
+    pub kind: u32,
+    pub position: usize,
+    pub length: usize,
+}
+
+/// What is told by a record.
+pub trait Recorded {
+    /// The record.
+    ghost recorded: { Self → VariableRecord };
+
+    /// Returns the record.
+    fn record(&self) -> VariableRecord
+        ensures { result ≡ recorded self.now };
+}
+
+impl Recorded for Variable<'_> {
+    ghost use Rattle.subst_language.specs.Calls.Variables.{variable_of};
+    ghost use Rattle.subst_c.specs.Records.{variable_record};
+
+    ghost recorded = { λ variable. variable_record (variable_of variable) };
+
+    fn record(&self) -> VariableRecord {
+        VariableRecord {
+            kind: match self.kind {
+                VariableKind::Required => REQUIRED,
+                VariableKind::Optional => OPTIONAL,
+                VariableKind::WithDefault => WITH_DEFAULT,
+            },
+            position: self.position,
+            length: self.name.len(),
+        }
+    }
+}
+
+impl Recorded for NoSuchVariable {
+    ghost use Rattle.subst_language.specs.Calls.Variables.{missing_fault};
+    ghost use Rattle.subst_c.specs.Records.{missing_record};
+
+    ghost recorded = { λ e. missing_record (missing_fault e) };
+
+    fn record(&self) -> VariableRecord {
+        VariableRecord {
+            kind: REQUIRED,
+            position: self.position,
+            length: self.name.len(),
+        }
+    }
+}
+
+/// Writes the records of a list at the front of the room, and tells how many they are. Where they are more
+/// than the room has, it stays as it is.
+pub fn deliver<T: Recorded>(list: &[T], room: &mut [VariableRecord], needed: &mut usize) -> u32
+    ensures needed { needed.new ≡ length list.now }
+    ensures done { result ≡ DONE
+        → room.new ≡ map T.recorded list.now ++ drop (length list.now) room.old }
+    ensures too_small { result ≡ ROOM_TOO_SMALL → length room.old < length list.now }
+    ensures kept { result ≢ DONE → room.new ≡ room.old }
+    ensures others { result ≢ DONE → result ≡ ROOM_TOO_SMALL }
+{
+    *needed = list.len();
+    if room.len() < list.len() {
+        return ROOM_TOO_SMALL;
+    }
+    for (i, item) in list.iter().enumerate() {
+        room[i] = item.record();
+    }
+    DONE
+}
