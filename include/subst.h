@@ -30,7 +30,7 @@ enum {
     /* The source is refused, and `fault` says why. */
     SUBST_REFUSED = 1,
     SUBST_OUT_OF_MEMORY = 4,
-    /* `needed` says how many bytes the room has to have. */
+    /* `needed` says how many bytes, or variables, the room has to have. */
     SUBST_ROOM_TOO_SMALL = 5,
     /* What has to be a text isn't UTF-8. */
     SUBST_NOT_UTF8 = 6
@@ -67,6 +67,24 @@ struct subst_row {
 /* The kind of a fault, and where in the source it is: its first byte, and how many bytes it takes. The sum of its
  * position and its length is at most the source's length. */
 struct subst_fault {
+    uint32_t kind;
+    size_t position;
+    size_t length;
+};
+
+/* Kinds of variables. A number never changes. */
+enum {
+    /* $name or ${name}: it is a fault that the variable has no value. */
+    SUBST_REQUIRED = 0,
+    /* ${name?}: without a value there is nothing in its place. */
+    SUBST_OPTIONAL = 1,
+    /* ${name:default}: without a value there is the default in its place. */
+    SUBST_WITH_DEFAULT = 2
+};
+
+/* The kind of a variable, and where in the source its name is: its first byte, and how many bytes it takes. The sum of
+ * its position and its length is at most the source's length. */
+struct subst_variable {
     uint32_t kind;
     size_t position;
     size_t length;
@@ -125,6 +143,24 @@ uint32_t subst_bytes_each(const uint8_t *source, size_t source_len,
  * can be wrong with it. SUBST_REFUSED: `*fault` says why it is none. */
 uint32_t subst_check(const uint8_t *source, size_t source_len,
                      struct subst_fault *fault) SUBST_NO_NULL;
+
+/* Puts the variables of the source into the room, in the order of the source, also those in defaults; a name that is
+ * there twice is put there twice. After SUBST_DONE the first `*needed` variables of the room are these, and those after
+ * them are as before. SUBST_REFUSED: the source is no template, and `*fault` says why.
+ *
+ * `room_len` and `*needed` count variables. `*needed` is written with SUBST_DONE and SUBST_ROOM_TOO_SMALL alone, the
+ * room with SUBST_DONE alone, and `*fault` with SUBST_REFUSED alone. */
+uint32_t subst_variables(const uint8_t *source, size_t source_len,
+                         struct subst_variable *room, size_t room_len,
+                         size_t *needed, struct subst_fault *fault) SUBST_NO_NULL;
+
+/* Puts the variables that the source needs and that no pair names into the room, as subst_variables does; the names in
+ * a default that isn't used aren't needed. Each has the kind SUBST_REQUIRED. That there are such variables is no fault
+ * here: the result is SUBST_DONE, and `*needed` is 0 exactly where subst_bytes gives bytes. */
+uint32_t subst_missing(const uint8_t *source, size_t source_len,
+                       const struct subst_pair *pairs, size_t pairs_len,
+                       struct subst_variable *room, size_t room_len,
+                       size_t *needed, struct subst_fault *fault) SUBST_NO_NULL;
 
 /* Puts the text of the fault that subst_bytes finds in this source with these pairs into the room, as subst_bytes puts
  * its result there, and no byte 0 after it. Where there is no fault the text is empty. A fault that subst_check finds

@@ -399,6 +399,140 @@ static void test_each(void)
     end_test("subst_bytes_each", "no row", is_refused_row(result, &each, 0, SUBST_MISSING_CLOSING_BRACE, 1, 1));
 }
 
+enum { MOST_VARIABLES = 5 };
+
+/* A template with variables as in a row, the variables that it has, and those of them that it is missing. */
+struct listing {
+    const char *source;
+    const char *variables[2 * MOST_PAIRS];
+    size_t count;
+    struct subst_variable wanted[MOST_VARIABLES];
+    size_t missing_count;
+    struct subst_variable missing[MOST_VARIABLES];
+};
+
+/* What the calls that list variables may write, but for the room of bytes, which stays untouched. */
+struct listed {
+    struct written written;
+    struct subst_variable room[MOST_VARIABLES];
+};
+
+static const struct subst_variable NO_VARIABLE = {77, 77, 77};
+
+typedef uint32_t list_call(const struct row *row, size_t room_len, struct listed *listed);
+
+/* Whether the room begins with these variables, and has nothing else. */
+static int lists(const struct listed *listed, const struct subst_variable *variables, size_t count)
+{
+    size_t i;
+    for (i = 0; i < MOST_VARIABLES; i++) {
+        const struct subst_variable *is = &listed->room[i], *wanted = i < count ? &variables[i] : &NO_VARIABLE;
+        if (is->kind != wanted->kind || is->position != wanted->position || is->length != wanted->length)
+            return 0;
+    }
+    return holds(&listed->written, "", 0);
+}
+
+static void leave_untouched(struct listed *listed)
+{
+    size_t i;
+    listed->written = untouched();
+    for (i = 0; i < MOST_VARIABLES; i++)
+        listed->room[i] = NO_VARIABLE;
+}
+
+/* As is_out_of_memory. */
+static int is_out_of_list_memory(uint32_t result, const struct listed *listed)
+{
+    if (!is_out_of_memory(result, &listed->written))
+        return 0;
+    if (!lists(listed, NULL, 0))
+        end_test("out of memory", "listed", 0);
+    return 1;
+}
+
+static uint32_t variables_call(const struct row *row, size_t room_len, struct listed *listed)
+{
+    uint32_t result;
+    do {
+        leave_untouched(listed);
+        result = subst_variables(bytes_of(row->source), strlen(row->source), listed->room, room_len,
+                                 &listed->written.needed, &listed->written.fault);
+    } while (is_out_of_list_memory(result, listed));
+    return result;
+}
+
+static uint32_t missing_call(const struct row *row, size_t room_len, struct listed *listed)
+{
+    struct subst_pair pairs[MOST_PAIRS];
+    size_t count = pairs_of(row, pairs);
+    uint32_t result;
+    do {
+        leave_untouched(listed);
+        result = subst_missing(bytes_of(row->source), strlen(row->source), pairs, count, listed->room, room_len,
+                               &listed->written.needed, &listed->written.fault);
+    } while (is_out_of_list_memory(result, listed));
+    return result;
+}
+
+/* Whether a call lists just these variables in a room of this length, or, where there are more, says so alone. */
+static int is_listed_in(list_call *call, const struct row *row, const struct subst_variable *wanted, size_t count,
+                        size_t room_len)
+{
+    struct listed listed;
+    uint32_t result = call(row, room_len, &listed);
+    return result == (room_len < count ? SUBST_ROOM_TOO_SMALL : SUBST_DONE) && listed.written.needed == count
+        && lists(&listed, wanted, room_len < count ? 0 : count) && is_fault(&listed.written.fault, &NO_FAULT);
+}
+
+/* The same for a large room, one of their number, a smaller one and none. */
+static int is_listed(list_call *call, const struct row *row, const struct subst_variable *wanted, size_t count)
+{
+    return is_listed_in(call, row, wanted, count, MOST_VARIABLES) && is_listed_in(call, row, wanted, count, count)
+        && (count == 0 || is_listed_in(call, row, wanted, count, count - 1))
+        && is_listed_in(call, row, wanted, count, 0);
+}
+
+static void test_listing(const struct listing *listing)
+{
+    struct row row = {NULL, {NULL}, NULL, {0, 0, 0}, NULL};
+    row.source = listing->source;
+    memcpy(row.variables, listing->variables, sizeof row.variables);
+    end_test("subst_variables", row.source, is_listed(variables_call, &row, listing->wanted, listing->count));
+    end_test("subst_missing", row.source, is_listed(missing_call, &row, listing->missing, listing->missing_count));
+}
+
+/* Whether the row's fault, and nothing else, is written. */
+static int is_refused_list(list_call *call, const struct row *row)
+{
+    struct listed listed;
+    struct subst_fault fault;
+    if (call(row, MOST_VARIABLES, &listed) != SUBST_REFUSED)
+        return 0;
+    fault = listed.written.fault;
+    listed.written.fault = NO_FAULT;
+    return is_fault(&fault, &row->fault) && is_untouched(&listed.written) && lists(&listed, NULL, 0);
+}
+
+/* Nothing is missing exactly where the row gives bytes, and else what its fault tells comes first. A source that is no
+ * template is refused. */
+static void test_row_lists(const struct row *row)
+{
+    struct listed listed;
+    if (!is_template(row)) {
+        end_test("subst_variables", row->source, is_refused_list(variables_call, row));
+        end_test("subst_missing", row->source, is_refused_list(missing_call, row));
+        return;
+    }
+    if (row->wanted != NULL) {
+        end_test("subst_missing", row->source, is_listed(missing_call, row, NULL, 0));
+        return;
+    }
+    end_test("subst_missing", row->source, missing_call(row, MOST_VARIABLES, &listed) == SUBST_DONE
+             && listed.written.needed > 0 && listed.room[0].kind == SUBST_REQUIRED
+             && listed.room[0].position == row->fault.position && listed.room[0].length == row->fault.length);
+}
+
 /* Sizes at which a call that gives up at a limit of its own would be found out. */
 enum { MANY_PAIRS = 1000, MANY_ROWS = 10000, LARGE = 1 << 20, LONG_SOURCE = 100000, LONG_NAME = LONG_SOURCE };
 
@@ -406,6 +540,7 @@ static struct subst_pair many_pairs[MANY_PAIRS];
 static struct subst_row many_rows[MANY_ROWS];
 static char names_of_many[MANY_PAIRS][8];
 static size_t many_ends[MANY_ROWS];
+static struct subst_variable many_variables[LONG_SOURCE / 2];
 static uint8_t large[LARGE], source_of_many[LONG_SOURCE + 8];
 
 /* What is asked of a call at such a size. The room is large. */
@@ -543,6 +678,34 @@ static void test_long_source(void)
              && written.needed == strlen(shown) && memcmp(large, shown, strlen(shown)) == 0);
 }
 
+/* Whether each variable of the source of many, `$n` again and again, is listed. */
+static int is_listed_again(uint32_t result, const struct large_written *written)
+{
+    size_t i;
+    for (i = 0; i < LONG_SOURCE / 2; i++)
+        if (many_variables[i].kind != SUBST_REQUIRED || many_variables[i].position != 2 * i + 1
+            || many_variables[i].length != 1)
+            return 0;
+    return result == SUBST_DONE && written->needed == LONG_SOURCE / 2;
+}
+
+static void test_many_variables(void)
+{
+    struct large_written written = large_untouched();
+    uint32_t result;
+    size_t i;
+    for (i = 0; i < LONG_SOURCE; i++)
+        source_of_many[i] = i % 2 == 0 ? '$' : 'n';
+    result = subst_variables(source_of_many, LONG_SOURCE, many_variables, LONG_SOURCE / 2, &written.needed,
+                             &written.fault);
+    end_test("subst_variables", "many variables", is_listed_again(result, &written));
+    memset(many_variables, UNTOUCHED, sizeof many_variables);
+    written = large_untouched();
+    result = subst_missing(source_of_many, LONG_SOURCE, many_pairs, 0, many_variables, LONG_SOURCE / 2,
+                           &written.needed, &written.fault);
+    end_test("subst_missing", "many variables", is_listed_again(result, &written));
+}
+
 /* Whether a name of this length, which the source of many has, is told to be missing. */
 static int is_missing(filling *call, size_t length)
 {
@@ -594,6 +757,18 @@ static const struct row rows[] = {
     {"1 ${a:$long_name}", {"b", "1"}, REFUSED(SUBST_NO_SUCH_VARIABLE, 7, 9, "No such variable: $long_name")},
 };
 
+static const struct listing listings[] = {
+    {"", {NULL}, 0, {{0, 0, 0}}, 0, {{0, 0, 0}}},
+    {"$a ${bc}", {"a", "1"}, 2, {{SUBST_REQUIRED, 1, 1}, {SUBST_REQUIRED, 5, 2}}, 1, {{SUBST_REQUIRED, 5, 2}}},
+    {"${a?}${b:x}", {NULL}, 2, {{SUBST_OPTIONAL, 2, 1}, {SUBST_WITH_DEFAULT, 7, 1}}, 0, {{0, 0, 0}}},
+    {"${b:$a${c?}}$a", {NULL}, 4, {{SUBST_WITH_DEFAULT, 2, 1}, {SUBST_REQUIRED, 5, 1}, {SUBST_OPTIONAL, 8, 1},
+     {SUBST_REQUIRED, 13, 1}}, 2, {{SUBST_REQUIRED, 5, 1}, {SUBST_REQUIRED, 13, 1}}},
+    {"${b:$a${c?}}$a", {"b", ""}, 4, {{SUBST_WITH_DEFAULT, 2, 1}, {SUBST_REQUIRED, 5, 1}, {SUBST_OPTIONAL, 8, 1},
+     {SUBST_REQUIRED, 13, 1}}, 1, {{SUBST_REQUIRED, 13, 1}}},
+    {"\u00E9$name-\\$${name}", {"x", "1"}, 2, {{SUBST_REQUIRED, 3, 4}, {SUBST_REQUIRED, 12, 4}}, 2,
+     {{SUBST_REQUIRED, 3, 4}, {SUBST_REQUIRED, 12, 4}}},
+};
+
 /* Makes the call of this name once for each row, and nothing else, so that its requests for memory can be counted. */
 static void call_for_rows(const char *name)
 {
@@ -623,6 +798,10 @@ int main(int argc, char **argv)
     }
     for (i = 0; i < sizeof rows / sizeof rows[0]; i++)
         test_row(&rows[i]);
+    for (i = 0; i < sizeof rows / sizeof rows[0]; i++)
+        test_row_lists(&rows[i]);
+    for (i = 0; i < sizeof listings / sizeof listings[0]; i++)
+        test_listing(&listings[i]);
     test_bytes("subst_bytes", subst_bytes);
     test_bytes("subst_bytes_into", subst_bytes_into);
     test_no_text();
@@ -632,6 +811,7 @@ int main(int argc, char **argv)
         test_many_pairs();
         test_many_rows();
         test_long_source();
+        test_many_variables();
         test_long_name(300);
         test_long_name(LONG_NAME);
     }
