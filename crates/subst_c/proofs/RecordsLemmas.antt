@@ -59,9 +59,10 @@ names_within f range bound needed list items old new ends lent within counted pu
     let front : take needed new ≡ records =
     ap (λ n. take n new) (counted ∙ sym (length-map list f)) ∙ ap (take (length records)) put
     ∙ take-append_seam records (drop (length list) old) in
+    let lent_within : All (λ x. (range x).end ≤ bound) list =
+    subst (All (λ x. (range x).end ≤ bound)) (sym lent) within in
     let each : All (λ x. P (f x)) list = λ k x below.
-    subst (λ n. n ≤ bound) (sym (ends _)) (subst (All (λ x. (range x).end ≤ bound)) (sym lent) within k x below)
-    in
+    subst (λ n. n ≤ bound) (sym (ends _)) (lent_within k x below) in
     subst (All P) (sym front) (All-map P f list each)
 
 -- a list of nothing is that of a source that gives bytes, and of no other sentence

@@ -261,9 +261,9 @@ pub extern "C" fn subst_check(alloc: Global, source: &[u8], fault: &mut FaultRec
     }
 }
 
-/// Puts a record for each variable of `source` at the front of the room: its kind, the byte offset of its name
-/// and how many bytes that takes. They are in the order of the source, also those in defaults, and a name that
-/// is there twice has two.
+/// Puts a record for each variable of `source` at the front of the room: its kind, the byte offset of its
+/// name, and how many bytes that takes. They are in the order of the source, also those in defaults, and a
+/// name that is there twice has two. `needed` counts records.
 #[unsafe(no_mangle)]
 pub extern "C" fn subst_variables(
     alloc: Global,
@@ -304,7 +304,7 @@ pub extern "C" fn subst_variables(
 }
 
 /// Puts a record for each variable that `source` needs and that no pair names at the front of the room, as
-/// `subst_variables`, each of the kind `REQUIRED`. The result is done also where there are such variables. The
+/// `subst_variables`. Each has the kind `REQUIRED`, and the result is done also where there are some. The
 /// names in a default that isn't used aren't needed.
 #[unsafe(no_mangle)]
 pub extern "C" fn subst_missing(
