@@ -339,7 +339,7 @@ pub extern "C" fn subst_missing(
 {
     match ByteTemplate::from_slice(alloc, source) {
         Ok(template) => match template.missing(alloc, &Pairs { pairs }) {
-            Ok(list) => variables::deliver(&list, room, needed),
+            Ok(missing) => variables::deliver(&missing, room, needed),
             Err(_) => OUT_OF_MEMORY,
         },
         Err(e) => fault::refuse(&Error::from(e), fault),

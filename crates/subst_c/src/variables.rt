@@ -1,6 +1,8 @@
 //! What a caller in C is told of variables.
 
 ghost use Rattle.std.specs.Prelude.{◌≡◌, ◌≢◌, ◌++◌, ◌<◌, drop, length, map};
+ghost use Rattle.subst_language.specs.Calls.Variables.{kind_of};
+ghost use Rattle.subst_c.specs.Records.{kind_number};
 ghost use Rattle.subst_c.specs.declared.outcome.TheConstants.{DONE, ROOM_TOO_SMALL};
 ghost use Rattle.subst_c.specs.declared.variables.VariableRecord.{VariableRecord};
 
@@ -27,6 +29,30 @@ pub struct VariableRecord {
     pub length: usize,
 }
 
+impl VariableRecord {
+    /// Returns the record of a name at a byte offset, and of the number of a kind.
+    fn new(kind: u32, position: usize, name: &str) -> Self
+        ensures { result ≡ record { kind = kind; position = position; length = length name.now } }
+    {
+        VariableRecord {
+            kind,
+            position,
+            length: name.len(),
+        }
+    }
+}
+
+/// Returns the number of a kind.
+fn number_of(kind: VariableKind) -> u32
+    ensures { result ≡ kind_number (kind_of kind) }
+{
+    match kind {
+        VariableKind::Required => REQUIRED,
+        VariableKind::Optional => OPTIONAL,
+        VariableKind::WithDefault => WITH_DEFAULT,
+    }
+}
+
 /// What is told by a record.
 pub trait Recorded {
     /// The record.
@@ -44,15 +70,7 @@ impl Recorded for Variable<'_> {
     ghost recorded = { λ variable. variable_record (variable_of variable) };
 
     fn record(&self) -> VariableRecord {
-        VariableRecord {
-            kind: match self.kind {
-                VariableKind::Required => REQUIRED,
-                VariableKind::Optional => OPTIONAL,
-                VariableKind::WithDefault => WITH_DEFAULT,
-            },
-            position: self.position,
-            length: self.name.len(),
-        }
+        VariableRecord::new(number_of(self.kind), self.position, self.name)
     }
 }
 
@@ -63,11 +81,7 @@ impl Recorded for NoSuchVariable {
     ghost recorded = { λ e. missing_record (missing_fault e) };
 
     fn record(&self) -> VariableRecord {
-        VariableRecord {
-            kind: REQUIRED,
-            position: self.position,
-            length: self.name.len(),
-        }
+        VariableRecord::new(REQUIRED, self.position, &self.name)
     }
 }
 
