@@ -13,7 +13,8 @@ all_mapped P f (x ∷ xs) each (suc k) d inside =
     all_mapped P f xs (λ j e l. each (suc j) e (omega arith)) k d (omega arith)
 
 -- and what holds of each element of the mapped list holds of what each element is mapped to
-all_unmapped : {X Y : Type 0} (P : Y → Type 0) (f : X → Y) (xs : List X) → All P (map f xs) → All (λ x. P (f x)) xs
+all_unmapped : {X Y : Type 0} (P : Y → Type 0) (f : X → Y) (xs : List X) → All P (map f xs)
+    → All (λ x. P (f x)) xs
 all_unmapped P f xs each k d inside =
     subst P (get_or-map f xs k d (f d) inside) (each k (f d) (omega (arith, length-map xs f)))
 
@@ -21,11 +22,11 @@ all_unmapped P f xs each k d inside =
 pub all_mapped_twice : {X Y Z : Type 0} (P : Z → Type 0) (f : X → Y) (g : Y → Z) (xs : List X) (ys : List Y)
     (zs : List Z) → map f xs ≡ ys → map g ys ≡ zs → All (λ x. P (g (f x))) xs ↔ All P zs
 all_mapped_twice P f g xs ys zs once twice = (
-      λ each. subst (All P) twice
-          (all_mapped P g ys (subst (All (λ y. P (g y))) once (all_mapped (λ y. P (g y)) f xs each))),
-      λ each. all_unmapped (λ y. P (g y)) f xs
-          (subst (All (λ y. P (g y))) (sym once) (all_unmapped P g ys (subst (All P) (sym twice) each))),
-    )
+  λ each. subst (All P) twice
+      (all_mapped P g ys (subst (All (λ y. P (g y))) once (all_mapped (λ y. P (g y)) f xs each))),
+  λ each. all_unmapped (λ y. P (g y)) f xs
+      (subst (All (λ y. P (g y))) (sym once) (all_unmapped P g ys (subst (All P) (sym twice) each))),
+)
 
 -- an element within a list is the same whatever stands for one outside
 same_element : {X : Type 0} (xs : List X) (i : ℕ) (d e : X) → i < length xs → get_or xs i d ≡ get_or xs i e

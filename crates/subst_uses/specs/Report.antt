@@ -37,7 +37,7 @@ abbrev pub AreReports : List ℕ → List Fault → List ℕ → List ℕ → Ty
 AreReports file faults s text = (reports : List (List ℕ))
     × (map (λ f. report_of file (Some f) s) faults ≡ map Some reports) × (text ≡ concat reports)
 
--- what the source gives; or the report of its fault, where it is no template; or that of all that it is missing
+-- what the source gives; or a report of its fault, or of each variable that it is missing, if there is one
 abbrev pub IsWholeOutcome : LookUp → List ℕ → List ℕ → Outcome → Type 0
 IsWholeOutcome look file s (Output output) = Answers s look (Gives (string_bytes output))
 IsWholeOutcome look file s (Report text) =

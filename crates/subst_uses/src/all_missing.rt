@@ -8,7 +8,7 @@ ghost use Rattle.subst_uses.specs.CommandLine.{texts_of};
 ghost use Rattle.subst_uses.specs.Report.{AreReports, IsWholeOutcome};
 
 use crate::memory;
-use crate::report::{Outcome, fault_report, report};
+use crate::report::{Outcome, fault_report};
 use std::alloc::{AllocError, Global};
 use std::collections::BTreeMap;
 use subst::error::NoSuchVariable;
@@ -59,7 +59,7 @@ fn reports(
 {
     let mut text = String::new(alloc);
     for e in missing {
-        let shown = report(alloc, file, source, &Error::NoSuchVariable(e))?;
+        let shown = fault_report(alloc, file, source, Error::NoSuchVariable(e))?;
         text.push_str(shown.as_str())?;
     }
     Ok(text)

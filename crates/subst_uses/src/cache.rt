@@ -1,49 +1,107 @@
 //! A cache: what a template gave is used again where the variables changed, but not those of the template.
 
-ghost use Rattle.std.specs.Prelude.{◌≡◌, ◌↔◌, IsTrue};
+ghost use Rattle.std.specs.Prelude.{◌≡◌, ◌↔◌, IsTrue, IfOk, OnErr};
 ghost use Rattle.std.specs.List.{All};
 ghost use Rattle.subst.specs.Language.Sentence.{ByTree};
-ghost use Rattle.subst.specs.Language.Value.{Bytes, value};
+ghost use Rattle.subst.specs.Language.Value.{value};
 ghost use Rattle.subst.specs.Calls.Outcome.{Expands};
 ghost use Rattle.subst_uses.specs.CommandLine.{texts_of};
 
 use std::alloc::Global;
 use std::collections::BTreeMap;
+use std::marker::Model;
 use subst::error::ExpandError;
 use subst::{ByteTemplate, Variable, laws};
 
-/// Returns what a template gives under new variables, where `output` is what it gave under the old ones. It
-/// isn't expanded again where the old and the new have the same for each name in the template, also for
-/// those in defaults.
-///
-/// # Errors
-///
-/// As `expand`.
-pub fn refilled(
-    alloc: Global,
-    template: &ByteTemplate,
-    old: &BTreeMap<String, String>,
+/// A template with what it gave last. Contracts see it as these two.
+#[derive(Drop)]
+pub struct Cached<'t> {
+    template: ByteTemplate<'t>,
+    /// The variables of the template.
+    needed: Vec<Variable<'t>>,
+    /// Variables, and what the template gives under them.
+    variables: BTreeMap<String, String>,
     output: Vec<u8>,
-    new: &BTreeMap<String, String>,
-) -> Result<Vec<u8>, ExpandError>
-    ensures { ByTree template.now (λ t. value 0 t (texts_of old.now) ≡ Bytes output.items
-        → Expands (λ output. output.items) result (value 0 t (texts_of new.now))) }
-{
-    laws::law_4();
-    laws::missing_lists_are_whole();
-    let variables = template.variables(alloc)?;
-    if agree(&variables, old, new) {
-        return Ok(output);
+}
+
+impl<'t> Model for Cached<'t> {
+    ghost use Rattle.std.specs.Prelude.{◌≡◌, ℕ, List, map};
+    ghost use Rattle.subst.specs.Language.Sentence.{ByTree};
+    ghost use Rattle.subst.specs.Language.Value.{Bytes, value};
+    ghost use Rattle.subst.specs.Language.Variables.{variables_of};
+    ghost use Rattle.subst.specs.Calls.Variables.{variable_of};
+    ghost use Rattle.subst_uses.specs.CommandLine.{texts_of};
+
+    ghost Value = { List ℕ × List ℕ };
+
+    ghost view = { λ c. (c.template, c.output.items) };
+
+    ghost invariant = { λ c. ByTree c.template (λ t.
+        (map variable_of c.needed.items ≡ variables_of 0 t)
+        × (value 0 t (texts_of c.variables) ≡ Bytes c.output.items)) };
+}
+
+impl<'t> Cached<'t> {
+    /// Returns a template that is expanded for the first time.
+    ///
+    /// # Errors
+    ///
+    /// As `expand`.
+    pub fn new(
+        alloc: Global,
+        template: ByteTemplate<'t>,
+        variables: BTreeMap<String, String>,
+    ) -> Result<Self, ExpandError>
+        ensures template { IfOk result (λ cached. cached.0 ≡ template.entry) }
+        ensures value { ByTree template.entry (λ t.
+            Expands (λ cached. cached.1) result (value 0 t (texts_of variables))) }
+    {
+        let needed = template.variables(alloc)?;
+        let output = template.expand(alloc, &variables)?;
+        Ok(Cached {
+            template,
+            needed,
+            variables,
+            output,
+        })
     }
-    template.expand(alloc, new)
+
+    /// Returns what the template gave last.
+    pub fn output(&self) -> &[u8]
+        ensures { result.now ≡ self.now.1 }
+    {
+        &self.output
+    }
+
+    /// Fills the template in with these variables. It isn't expanded again where each name in it, also in a
+    /// default, has the value that it had when it was last expanded, or again none.
+    ///
+    /// # Errors
+    ///
+    /// As `expand`. The output is then as before.
+    pub fn fill(
+        &mut self,
+        alloc: Global,
+        variables: BTreeMap<String, String>,
+    ) -> Result<(), ExpandError>
+        ensures value { ByTree self.old.0 (λ t.
+            Expands (λ _. self.new.1) result (value 0 t (texts_of variables))) }
+        ensures template { self.new.0 ≡ self.old.0 }
+        ensures kept { OnErr result (self.new ≡ self.old) }
+    {
+        laws::law_4();
+        laws::missing_lists_are_whole();
+        if agree(&self.needed, &self.variables, &variables) {
+            return Ok(());
+        }
+        self.output = self.template.expand(alloc, &variables)?;
+        self.variables = variables;
+        Ok(())
+    }
 }
 
 /// Whether two maps have the same for the name of each of the variables: equal values, or none.
-fn agree(
-    variables: &[Variable],
-    a: &BTreeMap<String, String>,
-    b: &BTreeMap<String, String>,
-) -> bool
+fn agree(variables: &[Variable], a: &BTreeMap<String, String>, b: &BTreeMap<String, String>) -> bool
     ensures { IsTrue result
         ↔ All (λ v. texts_of a.now v.name.now ≡ texts_of b.now v.name.now) variables.now }
 {

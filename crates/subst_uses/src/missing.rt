@@ -65,7 +65,7 @@ fn add(
     Ok(())
 }
 
-/// Returns what a template gives, or `None` where the variables have nothing for one of the names in it, which
+/// Returns what a template gives, or `None` where the variables have nothing for one of the names in it. These
 /// are looked for first, also those in defaults.
 ///
 /// # Errors

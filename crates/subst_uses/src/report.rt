@@ -65,7 +65,7 @@ pub(crate) fn fault_report(
 }
 
 /// Returns the report of an error.
-pub(crate) fn report(alloc: Global, file: &str, source: &str, e: &Error) -> Result<String, AllocError>
+fn report(alloc: Global, file: &str, source: &str, e: &Error) -> Result<String, AllocError>
     requires { IsRangeIn source.now (range_of (error_fault e.now)) }
     ensures { IfOk result (λ text.
         IsReport file.now (error_fault e.now) source.now (string_bytes text)) }

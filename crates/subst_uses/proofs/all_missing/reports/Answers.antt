@@ -8,8 +8,8 @@ use Rattle.subst.specs.Range.{IsRangeIn}
 use Rattle.subst_uses.proofs.ReportLemmas.{report_added}
 use Rattle.subst_uses.proofs.all_missing.reports.Goals as goal
 
-pub report-requires : goal.report-requires
-report-requires c =
+pub fault_report-requires : goal.fault_report-requires
+fault_report-requires c =
     let l = c.loop-e in
     let e = c.in-Some.e in
     let left = into_iter_items c.next.new.self in
