@@ -9,8 +9,7 @@
 //!   `json` and `toml` are by `value_from_slice` of these modules. The other ways to an answer are compared
 //!   with it: templates, the calls that count, and of a document `value_from_str` and its tree filled in. Of
 //!   the kinds `variables` and `missing` it isn't filled in, but the list of this name is asked of each type
-//!   of template, of those of texts only if it is UTF-8. What is missing is compared with `substitute_bytes`
-//!   too: nothing is exactly where that gives bytes, and the first is else the one that it is refused for.
+//!   of template, of those of texts only if it is UTF-8.
 //! - `SOURCE` is the source, in lower-case hexadecimal. An empty byte string is `-`, here and everywhere. The
 //!   source of a text is UTF-8.
 //! - `PAIRS` is `-`, or `NAME=VALUE` for each variable, separated by commas, with names and values in

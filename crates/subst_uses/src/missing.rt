@@ -65,8 +65,8 @@ fn add(
     Ok(())
 }
 
-/// Returns what a template gives, or `None` where the variables have nothing for one of the names in it. These
-/// are looked for first, also those in defaults.
+/// Returns what a template gives, or `None` where the variables have nothing for one of its names. These are
+/// looked for first, also those in defaults.
 ///
 /// # Errors
 ///
