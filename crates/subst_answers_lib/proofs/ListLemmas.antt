@@ -1,20 +1,23 @@
 -- Each source has one list of a kind, and how lists are written.
-use Rattle.std.proofs.Common.{◌≡◌, List, ℕ, Option, Some, None, Result, Ok, Err, String, Vec, Global, IfOk, string_bytes, refl, sym, ap, map, subst, ◌∙◌, inl}
+use Rattle.std.proofs.Common.{◌≡◌, ◌↔◌, List, [], ◌∷◌, ℕ, Option, Some, None, Result, Ok, Err, String, Vec, Global, IfOk, string_bytes, refl, sym, ap, map, subst, ◌∙◌, inl, inr}
 use Rattle.std.specs.Prelude.{IsSomeAnd}
 use Rattle.std.specs.List.{flat_map}
 use Rattle.std.specs.Option.{is_some, option_map}
 use Rattle.std.proofs.lemmas.List.Folds.{flat_map-map}
 use Rattle.subst.specs.ErrorFault.{error_fault}
-use Rattle.subst.specs.Fault.{Fault}
+use Rattle.subst.specs.Fault.{Fault, NoSuchVariable}
 use Rattle.subst.specs.Language.Answer as spec
 use Rattle.subst.specs.Language.LookUp.{LookUp}
 use Rattle.subst.specs.Calls.VariableMap.{look_up_of, ByNames}
 use Rattle.subst.specs.Language.Sentence.{ByTree, IsSentence}
+use Rattle.subst.specs.Language.Tree.{Tree}
+use Rattle.subst.specs.Language.Value.{value, Bytes}
+use Rattle.subst.specs.Language.Value as values
 use Rattle.subst.specs.Language.Variables.{all_missing, variables_of, Variable}
 use Rattle.subst.proofs.Calling.{answer_unique, exclusive}
 use Rattle.subst_answers_lib.specs.Agreement.{IsOwnRefusal}
 use Rattle.subst_answers_lib.specs.AnswerLine.{IsLineOf}
-use Rattle.subst_answers_lib.specs.Listing.{missing_line, variable_line, IsTrueList, Lists}
+use Rattle.subst_answers_lib.specs.Listing.{missing_line, variable_line, BeginsWith, IsTrueList, Lists}
 use Rattle.subst_answers_lib.specs.Printing.{IsListLine}
 use Rattle.subst_answers_lib.specs.declared.answer.Answer.{Answer}
 use Rattle.subst_answers_lib.specs.declared.answer.Answer.TheVariants as answers
@@ -97,3 +100,41 @@ list_line wanted s t look answer (Ok line) same is shown =
     subst (λ (source : List ℕ). IsListLine wanted source look (string_bytes line)) same
     (record { answer = answer; is = is; shown = shown })
 list_line wanted s t look answer (Err e) same is shown = tt
+
+-- The laws of all that a tree is missing: nothing, if the value is bytes, and else first what this is missing.
+abbrev MissesNothing : Type 0
+MissesNothing =
+    (p : ℕ) (t : Tree) (look : LookUp)
+    → (all_missing p t look ≡ [] ↔ ((x : List ℕ) × (value p t look ≡ Bytes x)))
+
+abbrev MissesFirst : Type 0
+MissesFirst =
+    (p position : ℕ) (t : Tree) (look : LookUp) (name : List ℕ) → value p t look ≡ values.Missing position name
+    → (more : List Fault) × (all_missing p t look ≡ NoSuchVariable position name ∷ more)
+
+-- what a sentence gives or is refused for is how the list of all that it is missing begins
+begins_so : {X : Type 0} (s : List ℕ) (look : LookUp) (see : X → Fault) (items : List X)
+    (o : Option spec.Answer) → MissesNothing → MissesFirst → IsSentence s
+    → ByTree s (λ t. map see items ≡ all_missing 0 t look) → IsSomeAnd o (spec.Answers s look)
+    → BeginsWith see items o
+begins_so s look see items None none first sentence tells is = absurd is
+begins_so s look see [] (Some (spec.Gives x)) none first sentence tells is = tt
+begins_so s look see (y ∷ ys) (Some (spec.Gives x)) none first sentence tells (t, spells, gives) =
+    cc (tells t spells ∙ (none 0 t look).1 (x, gives))
+begins_so s look see items (Some (spec.Refuses f)) none first sentence tells (inl fault) =
+    absurd (exclusive s sentence.0 0 f sentence.1 fault)
+begins_so s look see [] (Some (spec.Refuses f)) none first sentence tells (inr (t, spells, (p, n, lacks, is))) =
+    cc (tells t spells ∙ (first 0 p t look n lacks).1)
+begins_so s look see (y ∷ ys) (Some (spec.Refuses f)) none first sentence tells (inr (t, spells, misses)) =
+    let (p, n, lacks, is) = misses in
+    cc (tells t spells ∙ (first 0 p t look n lacks).1, is)
+
+-- the same of a list that a template of the source gives
+pub begins : {X V : Type 0} (s t : List ℕ) (bytes_of : V → List ℕ) (look_up : List ℕ → Option V)
+    (see : X → Fault) (items list : List X) (o : Option spec.Answer) → MissesNothing → MissesFirst → t ≡ s
+    → IsSentence t → ByNames look_up (λ look. ByTree t (λ tree. map see items ≡ all_missing 0 tree look))
+    → list ≡ items → IsSomeAnd o (spec.Answers s (look_up_of bytes_of look_up)) → BeginsWith see list o
+begins s t bytes_of look_up see items list o none first same sentence tells all is =
+    let look = look_up_of bytes_of look_up in
+    rw all (begins_so t look see items o none first sentence
+    (tells look (λ name. there bytes_of (look_up name))) (rw same is))

@@ -1,5 +1,5 @@
 -- Lists of the variables of templates, as the texts of answers: a line for each.
-use Rattle.std.specs.Prelude.{◌≡◌, ℕ, List, [], ◌++◌, IsSomeAnd, codes, decimal}
+use Rattle.std.specs.Prelude.{◌≡◌, ℕ, List, [], ◌∷◌, ◌++◌, Option, Some, IsSomeAnd, codes, decimal, ⊤}
 use Rattle.std.specs.List.{flat_map}
 use Rattle.subst.specs.Fault.{Fault, NoSuchVariable}
 use Rattle.subst.specs.Language.Answer as spec
@@ -42,3 +42,9 @@ Lists wanted s look (spec.Refuses f) = HasFault 0 s f
 -- the answer states this, so the ways to it don't differ
 abbrev pub IsTrueList : Wanted → List ℕ → LookUp → Answer → Type 0
 IsTrueList wanted s look answer = IsSomeAnd (stated_by answer) (Lists wanted s look)
+
+-- the list is empty where the answer is bytes, and else begins with its fault
+abbrev pub BeginsWith : {X : Type 0} → (X → Fault) → List X → Option spec.Answer → Type 0
+BeginsWith see [] (Some (spec.Gives bytes)) = ⊤
+BeginsWith see (x ∷ xs) (Some (spec.Refuses f)) = see x ≡ f
+BeginsWith see _ _ = ⊥

@@ -30,7 +30,8 @@ fn answer(alloc: Global, source: &[u8], pairs: &Pairs<Vec<u8>>) -> Result<Answer
     Ok(whole.agreed_with(&parsed).agreed_with(&counted))
 }
 
-fn at_once(alloc: Global, source: &[u8], pairs: &Pairs<Vec<u8>>) -> Result<Answer, AllocError>
+/// Returns the answer of `substitute_bytes`.
+pub fn at_once(alloc: Global, source: &[u8], pairs: &Pairs<Vec<u8>>) -> Result<Answer, AllocError>
     ensures { IfOk result (IsTrueAnswer source.now (values_of (λ v. v.items) pairs.now)) }
 {
     Answer::of(substitute_bytes(alloc, source, pairs))

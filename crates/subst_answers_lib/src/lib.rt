@@ -52,6 +52,7 @@ mod column;
 mod document;
 pub mod failure;
 mod fault;
+mod first_missing;
 mod json_document;
 mod json_ways;
 mod listed;

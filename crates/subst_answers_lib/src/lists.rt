@@ -6,6 +6,7 @@ ghost use Rattle.subst_answers_lib.specs.Listing.{IsTrueList};
 ghost use Rattle.subst_answers_lib.specs.Printing.{IsListLine};
 
 use crate::answer::Answer;
+use crate::first_missing::is_as_refused;
 use crate::listed::lines;
 use crate::record::{Asked, Pairs};
 use std::alloc::{AllocError, Global};
@@ -34,8 +35,26 @@ pub fn line(
     answer(alloc, wanted, source, &asked.pairs)?.line(alloc, source)
 }
 
-/// Returns the list of a `ByteTemplate`, if all ways give the same.
+/// Returns the list of all types of templates, unless they differ, or what is missing isn't what the source is
+/// refused for.
 fn answer(
+    alloc: Global,
+    wanted: Wanted,
+    source: &[u8],
+    pairs: &Pairs<Vec<u8>>,
+) -> Result<Answer, AllocError>
+    ensures { IfOk result
+        (IsTrueList wanted source.now (values_of (λ v. v.items) pairs.now)) }
+{
+    let listed = by_all_templates(alloc, wanted, source, pairs)?;
+    match wanted {
+        Wanted::Missing if !is_as_refused(alloc, source, pairs)? => Ok(Answer::Differs),
+        _ => Ok(listed),
+    }
+}
+
+/// Returns the list of a `ByteTemplate`, if all types of templates give the same.
+fn by_all_templates(
     alloc: Global,
     wanted: Wanted,
     source: &[u8],

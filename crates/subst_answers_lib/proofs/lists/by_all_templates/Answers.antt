@@ -3,7 +3,7 @@ use Rattle.subst_answers_lib.specs.Agreement.{values_of}
 use Rattle.subst_answers_lib.specs.Listing.{IsTrueList, Lists}
 use Rattle.subst_answers_lib.proofs.AgreementLemmas.{agreement_on}
 use Rattle.subst_answers_lib.proofs.ListLemmas.{list_unique}
-use Rattle.subst_answers_lib.proofs.lists.answer.Goals as goal
+use Rattle.subst_answers_lib.proofs.lists.by_all_templates.Goals as goal
 
 pub returns-in_ok-by_templates-in-Ok : goal.returns-in_ok-by_templates-in-Ok
 returns-in_ok-by_templates-in-Ok c =
