@@ -192,11 +192,11 @@ fn copy(rt: &HostRuntime) -> Result<(), Error> {
 fn copy_of(rt: &HostRuntime) -> Result<(), Error> {
     let alloc = rt.alloc();
     let owner = owned(alloc, SENTENCE)?;
-    clone(rt, "ByteTemplate::clone of a lent one", owner.as_template());
+    clone(rt, "ByteTemplate::clone when lent", owner.as_template());
     let mut template = ByteTemplate::from_slice(alloc, SENTENCE)?;
     let name = "ByteTemplateBuf::of_template";
     again!(rt, name, [owner], Err(_) => copied(alloc, &mut template, &owner));
-    let name = "ByteTemplateBuf::of_template of a lent one";
+    let name = "ByteTemplateBuf::of_template when lent";
     let mut template = owner.as_template();
     again!(rt, name, [owner], Err(_) => copied(alloc, &mut template, &owner));
     Ok(())

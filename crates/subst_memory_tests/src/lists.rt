@@ -2,8 +2,9 @@
 
 use crate::calls::{Shown, again, say, say_end, tell};
 use crate::{bytes, texts};
+use std::alloc::AllocError;
 use subst::error::NoSuchVariable;
-use subst::{ByteTemplate, Error, Template, Variable};
+use subst::{ByteTemplate, ByteTemplateBuf, Error, Template, TemplateBuf, Variable};
 use subst_testing::calls::{begin, end, say_out_of_memory};
 use subst_testing::variables::{byte_values, texts as text_values};
 
@@ -44,9 +45,8 @@ fn of_text(rt: &HostRuntime) -> Result<(), Error> {
     Ok(())
 }
 
-fn of_text_owner(rt: &HostRuntime) -> Result<(), Error> {
+fn of_text_owner(rt: &HostRuntime, owner: &TemplateBuf) -> Result<(), AllocError> {
     let alloc = rt.alloc();
-    let owner = texts::owned(alloc, LACKING)?;
     let map = text_values(alloc, texts::NAME)?;
     again!(rt, "TemplateBuf::variables", [owner], Err(_) => owner.variables(alloc));
     again!(rt, "TemplateBuf::missing", [owner, map], Err(_) => owner.missing(alloc, &map));
@@ -62,9 +62,8 @@ fn of_bytes(rt: &HostRuntime) -> Result<(), Error> {
     Ok(())
 }
 
-fn of_byte_owner(rt: &HostRuntime) -> Result<(), Error> {
+fn of_byte_owner(rt: &HostRuntime, owner: &ByteTemplateBuf) -> Result<(), AllocError> {
     let alloc = rt.alloc();
-    let owner = bytes::owned(alloc, LACKING.as_bytes())?;
     let map = byte_values(alloc, bytes::NAME)?;
     again!(rt, "ByteTemplateBuf::variables", [owner], Err(_) => owner.variables(alloc));
     again!(rt, "ByteTemplateBuf::missing", [owner, map], Err(_) => owner.missing(alloc, &map));
@@ -75,18 +74,18 @@ fn of_byte_owner(rt: &HostRuntime) -> Result<(), Error> {
 fn of_nothing(rt: &HostRuntime) -> Result<(), Error> {
     let alloc = rt.alloc();
     let plain = Template::from_str(alloc, "Hé \\$a!")?;
-    again!(rt, "Template::variables of none", [plain], Err(_) => plain.variables(alloc));
+    again!(rt, "Template::variables, none", [plain], Err(_) => plain.variables(alloc));
     let template = ByteTemplate::from_slice(alloc, bytes::SENTENCE)?;
     let map = byte_values(alloc, bytes::NAME)?;
-    let name = "ByteTemplate::missing of none";
+    let name = "ByteTemplate::missing, none";
     again!(rt, name, [template, map], Err(_) => template.missing(alloc, &map));
     Ok(())
 }
 
 pub fn calls(rt: &HostRuntime) -> Result<(), Error> {
     of_text(rt)?;
-    of_text_owner(rt)?;
+    of_text_owner(rt, &texts::owned(rt.alloc(), LACKING)?)?;
     of_bytes(rt)?;
-    of_byte_owner(rt)?;
+    of_byte_owner(rt, &bytes::owned(rt.alloc(), LACKING.as_bytes())?)?;
     of_nothing(rt)
 }

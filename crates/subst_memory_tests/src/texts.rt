@@ -150,11 +150,11 @@ fn copy(rt: &HostRuntime) -> Result<(), Error> {
 fn copy_of(rt: &HostRuntime) -> Result<(), Error> {
     let alloc = rt.alloc();
     let owner = owned(alloc, SENTENCE)?;
-    clone(rt, "Template::clone of a lent one", owner.as_template());
+    clone(rt, "Template::clone when lent", owner.as_template());
     let mut template = Template::from_str(alloc, SENTENCE)?;
     let name = "TemplateBuf::of_template";
     again!(rt, name, [owner], Err(_) => copied(alloc, &mut template, &owner));
-    let name = "TemplateBuf::of_template of a lent one";
+    let name = "TemplateBuf::of_template when lent";
     let mut template = owner.as_template();
     again!(rt, name, [owner], Err(_) => copied(alloc, &mut template, &owner));
     Ok(())
@@ -175,10 +175,10 @@ pub fn calls(rt: &HostRuntime) -> Result<(), Error> {
     expand(rt, "Template::expand of a missing variable", MISSING)?;
     take_over(rt, "TemplateBuf::from_string", SENTENCE)?;
     take_over(rt, "TemplateBuf::from_string of a bad escape", BAD_ESCAPE)?;
-    let name = "TemplateBuf::from_string of defaults in defaults";
+    let name = "TemplateBuf::from_string of nested defaults";
     take_over(rt, name, DEFAULTS)?;
     expand_owner(rt, "TemplateBuf::expand", SENTENCE, NAME)?;
-    let name = "TemplateBuf::expand of defaults in defaults";
+    let name = "TemplateBuf::expand of nested defaults";
     expand_owner(rt, name, DEFAULTS, "")?;
     copy(rt)?;
     copy_of(rt)?;
