@@ -101,7 +101,8 @@ list_line wanted s t look answer (Ok line) same is shown =
     (record { answer = answer; is = is; shown = shown })
 list_line wanted s t look answer (Err e) same is shown = tt
 
--- The laws of all that a tree is missing: nothing, if the value is bytes, and else first what this is missing.
+-- The laws of all that a tree is missing: nothing, if the value is bytes, and else first what this is
+-- missing.
 abbrev MissesNothing : Type 0
 MissesNothing =
     (p : ℕ) (t : Tree) (look : LookUp)
@@ -109,7 +110,8 @@ MissesNothing =
 
 abbrev MissesFirst : Type 0
 MissesFirst =
-    (p position : ℕ) (t : Tree) (look : LookUp) (name : List ℕ) → value p t look ≡ values.Missing position name
+    (p position : ℕ) (t : Tree) (look : LookUp) (name : List ℕ)
+    → value p t look ≡ values.Missing position name
     → (more : List Fault) × (all_missing p t look ≡ NoSuchVariable position name ∷ more)
 
 -- what a sentence gives or is refused for is how the list of all that it is missing begins
@@ -123,7 +125,8 @@ begins_so s look see (y ∷ ys) (Some (spec.Gives x)) none first sentence tells 
     cc (tells t spells ∙ (none 0 t look).1 (x, gives))
 begins_so s look see items (Some (spec.Refuses f)) none first sentence tells (inl fault) =
     absurd (exclusive s sentence.0 0 f sentence.1 fault)
-begins_so s look see [] (Some (spec.Refuses f)) none first sentence tells (inr (t, spells, (p, n, lacks, is))) =
+begins_so s look see [] (Some (spec.Refuses f)) none first sentence tells (inr (t, spells, misses)) =
+    let (p, n, lacks, is) = misses in
     cc (tells t spells ∙ (first 0 p t look n lacks).1)
 begins_so s look see (y ∷ ys) (Some (spec.Refuses f)) none first sentence tells (inr (t, spells, misses)) =
     let (p, n, lacks, is) = misses in

@@ -12,8 +12,8 @@ use std::alloc::{AllocError, Global};
 use subst::error::{NoSuchVariable, ParseError};
 use subst::{ByteTemplate, Error, laws};
 
-/// Returns whether nothing is missing exactly where `substitute_bytes` gives bytes, and else the first is what
-/// it refuses the source for. So it is of every source.
+/// Returns whether nothing is missing exactly where `substitute_bytes` gives bytes, and else the first is
+/// what it refuses the source for. So it is of every source.
 pub fn is_as_refused(
     alloc: Global,
     source: &[u8],

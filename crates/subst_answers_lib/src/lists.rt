@@ -35,8 +35,8 @@ pub fn line(
     answer(alloc, wanted, source, &asked.pairs)?.line(alloc, source)
 }
 
-/// Returns the list of all types of templates, unless they differ, or what is missing isn't what the source is
-/// refused for.
+/// Returns the list of all types of templates, unless they differ, or what is missing isn't what the source
+/// is refused for.
 fn answer(
     alloc: Global,
     wanted: Wanted,

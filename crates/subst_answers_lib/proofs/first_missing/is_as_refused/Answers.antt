@@ -8,6 +8,7 @@ pub returns-in-Ok : goal.returns-in-Ok
 returns-in-Ok c =
     let laws = c.missing_lists_are_whole.ensures in
     let list = c.in_ok-missing-in-Ok.ensures in
-    c.begins_with.ensures (begins c.args.source.now c.in-Ok.template (λ v. v.items) (get_by_text c.args.pairs.now)
-    missing_fault _ _ (stated_by c.in_ok-answer.answer) laws.none laws.first c.in-Ok.ensures.ok.1
+    c.begins_with.ensures
+    (begins c.args.source.now c.in-Ok.template (λ v. v.items) (get_by_text c.args.pairs.now) missing_fault
+    _ _ (stated_by c.in_ok-answer.answer) laws.none laws.first c.in-Ok.ensures.ok.1
     list.sentence list.missing c.deref.ensures.value c.in_ok-answer.ensures)
