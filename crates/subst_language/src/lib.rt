@@ -1,4 +1,4 @@
-//! The template language: its definitions, its laws, the lemmas on it, and the variables that templates tell.
+//! The template language: its definitions, its laws, the lemmas on it, and the variables that templates list.
 //!
 //! The definitions are in `specs/`: `Language` says what is right, `Earlier` what the language was before
 //! `${name?}`, and `Calls` what maps and results mean in contracts of public calls.

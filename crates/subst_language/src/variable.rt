@@ -1,4 +1,4 @@
-//! Variables, as templates tell them.
+//! Variables, as templates list them.
 
 /// A variable of a template.
 #[derive(Clone, Copy, Debug, PartialEq, Eq)]
