@@ -3,12 +3,13 @@ pub mod ByteRunLemmas
 pub mod CutLemmas
 pub mod DepthLemmas
 pub mod ExpandLemmas
+pub mod ExpansionLemmas
 pub mod FilledLemmas
 pub mod FilledTextLemmas
 pub mod InnerLemmas
+pub mod LaneLemmas
 pub mod LiftLemmas
 pub mod ListedLemmas
-pub mod OpenPartLemmas
 pub mod OutputLemmas
 pub mod ParsedLemmas
 pub mod ParserLemmas
@@ -18,6 +19,10 @@ pub mod PartsLemmas
 pub mod PlaceholderLemmas
 pub mod ScanLemmas
 pub mod StackHoldsLemmas
+pub mod SubstituteLemmas
 pub mod TemplateOfLemmas
 pub mod TreeAtLemmas
 pub mod VariablesLemmas
+pub mod WayLemmas
+pub mod WritingLemmas
+pub mod WriterLemmas

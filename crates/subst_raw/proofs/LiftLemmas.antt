@@ -12,12 +12,9 @@ use Rattle.subst_language.specs.Language.BadItem.IsBad.{inside, unclosed}
 use Rattle.subst_language.specs.Language.BadItem.HasFault.{fault_after}
 use Rattle.subst_language.specs.Lemmas.Closing.{ClosesAll}
 use Rattle.subst_raw.specs.Placeholder.{IsInBraces}
-use Rattle.subst_raw.specs.Parts.{HasName}
 use Rattle.subst_language.specs.Lemmas.Closing.{ChangesDepth}
 use Rattle.subst_raw.specs.Parsing.{IsTreeAt, IsParsedWithTail, StackHoldsFlushed}
-use Rattle.subst_raw.specs.declared.part.Span.{Span}
 use Rattle.subst_raw.specs.declared.part.Part.{Part}
-use Rattle.subst_raw.specs.declared.part.Part.TheVariants.{Default}
 use Rattle.subst_raw.specs.declared.parse.OpenDefault.{OpenDefault}
 use Rattle.subst_language.specs.Language.Join.{join}
 use Rattle.subst_language.proofs.Language.PlainLemmas.{plains}
@@ -27,7 +24,6 @@ use Rattle.subst_language.proofs.Language.ClosingLemmas.{gather, closes_one, com
 use Rattle.subst_language.proofs.Language.ItemLemmas.{default_balanced, default_text}
 use Rattle.subst_language.proofs.Language.NameLemmas.{name_balanced}
 use Rattle.subst_raw.proofs.StackHoldsLemmas.{holds_some}
-use Rattle.subst_raw.proofs.OpenPartLemmas.{named_after, name_unique}
 
 -- a bad item after a tree is the fault of the text that begins where the tree does
 fault_at : {s : List ℕ} {from at : ℕ} {t : Tree} (r : List ℕ) (f : Fault) → IsTreeAt s from at t
@@ -62,7 +58,7 @@ lift s [] depth parts literal_start at y z f within reads balanced bad cut close
     subst (λ x. HasFault 0 x f) (sym (at_tree.spelled ∙ rw reads refl)) (fault_at (y ++ z) f at_tree bad)
 lift s (default ∷ defaults) depth parts literal_start at y z f within reads balanced bad cut closes =
     let at_tree = current_tree_at within.current in
-    let n = span_bytes within.name s in
+    let n = span_bytes default.name s in
     let read = text (join within.current.level.tree (plains within.current.run.run)) in
     let count : depth ≡ suc (within.bare + default.depth) = omega (arith, within.braces) in
     let (v, q, completes, is, rest) =
@@ -73,11 +69,11 @@ lift s (default ∷ defaults) depth parts literal_start at y z f within reads ba
     let closed : IsBalanced w =
     subst (λ x. IsBalanced (x ++ (y ++ v))) same
     (within.change.completed (y ++ v) (completes_balanced within.bare v balanced completes)) in
-    let start : within.name.end + 1 ≡ within.position + 3 + length n =
+    let start : default.name.end + 1 ≡ within.position + 3 + length n =
     omega (arith, within.head.starts, within.head.named.ends) in
     let fault : HasFault (within.position + 3 + length n) w f =
     subst (λ p. HasFault p w f) start (fault_at (y ++ v) f at_tree (cut v q is)) in
-    let again : drop (within.name.end + 1) s ≡ w ++ closing_brace ∷ q =
+    let again : drop (default.name.end + 1) s ≡ w ++ closing_brace ∷ q =
     cut_again read y v q at_tree.spelled reads is in
     let around : drop within.position s
     ≡ (dollar ∷ opening_brace ∷ n ++ (colon ∷ w ++ closing_brace ∷ [])) ++ q =
@@ -98,61 +94,42 @@ depth_front d n valid =
     (depth_append (suc d) (suc d) (suc d) n (colon ∷ []) (depth_balanced (suc d) (name_balanced n valid))
     (depth_byte (suc d) colon (λ is. omega (arith, is)) (λ is. omega (arith, is)) (λ is. omega (arith, is)))))
 
--- the outermost default: its part among all parts, what is before it, and that all braces which are open
--- after what was read close where it does
-record IsOutermost (s : List ℕ) (outermost : OpenDefault) (depth : ℕ) (parts : List Part) (at : ℕ) : Type 0
-  where
-    before : List Part
-    own : List Part
-    name : Span
-    next : ℕ
-    splits : parts ≡ before ++ Default name next ∷ own
-    part : outermost.part ≡ length before
-    position : ℕ
-    head : IsInBraces s position name colon
-    current : IsParsedWithTail false s 0 position position 0 before
-    closes : Closes (drop (name.end + 1) s) → ClosesAll depth (drop at s)
+-- the outermost default: what is before its part, and that all braces which are open after what was read
+-- close where it does
+record IsOutermost (s : List ℕ) (outermost : OpenDefault) (depth : ℕ) (at : ℕ) : Type 0 where
+  before : List Part
+  position : ℕ
+  head : IsInBraces s position outermost.name colon
+  current : IsParsedWithTail false s 0 position position 0 before
+  closes : Closes (drop (outermost.name.end + 1) s) → ClosesAll depth (drop at s)
 
 -- where the outermost default is
 find_outermost : (s : List ℕ) (inner : List OpenDefault) (outermost : OpenDefault) (depth : ℕ)
     (parts : List Part) (literal_start at : ℕ)
     → StackHoldsFlushed s (inner ++ outermost ∷ []) depth parts literal_start at
-    → IsOutermost s outermost depth parts at
+    → IsOutermost s outermost depth at
 find_outermost s [] outermost depth parts literal_start at within = record {
   before = within.before;
-  own = within.own;
-  name = within.name;
-  next = within.next;
-  splits = within.splits;
-  part = within.part;
   position = within.position;
   head = within.head;
   current = within.around.1;
   closes = λ closes.
       within.change.closed 0 1 depth (drop at s) (omega arith) (omega (arith, within.braces, within.around.0))
-      (subst (ClosesAll 1) within.spelled ((closes_one (drop (within.name.end + 1) s)).1 closes));
+      (subst (ClosesAll 1) within.spelled ((closes_one (drop (outermost.name.end + 1) s)).1 closes));
 }
 find_outermost s (default ∷ inner) outermost depth parts literal_start at within =
-    let n = span_bytes within.name s in
+    let n = span_bytes default.name s in
     let valid = within.head.named.valid in
-    let some =
-    holds_some s inner outermost default.depth within.before within.position within.position within.around in
     let found =
     find_outermost s inner outermost default.depth within.before within.position within.position
     within.around in
     let spelled : drop within.position s
     ≡ (dollar ∷ opening_brace ∷ n ++ colon ∷ []) ++ (within.read ++ drop at s) =
     within.head.spelled ∙ rw (within.spelled, append_assoc) refl in
+    let some =
+    holds_some s inner outermost default.depth within.before within.position within.position within.around in
     record {
       before = found.before;
-      own = found.own ++ Default within.name within.next ∷ within.own;
-      name = found.name;
-      next = found.next;
-      splits = within.splits
-          ∙ (ap (λ (parts : List Part). parts ++ Default within.name within.next ∷ within.own) found.splits
-          ∙ append_assoc found.before (Default found.name found.next ∷ found.own)
-          (Default within.name within.next ∷ within.own));
-      part = found.part;
       position = found.position;
       head = found.head;
       current = found.current;
@@ -165,40 +142,31 @@ find_outermost s (default ∷ inner) outermost depth parts literal_start at with
           (omega (arith, within.braces)) after;
     }
 
--- the name in its part is after a dollar and a brace
-pub outermost_head : (s : List ℕ) (inner : List OpenDefault) (outermost : OpenDefault) (depth : ℕ)
+-- its name is after a dollar and a brace
+pub outermost_starts : (s : List ℕ) (inner : List OpenDefault) (outermost : OpenDefault) (depth : ℕ)
     (parts : List Part) (literal_start at : ℕ)
     → StackHoldsFlushed s (inner ++ outermost ∷ []) depth parts literal_start at
-    → (name : Span) × HasName parts outermost.part name × (0 < name.start)
-outermost_head s inner outermost depth parts literal_start at within =
-    let found = find_outermost s inner outermost depth parts literal_start at within in (
-      found.name,
-      named_after parts found.before found.own found.name found.next outermost.part found.splits
-          found.part,
-      omega (arith, found.head.starts),
-    )
+    → 0 < outermost.name.start
+outermost_starts s inner outermost depth parts literal_start at within =
+    omega (arith, (find_outermost s inner outermost depth parts literal_start at within).head.starts)
 
 -- Where not all open braces close, the outermost default is the fault of the source.
 pub unclosed_outermost : (s : List ℕ) (inner : List OpenDefault) (outermost : OpenDefault) (depth : ℕ)
-    (parts : List Part) (literal_start at : ℕ) (name : Span)
+    (parts : List Part) (literal_start at : ℕ)
     → StackHoldsFlushed s (inner ++ outermost ∷ []) depth parts literal_start at
-    → HasName parts outermost.part name → ¬ (ClosesAll depth (drop at s))
-    → HasFault 0 s (MissingClosingBrace (name.start - 1))
-unclosed_outermost s inner outermost depth parts literal_start at name within named unclosed_there =
+    → ¬ (ClosesAll depth (drop at s))
+    → HasFault 0 s (MissingClosingBrace (outermost.name.start - 1))
+unclosed_outermost s inner outermost depth parts literal_start at within unclosed_there =
     let found = find_outermost s inner outermost depth parts literal_start at within in
-    let same : found.name ≡ name =
-    name_unique parts outermost.part found.name name
-    (named_after parts found.before found.own found.name found.next outermost.part found.splits found.part)
-    named in
+    let name = outermost.name in
     let at_tree = current_tree_at found.current in
-    let n = span_bytes found.name s in
-    let rest = dollar ∷ opening_brace ∷ n ++ colon ∷ drop (found.name.end + 1) s in
+    let n = span_bytes name s in
+    let rest = dollar ∷ opening_brace ∷ n ++ colon ∷ drop (name.end + 1) s in
     let bad : IsBad found.position rest (MissingClosingBrace (found.position + 1)) =
-    unclosed n (drop (found.name.end + 1) s) found.head.named.valid
+    unclosed n (drop (name.end + 1) s) found.head.named.valid
     (λ closes. unclosed_there (found.closes closes)) in
     let fault = fault_at rest (MissingClosingBrace (found.position + 1)) at_tree bad in
-    let brace : found.position + 1 ≡ name.start - 1 =
-    omega (arith, found.head.starts, ap (λ (name : Span). name.start) same) in
+    let brace : found.position + 1 ≡ name.start - 1 = omega (arith, found.head.starts) in
     let tree = join found.current.level.tree (plains found.current.run.run) in
     let spelled : s ≡ text tree ++ rest = at_tree.spelled ∙ ap (λ x. text tree ++ x) found.head.spelled in
     subst (λ q. HasFault 0 s (MissingClosingBrace q)) brace

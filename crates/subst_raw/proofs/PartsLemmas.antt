@@ -13,6 +13,7 @@ use Rattle.subst_language.specs.Language.Variables.{Required, OrNothing, OrDefau
 use Rattle.subst_language.specs.Language.Counts.{if_missing, visited_count_after, visited_count}
 use Rattle.subst_raw.specs.Span.{IsSpan, span_bytes}
 use Rattle.subst_raw.specs.Parts.{FitsAt, AllFit, part_value, if_found, resume_index, visited_parts, joined_value, joined_written, kind_before, part_variables, variables_in, part_missing, missing_in, PartsMean}
+use Rattle.subst_raw.specs.Sink.{AllClosed}
 use Rattle.subst_raw.specs.declared.part.Span.{Span}
 use Rattle.subst_raw.specs.declared.part.Part.{Part}
 use Rattle.subst_raw.specs.declared.part.Part.TheVariants.{Literal, Escaped, Variable, Default}
@@ -33,7 +34,7 @@ joined_value-append (part ∷ xs) ys s look =
     (sym (joined_assoc (part_value part s look) (joined_value xs s look) (joined_value ys s look)))
 
 -- for two lists of parts concatenated what is written for the first is written, and then for the second
-joined_written-append : (xs ys : List Part) (s : List ℕ) (look : LookUp)
+pub joined_written-append : (xs ys : List Part) (s : List ℕ) (look : LookUp)
     → joined_written (xs ++ ys) s look
     ≡ joined_written xs s look ++ unless_missing (joined_value xs s look) (joined_written ys s look)
 joined_written-append [] ys s look = refl
@@ -91,6 +92,15 @@ fit_split i end s (part ∷ xs) ys fit =
 pub fit_at : (i end : ℕ) (s : List ℕ) (xs : List Part) (part : Part) (ys : List Part)
     → AllFit i end s (xs ++ part ∷ ys) → FitsAt (i + length xs) end s part
 fit_at i end s xs part ys fit = (fit_split i end s xs (part ∷ ys) fit).1.0
+
+-- parts that fit have their jumps
+pub closed_of_fit : (i end : ℕ) (s : List ℕ) (parts : List Part) → AllFit i end s parts → AllClosed end parts
+closed_of_fit i end s [] fit = tt
+closed_of_fit i end s (Literal span ∷ rest) fit = (tt, closed_of_fit (i + 1) end s rest fit.1)
+closed_of_fit i end s (Escaped b ∷ rest) fit = (tt, closed_of_fit (i + 1) end s rest fit.1)
+closed_of_fit i end s (Variable name ∷ rest) fit = (tt, closed_of_fit (i + 1) end s rest fit.1)
+closed_of_fit i end s (Default name next ∷ rest) fit =
+    ((omega (arith, fit.0.2), fit.0.3), closed_of_fit (i + 1) end s rest fit.1)
 
 -- a part before the index where an expansion goes on is jumped over
 pub visited_parts-before : (part : Part) (rest : List Part) (i from : ℕ) (s : List ℕ) (look : LookUp)
@@ -150,34 +160,54 @@ goes_on_within i end s (Default name next) look fits = of (look (span_bytes name
     of (Some x) = fits.3
     of None = omega arith
 
+-- each part goes on no later than an end
+abbrev pub Lands : ℕ → List ℕ → LookUp → List Part → Type 0
+Lands end s look [] = Unit {0}
+Lands end s look (part ∷ rest) = (resume_index part s look ≤ end) × Lands end s look rest
+
+-- as parts do that fit
+lands_fitting : (i end : ℕ) (s : List ℕ) (xs : List Part) (look : LookUp) → AllFit i end s xs
+    → Lands end s look xs
+lands_fitting i end s [] look fit = tt
+lands_fitting i end s (part ∷ rest) look fit =
+    (goes_on_within i end s part look fit.0, lands_fitting (i + 1) end s rest look fit.1)
+
 -- of two lists concatenated, where the jumps of the first end no later than the second begins, an expansion
 -- visits what it visits of the first, and then what it visits of the second by itself
-pub visited_parts-append : (i end from : ℕ) (s : List ℕ) (xs ys : List Part) (look : LookUp)
-    → AllFit i end s xs → end ≤ i + length xs → from ≤ i + length xs
+pub visited_parts-lands : (i end from : ℕ) (s : List ℕ) (xs ys : List Part) (look : LookUp)
+    → Lands end s look xs → end ≤ i + length xs → from ≤ i + length xs
     → visited_parts (xs ++ ys) i from s look
     ≡ visited_parts xs i from s look ++ visited_parts ys (i + length xs) 0 s look
-visited_parts-append i end from s [] ys look fit inside above =
+visited_parts-lands i end from s [] ys look lands inside above =
     visited_parts-anywhere ys i from s look (omega arith)
     ∙ ap (λ n. visited_parts ys n 0 s look) (omega arith)
-visited_parts-append i end from s (part ∷ xs) ys look fit inside above =
+visited_parts-lands i end from s (part ∷ xs) ys look lands inside above =
     elim (cases_lt i from) [
       | inl before ↦
           visited_parts-before part (xs ++ ys) i from s look before
-          ∙ visited_parts-append (i + 1) end from s xs ys look fit.1 (omega arith) (omega arith)
+          ∙ visited_parts-lands (i + 1) end from s xs ys look lands.1 (omega arith) (omega arith)
           ∙ ap (λ n. visited_parts xs (i + 1) from s look ++ visited_parts ys n 0 s look) (omega arith)
           ∙ sym (ap (λ visited. visited ++ visited_parts ys (i + length (part ∷ xs)) 0 s look)
           (visited_parts-before part xs i from s look before))
       | inr after ↦
-          let jump = goes_on_within i end s part look fit.0 in
+          let jump = lands.0 in
           visited_parts-from part (xs ++ ys) i from s look after
           ∙ ap (λ visited. part ∷ visited)
-          (visited_parts-append (i + 1) end (resume_index part s look) s xs ys look fit.1 (omega arith)
+          (visited_parts-lands (i + 1) end (resume_index part s look) s xs ys look lands.1 (omega arith)
           (omega arith))
           ∙ ap (λ n. part ∷ visited_parts xs (i + 1) (resume_index part s look) s look
           ++ visited_parts ys n 0 s look) (omega arith)
           ∙ sym (ap (λ visited. visited ++ visited_parts ys (i + length (part ∷ xs)) 0 s look)
           (visited_parts-from part xs i from s look after))
     ]
+
+-- the same of parts that fit
+pub visited_parts-append : (i end from : ℕ) (s : List ℕ) (xs ys : List Part) (look : LookUp)
+    → AllFit i end s xs → end ≤ i + length xs → from ≤ i + length xs
+    → visited_parts (xs ++ ys) i from s look
+    ≡ visited_parts xs i from s look ++ visited_parts ys (i + length xs) 0 s look
+visited_parts-append i end from s xs ys look fit inside above =
+    visited_parts-lands i end from s xs ys look (lands_fitting i end s xs look fit) inside above
 
 -- of parts that are all before the index where it goes on, an expansion visits none
 pub visited_parts-jumped : (i from : ℕ) (s : List ℕ) (xs : List Part) (look : LookUp) → i + length xs ≤ from

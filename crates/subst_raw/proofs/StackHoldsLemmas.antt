@@ -1,6 +1,5 @@
 -- How the parser's steps change what it has read: each step changes the innermost text alone.
-use Rattle.std.proofs.Common.{◌≡◌, ℕ, suc, ◌+◌, ◌-◌, ◌<◌, ◌≤◌, Bool, true, false, List, [], ◌∷◌, ◌++◌, length, drop, refl, sym, ap, ◌∙◌, subst, append_assoc, append-nil, length-append, arith, set}
-use Rattle.std.proofs.Math.Seq.{set-append_seam}
+use Rattle.std.proofs.Common.{◌≡◌, ℕ, suc, ◌+◌, ◌-◌, ◌<◌, ◌≤◌, Bool, true, false, List, [], ◌∷◌, ◌++◌, length, drop, refl, sym, ap, ◌∙◌, subst, append_assoc, append-nil, length-append, arith}
 use Rattle.subst_language.specs.Language.Bytes.{colon, closing_brace, opening_brace}
 use Rattle.subst_language.specs.Language.Tree.{Tree, Empty, Then, text}
 use Rattle.subst_language.specs.Language.Tree as tree
@@ -46,14 +45,12 @@ change_inside {s = s} {default = default}
     record {
       before = inside.before;
       own = inside.own ++ new;
-      name = inside.name;
-      next = inside.next;
       splits = ap (λ parts. parts ++ new) inside.splits
-          ∙ append_assoc inside.before (Default inside.name inside.next ∷ inside.own) new;
+          ∙ append_assoc inside.before (Default default.name 0 ∷ inside.own) new;
       part = inside.part;
       position = inside.position;
       head = inside.head;
-      current = step (inside.name.end + 1) (length inside.before + 1) inside.own
+      current = step (default.name.end + 1) (length inside.before + 1) inside.own
           (omega (arith, simp length-append at (ap length inside.splits))) inside.current;
       bare = bare;
       braces = braces;
@@ -190,14 +187,12 @@ holds_closing s default defaults depth parts literal_start at bare reads within 
 pub holds_default : (s : List ℕ) (defaults : List OpenDefault) (depth : ℕ) (parts : List Part) (at : ℕ)
     (name : Span)
     → IsInBraces s at name colon → StackHoldsFlushed s defaults depth parts at at
-    → StackHolds true s (record { part = length parts; depth = depth } ∷ defaults) (depth + 1)
+    → StackHolds true s (record { part = length parts; depth = depth; name = name } ∷ defaults) (depth + 1)
     (parts ++ Default name 0 ∷ [])
     (name.end + 1) (name.end + 1)
 holds_default s defaults depth parts at name front within = record {
   before = parts;
   own = [];
-  name = name;
-  next = 0;
   splits = refl;
   part = refl;
   position = at;
@@ -237,40 +232,36 @@ pub holds_closed : (s : List ℕ) (default : OpenDefault) (defaults : List OpenD
     (parts : List Part) (at : ℕ)
     → default.depth + 1 ≡ depth → drop at s ≡ closing_brace ∷ drop (at + 1) s
     → (inside : StackHoldsFlushed s (default ∷ defaults) depth parts at at)
-    → StackHolds true s defaults default.depth (set parts default.part (Default inside.name (length parts)))
-    (at + 1) (at + 1)
+    → StackHolds true s defaults default.depth
+    (inside.before ++ Default default.name (length parts) ∷ inside.own) (at + 1) (at + 1)
 holds_closed s default defaults depth parts at closes reads inside =
+    let name = default.name in
     let level = inside.current.level in
     let t = level.tree in
-    let n = span_bytes inside.name s in
+    let n = span_bytes name s in
     let balanced =
     read_balanced s default depth parts at
     (λ before position. StackHoldsFlushed s defaults default.depth before position position) inside closes in
     let count : length parts ≡ length inside.before + 1 + length inside.own =
     omega (arith, simp length-append at (ap length inside.splits)) in
-    let start : inside.name.end + 1 ≡ inside.position + 3 + length n =
+    let start : name.end + 1 ≡ inside.position + 3 + length n =
     omega (arith, inside.head.starts, inside.head.named.ends) in
-    let mean : PartsMean s (length inside.before) (Default inside.name (length parts) ∷ inside.own)
+    let mean : PartsMean s (length inside.before) (Default name (length parts) ∷ inside.own)
     inside.position (Then (tree.Default n t) Empty) =
     subst
-    (λ next. PartsMean s (length inside.before) (Default inside.name next ∷ inside.own) inside.position
+    (λ next. PartsMean s (length inside.before) (Default name next ∷ inside.own) inside.position
     (Then (tree.Default n t) Empty)) (sym count)
-    (mean_default s (length inside.before) inside.name inside.own inside.position t inside.head.named.inside
+    (mean_default s (length inside.before) name inside.own inside.position t inside.head.named.inside
     inside.head.named.valid inside.head.starts
-    (ap kind_before (after_name s inside.position inside.name colon inside.head))
+    (ap kind_before (after_name s inside.position name colon inside.head))
     (subst (λ p. PartsMean s (length inside.before + 1) inside.own p t) start level.mean)) in
-    let added =
     holds_tree s defaults default.depth inside.before
-    (Default inside.name (length parts) ∷ inside.own) inside.position (at + 1)
+    (Default name (length parts) ∷ inside.own) inside.position (at + 1)
     (Then (tree.Default n t) Empty)
-    (default_tree_at s inside.position (at + 1) inside.name t inside.head level.read.well_formed balanced
+    (default_tree_at s inside.position (at + 1) name t inside.head level.read.well_formed balanced
     (level.read.spelled ∙ rw reads refl) (omega (arith, level.read.ends)))
     (rw append-nil (default_balanced n (text t) inside.head.named.valid balanced))
-    (no_plain_ends (tree.Default n t) refl) mean inside.around in
-    subst (λ ps. StackHolds true s defaults default.depth ps (at + 1) (at + 1))
-    (sym (rw (inside.splits, inside.part)
-    (set-append_seam inside.before (Default inside.name inside.next) inside.own _)))
-    added
+    (no_plain_ends (tree.Default n t) refl) mean inside.around
 
 -- what is fresh, taken as fresh or not
 pub holds_any : (s : List ℕ) (defaults : List OpenDefault) (depth : ℕ) (parts : List Part)
@@ -284,9 +275,9 @@ holds_any s defaults depth parts literal_start at within =
     (sym (append-nil own)) (current_any current))
     (λ d. depth_balanced d empty) within)
 
--- before anything is read
-pub holds_start : (s : List ℕ) → StackHolds true s [] 0 [] 0 0
-holds_start s = (
+-- where nothing but plain bytes has been read
+pub holds_start : (s : List ℕ) (at : ℕ) → IsRun IsPlain s 0 at → StackHolds true s [] 0 [] 0 at
+holds_start s at plain = (
   refl,
   record {
     level = record {
@@ -294,7 +285,7 @@ holds_start s = (
       read = record { well_formed = tt; followed = tt; spelled = refl; ends = refl };
       mean = mean_nothing s 0 0;
     };
-    run = run_nothing IsPlain s 0;
+    run = plain;
     begins = λ pending. refl;
   },
 )

@@ -18,7 +18,7 @@ end_of_name (Default name) = name.end
 
 -- A step of the parser adds at least one read and at most three for each byte that it goes on; where it ends
 -- in an error, at least one, and at most two for each byte that is left and eight more.
-abbrev pub StepReads : {O : Type 0} → Parser O → Result (Unit {0}) Halt → Parser O → Type 0
+abbrev pub StepReads : {S : Type 0} → Parser S → Result (Unit {0}) Halt → Parser S → Type 0
 StepReads before (Ok _) after =
     GrowsBetween (after.at - before.at) (3 * (after.at - before.at)) before.tape.reads after.tape.reads
 StepReads before (Err e) after =
@@ -26,7 +26,7 @@ StepReads before (Err e) after =
 
 -- The same of a step whose first byte has been read already: at least one read for each byte after it, and
 -- less than two for each byte.
-abbrev pub StepReadsAfterFirst : {O : Type 0} → Parser O → Result (Unit {0}) Halt → Parser O → Type 0
+abbrev pub StepReadsAfterFirst : {S : Type 0} → Parser S → Result (Unit {0}) Halt → Parser S → Type 0
 StepReadsAfterFirst before (Ok _) after =
     GrowsBetween (after.at - before.at - 1) (2 * (after.at - before.at) - 1)
     before.tape.reads after.tape.reads

@@ -2,9 +2,11 @@
 -- them.
 pub mod ByteRun
 pub mod Cost
+pub mod Expansion
 pub mod Filled
 pub mod Halt
 pub mod Inner
+pub mod Lanes
 pub mod Output
 pub mod Packed
 pub mod Parsing
@@ -12,5 +14,9 @@ pub mod PartList
 pub mod PartLists
 pub mod Parts
 pub mod Placeholder
+pub mod Sink
 pub mod SliceOutput
 pub mod Span
+pub mod Ways
+pub mod Writer
+pub mod Writing

@@ -10,9 +10,9 @@ use Rattle.subst_raw.specs.ByteRun.{IsRun}
 use Rattle.subst_language.specs.Lemmas.Closing.{ChangesDepth}
 use Rattle.subst_raw.specs.Halt.{halt_fault}
 use Rattle.subst_raw.specs.Placeholder.{IsInBraces}
+use Rattle.subst_raw.specs.Sink.{HoldsFrom, since}
 use Rattle.subst_language.specs.Lemmas.PlainEnds.{ends_plain, HasNoPlainEnds}
-use Rattle.subst_raw.specs.Parts.{PartsMean}
-use Rattle.subst_raw.specs.declared.part.Span.{Span}
+use Rattle.subst_raw.specs.Parts.{PartsMean, IsTemplateOf}
 use Rattle.subst_raw.specs.declared.part.Part.{Part}
 use Rattle.subst_raw.specs.declared.part.Part.TheVariants.{Default}
 use Rattle.subst_raw.specs.declared.halt.Halt.{Halt}
@@ -42,23 +42,21 @@ pub record IsParsedWithTail (pending : Bool) (s : List ℕ) (start literal_start
   pub run : IsRun IsPlain s literal_start at
   pub begins : IsTrue pending → ends_plain false level.tree ≡ false
 
--- A default is open: before its part are the parts of what is around it, after it those of its own text so
--- far, in which bare braces are open too.
+-- A default is open: before its part, which has no jump yet, are the parts of what is around it, after it
+-- those of its own text so far, in which bare braces are open too.
 pub record IsOpenDefault (pending : Bool) (s : List ℕ) (default : OpenDefault) (depth : ℕ) (parts : List Part)
     (literal_start at : ℕ) (Around : List Part → ℕ → Type 0) : Type 0 where
   pub before : List Part
   pub own : List Part
-  pub name : Span
-  pub next : ℕ
-  pub splits : parts ≡ before ++ Default name next ∷ own
+  pub splits : parts ≡ before ++ Default default.name 0 ∷ own
   pub part : default.part ≡ length before
   pub position : ℕ
-  pub head : IsInBraces s position name colon
-  pub current : IsParsedWithTail pending s (name.end + 1) literal_start at (length before + 1) own
+  pub head : IsInBraces s position default.name colon
+  pub current : IsParsedWithTail pending s (default.name.end + 1) literal_start at (length before + 1) own
   pub bare : ℕ
   pub braces : depth ≡ suc (default.depth + bare)
   pub read : List ℕ
-  pub spelled : drop (name.end + 1) s ≡ read ++ drop at s
+  pub spelled : drop (default.name.end + 1) s ≡ read ++ drop at s
   pub change : ChangesDepth read 0 bare
   pub around : Around before position
 
@@ -76,16 +74,34 @@ abbrev pub StackHoldsFlushed : List ℕ → List OpenDefault → ℕ → List Pa
 StackHoldsFlushed s defaults depth parts literal_start at =
     StackHolds false s defaults depth parts literal_start at
 
--- What the parser keeps from one item to the next, where offsets and indexes in parts are below a limit. As
--- each part is of at least one byte, the number of parts is one that a part can hold.
-pub record IsReading {O : Type 0} (limit : ℕ) (parser : Parser O) : Type 0 where
+-- What the parser keeps from one item to the next, whose sink holds parts with offsets and indexes below a
+-- limit. As each part is of at least one byte, the number of parts is one that a part can hold.
+pub record IsReading {S : Type 0} (holds : S → List Part → Type 0) (limit : ℕ) (parser : Parser S)
+    : Type 0 where
+  pub parts : List Part
+  pub held : holds parser.sink parts
   pub fits : length parser.tape.source.now < limit
-  pub few : length parser.parts ≤ parser.literal_start
+  pub few : length parts ≤ parser.literal_start
   pub small : length parser.tape.source.now < 2 ^ 64
   pub within : parser.at ≤ length parser.tape.source.now
   pub shallow : parser.depth ≤ parser.at
   pub nested : StackHolds true parser.tape.source.now (reverse parser.defaults.items) parser.depth
-      parser.parts parser.literal_start parser.at
+      parts parser.literal_start parser.at
+
+-- the state after another one, when the plain bytes have got their part
+pub record IsFlushed {S : Type 0} (holds : S → List Part → Type 0) (before after : Parser S) : Type 0 where
+  pub kept : after ≡ record before { sink = after.sink; literal_start = before.at }
+  pub parts : List Part
+  pub held : holds after.sink parts
+  pub few : length parts ≤ before.at
+  pub nested : StackHoldsFlushed before.tape.source.now (reverse before.defaults.items) before.depth
+      parts before.at before.at
+
+-- the sink holds the parts of the source's template
+pub record HoldsTemplate {S : Type 0} (holds : S → List Part → Type 0) (s : List ℕ) (sink : S) : Type 0 where
+  pub parts : List Part
+  pub held : holds sink parts
+  pub template : IsTemplateOf s parts
 
 -- the part, which has index i, means a tree that is at this range of the source, and that leaves all braces
 -- as they are
@@ -96,8 +112,36 @@ pub record IsPart (s : List ℕ) (from to i : ℕ) (part : Part) : Type 0 where
   pub ends : HasNoPlainEnds tree
   pub mean : PartsMean s i (part ∷ []) from tree
 
+-- the parser is reading, whatever its sink was at first
+abbrev pub IsReadingSince : {S First : Type 0} → HoldsFrom S First → (First → List ℕ → Type 0) → ℕ → Parser S
+    → Type 0
+IsReadingSince {First = First} holds source limit parser =
+    (first : First) × source first parser.tape.source.now × IsReading (since holds first) limit parser
+
+-- it goes on reading, from whatever its sink was at first
+abbrev pub ReadsOn : {S First : Type 0} → HoldsFrom S First → ℕ → Parser S → Parser S → Type 0
+ReadsOn {First = First} holds limit old new =
+    (first : First) → IsReading (since holds first) limit old → IsReading (since holds first) limit new
+
+-- it has given all plain bytes to its sink
+abbrev pub Flushes : {S First : Type 0} → HoldsFrom S First → ℕ → Parser S → Parser S → Type 0
+Flushes {First = First} holds limit old new =
+    (first : First) → IsReading (since holds first) limit old → IsFlushed (since holds first) old new
+
+-- it has given all parts of the source's template to its sink
+abbrev pub Finishes : {S First : Type 0} → HoldsFrom S First → ℕ → Parser S → Parser S → Type 0
+Finishes {First = First} holds limit old new = (first : First) → IsReading (since holds first) limit old
+    → HoldsTemplate (since holds first) old.tape.source.now new.sink
+
+-- its sink still holds some list of parts
+abbrev pub StillHolds : {S First : Type 0} → HoldsFrom S First → ℕ → Parser S → Parser S → Type 0
+StillHolds {First = First} holds limit old new = (first : First) → IsReading (since holds first) limit old
+    → (parts : List Part) × holds new.sink first parts
+
 -- one step of the parser: it goes on, or returns the fault of the source, or memory ran out
-abbrev pub StepsOrFails : {O : Type 0} → ℕ → Parser O → Result (Unit {0}) Halt → Parser O → Type 0
-StepsOrFails limit old (Ok _) new =
-    IsReading limit new × (new.tape.source ≡ old.tape.source) × (old.at < new.at)
-StepsOrFails limit old (Err e) new = IfSome (halt_fault e) (HasFault 0 old.tape.source.now)
+abbrev pub StepsOrFails : {S First : Type 0} → HoldsFrom S First → ℕ → Parser S → Result (Unit {0}) Halt
+    → Parser S → Type 0
+StepsOrFails holds limit old (Ok _) new =
+    ReadsOn holds limit old new × (new.tape.source ≡ old.tape.source) × (old.at < new.at)
+StepsOrFails holds limit old (Err e) new =
+    IfSome (halt_fault e) (HasFault 0 old.tape.source.now) × StillHolds holds limit old new

@@ -12,8 +12,6 @@ use Rattle.subst_language.specs.Language.Variables as variables
 use Rattle.subst_language.specs.Language.Variables.{Kind, variables_of, unless_found, all_missing}
 use Rattle.subst_error.specs.Fault.{Fault, NoSuchVariable}
 use Rattle.subst_raw.specs.Span.{IsSpan, span_bytes}
-use Rattle.std.specs.List.{slice_get}
-use Rattle.subst_raw.specs.declared.part.Span.{Span}
 use Rattle.subst_raw.specs.declared.part.Part.{Part}
 use Rattle.subst_raw.specs.declared.part.Part.TheVariants.{Literal, Escaped, Variable, Default}
 
@@ -25,7 +23,14 @@ FitsAt i end s (Escaped b) = b < 256
 FitsAt i end s (Variable name) = IsSpan s name × IsName (span_bytes name s)
 FitsAt i end s (Default name next) = IsSpan s name × IsName (span_bytes name s) × (i < next) × (next ≤ end)
 
--- the same of each part, where the first has index i
+-- a part whose range is in the source, and whose name is one
+abbrev pub IsInSource : List ℕ → Part → Type 0
+IsInSource s (Literal span) = IsSpan s span
+IsInSource s (Escaped b) = Unit {0}
+IsInSource s (Variable name) = IsSpan s name × IsName (span_bytes name s)
+IsInSource s (Default name next) = IsSpan s name × IsName (span_bytes name s)
+
+-- each part fits, where the first has index i
 abbrev pub AllFit : ℕ → ℕ → List ℕ → List Part → Type 0
 AllFit i end s [] = Unit {0}
 AllFit i end s (part ∷ rest) = FitsAt i end s part × AllFit (i + 1) end s rest
@@ -42,10 +47,6 @@ part_value (Default name next) s look = found_or (look (span_bytes name s)) (Byt
 abbrev pub if_found : Option (List ℕ) → ℕ → ℕ
 if_found (Some x) next = next
 if_found None next = 0
-
--- the part at index i is that of a variable with a default, which has this name
-abbrev pub HasName : List Part → ℕ → Span → Type 0
-HasName parts i name = (next : ℕ) × (slice_get parts i ≡ Some (Default name next))
 
 -- the index before which the parts after this one are jumped over
 abbrev pub resume_index : Part → List ℕ → LookUp → ℕ

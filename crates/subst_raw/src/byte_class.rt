@@ -5,6 +5,10 @@ ghost use Rattle.std.specs.Prelude.{◌≡◌, ◌↔◌, ℕ, IsTrue};
 ghost use Rattle.subst_language.specs.Language.Bytes as bytes;
 ghost use Rattle.subst_language.specs.Language.Name as name;
 ghost use Rattle.subst_raw.specs.Inner as inner;
+ghost use Rattle.subst_raw.specs.Lanes.{HasOutside};
+
+use crate::search::{either, equal_to};
+use std::simd::prelude::*;
 
 /// Each name byte at its own index, and a comma at every other.
 static NAME_BYTES: [u8; 256] = *b"\
@@ -37,6 +41,13 @@ pub(crate) trait ByteClass {
         ensures { IsTrue result ↔ is_in byte };
 }
 
+/// A class whose bytes are tested 32 at a time.
+pub(crate) trait VectorClass: ByteClass {
+    /// Returns a vector whose lanes have their top bit set where the byte isn't in the class.
+    fn outside(bytes: u8x32) -> u8x32
+        ensures { HasOutside Self.is_in bytes result };
+}
+
 /// The bytes that mean nothing by themselves where no brace is open: all but the dollar and the backslash.
 pub(crate) struct PlainBytes;
 
@@ -51,6 +62,13 @@ impl ByteClass for PlainBytes {
     }
 }
 
+impl VectorClass for PlainBytes {
+    #[inline(always)]
+    fn outside(bytes: u8x32) -> u8x32 {
+        either(equal_to(bytes, b'$'), equal_to(bytes, b'\\'))
+    }
+}
+
 /// The bytes that mean nothing by themselves inside a default: all but those two and the braces.
 pub(crate) struct InnerBytes;
 
@@ -62,6 +80,15 @@ impl ByteClass for InnerBytes {
     #[inline(always)]
     fn has(byte: u8) -> bool {
         is_inner(byte)
+    }
+}
+
+impl VectorClass for InnerBytes {
+    #[inline(always)]
+    fn outside(bytes: u8x32) -> u8x32 {
+        let items = either(equal_to(bytes, b'$'), equal_to(bytes, b'\\'));
+        let braces = either(equal_to(bytes, b'{'), equal_to(bytes, b'}'));
+        either(items, braces)
     }
 }
 

@@ -29,7 +29,12 @@ use std::{mem, str};
 use subst_error::{ExpandError, ExpandIntoError, NoSuchVariableRef};
 use subst_map::VariableMap;
 
+/// For how many bytes more than its source an output has room at first: values are often longer than their
+/// placeholders.
+pub(crate) const MORE_ROOM: usize = 64;
+
 /// Why an expansion stopped.
+#[derive(Clone, Copy)]
 pub(crate) enum Stop {
     /// The output is too short and can't grow.
     Full(AllocError),
@@ -79,7 +84,7 @@ where
     ensures missing { IfErr result (λ e. IfSome (expand_fault e)
         (IsMissing (parts_value parts.now source.now (marks_of (M.look_up variables.now))))) }
 {
-    let mut output = Vec::with_capacity(alloc, source.len())?;
+    let mut output = Vec::with_capacity(alloc, source.len() + MORE_ROOM)?;
     match expand_into::<M, R>(source, parts, variables, turns, &mut output) {
         Ok(()) => Ok(output),
         Err(e) => Err(e.into_owned(alloc)),
@@ -328,7 +333,7 @@ where
 }
 
 /// Returns the bytes of a range of the source.
-fn bytes_at(source: &[u8], span: Span) -> &[u8]
+pub(crate) fn bytes_at(source: &[u8], span: Span) -> &[u8]
     requires { IsSpan source.now span }
     ensures { result.now ≡ span_bytes span source.now }
 {
@@ -346,7 +351,7 @@ pub(crate) fn name_at(source: &[u8], name: Span) -> &str
 }
 
 /// Returns the error for what an expansion stopped at.
-fn error_of(source: &[u8], stop: Stop) -> ExpandIntoError<'_>
+pub(crate) fn error_of(source: &[u8], stop: Stop) -> ExpandIntoError<'_>
     requires { IfMissing (Err stop) (λ name.
         IsSpan source.now name × IsName (span_bytes name source.now)) }
     ensures { expand_into_fault result ≡ fault_of stop source.now }

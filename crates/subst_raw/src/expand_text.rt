@@ -90,7 +90,7 @@ where
 }
 
 /// Returns bytes that are UTF-8 as a text, without looking at them.
-fn text_of(bytes: Vec<u8>) -> String
+pub(crate) fn text_of(bytes: Vec<u8>) -> String
     requires { IsUtf8 bytes.items }
     ensures bytes { string_bytes result ≡ bytes.items }
     ensures room { string_vec result ≡ bytes }

@@ -5,6 +5,8 @@
 //! their steps by [`steps`].
 #![tactic(auto)]
 
+mod append;
+pub mod at_once;
 mod byte_class;
 mod character;
 pub mod expand;
@@ -20,11 +22,15 @@ mod part_list;
 mod part_vec;
 mod read_value;
 mod scan;
+mod search;
+mod sink;
 pub mod steps;
 mod tape;
 pub mod variables;
+mod writer;
 
 pub use packed_vec::PackedVec;
 pub use part::{Part, Span};
 pub use part_vec::{CowParts, PartVec};
 pub use read_value::{ReadValue, SliceBytes, TextBytes};
+pub use search::plain_len;

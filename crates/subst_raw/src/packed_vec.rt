@@ -1,11 +1,12 @@
 //! The list of packed parts that the parser adds to, generic in their width. Contracts see it as the list
 //! of its parts.
 
-ghost use Rattle.std.specs.Prelude.{◌≡◌, ◌<◌, ◌^◌, [], ◌∷◌, ◌++◌, length, slice_get, slice_set, IfOk, OnOk};
+ghost use Rattle.std.specs.Prelude.{◌≡◌, ◌<◌, ◌^◌, [], ◌∷◌, ◌++◌, length, slice_set, IfOk, OnErr, OnOk};
 ghost use Rattle.subst_raw.specs.Packed.{FitsBelow, unpacked_parts};
 
 use crate::packed_part::{Offset, PackedPart};
-use crate::part::Part;
+use crate::part::{Part, Span};
+use crate::sink::Sink;
 use std::alloc::{AllocError, Global};
 use std::marker::Model;
 
@@ -72,17 +73,11 @@ impl<O: Offset> PackedVec<O> {
     #[inline(always)]
     pub fn push(&mut self, part: Part) -> Result<(), AllocError>
         requires { FitsBelow O.limit part }
-        ensures { OnOk result (self.new ≡ self.old ++ part ∷ []) }
+        ensures pushed { OnOk result (self.new ≡ self.old ++ part ∷ []) }
+        ensures kept { OnErr result (self.new ≡ self.old) }
     {
         self.list.push(PackedPart::pack(part))?;
         Ok(())
-    }
-
-    /// Returns the part at an index, or nothing after the last part.
-    pub fn get(&self, index: usize) -> Option<Part>
-        ensures { result ≡ slice_get self.now index }
-    {
-        Some(self.list.get(index)?.unpack())
     }
 
     /// Puts a part at an index.
@@ -93,6 +88,42 @@ impl<O: Offset> PackedVec<O> {
         ensures { self.new ≡ slice_set self.old index part }
     {
         self.list[index] = PackedPart::pack(part);
+    }
+}
+
+impl<O: Offset> Sink for PackedVec<O> {
+    ghost use Rattle.std.specs.Prelude.{◌≡◌};
+
+    ghost First = { Unit {0} };
+
+    ghost holds = { λ list _ parts. list ≡ parts };
+
+    ghost source = { λ _ _. Unit {0} };
+
+    ghost limit = { O.limit };
+
+    #[inline(always)]
+    fn take(&mut self, part: Part) -> Result<(), AllocError> {
+        self.push(part)
+    }
+
+    #[inline(always)]
+    fn take_optional(&mut self, name: Span) -> Result<(), AllocError> {
+        let next = self.len() + 1;
+        self.push(Part::Default { name, next })
+    }
+
+    #[inline(always)]
+    fn open(&mut self, name: Span) -> Result<usize, AllocError> {
+        let index = self.len();
+        self.push(Part::Default { name, next: 0 })?;
+        Ok(index)
+    }
+
+    #[inline(always)]
+    fn close(&mut self, index: usize, name: Span) {
+        let next = self.len();
+        self.set(index, Part::Default { name, next });
     }
 }
 

@@ -1,18 +1,21 @@
-//! The pass: a source is read once, from the left, into a list of parts. It returns the parts of the
-//! source's template, or the source's fault, or that memory ran out.
+//! The pass: a source is read once, from the left, and its parts are given to a sink, as a list. It returns
+//! the parts of the source's template, or the source's fault, or that memory ran out.
 
-ghost use Rattle.std.specs.Prelude.{◌≡◌, ◌+◌, ◌-◌, ◌*◌, ◌<◌, ◌≤◌, ℕ, List, [], ◌∷◌, length, drop, reverse, slice_get, vec_len, IfOk, IfErr, OnOk, IfSome, IsTrue, ◌↔◌};
+ghost use Rattle.std.specs.Prelude.{◌≡◌, ◌+◌, ◌-◌, ◌*◌, ◌<◌, ◌≤◌, ℕ, List, [], ◌∷◌, length, drop, slice_get, vec_len, IfOk, IfErr, OnErr, OnOk, IfSome, IsTrue, ◌↔◌};
 ghost use Rattle.subst_error.specs.ErrorFault.{parse_fault};
 ghost use Rattle.subst_error.specs.Fault.{MissingClosingBrace};
 ghost use Rattle.subst_error.specs.Range.{range_of};
-ghost use Rattle.subst_language.specs.Language.Bytes.{dollar, colon, backslash, closing_brace};
+ghost use Rattle.subst_language.specs.Language.Bytes.{IsPlain, dollar, colon, backslash, closing_brace};
 ghost use Rattle.subst_language.specs.Language.BadItem.{HasFault};
 ghost use Rattle.subst_language.specs.Calls.Outcome.{OnFault};
+ghost use Rattle.subst_raw.specs.ByteRun.{IsRun};
 ghost use Rattle.subst_raw.specs.Cost.{GrowsBetween, StepReads, StepReadsAfterFirst};
 ghost use Rattle.subst_raw.specs.Halt.{halt_fault};
 ghost use Rattle.subst_raw.specs.Packed.{FitsBelow};
-ghost use Rattle.subst_raw.specs.Parts.{HasName, IsTemplateOf};
+ghost use Rattle.subst_raw.specs.Parsing.{HoldsTemplate};
+ghost use Rattle.subst_raw.specs.Parts.{IsTemplateOf};
 ghost use Rattle.subst_raw.specs.Placeholder.{IsInBraces, IsOptional, StatesBadItem};
+ghost use Rattle.subst_raw.specs.Sink.{since};
 
 use crate::halt::Halt;
 use crate::item::{Placeholder, escape_at, placeholder_at};
@@ -21,6 +24,7 @@ use crate::packed_vec::PackedVec;
 use crate::part::{Part, Span};
 use crate::part_vec::PartVec;
 use crate::scan::closes_all;
+use crate::sink::Sink;
 use crate::steps::Reads;
 use crate::tape::Tape;
 use std::alloc::{AllocError, Global};
@@ -37,13 +41,15 @@ pub(crate) struct OpenDefault {
     pub part: usize,
     /// How many braces are open around it.
     pub depth: usize,
+    /// Its name.
+    pub name: Span,
 }
 
 /// How far a source has been read.
 #[derive(Drop)]
-pub(crate) struct Parser<'s, O: Offset> {
+pub(crate) struct Parser<'s, S: Sink> {
     tape: Tape<'s>,
-    parts: PackedVec<O>,
+    sink: S,
     /// The defaults that are open, the outermost first.
     defaults: Vec<OpenDefault>,
     /// How many braces are open: those of the defaults, and bare ones inside defaults.
@@ -90,49 +96,85 @@ fn parse_packed<O: Offset>(
     ensures whole { OnOk result (reads.old + length source.now ≤ reads.new) }
     ensures refused { IfErr result (λ e. reads.old + 1 ≤ reads.new) }
 {
-    let counter = mem::replace(reads, Reads::new());
-    let mut parser = Parser::<O>::new(alloc, Tape::new(source, counter));
-    let outcome = parser.read_to_end();
-    let Parser { tape, parts, .. } = parser;
-    *reads = tape.into_reads();
+    let list = empty_list::<O>(alloc, !source.is_empty());
+    let (parts, outcome) = parse_into(alloc, source, 0, list, reads);
     match outcome {
         Ok(()) => Ok(parts),
         Err(halt) => Err(halt.into()),
     }
 }
 
-impl<'s, O: Offset> Parser<'s, O> {
-    ghost use Rattle.subst_raw.specs.Parsing.{IsReading, IsPart, StepsOrFails, StackHoldsFlushed};
+/// Gives the parts of a source to a sink, up to its end or its first bad item, and counts the reads. Those of
+/// its first `plain` bytes, which have no dollar and no backslash, were made by the caller.
+#[inline(always)]
+pub(crate) fn parse_into<S: Sink>(
+    alloc: Global,
+    source: &[u8],
+    plain: usize,
+    sink: S,
+    reads: &mut Reads,
+) -> (S, Result<(), Halt>)
+    requires plain { IsRun IsPlain source.now 0 plain }
+    requires within { plain ≤ length source.now }
+    requires fits { length source.now < S.limit }
+    requires empty { (first : S.First) × S.source first source.now × S.holds sink first [] }
+    ensures ok { OnOk result.1 ((first : S.First) → S.holds sink first []
+        → HoldsTemplate (since S.holds first) source.now result.0) }
+    ensures err { OnFault halt_fault result.1 (HasFault 0 source.now) }
+    ensures held { OnErr result.1 ((first : S.First) → S.holds sink first []
+        → (parts : List Part) × S.holds result.0 first parts) }
+    ensures bound { reads.new ≤ reads.old + 3 * length source.now + 8 }
+    ensures grows { reads.old ≤ reads.new }
+    ensures whole { OnOk result.1 (reads.old + length source.now ≤ reads.new) }
+    ensures refused { IfErr result.1 (λ e. reads.old + 1 ≤ reads.new) }
+{
+    reads.add(plain);
+    let counter = mem::replace(reads, Reads::new());
+    let mut parser = Parser::new(alloc, Tape::new(source, counter), plain, sink);
+    let outcome = parser.read_to_end();
+    let Parser { tape, sink, .. } = parser;
+    *reads = tape.into_reads();
+    (sink, outcome)
+}
 
-    fn new(alloc: Global, tape: Tape<'s>) -> Self
-        requires fits { length tape.source.now < O.limit }
-        ensures reading { IsReading O.limit result }
+impl<'s, S: Sink> Parser<'s, S> {
+    ghost use Rattle.subst_raw.specs.Parsing.{Finishes, Flushes, IsPart, IsReading, IsReadingSince, StepsOrFails, StillHolds};
+
+    /// Returns a parser that begins at an offset, where the bytes before have no dollar and no backslash.
+    fn new(alloc: Global, tape: Tape<'s>, at: usize, sink: S) -> Self
+        requires plain { IsRun IsPlain tape.source.now 0 at }
+        requires within { at ≤ length tape.source.now }
+        requires fits { length tape.source.now < S.limit }
+        requires empty { (first : S.First) × S.source first tape.source.now
+            × S.holds sink first [] }
+        ensures reading { (first : S.First) → S.holds sink first []
+            → IsReading (since S.holds first) S.limit result }
         ensures source { result.tape ≡ tape.entry }
-        ensures start { result.at ≡ 0 }
+        ensures start { result.at ≡ at }
     {
-        let parts = empty_list(alloc, tape.has(0));
         Parser {
             tape,
-            parts,
+            sink,
             defaults: Vec::new(alloc),
             depth: 0,
             literal_start: 0,
-            at: 0,
+            at,
         }
     }
 
     /// Reads the source to its end, or to its first bad item.
     fn read_to_end(&mut self) -> Result<(), Halt>
-        requires reading { IsReading O.limit self.old }
-        requires start { self.old.at ≡ 0 }
-        ensures ok { OnOk result (IsTemplateOf self.old.tape.source.now self.new.parts) }
+        requires reading { IsReadingSince S.holds S.source S.limit self.old }
+        ensures ok { OnOk result (Finishes S.holds S.limit self.old self.new) }
+        ensures held { OnErr result (StillHolds S.holds S.limit self.old self.new) }
         ensures err { OnFault halt_fault result (HasFault 0 self.old.tape.source.now) }
-        ensures bound { self.new.tape.reads
+        ensures bound { self.new.tape.reads + 3 * self.old.at
             ≤ self.old.tape.reads + 3 * length self.old.tape.source.now + 8 }
         ensures grows { self.old.tape.reads ≤ self.new.tape.reads }
-        ensures whole { OnOk result
-            (self.old.tape.reads + length self.old.tape.source.now ≤ self.new.tape.reads) }
-        ensures refused { IfErr result (λ e. self.old.tape.reads + 1 ≤ self.new.tape.reads) }
+        ensures whole { OnOk result (self.old.tape.reads + length self.old.tape.source.now
+            ≤ self.new.tape.reads + self.old.at) }
+        ensures refused { IfErr result
+            (λ e. self.old.tape.reads + 1 ≤ self.new.tape.reads + self.old.at) }
     {
         while self.tape.has(self.at) {
             self.read_item()?;
@@ -143,9 +185,9 @@ impl<'s, O: Offset> Parser<'s, O> {
     /// Reads up to and including the next special byte or item.
     #[inline(always)]
     fn read_item(&mut self) -> Result<(), Halt>
-        requires reading { IsReading O.limit self.old }
+        requires reading { IsReadingSince S.holds S.source S.limit self.old }
         requires more { self.old.at < length self.old.tape.source.now }
-        ensures answer { StepsOrFails O.limit self.old result self.new }
+        ensures answer { StepsOrFails S.holds S.limit self.old result self.new }
         ensures cost { StepReads self.old result self.new }
     {
         if self.is_at_top() {
@@ -166,10 +208,10 @@ impl<'s, O: Offset> Parser<'s, O> {
     /// Reads, where no brace is open, plain bytes and the escape or placeholder after them.
     #[inline(always)]
     fn read_at_top(&mut self) -> Result<(), Halt>
-        requires reading { IsReading O.limit self.old }
+        requires reading { IsReadingSince S.holds S.source S.limit self.old }
         requires more { self.old.at < length self.old.tape.source.now }
         requires top { self.old.depth ≡ 0 }
-        ensures answer { StepsOrFails O.limit self.old result self.new }
+        ensures answer { StepsOrFails S.holds S.limit self.old result self.new }
         ensures cost { StepReads self.old result self.new }
     {
         self.at = self.tape.plain_end(self.at);
@@ -183,10 +225,10 @@ impl<'s, O: Offset> Parser<'s, O> {
     /// Reads, inside a default, plain bytes and the brace, escape or placeholder after them.
     #[inline(always)]
     fn read_in_default(&mut self) -> Result<(), Halt>
-        requires reading { IsReading O.limit self.old }
+        requires reading { IsReadingSince S.holds S.source S.limit self.old }
         requires more { self.old.at < length self.old.tape.source.now }
         requires inside { 0 < self.old.depth }
-        ensures answer { StepsOrFails O.limit self.old result self.new }
+        ensures answer { StepsOrFails S.holds S.limit self.old result self.new }
         ensures cost { StepReads self.old result self.new }
     {
         self.at = self.tape.inner_end(self.at);
@@ -206,10 +248,10 @@ impl<'s, O: Offset> Parser<'s, O> {
     /// Reads the escape at `at`.
     #[inline(always)]
     fn read_escape(&mut self) -> Result<(), Halt>
-        requires reading { IsReading O.limit self.old }
+        requires reading { IsReadingSince S.holds S.source S.limit self.old }
         requires spelled { (rest : List ℕ)
             × (drop self.old.at self.old.tape.source.now ≡ backslash ∷ rest) }
-        ensures answer { StepsOrFails O.limit self.old result self.new }
+        ensures answer { StepsOrFails S.holds S.limit self.old result self.new }
         ensures cost { StepReadsAfterFirst self.old result self.new }
     {
         match escape_at(&mut self.tape, self.at) {
@@ -221,10 +263,10 @@ impl<'s, O: Offset> Parser<'s, O> {
     /// Reads the placeholder at `at`, of one with a default the part up to the colon.
     #[inline(always)]
     fn read_placeholder(&mut self) -> Result<(), Halt>
-        requires reading { IsReading O.limit self.old }
+        requires reading { IsReadingSince S.holds S.source S.limit self.old }
         requires spelled { (rest : List ℕ)
             × (drop self.old.at self.old.tape.source.now ≡ dollar ∷ rest) }
-        ensures answer { StepsOrFails O.limit self.old result self.new }
+        ensures answer { StepsOrFails S.holds S.limit self.old result self.new }
         ensures cost { StepReadsAfterFirst self.old result self.new }
     {
         match placeholder_at(&mut self.tape, self.at) {
@@ -239,18 +281,16 @@ impl<'s, O: Offset> Parser<'s, O> {
     /// Flushes the pending literal bytes into a `Literal` part.
     #[inline(always)]
     fn flush_literal(&mut self) -> Result<(), AllocError>
-        requires { IsReading O.limit self.old }
+        requires { IsReadingSince S.holds S.source S.limit self.old }
         ensures kept { OnOk result
-            (self.new ≡ record self.old { parts = self.new.parts; literal_start = self.old.at }) }
-        ensures nested { OnOk result (StackHoldsFlushed self.old.tape.source.now
-            (reverse self.old.defaults.items) self.old.depth self.new.parts
-            self.old.at self.old.at) }
-        ensures few { OnOk result (length self.new.parts ≤ self.old.at) }
+            (self.new ≡ record self.old { sink = self.new.sink; literal_start = self.old.at }) }
+        ensures flushed { OnOk result (Flushes S.holds S.limit self.old self.new) }
+        ensures held { OnErr result (StillHolds S.holds S.limit self.old self.new) }
         ensures same { self.new.tape ≡ self.old.tape }
         ensures some { IfErr result (λ e. 0 < self.old.at) }
     {
         if self.literal_start < self.at {
-            self.parts.push(Part::Literal(Span {
+            self.sink.take(Part::Literal(Span {
                 start: self.literal_start,
                 end: self.at,
             }))?;
@@ -262,55 +302,54 @@ impl<'s, O: Offset> Parser<'s, O> {
     /// Adds the part of the bytes from `at` up to `end`.
     #[inline(always)]
     fn add_part(&mut self, part: Part, end: usize) -> Result<(), Halt>
-        requires reading { IsReading O.limit self.old }
-        requires fits { FitsBelow O.limit part }
+        requires reading { IsReadingSince S.holds S.source S.limit self.old }
+        requires fits { FitsBelow S.limit part }
         requires part { (i : ℕ) → IsPart self.old.tape.source.now self.old.at end i part }
         requires within { end ≤ length self.old.tape.source.now }
         requires forward { self.old.at < end }
-        ensures answer { StepsOrFails O.limit self.old result self.new }
+        ensures answer { StepsOrFails S.holds S.limit self.old result self.new }
         ensures position { OnOk result (self.new.at ≡ end) }
         ensures same { self.new.tape ≡ self.old.tape }
     {
         self.flush_literal()?;
-        self.parts.push(part)?;
+        self.sink.take(part)?;
         self.at = end;
         self.literal_start = end;
         Ok(())
     }
 
-    /// Adds the part of the placeholder `${name?}` at `at`: a default without parts, whose jump leads to the
-    /// part right after it.
+    /// Adds the part of the placeholder `${name?}` at `at`.
     #[inline(always)]
     fn add_optional(&mut self, name: Span) -> Result<(), Halt>
-        requires reading { IsReading O.limit self.old }
+        requires reading { IsReadingSince S.holds S.source S.limit self.old }
         requires optional { IsOptional self.old.tape.source.now self.old.at name }
-        ensures answer { StepsOrFails O.limit self.old result self.new }
+        ensures answer { StepsOrFails S.holds S.limit self.old result self.new }
         ensures position { OnOk result (self.new.at ≡ name.end + 2) }
         ensures same { self.new.tape ≡ self.old.tape }
     {
         self.flush_literal()?;
-        let next = self.parts.len() + 1;
-        self.parts.push(Part::Default { name, next })?;
+        self.sink.take_optional(name)?;
         self.at = name.end + 2;
         self.literal_start = self.at;
         Ok(())
     }
 
-    /// Opens the default of the placeholder at `at`. Its part gets its jump when the default closes.
+    /// Opens the default of the placeholder at `at`.
     #[inline(always)]
     fn open_default(&mut self, name: Span) -> Result<(), Halt>
-        requires reading { IsReading O.limit self.old }
+        requires reading { IsReadingSince S.holds S.source S.limit self.old }
         requires head { IsInBraces self.old.tape.source.now self.old.at name colon }
-        ensures answer { StepsOrFails O.limit self.old result self.new }
+        ensures answer { StepsOrFails S.holds S.limit self.old result self.new }
         ensures position { OnOk result (self.new.at ≡ name.end + 1) }
         ensures same { self.new.tape ≡ self.old.tape }
     {
         self.flush_literal()?;
+        let part = self.sink.open(name)?;
         self.defaults.push(OpenDefault {
-            part: self.parts.len(),
+            part,
             depth: self.depth,
+            name,
         })?;
-        self.parts.push(Part::Default { name, next: 0 })?;
         self.depth += 1;
         self.at = name.end + 1;
         self.literal_start = self.at;
@@ -319,11 +358,11 @@ impl<'s, O: Offset> Parser<'s, O> {
 
     /// Reads a closing brace inside a default: that of the default, or of a bare brace in it.
     fn close_brace(&mut self) -> Result<(), Halt>
-        requires reading { IsReading O.limit self.old }
+        requires reading { IsReadingSince S.holds S.source S.limit self.old }
         requires inside { 0 < self.old.depth }
         requires spelled { drop self.old.at self.old.tape.source.now
             ≡ closing_brace ∷ drop (self.old.at + 1) self.old.tape.source.now }
-        ensures answer { StepsOrFails O.limit self.old result self.new }
+        ensures answer { StepsOrFails S.holds S.limit self.old result self.new }
         ensures position { OnOk result (self.new.at ≡ self.old.at + 1) }
         ensures same { self.new.tape ≡ self.old.tape }
     {
@@ -339,36 +378,23 @@ impl<'s, O: Offset> Parser<'s, O> {
 
     /// Closes the innermost default.
     fn close_default(&mut self, innermost: OpenDefault) -> Result<(), Halt>
-        requires reading { IsReading O.limit self.old }
+        requires reading { IsReadingSince S.holds S.source S.limit self.old }
         requires innermost { slice_get self.old.defaults.items
             (length self.old.defaults.items - 1) ≡ Some innermost }
         requires closes { innermost.depth + 1 ≡ self.old.depth }
         requires spelled { drop self.old.at self.old.tape.source.now
             ≡ closing_brace ∷ drop (self.old.at + 1) self.old.tape.source.now }
-        ensures answer { StepsOrFails O.limit self.old result self.new }
+        ensures answer { StepsOrFails S.holds S.limit self.old result self.new }
         ensures position { OnOk result (self.new.at ≡ self.old.at + 1) }
         ensures same { self.new.tape ≡ self.old.tape }
     {
         self.flush_literal()?;
         let _ = self.defaults.pop();
-        let name = self.name_of(innermost);
-        let next = self.parts.len();
-        self.parts.set(innermost.part, Part::Default { name, next });
+        self.sink.close(innermost.part, innermost.name);
         self.depth = innermost.depth;
         self.at += 1;
         self.literal_start = self.at;
         Ok(())
-    }
-
-    /// Returns the name of an open default, which its part has.
-    fn name_of(&self, default: OpenDefault) -> Span
-        requires { (name : Span) × HasName self.now.parts default.part name }
-        ensures { HasName self.now.parts default.part result }
-    {
-        match self.parts.get(default.part) {
-            Some(Part::Default { name, .. }) => name,
-            _ => unreachable!(),
-        }
     }
 
     /// Returns the fault of the source, where a bad item is at `at`: a default that is never closed comes
@@ -376,9 +402,10 @@ impl<'s, O: Offset> Parser<'s, O> {
     #[cold]
     #[inline(never)]
     fn fault_of_source(&mut self, halt: Halt) -> Halt
-        requires reading { IsReading O.limit self.old }
+        requires reading { IsReadingSince S.holds S.source S.limit self.old }
         requires bad { StatesBadItem halt self.old.tape.source.now self.old.at }
         ensures answer { IfSome (halt_fault result) (HasFault 0 self.old.tape.source.now) }
+        ensures sink { self.new.sink ≡ self.old.sink }
         ensures cost { GrowsBetween 0 (length self.old.tape.source.now - self.old.at + 1)
             self.old.tape.reads self.new.tape.reads }
     {
@@ -388,21 +415,22 @@ impl<'s, O: Offset> Parser<'s, O> {
         if closes_all(&mut self.tape, self.at, self.depth) {
             halt
         } else {
-            unclosed(self.name_of(outermost))
+            unclosed(outermost.name)
         }
     }
 
     /// Flushes the last literal bytes, at the end of the source.
     fn finish(&mut self) -> Result<(), Halt>
-        requires reading { IsReading O.limit self.old }
+        requires reading { IsReadingSince S.holds S.source S.limit self.old }
         requires end { length self.old.tape.source.now ≤ self.old.at }
-        ensures ok { OnOk result (IsTemplateOf self.old.tape.source.now self.new.parts) }
+        ensures ok { OnOk result (Finishes S.holds S.limit self.old self.new) }
+        ensures held { OnErr result (StillHolds S.holds S.limit self.old self.new) }
         ensures err { OnFault halt_fault result (HasFault 0 self.old.tape.source.now) }
         ensures same { self.new.tape ≡ self.old.tape }
         ensures some { IfErr result (λ e. 0 < self.old.at) }
     {
         if let Some(outermost) = self.defaults.first().copied() {
-            return Err(unclosed(self.name_of(outermost)));
+            return Err(unclosed(outermost.name));
         }
         self.flush_literal()?;
         Ok(())

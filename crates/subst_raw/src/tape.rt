@@ -11,8 +11,8 @@ ghost use Rattle.subst_raw.specs.Inner.{IsInner};
 
 use crate::byte_class::{ByteClass, InnerBytes, NameBytes, PlainBytes};
 use crate::character::front_character;
+use crate::search::{SearchedClass, rest};
 use crate::steps::Reads;
-use memchr::memchr2;
 use subst_error::CharOrByte;
 
 /// A source that is read one byte at a time, or searched, with the counter of its reads. The parser has no
@@ -60,8 +60,7 @@ impl<'s> Tape<'s> {
         self.source.get(at).copied()
     }
 
-    /// Returns the first offset from `from` on of a dollar or a backslash, or the end of the source. After an
-    /// escape or a placeholder it often is one of the first two, so a search begins only after these.
+    /// Returns the first offset from `from` on of a dollar or a backslash, or the end of the source.
     #[inline(always)]
     pub fn plain_end(&mut self, from: usize) -> usize
         requires { from < length self.old.source.now }
@@ -72,38 +71,7 @@ impl<'s> Tape<'s> {
         ensures cost { self.new.reads + from
             ≡ self.old.reads + min (result + 1) (length self.old.source.now) }
     {
-        if !self.is_at::<PlainBytes>(from) {
-            return from;
-        }
-        let next = from + 1;
-        if !self.has(next) || !self.is_at::<PlainBytes>(next) {
-            return next;
-        }
-        self.search_plain_end(next + 1)
-    }
-
-    /// Returns, by a search, the first offset from `from` on of a dollar or a backslash, or the end of the
-    /// source.
-    #[inline(never)]
-    fn search_plain_end(&mut self, from: usize) -> usize
-        requires { from ≤ length self.old.source.now }
-        ensures run { IsRun IsPlain self.old.source.now from result }
-        ensures end { BeginsWithNo IsPlain (drop result self.old.source.now) }
-        ensures within { result ≤ length self.old.source.now }
-        ensures same { self.new.source ≡ self.old.source }
-        ensures cost { self.new.reads + from
-            ≡ self.old.reads + min (result + 1) (length self.old.source.now) }
-    {
-        match memchr2(b'$', b'\\', self.rest(from)) {
-            Some(found) => {
-                self.reads.add(found + 1);
-                from + found
-            }
-            None => {
-                self.reads.add(self.source.len() - from);
-                self.source.len()
-            }
-        }
+        self.searched_end::<PlainBytes>(from)
     }
 
     /// Returns the first offset from `from` on of a byte that is no name byte, or the end of the source.
@@ -131,26 +99,46 @@ impl<'s> Tape<'s> {
         ensures cost { self.new.reads + from
             ≡ self.old.reads + min (result + 1) (length self.old.source.now) }
     {
-        if self.is_at::<InnerBytes>(from) {
-            self.search_inner_end(from + 1)
-        } else {
-            from
-        }
+        self.searched_end::<InnerBytes>(from)
     }
 
-    /// Returns, by a search, the first offset from `from` on of a backslash, a dollar or a brace, or the end
-    /// of the source.
-    #[inline(never)]
-    fn search_inner_end(&mut self, from: usize) -> usize
-        requires { from ≤ length self.old.source.now }
-        ensures run { IsRun IsInner self.old.source.now from result }
-        ensures end { BeginsWithNo IsInner (drop result self.old.source.now) }
+    /// Returns the first offset from `from` on of a byte that isn't in a class, or the end of the source.
+    /// After an escape or a placeholder it often is one of the first two, so a search begins only after
+    /// these.
+    #[inline(always)]
+    fn searched_end<C: SearchedClass>(&mut self, from: usize) -> usize
+        requires { from < length self.old.source.now }
+        ensures run { IsRun C.is_in self.old.source.now from result }
+        ensures end { BeginsWithNo C.is_in (drop result self.old.source.now) }
         ensures within { result ≤ length self.old.source.now }
         ensures same { self.new.source ≡ self.old.source }
         ensures cost { self.new.reads + from
             ≡ self.old.reads + min (result + 1) (length self.old.source.now) }
     {
-        self.end_of_run::<InnerBytes>(from)
+        if !self.is_at::<C>(from) {
+            return from;
+        }
+        let next = from + 1;
+        if !self.has(next) || !self.is_at::<C>(next) {
+            return next;
+        }
+        self.search::<C>(next + 1)
+    }
+
+    /// Returns the same by a search.
+    #[inline(never)]
+    fn search<C: SearchedClass>(&mut self, from: usize) -> usize
+        requires { from ≤ length self.old.source.now }
+        ensures run { IsRun C.is_in self.old.source.now from result }
+        ensures end { BeginsWithNo C.is_in (drop result self.old.source.now) }
+        ensures within { result ≤ length self.old.source.now }
+        ensures same { self.new.source ≡ self.old.source }
+        ensures cost { self.new.reads + from
+            ≡ self.old.reads + min (result + 1) (length self.old.source.now) }
+    {
+        let end = C::end_from(self.source, from);
+        self.reads.add((end + 1).min(self.source.len()) - from);
+        end
     }
 
     /// Returns the first offset from `from` on of a byte that isn't in a class, or the end of the source.
@@ -204,17 +192,8 @@ impl<'s> Tape<'s> {
         ensures same { self.new.source ≡ self.old.source }
         ensures cost { self.new.reads ≡ self.old.reads + min 4 (length self.old.source.now - at) }
     {
-        let rest = self.rest(at);
+        let rest = rest(self.source, at);
         self.reads.add(rest.len().min(4));
         front_character(rest)
-    }
-
-    /// Returns the bytes from an offset on.
-    #[inline(always)]
-    fn rest(&self, at: usize) -> &'s [u8]
-        requires { at ≤ length self.now.source.now }
-        ensures { result.now ≡ drop at self.now.source.now }
-    {
-        &self.source[at..]
     }
 }

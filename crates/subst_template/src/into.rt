@@ -11,11 +11,11 @@ ghost use Rattle.subst_language.specs.Language.Written.{written};
 ghost use Rattle.subst_language.specs.Calls.VariableMap.{ByLookUp, ByNames};
 ghost use Rattle.subst_language.specs.Calls.Outcome.{IfRefused, SubstitutesInto};
 
-use crate::{ByteTemplate, Template};
 use std::alloc::Global;
 use std::convert::{AsSlice, AsStr};
 use subst_error::SubstituteIntoError;
 use subst_map::VariableMap;
+use subst_raw::{SliceBytes, at_once, plain_len};
 
 /// Appends what [`substitute_bytes`](crate::substitute_bytes) returns to `output`.
 ///
@@ -64,8 +64,8 @@ where
     ensures range { IfErr result
         (λ e. (range_of (substitute_into_fault e)).end ≤ length source.now) }
 {
-    let template = ByteTemplate::from_slice(alloc, source)?;
-    Ok(template.expand_into(output, variables)?)
+    let plain = plain_len(source);
+    at_once::substitute_into::<M, SliceBytes>(alloc, source, plain, variables, output)
 }
 
 /// Appends what [`substitute`](crate::substitute) returns to `output`.
@@ -113,6 +113,6 @@ where
     ensures range { IfErr result
         (λ e. IsRangeIn source.now (range_of (substitute_into_fault e))) }
 {
-    let template = Template::from_str(alloc, source)?;
-    Ok(template.expand_into(output, variables)?)
+    let plain = plain_len(source.as_bytes());
+    at_once::substitute_text_into(alloc, source, plain, variables, output)
 }

@@ -18,11 +18,16 @@ use std::alloc::Global;
 use std::convert::{AsSlice, AsStr};
 use subst_error::Error;
 use subst_map::VariableMap;
+use subst_raw::{SliceBytes, at_once, plain_len};
 pub use template::{ByteTemplate, ByteTemplateBuf, Template, TemplateBuf};
 
 mod into;
 mod owned;
 mod template;
+
+/// For how many bytes more than those of the source there is room at first: most values are longer than their
+/// placeholders.
+const MORE_ROOM: u8 = 64;
 
 /// Returns the bytes of `source` with its variables filled in from `variables`.
 ///
@@ -63,7 +68,11 @@ where
         (λ look. IfSome (refusal_of result) (Answers source.now look)) }
     ensures range { IfErr result (λ e. (range_of (error_fault e)).end ≤ length source.now) }
 {
-    Ok(ByteTemplate::from_slice(alloc, source)?.expand(alloc, variables)?)
+    let plain = plain_len(source);
+    if plain == source.len() {
+        return Ok(Vec::from_slice(alloc, source)?);
+    }
+    at_once::substitute::<M, SliceBytes>(alloc, source, plain, MORE_ROOM, variables)
 }
 
 /// Returns `source` with its variables filled in from `variables`, whose values are texts.
@@ -101,5 +110,9 @@ where
         (λ look. IfSome (refusal_of result) (Answers source.now look)) }
     ensures range { IfErr result (λ e. IsRangeIn source.now (range_of (error_fault e))) }
 {
-    Ok(Template::from_str(alloc, source)?.expand(alloc, variables)?)
+    let plain = plain_len(source.as_bytes());
+    if plain == source.len() {
+        return Ok(String::from_str(alloc, source)?);
+    }
+    at_once::substitute_text(alloc, source, plain, MORE_ROOM, variables)
 }

@@ -10,12 +10,15 @@ ghost use Rattle.subst_language.specs.Language.Sentence.{IsSentence};
 ghost use Rattle.subst_language.specs.Calls.VariableMap.{ByLookUp, ByNames};
 ghost use Rattle.subst_language.specs.Calls.Outcome.{answer_of, refusal_of};
 
-use crate::{substitute, substitute_bytes};
-use memchr::memchr2;
 use std::alloc::Global;
 use std::convert::{AsSlice, AsStr};
 use subst_error::Error;
 use subst_map::VariableMap;
+use subst_raw::{SliceBytes, at_once, plain_len};
+
+/// For how many bytes more than those of the source there is room at first. Outputs of sources that are given
+/// away are often kept, as the strings of a tree.
+const KEPT_ROOM: u8 = 24;
 
 /// Returns whether a source has no dollar and no backslash. It then gives itself, whatever the variables.
 ///
@@ -26,7 +29,7 @@ use subst_map::VariableMap;
 pub fn is_plain(source: &[u8]) -> bool
     ensures plain { IsTrue result ↔ All IsPlain source.now }
 {
-    memchr2(b'$', b'\\', source).is_none()
+    plain_len(source) == source.len()
 }
 
 /// Does what [`substitute_bytes`] does, to a source that is given away. A source without dollars and
@@ -64,10 +67,11 @@ where
     // A plain source is returned as it is, also where no memory is left.
     ensures plain { All IsPlain source.items → result ≡ Ok source }
 {
-    if is_plain(&source) {
+    let plain = plain_len(&source);
+    if plain == source.len() {
         return Ok(source);
     }
-    substitute_bytes(alloc, &source, variables)
+    at_once::substitute::<M, SliceBytes>(alloc, &source, plain, KEPT_ROOM, variables)
 }
 
 /// Does what [`substitute`] does, to a source that is given away. A source without dollars and backslashes is
@@ -105,8 +109,9 @@ where
     // A plain source is returned as it is, also where no memory is left.
     ensures plain { All IsPlain (string_bytes source) → result ≡ Ok source }
 {
-    if is_plain(source.as_bytes()) {
+    let plain = plain_len(source.as_bytes());
+    if plain == source.len() {
         return Ok(source);
     }
-    substitute(alloc, source.as_str(), variables)
+    at_once::substitute_text(alloc, source.as_str(), plain, KEPT_ROOM, variables)
 }

@@ -1,8 +1,5 @@
 -- A source has one answer at most under a look-up.
 use Rattle.std.proofs.Common.{◌≡◌, ◌⊎◌, ℕ, List, Option, Some, None, Result, Ok, Err, IfSome, inl, inr, sym, ap, ◌∙◌, refl}
-use Rattle.std.specs.Option.{option_map}
-use Rattle.subst_error.specs.ErrorFault.{error_fault}
-use Rattle.subst_error.specs.declared.Error.{Error}
 use Rattle.subst_language.specs.Language.Tree.{Tree}
 use Rattle.subst_language.specs.Language.Sentence.{Spells, IsSentence, ByTree}
 use Rattle.subst_language.specs.Language.LookUp.{LookUp}
@@ -10,7 +7,7 @@ use Rattle.subst_language.specs.Language.Value.{Value, value, Bytes, Missing}
 use Rattle.subst_error.specs.Fault.{Fault, NoSuchVariable}
 use Rattle.subst_language.specs.Language.BadItem.{HasFault}
 use Rattle.subst_language.specs.Language.Answer.{Answer, Answers, Gives, Refuses, IsMissing}
-use Rattle.subst_language.specs.Calls.Outcome.{OnFault, refusal_of}
+use Rattle.subst_language.specs.Calls.Outcome.{OnFault}
 use Rattle.subst_language.proofs.Language.OneTreeLemmas.{tree_unique}
 use Rattle.subst_language.proofs.Language.FaultLemmas.{exclusive, fault_unique}
 
@@ -44,18 +41,6 @@ joined s look a b (inr (f, h, e)) (inr (g, k, d)) = sym e ∙ ap Refuses (fault_
 -- so it has one answer at most
 pub answer_unique : (s : List ℕ) (look : LookUp) (a b : Answer) → Answers s look a → Answers s look b → a ≡ b
 answer_unique s look a b h k = joined s look a b (which s look a h) (which s look b k)
-
--- an expansion of a sentence that is missing a variable refuses the source
-pub refused_by_expansion : {T : Type 0} (s : List ℕ) (look : LookUp) (r : Result T Error) → IsSentence s
-    → ByTree s (λ t. OnFault error_fault r (IsMissing (value 0 t look)))
-    → IfSome (refusal_of r) (Answers s look)
-refused_by_expansion s look (Ok output) sentence h = tt
-refused_by_expansion s look (Err e) (t, spells) h = of (error_fault e) (h t spells)
-  where
-    of : (o : Option Fault) → IfSome o (IsMissing (value 0 t look))
-        → IfSome (option_map Refuses o) (Answers s look)
-    of None missing = tt
-    of (Some f) missing = inr (t, spells, missing)
 
 -- a sentence is refused for what its tree is missing
 pub refused_for : (s : List ℕ) (t : Tree) (look : LookUp) → Spells t s → (stated : Option Fault)

@@ -1,11 +1,17 @@
--- What the expansion of the source's template is missing, the source is refused for.
-use Rattle.std.proofs.Common.{rules}
-use Rattle.subst_language.proofs.Language.AnswerLemmas.{refused_by_expansion}
+-- A source without dollars and backslashes is a sentence, and gives itself.
+use Rattle.std.proofs.Common.{ℕ, List, None}
+use Rattle.subst_language.specs.Calls.VariableMap.{look_up_of}
+use Rattle.subst_language.proofs.CallingLemmas.{plain_answer}
 use Rattle.subst_template.proofs.substitute_bytes.Goals as goal
 
-pub returns-in_err-expand-clause-refusal : goal.returns-in_err-expand-clause-refusal
-returns-in_err-expand-clause-refusal g c look names =
-    let answer = c.from_residual-in_err-expand.result in
-    refused_by_expansion c.args.source.now look answer (search rules) (λ t spells.
-    let missed = c.in_err-expand.ensures.missing look names t in
-    search (rules, missed, spells))
+pub returns-then-plain-source-clause-answer : goal.returns-then-plain-source-clause-answer
+returns-then-plain-source-clause-answer g c = λ bytes reads.
+    rw c.in_ok-from_slice.ensures.items (plain_answer c.args.source.now
+    (look_up_of bytes (g.M.VariableMap.look_up c.args.variables.now))
+    (c.plain_len-plain.ensures.whole.0 c.if-plain-source.true))
+
+pub returns-then-plain-source-clause-sentence : goal.returns-then-plain-source-clause-sentence
+returns-then-plain-source-clause-sentence g c =
+    let (t, spells, gives) = plain_answer c.args.source.now (λ name. None)
+    (c.plain_len-plain.ensures.whole.0 c.if-plain-source.true) in
+    (t, spells)

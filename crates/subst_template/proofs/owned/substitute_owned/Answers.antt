@@ -1,21 +1,20 @@
 -- A source without dollars and backslashes is a sentence, and gives itself.
-use Rattle.std.proofs.Common.{ℕ, List, None, string_bytes, subst}
-use Rattle.std.specs.List.{All}
-use Rattle.subst_language.specs.Language.Bytes.{IsPlain}
+use Rattle.std.proofs.Common.{ℕ, List, None, string_bytes}
 use Rattle.subst_language.specs.Calls.VariableMap.{look_up_of}
 use Rattle.subst_language.proofs.CallingLemmas.{plain_answer}
+use Rattle.subst_template.proofs.PlainLemmas.{all_plain}
 use Rattle.subst_template.proofs.owned.substitute_owned.Goals as goal
 
-pub returns-then-is_plain-clause-answer : goal.returns-then-is_plain-clause-answer
-returns-then-is_plain-clause-answer g c = λ bytes reads.
-    let plain = subst (λ (x : List ℕ). All IsPlain x) c.as_bytes.ensures.value
-    (c.is_plain.ensures.plain.0 c.if-is_plain.true) in
+pub returns-then-plain-len-clause-answer : goal.returns-then-plain-len-clause-answer
+returns-then-plain-len-clause-answer g c = λ bytes reads.
+    let plain = all_plain c.as_bytes.ensures.value c.plain_len-plain.ensures.whole c.if-plain-len.true
+    c.len.ensures c.as_bytes.ensures.len in
     plain_answer (string_bytes c.args.source)
     (look_up_of bytes (g.M.VariableMap.look_up c.args.variables.now)) plain
 
-pub returns-then-is_plain-clause-sentence : goal.returns-then-is_plain-clause-sentence
-returns-then-is_plain-clause-sentence g c =
-    let plain = subst (λ (x : List ℕ). All IsPlain x) c.as_bytes.ensures.value
-    (c.is_plain.ensures.plain.0 c.if-is_plain.true) in
+pub returns-then-plain-len-clause-sentence : goal.returns-then-plain-len-clause-sentence
+returns-then-plain-len-clause-sentence g c =
+    let plain = all_plain c.as_bytes.ensures.value c.plain_len-plain.ensures.whole c.if-plain-len.true
+    c.len.ensures c.as_bytes.ensures.len in
     let (t, spells, gives) = plain_answer (string_bytes c.args.source) (λ name. None) plain in
     (t, spells)

@@ -1,11 +1,29 @@
 use Rattle.std.proofs.Common.{length}
-use Rattle.subst_raw.proofs.ParserLemmas.{reading_added}
+use Rattle.std.proofs.lemmas.Result.{err_from_is_err_and}
+use Rattle.subst_raw.proofs.ParserLemmas.{part_fits, reading_added, stepped}
 use Rattle.subst_raw.proofs.parse.Parser.add_part.Goals as goal
 
+pub take-requires : goal.take-requires
+take-requires g c =
+    let (first, known, reading) = c.requires.reading in
+    let given = c.in_ok-flush_literal.ensures.flushed first reading in
+    part_fits c.args.self.now c.flush_literal.new.self c.args.part c.args.end first known reading given
+    c.requires.fits (c.requires.part (length given.parts)) c.requires.within c.requires.forward
+
 pub returns-clause-answer : goal.returns-clause-answer
-returns-clause-answer g c =
-    let given = c.in_ok-flush_literal.ensures in
-    reading_added c.args.self.now c.flush_literal.new.self c.push.new.self c.args.part c.args.end
-    c.requires.reading (given.kept, given.nested, given.few)
-    c.in_ok-push.ensures (c.requires.part (length c.flush_literal.new.self.parts)) c.requires.within
-    c.requires.forward
+returns-clause-answer g c = stepped _ _ c.requires.reading.0 c.requires.reading.2 (λ first reading.
+    let given = c.in_ok-flush_literal.ensures.flushed first reading in
+    reading_added c.args.self.now c.flush_literal.new.self _ c.args.part c.args.end reading given
+    (c.in_ok-take.ensures.taken first given.parts given.held) (c.requires.part (length given.parts))
+    c.requires.within c.requires.forward)
+
+pub returns-in_err-take-clause-answer : goal.returns-in_err-take-clause-answer
+returns-in_err-take-clause-answer g c =
+    let gone = c.from_residual-in_err-take in
+    let (e, is, gives) = err_from_is_err_and gone.result gone.ensures.1 in
+    rw (is, gives) (
+      tt,
+      λ first reading.
+          let given = c.in_ok-flush_literal.ensures.flushed first reading in
+          (given.parts, c.in_err-take.ensures.kept first given.parts given.held),
+    )

@@ -18,8 +18,8 @@ returns-in_default-clause-answer g c =
           let found : slice_get p.defaults.items (length p.defaults.items - 1) ≡ Some w.in-Some.innermost =
           subst (λ (xs : List OpenDefault). slice_get xs (length xs - 1) ≡ Some w.in-Some.innermost)
           c.deref.ensures.value (last ∙ w.in-Some.is) in (
-            reading_bare p w.in-Some.innermost c.requires.reading inside c.requires.inside c.requires.spelled
-                found w.if-innermost-self.false,
+            λ first reading. reading_bare p w.in-Some.innermost reading inside c.requires.inside
+                c.requires.spelled found w.if-innermost-self.false,
             refl,
             omega arith,
           )
@@ -27,8 +27,9 @@ returns-in_default-clause-answer g c =
           let none : slice_get p.defaults.items (length p.defaults.items - 1) ≡ None =
           subst (λ (xs : List OpenDefault). slice_get xs (length xs - 1) ≡ None) c.deref.ensures.value
           (last ∙ w.in_default.is) in
-          let some = holds_open s (reverse p.defaults.items) p.depth p.parts p.literal_start p.at
-          c.requires.inside c.requires.reading.nested in
+          let some = holds_open s (reverse p.defaults.items) p.depth c.requires.reading.2.parts
+          p.literal_start p.at
+          c.requires.inside c.requires.reading.2.nested in
           let no_default = ap reverse (no_last p.defaults.items none) in
           absurd cc
     ]

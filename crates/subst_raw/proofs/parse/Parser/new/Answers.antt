@@ -1,13 +1,15 @@
-use Rattle.std.proofs.Common.{arith}
+use Rattle.std.proofs.Common.{[], arith}
 use Rattle.subst_raw.proofs.StackHoldsLemmas.{holds_start}
 use Rattle.subst_raw.proofs.parse.Parser.new.Goals as goal
 
 pub returns-clause-reading : goal.returns-clause-reading
-returns-clause-reading g c = record {
+returns-clause-reading g c first empty = record {
+  parts = [];
+  held = empty;
   fits = c.requires.fits;
-  few = rw c.empty_list-parts.ensures (omega arith);
+  few = omega arith;
   small = omega arith;
   within = omega arith;
   shallow = omega arith;
-  nested = rw (c.empty_list-parts.ensures, c.new.ensures.items) (holds_start c.args.tape.source.now);
+  nested = rw c.new.ensures.items (holds_start c.args.tape.source.now c.args.at c.requires.plain);
 }

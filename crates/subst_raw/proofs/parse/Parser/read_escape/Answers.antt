@@ -6,7 +6,7 @@ pub overflow_add-self : goal.overflow_add-self
 overflow_add-self g c =
     let p = c.args.self.now in
     let within = escape_within p.tape.source.now p.at c.in-Ok.byte c.in-Ok.ensures.ok
-    c.requires.reading.within in
+    c.requires.reading.2.within in
     omega arith
 
 pub add_part-requires-clause-part : goal.add_part-requires-clause-part
@@ -18,4 +18,4 @@ pub add_part-requires-clause-within : goal.add_part-requires-clause-within
 add_part-requires-clause-within g c =
     let p = c.args.self.now in
     rw c.escape_at.ensures.same
-    (escape_within p.tape.source.now p.at c.in-Ok.byte c.in-Ok.ensures.ok c.requires.reading.within)
+    (escape_within p.tape.source.now p.at c.in-Ok.byte c.in-Ok.ensures.ok c.requires.reading.2.within)

@@ -15,7 +15,7 @@ overflow_add-name g c =
     let p = c.args.self.now in
     let is = rw c.in-Ok-Braced.field-0-is at c.in-Ok-Braced.ensures.ok in
     let within = head_inside p.tape.source.now p.at c.in-Ok-Braced.name closing_brace is
-    c.requires.reading.within in
+    c.requires.reading.2.within in
     omega arith
 
 pub add_part-requires-in-Ok-Braced-clause-part : goal.add_part-requires-in-Ok-Braced-clause-part
@@ -29,4 +29,4 @@ add_part-requires-in-Ok-Braced-clause-within g c =
     let p = c.args.self.now in
     let is = rw c.in-Ok-Braced.field-0-is at c.in-Ok-Braced.ensures.ok in
     rw c.placeholder_at.ensures.same
-    (head_inside p.tape.source.now p.at c.in-Ok-Braced.name closing_brace is c.requires.reading.within)
+    (head_inside p.tape.source.now p.at c.in-Ok-Braced.name closing_brace is c.requires.reading.2.within)

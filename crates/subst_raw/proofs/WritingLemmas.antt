@@ -1,0 +1,479 @@
+-- What is written of parts that come one after the other.
+use Rattle.std.proofs.Common.{◌≡◌, ◌≤◌, ◌<◌, ℕ, ◌+◌, List, [], ◌∷◌, ◌++◌, length, Option, Some, None, IfSome, inl, inr, append-nil, length-append, refl, sym, ap, ◌∙◌, subst, arith}
+use Rattle.std.proofs.lemmas.Bool.{cases_lt}
+use Rattle.std.specs.Option.{option_map}
+use Rattle.subst_language.specs.Language.LookUp.{LookUp}
+use Rattle.subst_language.specs.Language.Value.{Value, Bytes, Missing, joined}
+use Rattle.subst_language.specs.Language.Written.{bytes_in, unless_missing}
+use Rattle.subst_language.specs.Calls.VariableMap.{look_up_of}
+use Rattle.subst_language.proofs.Language.ValueLemmas.{joined_assoc, joined-right}
+use Rattle.subst_language.proofs.Language.WrittenLemmas.{unless_missing-nothing}
+use Rattle.subst_raw.specs.Filled.{mark, FillsMarks}
+use Rattle.subst_raw.specs.Output.{Appended}
+use Rattle.subst_raw.specs.Parts.{part_value, if_found, resume_index, visited_parts, joined_value, joined_written, parts_value, parts_written}
+use Rattle.subst_raw.specs.Span.{span_bytes}
+use Rattle.subst_raw.specs.Ways.{Ways, StopsAt, WritesPart, StopsAtPart}
+use Rattle.subst_raw.specs.Writing.{IsSettled, AllSettled, WritesParts, StopsInParts}
+use Rattle.subst_raw.specs.declared.expand.Stop.{Stop}
+use Rattle.subst_raw.specs.declared.expand.Stop.TheVariants.{Full}
+use Rattle.subst_raw.specs.declared.expand.Stop.TheVariants as stop
+use Rattle.subst_raw.specs.declared.part.Span.{Span}
+use Rattle.subst_raw.specs.declared.part.Part.{Part}
+use Rattle.subst_raw.specs.declared.part.Part.TheVariants.{Literal, Escaped, Variable, Default}
+use Rattle.subst_raw.proofs.FilledLemmas.{filled_append}
+use Rattle.subst_raw.proofs.OutputLemmas.{more_appended, same_appended}
+use Rattle.subst_raw.proofs.PartsLemmas.{Lands, visited_parts-before, visited_parts-from, visited_parts-lands, visited_parts-jumped, joined_value-append, joined_written-append}
+
+-- a part that is settled goes on no later than its end
+lands_settled : {Seen : Type 0} (look_up : List ℕ → Option Seen) (bytes : Seen → List ℕ) (s : List ℕ)
+    (end : ℕ) (part : Part) → IsSettled look_up s end part
+    → resume_index part s (look_up_of bytes look_up) ≤ end
+lands_settled look_up bytes s end (Literal span) settled = omega arith
+lands_settled look_up bytes s end (Escaped b) settled = omega arith
+lands_settled look_up bytes s end (Variable name) settled = omega arith
+lands_settled {Seen} look_up bytes s end (Default name next) settled =
+    of (look_up (span_bytes name s)) settled
+  where
+    of : (found : Option Seen) → IfSome found (λ _. (0 < next) × (next ≤ end))
+        → if_found (option_map bytes found) next ≤ end
+    of (Some v) settled = settled.1
+    of None settled = omega arith
+
+-- so do all
+lands_all : {Seen : Type 0} (look_up : List ℕ → Option Seen) (bytes : Seen → List ℕ) (s : List ℕ)
+    (end : ℕ) (parts : List Part) → AllSettled look_up s end parts
+    → Lands end s (look_up_of bytes look_up) parts
+lands_all look_up bytes s end [] settled = tt
+lands_all look_up bytes s end (part ∷ rest) settled =
+    (lands_settled look_up bytes s end part settled.0, lands_all look_up bytes s end rest settled.1)
+
+-- a part that is settled up to an end is settled up to a later one
+settled_later : {Seen : Type 0} (look_up : List ℕ → Option Seen) (s : List ℕ) (end later : ℕ) (part : Part)
+    → end ≤ later → IsSettled look_up s end part → IsSettled look_up s later part
+settled_later look_up s end later (Literal span) le settled = tt
+settled_later look_up s end later (Escaped b) le settled = tt
+settled_later look_up s end later (Variable name) le settled = tt
+settled_later {Seen} look_up s end later (Default name next) le settled =
+    of (look_up (span_bytes name s)) settled
+  where
+    of : (found : Option Seen) → IfSome found (λ _. (0 < next) × (next ≤ end))
+        → IfSome found (λ _. (0 < next) × (next ≤ later))
+    of (Some v) settled = (settled.0, omega (arith, le, settled.1))
+    of None settled = tt
+
+-- with one more part, all are settled up to the new end
+pub settled_append : {Seen : Type 0} (look_up : List ℕ → Option Seen) (s : List ℕ) (end later : ℕ)
+    (parts : List Part) (part : Part) → end ≤ later → AllSettled look_up s end parts
+    → IsSettled look_up s later part
+    → AllSettled look_up s later (parts ++ part ∷ [])
+settled_append look_up s end later [] part le settled last = (last, tt)
+settled_append look_up s end later (first ∷ rest) part le settled last = (
+  settled_later look_up s end later first le settled.0,
+  settled_append look_up s end later rest part le settled.1 last,
+)
+
+module _ {Seen : Type 0} (look_up : List ℕ → Option Seen) (bytes : Seen → List ℕ) (s : List ℕ) where
+  -- what is visited of settled parts, a part, and more parts
+  visited_more : (parts : List Part) (part : Part) (rest : List Part)
+      → AllSettled look_up s (length parts) parts
+      → visited_parts (parts ++ part ∷ rest) 0 0 s (look_up_of bytes look_up)
+      ≡ visited_parts parts 0 0 s (look_up_of bytes look_up)
+      ++ part ∷ visited_parts rest (length parts + 1) (resume_index part s (look_up_of bytes look_up)) s
+      (look_up_of bytes look_up)
+  visited_more parts part rest settled =
+      let look = look_up_of bytes look_up in
+      visited_parts-lands 0 (length parts) 0 s parts (part ∷ rest) look
+      (lands_all look_up bytes s (length parts) parts settled) (omega arith) (omega arith)
+      ∙ ap (λ visited. visited_parts parts 0 0 s look ++ visited)
+      (ap (λ n. visited_parts (part ∷ rest) n 0 s look) (omega arith)
+      ∙ visited_parts-from part rest (length parts) 0 s look (omega arith))
+
+  -- what they give
+  pub value_more : (parts : List Part) (part : Part) (rest : List Part)
+      → AllSettled look_up s (length parts) parts
+      → (v : Value) × (parts_value (parts ++ part ∷ rest) s (look_up_of bytes look_up)
+      ≡ joined (parts_value parts s (look_up_of bytes look_up))
+      (joined (part_value part s (look_up_of bytes look_up)) v))
+  value_more parts part rest settled =
+      let look = look_up_of bytes look_up in
+      let more = visited_parts rest (length parts + 1) (resume_index part s look) s look in (
+        joined_value more s look,
+        ap (λ (visited : List Part). joined_value visited s look) (visited_more parts part rest settled)
+            ∙ joined_value-append (visited_parts parts 0 0 s look) (part ∷ more) s look,
+      )
+
+  -- and what is written for them
+  pub written_more : (parts : List Part) (part : Part) (rest : List Part)
+      → AllSettled look_up s (length parts) parts
+      → (x : List ℕ) × (parts_written (parts ++ part ∷ rest) s (look_up_of bytes look_up)
+      ≡ parts_written parts s (look_up_of bytes look_up)
+      ++ unless_missing (parts_value parts s (look_up_of bytes look_up))
+      (bytes_in (part_value part s (look_up_of bytes look_up))
+      ++ unless_missing (part_value part s (look_up_of bytes look_up)) x))
+  written_more parts part rest settled =
+      let look = look_up_of bytes look_up in
+      let more = visited_parts rest (length parts + 1) (resume_index part s look) s look in (
+        joined_written more s look,
+        ap (λ (visited : List Part). joined_written visited s look) (visited_more parts part rest settled)
+            ∙ joined_written-append (visited_parts parts 0 0 s look) (part ∷ more) s look,
+      )
+
+  -- what one part more gives
+  pub value_last : (parts : List Part) (part : Part) → AllSettled look_up s (length parts) parts
+      → parts_value (parts ++ part ∷ []) s (look_up_of bytes look_up)
+      ≡ joined (parts_value parts s (look_up_of bytes look_up))
+      (part_value part s (look_up_of bytes look_up))
+  value_last parts part settled =
+      let look = look_up_of bytes look_up in
+      ap (λ (visited : List Part). joined_value visited s look) (visited_more parts part [] settled)
+      ∙ joined_value-append (visited_parts parts 0 0 s look) (part ∷ []) s look
+      ∙ ap (λ (v : Value). joined (parts_value parts s look) v) (joined-right (part_value part s look))
+
+  -- and what is written for it
+  pub written_one : (parts : List Part) (part : Part) → AllSettled look_up s (length parts) parts
+      → parts_written (parts ++ part ∷ []) s (look_up_of bytes look_up)
+      ≡ parts_written parts s (look_up_of bytes look_up)
+      ++ unless_missing (parts_value parts s (look_up_of bytes look_up))
+      (bytes_in (part_value part s (look_up_of bytes look_up))
+      ++ unless_missing (part_value part s (look_up_of bytes look_up)) [])
+  written_one parts part settled =
+      let look = look_up_of bytes look_up in
+      ap (λ (visited : List Part). joined_written visited s look) (visited_more parts part [] settled)
+      ∙ joined_written-append (visited_parts parts 0 0 s look) (part ∷ []) s look
+
+  -- the same after parts that give bytes
+  pub written_last : (parts : List Part) (part : Part) (x : List ℕ)
+      → AllSettled look_up s (length parts) parts
+      → parts_value parts s (look_up_of bytes look_up) ≡ Bytes x
+      → parts_written (parts ++ part ∷ []) s (look_up_of bytes look_up)
+      ≡ parts_written parts s (look_up_of bytes look_up)
+      ++ bytes_in (part_value part s (look_up_of bytes look_up))
+  written_last parts part x settled gives =
+      let look = look_up_of bytes look_up in
+      let own = bytes_in (part_value part s look) in
+      written_one parts part settled
+      ∙ ap (λ (v : Value). parts_written parts s look
+      ++ unless_missing v (own ++ unless_missing (part_value part s look) [])) gives
+      ∙ ap (λ (y : List ℕ). parts_written parts s look ++ (own ++ y))
+      (unless_missing-nothing (part_value part s look))
+      ∙ ap (λ (y : List ℕ). parts_written parts s look ++ y) (append-nil own)
+
+-- two values whose marks are filled in, joined
+fills_joined : {Passes : List ℕ → Type 0} {v w : Value} {x y : List ℕ} → FillsMarks Passes v x
+    → FillsMarks Passes w y → FillsMarks Passes (joined v w) (x ++ y)
+fills_joined some more = record {
+  marked = some.marked ++ more.marked;
+  given = rw (some.given, more.given) refl;
+  filled = filled_append some.filled more.filled;
+}
+
+module _ {V Seen W First : Type 0} (ways : Ways V Seen W First) (s : List ℕ) (parts : List Part) (part : Part)
+    (first before after : W) (settled : AllSettled ways.look_up s (length parts) parts)
+    (so_far : WritesParts ways s parts first before) where
+  -- one part more is written
+  pub writes_next : WritesPart ways s part before after → WritesParts ways s (parts ++ part ∷ []) first after
+  writes_next next = record {
+    given = λ bytes reads.
+        let some = so_far.given bytes reads in
+        let more = next.given bytes reads in
+        more_appended more.appended some more.puts
+        (λ x gives. value_last ways.look_up bytes s parts part settled ∙ rw (gives, more.given) refl);
+    filled =
+        more_appended next.filled.appended so_far.filled next.filled.puts
+        (λ x fills. subst (λ v. FillsMarks ways.is_read v (x ++ next.filled.appended))
+        (sym (value_last ways.look_up (λ _. mark ∷ []) s parts part settled))
+        (fills_joined fills next.filled.given));
+    long = λ bytes reads.
+        let look = look_up_of bytes ways.look_up in
+        let writes = written_last ways.look_up bytes s parts part _ settled
+        (so_far.given bytes reads).given in
+        omega (
+          arith,
+          so_far.long bytes reads,
+          next.long bytes reads,
+          ap length writes,
+          length-append (parts_written parts s look) (bytes_in (part_value part s look)),
+        );
+    room = omega (arith, so_far.room, next.room);
+  }
+
+  -- or writing stops at it
+  pub stops_next : (stopped : Stop) → StopsAtPart ways s part stopped before after
+      → StopsInParts ways s stopped (parts ++ part ∷ []) first after
+  stops_next stopped next = record {
+    begins =
+        more_appended next.begins.appended so_far.filled next.begins.puts (λ x fills. tt);
+    at = of stopped next.at;
+    room = omega (arith, so_far.room, next.room);
+  }
+    where
+      of : (stopped : Stop) → StopsAt ways s stopped (part_value part s)
+          (λ look. bytes_in (part_value part s look)) before
+          → StopsAt ways s stopped (λ look. parts_value (parts ++ part ∷ []) s look)
+          (λ look. parts_written (parts ++ part ∷ []) s look) first
+      of (Full e) full = λ bytes reads.
+          let look = look_up_of bytes ways.look_up in
+          let writes = written_last ways.look_up bytes s parts part _ settled
+          (so_far.given bytes reads).given in
+          omega (
+            arith,
+            so_far.room,
+            full bytes reads,
+            so_far.long bytes reads,
+            ap length writes,
+            length-append (parts_written parts s look) (bytes_in (part_value part s look)),
+          )
+      of (stop.Missing name) missing = (
+        λ bytes reads. value_last ways.look_up bytes s parts part settled
+            ∙ rw ((so_far.given bytes reads).given, missing.0 bytes reads) refl,
+        value_last ways.look_up (λ _. mark ∷ []) s parts part settled
+            ∙ rw (so_far.filled.given.given, missing.1) refl,
+        missing.2,
+        missing.3,
+      )
+
+-- two lists of visited parts give the same, and the same is written for them
+pub record GivesSame (s : List ℕ) (look : LookUp) (xs ys : List Part) : Type 0 where
+  pub value : joined_value xs s look ≡ joined_value ys s look
+  pub written : joined_written xs s look ≡ joined_written ys s look
+
+module _ (s : List ℕ) (look : LookUp) where
+  -- as lists that are equal to such
+  same_by : {xs ys us vs : List Part} → xs ≡ us → ys ≡ vs → GivesSame s look us vs → GivesSame s look xs ys
+  same_by left right same = rw (left, right) same
+
+  -- with a part before
+  same_after : (part : Part) {xs ys : List Part} → GivesSame s look xs ys
+      → GivesSame s look (part ∷ xs) (part ∷ ys)
+  same_after part same = record {
+    value = ap (λ (v : Value). joined (part_value part s look) v) same.value;
+    written = ap (λ (x : List ℕ). bytes_in (part_value part s look)
+        ++ unless_missing (part_value part s look) x)
+        same.written;
+  }
+
+  -- with more parts before
+  same_front : (front : List Part) {xs ys : List Part} → GivesSame s look xs ys
+      → GivesSame s look (front ++ xs) (front ++ ys)
+  same_front [] same = same
+  same_front (part ∷ front) same = same_after part (same_front front same)
+
+  -- a default whose name has no value gives the same whatever its jump is
+  changed : (before own : List Part) (name : Span) (next other i from : ℕ) → look (span_bytes name s) ≡ None
+      → GivesSame s look (visited_parts (before ++ Default name next ∷ own) i from s look)
+      (visited_parts (before ++ Default name other ∷ own) i from s look)
+  changed [] own name next other i from none =
+      elim (cases_lt i from) [
+        | inl jumped ↦
+            same_by (visited_parts-before (Default name next) own i from s look jumped)
+            (visited_parts-before (Default name other) own i from s look jumped)
+            record { value = refl; written = refl }
+        | inr visited ↦
+            same_by (here next visited) (here other visited) record { value = refl; written = refl }
+      ]
+    where
+      here : (k : ℕ) → from ≤ i → visited_parts (Default name k ∷ own) i from s look
+          ≡ Default name k ∷ visited_parts own (i + 1) 0 s look
+      here k visited =
+          visited_parts-from (Default name k) own i from s look visited
+          ∙ ap (λ (o : Option (List ℕ)). Default name k ∷ visited_parts own (i + 1) (if_found o k) s look)
+          none
+  changed (part ∷ before) own name next other i from none =
+      elim (cases_lt i from) [
+        | inl jumped ↦
+            same_by (visited_parts-before part (before ++ Default name next ∷ own) i from s look jumped)
+            (visited_parts-before part (before ++ Default name other ∷ own) i from s look jumped)
+            (changed before own name next other (i + 1) from none)
+        | inr visited ↦
+            same_by (visited_parts-from part (before ++ Default name next ∷ own) i from s look visited)
+            (visited_parts-from part (before ++ Default name other ∷ own) i from s look visited)
+            (same_after part (changed before own name next other (i + 1) (resume_index part s look) none))
+      ]
+
+module _ {V Seen W First : Type 0} (ways : Ways V Seen W First) (s : List ℕ) (parts others : List Part)
+    (same : (bytes : Seen → List ℕ) → GivesSame s (look_up_of bytes ways.look_up)
+    (visited_parts parts 0 0 s (look_up_of bytes ways.look_up))
+    (visited_parts others 0 0 s (look_up_of bytes ways.look_up))) (first now : W) where
+  -- what was written for parts was written for others that give the same
+  pub writes_same : WritesParts ways s parts first now → WritesParts ways s others first now
+  writes_same written = record {
+    given = λ bytes reads. same_appended (written.given bytes reads)
+        (λ x gives. sym (same bytes).value ∙ gives);
+    filled = subst (λ v. Appended ways.holds (FillsMarks ways.is_read v) first now)
+        (same (λ _. mark ∷ [])).value written.filled;
+    long = λ bytes reads. written.long bytes reads
+        ∙ ap (λ (x : List ℕ). ways.len first + length x) (same bytes).written;
+    room = written.room;
+  }
+
+  -- and where writing stopped
+  pub stops_same : (stopped : Stop) → StopsInParts ways s stopped parts first now
+      → StopsInParts ways s stopped others first now
+  stops_same stopped stops = record { begins = stops.begins; at = of stopped stops.at; room = stops.room }
+    where
+      of : (stopped : Stop) → StopsAt ways s stopped (λ look. parts_value parts s look)
+          (λ look. parts_written parts s look) first
+          → StopsAt ways s stopped (λ look. parts_value others s look)
+          (λ look. parts_written others s look) first
+      of (Full e) full = λ bytes reads.
+          subst (λ (x : List ℕ). ways.room first < ways.len first + length x) (same bytes).written
+          (full bytes reads)
+      of (stop.Missing name) missing = (
+        λ bytes reads. sym (same bytes).value ∙ missing.0 bytes reads,
+        sym (same (λ _. mark ∷ [])).value ∙ missing.1,
+        missing.2,
+        missing.3,
+      )
+
+module _ {Seen : Type 0} (look_up : List ℕ → Option Seen) (s : List ℕ) (before own : List Part) (name : Span)
+  where
+    -- the name of an open default that is settled has no value
+    pub open_lacks : (end : ℕ) → AllSettled look_up s end (before ++ Default name 0 ∷ own)
+        → look_up (span_bytes name s) ≡ None
+    open_lacks end settled = of (look_up (span_bytes name s)) refl (at before settled)
+      where
+        at : (xs : List Part) → AllSettled look_up s end (xs ++ Default name 0 ∷ own)
+            → IsSettled look_up s end (Default name 0)
+        at [] settled = settled.0
+        at (part ∷ xs) settled = at xs settled.1
+
+        of : (o : Option Seen) → look_up (span_bytes name s) ≡ o → IfSome o (λ _. (0 < 0) × (0 ≤ end))
+            → look_up (span_bytes name s) ≡ None
+        of (Some v) is settled = absurd (omega (arith, settled.0))
+        of None is settled = is
+
+    -- and stays settled when it gets a jump
+    pub settled_changed : (end next : ℕ) → look_up (span_bytes name s) ≡ None
+        → AllSettled look_up s end (before ++ Default name 0 ∷ own)
+        → AllSettled look_up s end (before ++ Default name next ∷ own)
+    settled_changed end next none settled = at before settled
+      where
+        of : (o : Option Seen) → o ≡ None → IfSome o (λ _. (0 < next) × (next ≤ end))
+        of (Some v) is = absurd cc
+        of None is = tt
+
+        at : (xs : List Part) → AllSettled look_up s end (xs ++ Default name 0 ∷ own)
+            → AllSettled look_up s end (xs ++ Default name next ∷ own)
+        at [] settled = (of (look_up (span_bytes name s)) none, settled.1)
+        at (part ∷ xs) settled = (settled.0, at xs settled.1)
+
+    -- it gives the same, whatever its jump is
+    pub changed_parts : (next other : ℕ) → look_up (span_bytes name s) ≡ None → (bytes : Seen → List ℕ)
+        → GivesSame s (look_up_of bytes look_up)
+        (visited_parts (before ++ Default name next ∷ own) 0 0 s (look_up_of bytes look_up))
+        (visited_parts (before ++ Default name other ∷ own) 0 0 s (look_up_of bytes look_up))
+    changed_parts next other none bytes =
+        changed s (look_up_of bytes look_up) before own name next other 0 0 (ap (option_map bytes) none)
+
+    -- where its name has a value, its own parts are jumped over
+    pub jumped_parts : (next : ℕ) (v : Seen) → AllSettled look_up s (length before) before
+        → look_up (span_bytes name s) ≡ Some v → length before + 1 + length own ≤ next
+        → (bytes : Seen → List ℕ)
+        → GivesSame s (look_up_of bytes look_up)
+        (visited_parts (before ++ Default name 0 ∷ []) 0 0 s (look_up_of bytes look_up))
+        (visited_parts (before ++ Default name next ∷ own) 0 0 s (look_up_of bytes look_up))
+    jumped_parts next v settled found after bytes =
+        let look = look_up_of bytes look_up in
+        let front = visited_parts before 0 0 s look in
+        let jump : visited_parts own (length before + 1) (if_found (look (span_bytes name s)) next) s look
+        ≡ [] =
+        ap (λ (o : Option (List ℕ)). visited_parts own (length before + 1) (if_found o next) s look)
+        (ap (option_map bytes) found)
+        ∙ visited_parts-jumped (length before + 1) next s own look after in
+        same_by s look (visited_more look_up bytes s before (Default name 0) [] settled)
+        (visited_more look_up bytes s before (Default name next) own settled
+        ∙ ap (λ (more : List Part). front ++ Default name next ∷ more) jump)
+        (same_front s look front record { value = refl; written = refl })
+
+-- a part that is written after settled ones gives the same with another jump
+pub last_changed : {Seen : Type 0} (look_up : List ℕ → Option Seen) (s : List ℕ) (parts : List Part)
+    (name : Span) (next other : ℕ) → AllSettled look_up s (length parts) parts → (bytes : Seen → List ℕ)
+    → GivesSame s (look_up_of bytes look_up)
+    (visited_parts (parts ++ Default name next ∷ []) 0 0 s (look_up_of bytes look_up))
+    (visited_parts (parts ++ Default name other ∷ []) 0 0 s (look_up_of bytes look_up))
+last_changed look_up s parts name next other settled bytes =
+    let look = look_up_of bytes look_up in
+    same_by s look (visited_more look_up bytes s parts (Default name next) [] settled)
+    (visited_more look_up bytes s parts (Default name other) [] settled)
+    (same_front s look (visited_parts parts 0 0 s look) record { value = refl; written = refl })
+
+-- a jump changes no length
+pub same_length : (before own : List Part) (name : Span) (next other : ℕ)
+    → length (before ++ Default name next ∷ own) ≡ length (before ++ Default name other ∷ own)
+same_length before own name next other =
+    length-append before (Default name next ∷ own) ∙ sym (length-append before (Default name other ∷ own))
+
+-- parts are settled where a default whose name has a value has its jump to their end
+pub settled_jump : {Seen : Type 0} (look_up : List ℕ → Option Seen) (s : List ℕ) (before own : List Part)
+    (name : Span) (next : ℕ) (v : Seen) → AllSettled look_up s (length before) before
+    → length before ≤ next → 0 < next → AllSettled look_up s next own
+    → AllSettled look_up s next (before ++ Default name next ∷ own)
+settled_jump {Seen} look_up s before own name next v settled le some after = at before settled
+  where
+    of : (o : Option Seen) → IfSome o (λ _. (0 < next) × (next ≤ next))
+    of (Some w) = (some, omega arith)
+    of None = tt
+
+    at : (xs : List Part) → AllSettled look_up s (length before) xs
+        → AllSettled look_up s next (xs ++ Default name next ∷ own)
+    at [] settled = (of (look_up (span_bytes name s)), after)
+    at (part ∷ xs) settled =
+        (settled_later look_up s (length before) next part le settled.0, at xs settled.1)
+
+-- where writing stopped at a part, it stopped in the parts with more after it
+pub stops_more : {V Seen W First : Type 0} (ways : Ways V Seen W First) (s : List ℕ) (parts : List Part)
+    (part : Part) (rest : List Part) (first now : W) → AllSettled ways.look_up s (length parts) parts
+    → (stopped : Stop) → StopsInParts ways s stopped (parts ++ part ∷ []) first now
+    → StopsInParts ways s stopped (parts ++ part ∷ rest) first now
+stops_more {Seen = Seen} ways s parts part rest first now settled stopped stops = record {
+  begins = stops.begins;
+  at = of stopped stops.at;
+  room = stops.room;
+}
+  where
+    longer : (v w : Value) (x own more : List ℕ)
+        → length (x ++ unless_missing v (own ++ unless_missing w []))
+        ≤ length (x ++ unless_missing v (own ++ unless_missing w more))
+    longer (Bytes y) (Bytes z) x own more =
+        omega (
+          arith,
+          length-append x (own ++ []),
+          length-append own [],
+          length-append x (own ++ more),
+          length-append own more,
+        )
+    longer (Bytes y) (Missing position name) x own more = omega arith
+    longer (Missing position name) w x own more = omega arith
+
+    missing_on : (v w u : Value) {position : ℕ} {name : List ℕ} → joined v w ≡ Missing position name
+        → joined v (joined w u) ≡ Missing position name
+    missing_on v w u is = sym (joined_assoc v w u) ∙ ap (λ (m : Value). joined m u) is
+
+    still_missing : (bytes : Seen → List ℕ) (position : ℕ) (name : List ℕ)
+        → parts_value (parts ++ part ∷ []) s (look_up_of bytes ways.look_up) ≡ Missing position name
+        → parts_value (parts ++ part ∷ rest) s (look_up_of bytes ways.look_up) ≡ Missing position name
+    still_missing bytes position name is =
+        let more = value_more ways.look_up bytes s parts part rest settled in
+        more.1 ∙ missing_on _ _ more.0 (sym (value_last ways.look_up bytes s parts part settled) ∙ is)
+
+    of : (stopped : Stop) → StopsAt ways s stopped (λ look. parts_value (parts ++ part ∷ []) s look)
+        (λ look. parts_written (parts ++ part ∷ []) s look) first
+        → StopsAt ways s stopped (λ look. parts_value (parts ++ part ∷ rest) s look)
+        (λ look. parts_written (parts ++ part ∷ rest) s look) first
+    of (Full e) full = λ bytes reads.
+        let look = look_up_of bytes ways.look_up in
+        let more = written_more ways.look_up bytes s parts part rest settled in
+        omega (
+          arith,
+          full bytes reads,
+          ap length (written_one ways.look_up bytes s parts part settled),
+          ap length more.1,
+          longer (parts_value parts s look) (part_value part s look) (parts_written parts s look)
+              (bytes_in (part_value part s look)) more.0,
+        )
+    of (stop.Missing name) missing = (
+      λ bytes reads. still_missing bytes _ _ (missing.0 bytes reads),
+      still_missing (λ _. mark ∷ []) _ _ missing.1,
+      missing.2,
+      missing.3,
+    )

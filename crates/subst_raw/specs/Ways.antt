@@ -1,0 +1,85 @@
+-- What a part gives by itself is appended to an output.
+use Rattle.std.specs.Prelude.{◌≡◌, ℕ, ◌+◌, ◌<◌, ◌≤◌, List, length, Bool, true, false, Option, MatchOption}
+use Rattle.subst_language.specs.Language.LookUp.{LookUp}
+use Rattle.subst_language.specs.Language.Name.{IsName}
+use Rattle.subst_language.specs.Language.Value.{Value, Bytes, Missing}
+use Rattle.subst_language.specs.Language.Written.{bytes_in}
+use Rattle.subst_language.specs.Calls.VariableMap.{ByLookUp}
+use Rattle.subst_raw.specs.Filled.{FillsMarks, marks_of}
+use Rattle.subst_raw.specs.Output.{Appended}
+use Rattle.subst_raw.specs.Parts.{part_value}
+use Rattle.subst_raw.specs.Span.{IsSpan, span_bytes}
+use Rattle.subst_raw.specs.declared.expand.Stop.{Stop}
+use Rattle.subst_raw.specs.declared.expand.Stop.TheVariants.{Full}
+use Rattle.subst_raw.specs.declared.expand.Stop.TheVariants as stop
+use Rattle.subst_raw.specs.declared.part.Part.{Part}
+use Rattle.subst_raw.specs.declared.part.Part.TheVariants.{Default}
+
+-- how a map is asked and its values are read, and what an output holds, how long that is, and for how much
+-- there is room
+pub record Ways (V Seen W First : Type 0) : Type 1 where
+  pub read : V → List ℕ
+  pub is_read : List ℕ → Type 0
+  pub see : V → Seen
+  pub look_up : List ℕ → Option Seen
+  pub holds : W → First → List ℕ → Type 0
+  pub len : W → ℕ
+  pub room : W → ℕ
+
+abbrev pub ways_of : {V Seen W First : Type 0} → (V → List ℕ) → (List ℕ → Type 0) → (V → Seen)
+    → (List ℕ → Option Seen) → (W → First → List ℕ → Type 0) → (W → ℕ) → (W → ℕ) → Ways V Seen W First
+ways_of read is_read see look_up holds len room = record {
+  read = read;
+  is_read = is_read;
+  see = see;
+  look_up = look_up;
+  holds = holds;
+  len = len;
+  room = room;
+}
+
+-- P holds of the map's look-up of bytes
+abbrev pub ByWays : {V Seen W First : Type 0} → Ways V Seen W First → (LookUp → Type 0) → Type 0
+ByWays ways P = ByLookUp ways.read ways.see ways.look_up P
+
+-- what a value is was written, between two states of an output
+pub record Writes {V Seen W First : Type 0} (ways : Ways V Seen W First) (value : LookUp → Value)
+    (written : LookUp → List ℕ) (before after : W) : Type 0 where
+  pub given : ByWays ways (λ look. Appended ways.holds (λ x. value look ≡ Bytes x) before after)
+  pub filled : Appended ways.holds (FillsMarks ways.is_read (value (marks_of ways.look_up))) before after
+  pub long : ByWays ways (λ look. ways.len after ≡ ways.len before + length (written look))
+  pub room : ways.room before ≤ ways.room after
+
+-- the same, where writing stopped: the output had no room for what was to be written, or the value is the
+-- variable that is missing
+abbrev pub StopsAt : {V Seen W First : Type 0} → Ways V Seen W First → List ℕ → Stop → (LookUp → Value)
+    → (LookUp → List ℕ) → W → Type 0
+StopsAt ways s (Full e) value written before =
+    ByWays ways (λ look. ways.room before < ways.len before + length (written look))
+StopsAt ways s (stop.Missing name) value written before =
+    ByWays ways (λ look. value look ≡ Missing name.start (span_bytes name s))
+    × (value (marks_of ways.look_up) ≡ Missing name.start (span_bytes name s))
+    × IsSpan s name × IsName (span_bytes name s)
+
+pub record Stops {V Seen W First : Type 0} (ways : Ways V Seen W First) (s : List ℕ) (stopped : Stop)
+    (value : LookUp → Value) (written : LookUp → List ℕ) (before after : W) : Type 0 where
+  pub begins : Appended ways.holds (λ _. Unit {0}) before after
+  pub at : StopsAt ways s stopped value written before
+  pub room : ways.room before ≤ ways.room after
+
+-- the part's own value was written
+abbrev pub WritesPart : {V Seen W First : Type 0} → Ways V Seen W First → List ℕ → Part → W → W → Type 0
+WritesPart ways s part before after =
+    Writes ways (part_value part s) (λ look. bytes_in (part_value part s look)) before after
+
+-- or writing stopped at it
+abbrev pub StopsAtPart : {V Seen W First : Type 0} → Ways V Seen W First → List ℕ → Part → Stop → W → W
+    → Type 0
+StopsAtPart ways s part stopped before after =
+    Stops ways s stopped (part_value part s) (λ look. bytes_in (part_value part s look)) before after
+
+-- whether a part is that of a default whose name has a value
+abbrev pub TellsFound : {Seen : Type 0} → (List ℕ → Option Seen) → List ℕ → Part → Bool → Type 0
+TellsFound look_up s (Default name next) found =
+    MatchOption (look_up (span_bytes name s)) (found ≡ false) (λ _. found ≡ true)
+TellsFound look_up s part found = found ≡ false

@@ -1,0 +1,170 @@
+//! A sink that keeps no parts: it writes what they give at once.
+
+ghost use Rattle.std.specs.Prelude.{◌≡◌, ◌+◌, ◌^◌, ℕ, List, IfErr, OnOk};
+ghost use Rattle.subst_raw.specs.Parts.{IsInSource};
+ghost use Rattle.subst_raw.specs.declared.writer.State.TheVariants as states;
+
+use crate::append::append_part;
+use crate::expand::Stop;
+use crate::output::Output;
+use crate::part::{Part, Span};
+use crate::read_value::ReadValue;
+use crate::sink::Sink;
+use std::alloc::AllocError;
+use std::marker::PhantomData;
+use subst_map::VariableMap;
+
+/// What a writer does with the next part.
+#[derive(Clone, Copy)]
+pub(crate) enum State {
+    /// It writes it.
+    Writing,
+    /// It passes it over: it is inside the default whose part has this index, and whose name has a value.
+    Jumping(usize),
+    /// It passes it over, since writing stopped.
+    Stopped(Stop),
+}
+
+impl State {
+    ghost use Rattle.std.specs.Prelude.{◌≡◌, ◌↔◌, IsTrue};
+    ghost use Rattle.subst_raw.specs.declared.writer.State.TheVariants as states;
+
+    /// Returns whether parts are passed over up to the end of the default whose part has this index.
+    fn is_inside(self, index: usize) -> bool
+        ensures { IsTrue result ↔ (self ≡ states.Jumping index) }
+    {
+        match self {
+            State::Jumping(default) => default == index,
+            State::Writing | State::Stopped(_) => false,
+        }
+    }
+}
+
+/// Writes what parts give to an output, with the values of `variables` as `R` reads them.
+#[derive(Drop)]
+pub(crate) struct Writer<'s, 'a, M, R, W> {
+    source: &'s [u8],
+    variables: &'a M,
+    output: W,
+    /// How many parts there were.
+    len: usize,
+    state: State,
+    reads: PhantomData<R>,
+}
+
+impl<'s, 'a, M: VariableMap<'a>, R: ReadValue<M::Value>, W: Output> Writer<'s, 'a, M, R, W>
+where
+    M::Value: Drop,
+{
+    ghost use Rattle.subst_raw.specs.Writing.{NotStopped, WritesOn};
+    ghost use Rattle.subst_raw.specs.Ways.{ways_of};
+
+    /// Returns a writer that has written nothing yet.
+    pub fn new(source: &'s [u8], variables: &'a M, output: W) -> Self
+        ensures source { result.source ≡ source.entry }
+        ensures variables { result.variables ≡ variables.entry }
+        ensures output { result.output ≡ output }
+        ensures len { result.len ≡ 0 }
+        ensures state { result.state ≡ states.Writing }
+    {
+        Writer {
+            source,
+            variables,
+            output,
+            len: 0,
+            state: State::Writing,
+            reads: PhantomData,
+        }
+    }
+
+    /// Returns the output, and why writing stopped, if it did.
+    pub fn finish(self) -> (W, Result<(), Stop>)
+        ensures output { result.0 ≡ self.entry.output }
+        ensures stopped { IfErr result.1 (λ stop. self.entry.state ≡ states.Stopped stop) }
+        ensures unstopped { OnOk result.1 (NotStopped self.entry.state) }
+    {
+        let Writer { output, state, .. } = self;
+        match state {
+            State::Stopped(stop) => (output, Err(stop)),
+            State::Writing | State::Jumping(_) => (output, Ok(())),
+        }
+    }
+
+    /// Writes what a part gives by itself, unless it is passed over, and returns whether it is that of a
+    /// default whose name has a value.
+    #[inline(always)]
+    fn write(&mut self, part: Part) -> bool
+        requires { IsInSource self.old.source.now part }
+        ensures source { self.new.source ≡ self.old.source }
+        ensures variables { self.new.variables ≡ self.old.variables }
+        ensures len { self.new.len ≡ self.old.len }
+        ensures written { let ways = ways_of R.read R.is_read M.see
+            (M.look_up self.old.variables.now)
+            W.holds W.len W.room in WritesOn ways self.old.source.now part self.old.state
+            self.old.output
+            result self.new.state self.new.output }
+    {
+        let State::Writing = self.state else {
+            return false;
+        };
+        match append_part::<M, R, W>(self.source, part, self.variables, &mut self.output) {
+            Ok(found) => found,
+            Err(stop) => {
+                self.state = State::Stopped(stop);
+                false
+            }
+        }
+    }
+}
+
+impl<'s, 'a, M: VariableMap<'a>, R: ReadValue<M::Value>, W: Output> Sink for Writer<'s, 'a, M, R, W>
+where
+    M::Value: Drop,
+{
+    ghost use Rattle.std.specs.Prelude.{◌≡◌};
+    ghost use Rattle.subst_raw.specs.Ways.{ways_of};
+    ghost use Rattle.subst_raw.specs.Writer.{AtFirst, HoldsParts};
+
+    ghost First = { AtFirst M.Seen W };
+
+    ghost holds = { λ writer first parts.
+        HoldsParts (ways_of R.read R.is_read M.see (M.look_up writer.variables.now) W.holds W.len
+        W.room)
+        writer.source.now writer.len writer.state writer.output first parts };
+
+    ghost source = { λ first s. first.source ≡ s };
+
+    ghost limit = { 2 ^ 64 };
+
+    #[inline(always)]
+    fn take(&mut self, part: Part) -> Result<(), AllocError> {
+        let _ = self.write(part);
+        self.len += 1;
+        Ok(())
+    }
+
+    #[inline(always)]
+    fn take_optional(&mut self, name: Span) -> Result<(), AllocError> {
+        let next = self.len + 1;
+        let _ = self.write(Part::Default { name, next });
+        self.len = next;
+        Ok(())
+    }
+
+    #[inline(always)]
+    fn open(&mut self, name: Span) -> Result<usize, AllocError> {
+        let index = self.len;
+        if self.write(Part::Default { name, next: 0 }) {
+            self.state = State::Jumping(index);
+        }
+        self.len += 1;
+        Ok(index)
+    }
+
+    #[inline(always)]
+    fn close(&mut self, index: usize, _name: Span) {
+        if self.state.is_inside(index) {
+            self.state = State::Writing;
+        }
+    }
+}
