@@ -16,6 +16,10 @@ line_before offset s = after_last is_line_end (take offset s)
 abbrev pub line_from : ℕ → List ℕ → List ℕ
 line_from offset s = before_first is_line_end (drop offset s)
 
--- the line around the start of an error's range, without what ends it
+-- the line around a byte offset, without what ends it
+abbrev pub line_around : ℕ → List ℕ → List ℕ
+line_around offset s = line_before offset s ++ line_from offset s
+
+-- the line around the start of an error's range
 abbrev pub line_of : Option Fault → List ℕ → List ℕ
-line_of e s = let start = (range_of e).start in line_before start s ++ line_from start s
+line_of e s = line_around (range_of e).start s

@@ -16,9 +16,11 @@ abbrev pub line_end_count : List ℕ → ℕ
 line_end_count [] = 0
 line_end_count (b ∷ rest) = (if ends_line b rest then 1 else 0) + line_end_count rest
 
--- The line and the column at which an error's range begins, both from 1: one more than the lines that end
--- before it, and one more than the columns of what is before it in its line.
+-- The line and the column at a byte offset, both from 1: one more than the lines that end before it, and one
+-- more than the columns of what is before it in its line.
+abbrev pub position_at : ℕ → List ℕ → ℕ × ℕ
+position_at offset s = (1 + line_end_count (take offset s), 1 + columns (line_before offset s))
+
+-- the line and the column at which an error's range begins
 abbrev pub position_of : Option Fault → List ℕ → ℕ × ℕ
-position_of e s =
-    let start = (range_of e).start in
-    (1 + line_end_count (take start s), 1 + columns (line_before start s))
+position_of e s = position_at (range_of e).start s

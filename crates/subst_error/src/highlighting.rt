@@ -3,14 +3,15 @@
 ghost use Rattle.std.specs.Prelude.{◌≡◌, [], Some, IsOk, IfOk, OnOk, MatchOption, string_bytes};
 ghost use Rattle.std.specs.Fmt.{WritesText};
 ghost use Rattle.subst_error.specs.ErrorFault.{error_fault};
-ghost use Rattle.subst_error.specs.Highlighting.{highlighting_of, underlined};
+ghost use Rattle.subst_error.specs.Highlighting.{highlighting_at, highlighting_of, underlined};
 ghost use Rattle.subst_error.specs.Range.{range_of, IsRangeIn};
 
 use crate::Error;
-use crate::line::MarkedLine;
+use crate::line::{MarkedLine, marked_line};
 use std::alloc::{AllocError, Global};
 use std::fmt;
 use std::fmt::Write;
+use std::ops::Range;
 use unicode_width::UnicodeWidthStr;
 
 /// The columns of the widest line that is highlighted.
@@ -83,9 +84,9 @@ impl Error {
             string_bytes text ≡ highlighting_of (error_fault self.now) source.now) }
         ensures nothing { highlighting_of (error_fault self.now) source.now ≡ [] → IsOk result }
     {
-        match self.underlined(source) {
-            Some(underlined) => format!(in alloc; "{underlined}"),
-            None => Ok(String::new(alloc)),
+        match self {
+            Error::OutOfMemory(_) => Ok(String::new(alloc)),
+            _ => underline(alloc, source, self.source_range()),
         }
     }
 
@@ -99,18 +100,47 @@ impl Error {
         if let Error::OutOfMemory(_) = self {
             return None;
         }
-        let MarkedLine {
-            text,
-            before,
-            marked,
-        } = self.marked_line(source);
-        if text.width() > WIDEST {
-            return None;
-        }
-        Some(Underlined {
-            line: text,
-            spaces: before.width(),
-            carets: marked.width(),
-        })
+        underlined_line(source, self.source_range())
     }
+}
+
+/// Returns the line of `source` that a range begins in, underlined as [`Error::source_highlighting`] does it;
+/// nothing where the line is wider than 60 columns.
+///
+/// Both ends of the range have to be character boundaries of `source`.
+///
+/// # Errors
+///
+/// When allocation fails. An empty text takes no memory, so it never fails.
+pub fn underline(alloc: Global, source: &str, range: Range<usize>) -> Result<String, AllocError>
+    requires { IsRangeIn source.now range }
+    ensures highlighting { IfOk result (λ text.
+        string_bytes text ≡ highlighting_at range source.now) }
+    ensures nothing { highlighting_at range source.now ≡ [] → IsOk result }
+{
+    match underlined_line(source, range) {
+        Some(underlined) => format!(in alloc; "{underlined}"),
+        None => Ok(String::new(alloc)),
+    }
+}
+
+/// Returns the line of `source` that a range begins in, underlined, or nothing where that isn't shown.
+fn underlined_line(source: &str, range: Range<usize>) -> Option<Underlined<'_>>
+    requires { IsRangeIn source.now range }
+    ensures { MatchOption result (highlighting_at range source.now ≡ [])
+        (λ u. highlighting_at range source.now ≡ underlined u.line.now u.spaces u.carets) }
+{
+    let MarkedLine {
+        text,
+        before,
+        marked,
+    } = marked_line(source, range);
+    if text.width() > WIDEST {
+        return None;
+    }
+    Some(Underlined {
+        line: text,
+        spaces: before.width(),
+        carets: marked.width(),
+    })
 }

@@ -3,10 +3,11 @@
 ghost use Rattle.std.specs.Prelude.{◌≡◌, ◌-◌, ◌≤◌, take, slice_range};
 ghost use Rattle.std.specs.Str.{IsCharBoundary};
 ghost use Rattle.subst_error.specs.ErrorFault.{error_fault};
-ghost use Rattle.subst_error.specs.Line.{is_line_end, line_before, line_from, line_of};
+ghost use Rattle.subst_error.specs.Line.{is_line_end, line_around, line_before, line_from, line_of};
 ghost use Rattle.subst_error.specs.Range.{range_of, IsRangeIn};
 
 use crate::Error;
+use std::ops::Range;
 
 impl Error {
     /// Returns the line of `source` that the error's range begins in, without what ends it. A line ends at a
@@ -18,30 +19,11 @@ impl Error {
         requires { IsRangeIn source.now (range_of (error_fault self.now)) }
         ensures line { result.now ≡ line_of (error_fault self.now) source.now }
     {
-        self.marked_line(source).text
-    }
-
-    /// Returns the line of `source` that the error's range begins in, with what of it is marked.
-    pub(crate) fn marked_line<'a>(&self, source: &'a str) -> MarkedLine<'a>
-        requires { IsRangeIn source.now (range_of (error_fault self.now)) }
-        ensures text { result.text.now ≡ line_of (error_fault self.now) source.now }
-        ensures before { let range = range_of (error_fault self.now) in
-            result.before.now ≡ line_before range.start source.now }
-        ensures marked { let range = range_of (error_fault self.now) in
-            result.marked.now ≡ take (range.end - range.start) (line_from range.start source.now) }
-    {
-        let range = self.source_range();
-        let start = line_start(source, range.start);
-        let end = line_end(source, range.start);
-        MarkedLine {
-            text: &source[start..end],
-            before: &source[start..range.start],
-            marked: &source[range.start..range.end.min(end)],
-        }
+        marked_line(source, self.source_range()).text
     }
 }
 
-/// A line of a source, with the range of it that an error is about.
+/// A line of a source, with a range of it that is marked.
 #[derive(Clone, Copy)]
 pub(crate) struct MarkedLine<'a> {
     /// The whole line, without what ends it.
@@ -50,6 +32,24 @@ pub(crate) struct MarkedLine<'a> {
     pub(crate) before: &'a str,
     /// What is within the range, up to the line's end.
     pub(crate) marked: &'a str,
+}
+
+/// Returns the line of `source` that a range begins in, with what of it is marked.
+pub(crate) fn marked_line(source: &str, range: Range<usize>) -> MarkedLine<'_>
+    requires { IsRangeIn source.now range }
+    ensures text { result.text.now ≡ line_around range.start source.now }
+    ensures before { result.before.now ≡ line_before range.start source.now }
+    ensures marked { result.marked.now
+        ≡ take (range.end - range.start) (line_from range.start source.now) }
+{
+    let start = line_start(source, range.start);
+    let end = line_end(source, range.start);
+    let marked = range.end.min(end).max(range.start);
+    MarkedLine {
+        text: &source[start..end],
+        before: &source[start..range.start],
+        marked: &source[range.start..marked],
+    }
 }
 
 /// Returns the byte offset at which the line around the byte offset `offset` begins.

@@ -1,11 +1,13 @@
 //! The line and the column of an error, as people count them.
 
 ghost use Rattle.std.specs.Prelude.{◌≡◌, ◌≤◌, length};
+ghost use Rattle.std.specs.Str.{IsCharBoundary};
 ghost use Rattle.subst_error.specs.ErrorFault.{error_fault};
-ghost use Rattle.subst_error.specs.Position.{line_end_count, position_of};
+ghost use Rattle.subst_error.specs.Position.{line_end_count, position_at, position_of};
 ghost use Rattle.subst_error.specs.Range.{range_of, IsRangeIn};
 
 use crate::Error;
+use crate::line::marked_line;
 use unicode_width::UnicodeWidthStr;
 
 impl Error {
@@ -21,10 +23,21 @@ impl Error {
         requires { IsRangeIn source.now (range_of (error_fault self.now)) }
         ensures position { result ≡ position_of (error_fault self.now) source.now }
     {
-        let line = self.marked_line(source);
-        let before = &source.as_bytes()[..self.source_range().start];
-        (1 + count_line_ends(before), 1 + line.before.width())
+        line_and_column(source, self.source_range().start)
     }
+}
+
+/// Returns the line and the column of `source` at a byte offset, both from 1, as [`Error::source_position`]
+/// counts them.
+///
+/// The offset has to be a character boundary of `source`.
+pub fn line_and_column(source: &str, offset: usize) -> (usize, usize)
+    requires { IsCharBoundary source.now offset }
+    ensures position { result ≡ position_at offset source.now }
+{
+    let line = marked_line(source, offset..offset);
+    let before = &source.as_bytes()[..offset];
+    (1 + count_line_ends(before), 1 + line.before.width())
 }
 
 /// Returns how many lines end in a text.

@@ -1,4 +1,9 @@
-pub mod MappedLemmas
+pub mod FindLemmas
 pub mod JsonTreeLemmas
+pub mod LocatedLemmas
+pub mod MappedLemmas
 pub mod OneOutcomeLemmas
+pub mod PlaceLemmas
+pub mod PointerLemmas
 pub mod ReadingLemmas
+pub mod RefusedLemmas

@@ -1,4 +1,9 @@
 pub mod Errors
 pub mod Laws
+pub mod Located
 pub mod Mapped
 pub mod Outcome
+pub mod Paths
+pub mod Places
+pub mod Pointer
+pub mod Refusals

@@ -1,12 +1,24 @@
-//! A law of the definitions that the contracts cite, as the contract of a function that does nothing.
+//! Laws of the definitions that the contracts cite, each as the contract of a function that does nothing.
 
-ghost use Rattle.serde_json.specs.Data.{Data};
+ghost use Rattle.std.specs.Prelude.{◌≡◌, ℕ, List, Some};
+ghost use Rattle.serde_json.specs.Data.{Data, string};
+ghost use Rattle.serde_json.specs.Find.{pointer};
 ghost use Rattle.subst_language.specs.Language.LookUp.{LookUp};
+ghost use Rattle.subst_walk.specs.Paths.{Step};
 ghost use Rattle.subst_json.specs.Laws.{IsMappedOrRefused};
+ghost use Rattle.subst_json.specs.Paths.{Leads};
+ghost use Rattle.subst_json.specs.Pointer.{HasUsizeIndices, pointer_text};
 
 /// The law of one outcome. Under each look-up a tree is filled in as exactly one tree, or is refused for
 /// exactly one fault, never both. So a call that fills in a tree succeeds exactly where each string of the
 /// tree gives bytes, unless memory runs out.
 pub fn trees_have_one_outcome()
     ensures outcome { (look : LookUp) (d : Data) → IsMappedOrRefused look d }
+{}
+
+/// The law of pointers. By the text of a path, `Value::pointer` of `serde_json` finds the string that the
+/// path leads to.
+pub fn pointers_find_strings()
+    ensures found { (path : List Step) (d : Data) (s : List ℕ) → HasUsizeIndices path
+        → Leads path d s → pointer (pointer_text path) d ≡ Some (string s) }
 {}

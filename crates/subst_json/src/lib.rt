@@ -25,15 +25,23 @@ ghost use Rattle.subst_json.specs.Errors.{HasOwnMemory};
 ghost use Rattle.subst_json.specs.Outcome.{ReadsAsTree, IsReadFilledIn, IfJson, OnJson, OnSubst};
 
 pub use error::Error;
+pub use path::Path;
+pub use place::{place_in, place_of};
+pub use refusals::{Refusal, all_refusals, first_refusal};
 use serde_json::Value;
 use std::alloc::Global;
 use std::convert::AsStr;
 use subst_map::VariableMap;
 use subst_walk::Filler;
+pub use subst_walk::Step;
 use typed::FromTree;
 
 mod error;
 pub mod laws;
+mod path;
+mod place;
+mod refusals;
+mod refused;
 mod typed;
 mod walk;
 

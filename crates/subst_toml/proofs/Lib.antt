@@ -1,4 +1,6 @@
+pub mod LocatedLemmas
 pub mod MappedLemmas
-pub mod TomlTreeLemmas
 pub mod OneOutcomeLemmas
 pub mod ReadingLemmas
+pub mod RefusedLemmas
+pub mod TomlTreeLemmas

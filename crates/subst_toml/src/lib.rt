@@ -8,11 +8,15 @@
 //! document first, whose tree is a table, and [`from_str`] and [`from_slice`] go on to read a type of the
 //! caller's from it, by `serde`.
 //!
+//! [`place_of`] finds where in a document a string of its tree stands, and [`place_in`] where a part of that
+//! string is spelled, as the range of a fault.
+//!
 //! The walk calls itself for each array and table that is inside another one. The reader bounds how deep
 //! these are; a deeper tree, which a caller has built, takes as much more of the stack.
 #![tactic(auto)]
 
-ghost use Rattle.std.specs.Prelude.{◌≡◌, ◌⊎◌, Err, Ok, IfErr, IfOk, None, OnErr, OnOk};
+ghost use Rattle.std.specs.Prelude.{◌≡◌, ◌⊎◌, Err, Ok, IfErr, IfOk, IsUtf8, MatchResult, None, OnErr, OnOk};
+ghost use Rattle.std.specs.Str.{IsValidUpTo, valid_up_to};
 ghost use Rattle.toml.specs.Data.{table};
 ghost use Rattle.toml.specs.Errors.{IsWithin};
 ghost use Rattle.toml.specs.Parse.{parse_document};
@@ -27,15 +31,24 @@ ghost use Rattle.subst_toml.specs.Errors.{HasOwnMemory};
 ghost use Rattle.subst_toml.specs.Outcome.{ReadsAsTree, IsReadFilledIn, IfToml, OnToml, OnSubst, TellsUtf8};
 
 pub use error::Error;
+pub use path::Path;
+pub use place::{place_in, place_of};
+pub use refusals::{Refusal, all_refusals, first_refusal};
 use std::alloc::Global;
 use std::convert::AsStr;
+use std::str::{self, Utf8Error};
 use subst_map::VariableMap;
 use subst_walk::Filler;
+pub use subst_walk::Step;
 use toml::{Table, Value};
 use typed::FromText;
 
 mod error;
 pub mod laws;
+mod path;
+mod place;
+mod refusals;
+mod refused;
 mod typed;
 mod walk;
 
@@ -137,7 +150,7 @@ where
     ensures range { OnSubst result HasRange }
     ensures memory { IfErr result HasOwnMemory }
 {
-    value_from_str(alloc, std::str::from_utf8(source)?, variables)
+    value_from_str(alloc, text_of(source)?, variables)
 }
 
 /// Reads a TOML document, fills in its strings from `variables`, whose values are texts, and reads a `T` from
@@ -204,9 +217,24 @@ where
     ensures range { OnSubst result HasRange }
     ensures memory { IfErr result HasOwnMemory }
 {
-    let table = filled_table(alloc, std::str::from_utf8(source)?, variables)?;
+    let table = filled_table(alloc, text_of(source)?, variables)?;
     let text = typed::printed(alloc, &table)?;
     Ok(T::from_text(alloc, text.as_str())?)
+}
+
+/// Returns the text that bytes are.
+///
+/// # Errors
+///
+/// Where they aren't UTF-8, with how far they are.
+fn text_of(source: &[u8]) -> Result<&str, Utf8Error>
+    ensures { MatchResult result (λ text. (text.now ≡ source.now) × IsUtf8 source.now)
+        (λ e. ¬ (IsUtf8 source.now) × IsValidUpTo source.now (valid_up_to e)) }
+{
+    match simdutf8::basic::from_utf8(source) {
+        Ok(text) => Ok(text),
+        Err(_) => str::from_utf8(source),
+    }
 }
 
 /// Returns the table that a document is, with its strings filled in.

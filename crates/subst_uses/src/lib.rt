@@ -19,6 +19,7 @@ pub mod maps;
 mod memory;
 pub mod missing;
 pub mod own_map;
+mod place;
 pub mod plain;
 pub mod report;
 pub mod room;

@@ -4,9 +4,11 @@ ghost use Rattle.std.specs.Prelude.{IfOk};
 ghost use Rattle.subst.specs.Calls.Maps.{first_value};
 ghost use Rattle.subst_uses.specs.Settings.{AreLoaded};
 
+use crate::place;
 use std::alloc::{AllocError, Global};
-use subst::toml::{Error, value_from_str};
-use subst::{Env, substitute};
+use subst::Env;
+use subst::error::line_and_column;
+use subst::toml::{Error, first_refusal, place_in, place_of, value_from_str};
 use toml::Value;
 
 /// Settings, or why there are none.
@@ -14,7 +16,8 @@ use toml::Value;
 pub enum Settings {
     /// The tree, with its strings filled in.
     Tree(Value),
-    /// `file:line:column: fault`, where the file isn't TOML or one of its strings is refused.
+    /// What is wrong: `file:line:column: path: fault` and the line of the file, underlined, where a string is
+    /// refused; and `file:line:column: fault` where the file isn't TOML.
     Report(String),
 }
 
@@ -47,30 +50,16 @@ fn unread(
     source: &str,
     e: &toml::de::Error,
 ) -> Result<String, AllocError> {
-    let (line, column) = line_and_column(source, e.span().map_or(0, |span| span.start));
-    format!(in alloc; "{file}:{line}:{column}: {}", e.message())
-}
-
-/// Returns the line and the column of a byte offset, both from 1; a column counts characters.
-fn line_and_column(source: &str, offset: usize) -> (usize, usize) {
-    let (mut line, mut column) = (1usize, 1usize);
-    for (at, c) in source.char_indices() {
-        if at >= offset {
-            break;
+    match e.span() {
+        Some(span) if source.is_char_boundary(span.start) => {
+            let (line, column) = line_and_column(source, span.start);
+            format!(in alloc; "{file}:{line}:{column}: {}", e.message())
         }
-        if c == '\n' {
-            line = line.saturating_add(1);
-            column = 1;
-        } else {
-            column = column.saturating_add(1);
-        }
+        _ => format!(in alloc; "{file}: {}", e.message()),
     }
-    (line, column)
 }
 
-/// Returns the report of a string that is refused, with the first line of the file that is refused for the
-/// same reason, underlined. There is none where the string spells its placeholder with escapes of TOML, or
-/// over several lines; then the report names the fault alone.
+/// Returns the report of a string that is refused.
 fn refused(
     alloc: Global,
     file: &str,
@@ -78,35 +67,32 @@ fn refused(
     e: &subst::Error,
     variables: &Env,
 ) -> Result<String, AllocError> {
-    let fault = format!(in alloc; "{e}")?;
-    for (index, line) in source.lines().enumerate() {
-        if let Some(shown) = refused_line(alloc, line, fault.as_str(), variables)? {
-            return format!(in alloc; "{file}:{}:{shown}", index.saturating_add(1));
-        }
+    match placed(alloc, file, source, variables)? {
+        Some(report) => Ok(report),
+        None => format!(in alloc; "{file}: {e}"),
     }
-    format!(in alloc; "{file}: {fault}")
 }
 
-/// Returns `column: fault` and the line, underlined, if it is refused for this fault and is no comment.
-fn refused_line(
+/// Returns the report of the first string that is refused, with its place in the file.
+fn placed(
     alloc: Global,
-    line: &str,
-    fault: &str,
+    file: &str,
+    source: &str,
     variables: &Env,
 ) -> Result<Option<String>, AllocError> {
-    if line.trim_start().starts_with('#') {
+    let Ok(table) = toml::table_from_str(alloc, source) else {
         return Ok(None);
-    }
-    match substitute(alloc, line, variables) {
-        Ok(_) => Ok(None),
-        Err(subst::Error::OutOfMemory(e)) => Err(e),
-        Err(e) => {
-            if format!(in alloc; "{e}")?.as_str() != fault {
-                return Ok(None);
-            }
-            let (_, column) = e.source_position(line);
-            let underlined = e.source_highlighting(alloc, line)?;
-            Ok(Some(format!(in alloc; "{column}: {fault}\n{underlined}")?))
-        }
-    }
+    };
+    let tree = Value::Table(table);
+    let Some(refusal) = first_refusal(alloc, &tree, variables)? else {
+        return Ok(None);
+    };
+    let Some(token) = place_of(alloc, source, &refusal.path)? else {
+        return Ok(None);
+    };
+    let Some(place) = place_in(alloc, source, token, refusal.error.source_range())? else {
+        return Ok(None);
+    };
+    let report = place::refusal(alloc, file, source, place, &refusal.path, &refusal.error)?;
+    Ok(Some(report))
 }

@@ -1,4 +1,5 @@
 //! A map that writes down which names it is asked for: each variable that is visited, once and in order.
+//! Where no template is kept, these are the names before a fault too.
 //!
 //! No contract says how often `get` is called, or with which names.
 
@@ -89,6 +90,14 @@ fn asks_for(alloc: Global, source: &str, names: u64) -> bool {
         && asked_by_byte_template(alloc, source) == (0, names)
 }
 
+/// Whether a source with a fault asks for these names before the fault is found, and its templates for none.
+fn asks_before_its_fault(alloc: Global, source: &str, names: u64) -> bool {
+    asked_by_text(alloc, source) == names
+        && asked_by_bytes(alloc, source) == names
+        && asked_by_template(alloc, source) == (0, 0)
+        && asked_by_byte_template(alloc, source) == (0, 0)
+}
+
 /// The number of the first row that is wrong.
 fn wrong_row(alloc: Global, rows: &[(&str, u64)]) -> Option<usize> {
     for (row, &(source, names)) in rows.iter().enumerate() {
@@ -113,9 +122,17 @@ fn asks_for_each_visited_variable_once_and_in_order(rt: HostRuntime) {
         // Nothing is asked for after a variable that is missing.
         ("$1 $2 $1", 12),
         ("${1:$7}${2:$3}$1", 123),
-        // A source that isn't a template.
-        ("$1 ${2?} $", 0),
-        ("$1 ${2", 0),
     ];
     assert_eq!(rt; wrong_row(rt.alloc(), rows.as_slice()), None);
+}
+
+#[test]
+fn asks_for_the_names_before_a_fault_where_no_template_is_kept(rt: HostRuntime) {
+    let alloc = rt.alloc();
+    assert!(rt; asks_before_its_fault(alloc, "$1 ${2?} $", 12));
+    assert!(rt; asks_before_its_fault(alloc, "$1 ${2", 1));
+    assert!(rt; asks_before_its_fault(alloc, "${1:$2 $", 1));
+    assert!(rt; asks_before_its_fault(alloc, "${2:$1 $", 21));
+    // Nothing is asked for after a variable that is missing.
+    assert!(rt; asks_before_its_fault(alloc, "$2 $1 $", 2));
 }

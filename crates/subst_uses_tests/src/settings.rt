@@ -44,9 +44,20 @@ fn loads_settings_and_shows_faults(rt: HostRuntime) -> Result<(), Fail> {
         ),
         (
             "# $PORT\n[db]\nurl = \"http://$HOST:${PORT}/\"\n",
-            "app.toml:3:23: No such variable: $PORT\n  url = \"http://$HOST:${PORT}/\"\n                        ^^^^\n",
+            "app.toml:3:23: db.url: No such variable: $PORT\n  url = \"http://$HOST:${PORT}/\"\n                        ^^^^\n",
         ),
-        ("a = \"\\u0024\"\n", "app.toml: Missing variable name"),
+        (
+            "a = \"\\u0024\"\n",
+            "app.toml:1:6: a: Missing variable name\n  a = \"\\u0024\"\n       ^^^^^^\n",
+        ),
+        (
+            "a = 1 # see $PORT below\nurl = \"http://$PORT/\"\n",
+            "app.toml:2:16: url: No such variable: $PORT\n  url = \"http://$PORT/\"\n                 ^^^^\n",
+        ),
+        (
+            "\"$PORT\" = 1\n'a b' = [\"x\", \"\"\"\n$PORT\"\"\"]\n",
+            "app.toml:3:2: \"a b\"[1]: No such variable: $PORT\n  $PORT\"\"\"]\n   ^^^^\n",
+        ),
         (
             "a = 1\nb =]\n",
             "app.toml:2:4: invalid value, expected a string, number, boolean, date-time, array or inline table",

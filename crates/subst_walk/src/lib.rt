@@ -2,24 +2,32 @@
 //! fill in texts, and `Filler` is that by a map: it returns the answer of a text, and a text without `$`
 //! and `\` as it is. `put_values` puts values into a map, whose keys stay.
 //!
-//! `subst` doesn't re-export this crate.
+//! `refused_string` and `add_below` are the steps of the walks that find refused strings.
+//!
+//! `subst` re-exports `Step` alone, by its modules `json` and `toml`.
 #![tactic(auto)]
 
-ghost use Rattle.std.specs.Prelude.{◌≡◌, ◌+◌, ◌<◌, IfOk, IsTrue, ℕ, List, ◌∷◌, length, string_bytes};
+ghost use Rattle.std.specs.Prelude.{◌≡◌, ◌+◌, ◌<◌, IfOk, IfSome, IsSomeAnd, IsTrue, MatchOption, ℕ, List, ◌∷◌, length, string_bytes};
 ghost use Rattle.std.specs.Map.{keys_of, values_of};
 ghost use Rattle.std.specs.Vec.Iter.{into_iter_items, into_iter_len};
 ghost use Rattle.subst_error.specs.ErrorFault.{error_fault};
+ghost use Rattle.subst_error.specs.Range.{range_of, IsRangeIn};
 ghost use Rattle.subst_language.specs.Language.Answer.{Answers, Gives, Refuses};
 ghost use Rattle.subst_language.specs.Language.LookUp.{LookUp};
 ghost use Rattle.subst_language.specs.Calls.Outcome.{OnFault};
 ghost use Rattle.subst_walk.specs.Texts.{HasRange};
 
-use std::alloc::Global;
+pub use refused::{Refused, StepRef, Wanted, add_below, refused_string};
+use std::alloc::{AllocError, Global};
 use std::collections::BTreeMap;
 use std::convert::AsStr;
+pub use step::Step;
 use subst_error::Error;
 use subst_map::VariableMap;
-use subst_template::substitute_owned;
+use subst_template::{is_plain, substitute, substitute_owned};
+
+mod refused;
+mod step;
 
 /// A way to fill in texts.
 ///
@@ -36,6 +44,15 @@ pub trait Fill {
         ensures err { (look : LookUp) → is_look_up self.now look
             → OnFault error_fault result (λ f. Answers (string_bytes source) look (Refuses f)) }
         ensures range { OnFault error_fault result HasRange };
+
+    /// Returns why `source` is refused, or nothing where it gives a text.
+    fn refusal(&self, alloc: Global, source: &str) -> Result<Option<Error>, AllocError>
+        ensures answer { (look : LookUp) → is_look_up self.now look
+            → IfOk result (λ refusal. MatchOption refusal
+            ((x : List ℕ) × Answers source.now look (Gives x))
+            (λ e. IsSomeAnd (error_fault e) (λ f. Answers source.now look (Refuses f)))) }
+        ensures refusal_range { IfOk result (λ refusal. IfSome refusal
+            (λ e. IsRangeIn source.now (range_of (error_fault e)))) };
 }
 
 /// Fills in texts from a map of variables.
@@ -57,6 +74,17 @@ where
 
     fn fill(&self, alloc: Global, source: String) -> Result<String, Error> {
         substitute_owned(alloc, source, self.variables)
+    }
+
+    fn refusal(&self, alloc: Global, source: &str) -> Result<Option<Error>, AllocError> {
+        if is_plain(source.as_bytes()) {
+            return Ok(None);
+        }
+        match substitute(alloc, source, self.variables) {
+            Ok(_) => Ok(None),
+            Err(Error::OutOfMemory(e)) => Err(e),
+            Err(e) => Ok(Some(e)),
+        }
     }
 }
 

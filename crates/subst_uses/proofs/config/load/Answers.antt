@@ -7,8 +7,8 @@ use Rattle.subst_uses.proofs.config.load.Goals as goal
 pub returns-in-Ok : goal.returns-in-Ok
 returns-in-Ok c = c.in-Ok.ensures.ok (λ v. string_bytes v) (λ v. refl)
 
-pub returns-in_ok-format-in-Err-Subst : goal.returns-in_ok-format-in-Err-Subst
-returns-in_ok-format-in-Err-Subst c =
+pub returns-in_ok-refused-in-Err-Subst : goal.returns-in_ok-refused-in-Err-Subst
+returns-in_ok-refused-in-Err-Subst c =
     let failed = c.in-Err-Subst in
     inr (of_a_fault (error_fault failed.e) _ (rw failed.field-0-is at failed.ensures.memory)
     (rw failed.field-0-is at failed.ensures.subst (λ v. string_bytes v) (λ v. refl)))

@@ -1,0 +1,78 @@
+//! Paths to the strings of a tree.
+
+ghost use Rattle.std.specs.Prelude.{Some};
+ghost use Rattle.std.specs.Fmt.{WritesOnOk};
+ghost use Rattle.std.specs.List.{flat_map};
+ghost use Rattle.std.specs.Char.{encode_utf8};
+ghost use Rattle.subst_walk.specs.Paths.{step_of};
+ghost use Rattle.subst_json.specs.Paths.{steps_of};
+ghost use Rattle.subst_json.specs.Pointer.{escaped_byte, pointer_text, step_text};
+
+use std::fmt;
+use std::fmt::Write;
+use subst_walk::Step;
+
+/// The path from a tree to a string of it. It displays as a JSON Pointer (RFC 6901), as
+/// `/server/list/0/x~1y`.
+#[derive(Clone, Debug, PartialEq, Eq, Drop)]
+pub struct Path {
+    /// The steps, the first one from the root.
+    pub steps: Vec<Step>,
+}
+
+/// For each step `/` and then its key, with `~` as `~0` and `/` as `~1`, or its index.
+impl fmt::Display for Path {
+    ghost output = { λ path. Some (pointer_text (steps_of path)) };
+
+    fn fmt<W: fmt::Write>(&self, f: &mut fmt::Formatter<W>) -> fmt::Result {
+        for step in self.steps.iter() {
+            write_step(f, step)?;
+        }
+        Ok(())
+    }
+}
+
+/// Writes a step.
+///
+/// # Errors
+///
+/// That of the writer, where it fails.
+fn write_step<W: fmt::Write>(f: &mut fmt::Formatter<W>, step: &Step) -> fmt::Result
+    ensures { WritesOnOk W.write_str_gives f.old result (step_text (step_of step.now)) f.new }
+{
+    f.write_str("/")?;
+    match step {
+        Step::Key(key) => write_escaped(f, key),
+        Step::Index(index) => write!(f, "{index}"),
+    }
+}
+
+/// Writes a key, escaped.
+///
+/// # Errors
+///
+/// That of the writer, where it fails.
+fn write_escaped<W: fmt::Write>(f: &mut fmt::Formatter<W>, key: &str) -> fmt::Result
+    ensures { WritesOnOk W.write_str_gives f.old result (flat_map escaped_byte key.now) f.new }
+{
+    for c in key.chars() {
+        write_escaped_char(f, c)?;
+    }
+    Ok(())
+}
+
+/// Writes a character of a key, escaped.
+///
+/// # Errors
+///
+/// That of the writer, where it fails.
+fn write_escaped_char<W: fmt::Write>(f: &mut fmt::Formatter<W>, c: char) -> fmt::Result
+    ensures { WritesOnOk W.write_str_gives f.old result
+        (flat_map escaped_byte (encode_utf8 c)) f.new }
+{
+    match c {
+        '~' => f.write_str("~0"),
+        '/' => f.write_str("~1"),
+        c => f.write_char(c),
+    }
+}

@@ -1,0 +1,53 @@
+//! Paths to the strings of a tree.
+
+ghost use Rattle.std.specs.Prelude.{Some};
+ghost use Rattle.std.specs.Fmt.{WritesOnOk};
+ghost use Rattle.subst_walk.specs.Paths.{step_of};
+ghost use Rattle.subst_toml.specs.DottedKey.{dotted_text, step_text};
+ghost use Rattle.subst_toml.specs.Paths.{steps_of};
+
+use std::fmt;
+use std::fmt::Write;
+use subst_walk::Step;
+use toml_writer::write_key;
+
+/// The path from a tree to a string of it. It displays as a dotted key, with indices in brackets, as
+/// `a."b c"[2].d`.
+#[derive(Clone, Debug, PartialEq, Eq, Drop)]
+pub struct Path {
+    /// The steps, the first one from the root.
+    pub steps: Vec<Step>,
+}
+
+/// The keys, quoted where they have to be, after dots, and the indices in brackets. Before the first key is
+/// no dot.
+impl fmt::Display for Path {
+    ghost output = { λ path. Some (dotted_text (steps_of path)) };
+
+    fn fmt<W: fmt::Write>(&self, f: &mut fmt::Formatter<W>) -> fmt::Result {
+        let mut dot = "";
+        for step in self.steps.iter() {
+            write_step(f, dot, step)?;
+            dot = ".";
+        }
+        Ok(())
+    }
+}
+
+/// Writes a step, of which a key stands after `dot`.
+///
+/// # Errors
+///
+/// That of the writer, where it fails.
+fn write_step<W: fmt::Write>(f: &mut fmt::Formatter<W>, dot: &str, step: &Step) -> fmt::Result
+    ensures { WritesOnOk W.write_str_gives f.old result
+        (step_text dot.now (step_of step.now)) f.new }
+{
+    match step {
+        Step::Key(key) => {
+            f.write_str(dot)?;
+            write_key(f, key)
+        }
+        Step::Index(index) => write!(f, "[{index}]"),
+    }
+}

@@ -1,0 +1,140 @@
+//! How a token spells its string: piece by piece, where a piece spells a character or is left out.
+
+ghost use Rattle.std.specs.Prelude.{◌<◌, ◌≤◌, IfSome, length};
+
+use std::ops::Range;
+use toml_parser::text::{first, skip, skip_blank, skip_ws, starts_newline};
+
+/// The first piece of what is left of a token.
+#[derive(Clone, Copy, Drop)]
+struct Piece<'s> {
+    /// How many bytes of the string it spells, which are none if it is left out.
+    len: usize,
+    /// What follows it.
+    rest: &'s str,
+}
+
+/// How the string of a token is spelled.
+#[derive(Clone, Copy)]
+struct Style {
+    /// Whether a backslash begins an escape.
+    has_escapes: bool,
+    /// Whether it may have several lines.
+    is_multi_line: bool,
+}
+
+/// Returns where a part of a string is spelled, by byte offsets of the document that has `text`, a token, at
+/// the range `token`, with this many quotes before and after it. `range` is in byte offsets of the string; an
+/// offset within a character is taken to be after it.
+pub(super) fn place(
+    text: &str,
+    quotes: usize,
+    token: &Range<usize>,
+    range: &Range<usize>,
+) -> Option<Range<usize>> {
+    let style = Style {
+        has_escapes: first(text) == b'"',
+        is_multi_line: quotes == 3,
+    };
+    let content = text.get(quotes..text.len().checked_sub(quotes)?)?;
+    let start = after_left_out(
+        after_spelling(without_newline(content, style), range.start, style)?,
+        style,
+    );
+    let end = after_spelling(start, range.end.checked_sub(range.start)?, style)?;
+    let content_end = token.end.checked_sub(quotes)?;
+    Some(content_end.checked_sub(start.len())?..content_end.checked_sub(end.len())?)
+}
+
+/// Returns what follows the newline that is left out after opening quotes.
+fn without_newline(content: &str, style: Style) -> &str {
+    match content.strip_prefix('\n') {
+        Some(rest) if style.is_multi_line => rest,
+        _ => match content.strip_prefix("\r\n") {
+            Some(rest) if style.is_multi_line => rest,
+            _ => content,
+        },
+    }
+}
+
+/// Returns what follows where this many bytes of the string have been spelled.
+fn after_spelling(text: &str, len: usize, style: Style) -> Option<&str> {
+    let mut rest = text;
+    let mut left = len;
+    'pieces: while left > 0 {
+        let piece = first_piece(rest, style)?;
+        left = left.saturating_sub(piece.len);
+        rest = piece.rest;
+    }
+    Some(rest)
+}
+
+/// Returns what follows what is left out.
+fn after_left_out(text: &str, style: Style) -> &str {
+    let mut rest = text;
+    'pieces: while let Some(
+        Piece {
+            len: 0,
+            rest: after,
+        },
+    ) = first_piece(rest, style)
+    {
+        rest = after;
+    }
+    rest
+}
+
+/// Returns the first piece, if there is one.
+fn first_piece(text: &str, style: Style) -> Option<Piece<'_>>
+    ensures shorter { IfSome result (λ piece. length piece.rest.now < length text.now) }
+{
+    if style.has_escapes && first(text) == b'\\' {
+        escape(skip(text, 1), style.is_multi_line)
+    } else if first(text) == b'\r' && starts_newline(text) {
+        Some(Piece {
+            len: 2,
+            rest: skip(text, 2),
+        })
+    } else {
+        character(text)
+    }
+}
+
+/// Returns the piece that a backslash before this text begins.
+fn escape(text: &str, is_multi_line: bool) -> Option<Piece<'_>>
+    ensures within { IfSome result (λ piece. length piece.rest.now ≤ length text.now) }
+{
+    if is_multi_line && starts_newline(skip_ws(text)) {
+        return Some(Piece {
+            len: 0,
+            rest: skip_blank(text, false),
+        });
+    }
+    match first(text) {
+        b'x' => hex_escape(skip(text, 1), 2),
+        b'u' => hex_escape(skip(text, 1), 4),
+        b'U' => hex_escape(skip(text, 1), 8),
+        _ => character(text),
+    }
+}
+
+/// Returns the piece of an escape with this many digits.
+fn hex_escape(text: &str, digits: usize) -> Option<Piece<'_>>
+    ensures within { IfSome result (λ piece. length piece.rest.now ≤ length text.now) }
+{
+    let (number, rest) = text.split_at_checked(digits)?;
+    let code = u32::from_str_radix(number, 16).ok()?;
+    Some(Piece {
+        len: char::from_u32(code)?.len_utf8(),
+        rest,
+    })
+}
+
+/// Returns the piece of a character that stands for itself, or for one of as many bytes after a backslash.
+fn character(text: &str) -> Option<Piece<'_>>
+    ensures shorter { IfSome result (λ piece. length piece.rest.now < length text.now) }
+{
+    let len = text.chars().next()?.len_utf8();
+    let (_, rest) = text.split_at_checked(len)?;
+    Some(Piece { len, rest })
+}

@@ -1,0 +1,49 @@
+-- Paths into a tree, and what a walk says of strings with their paths.
+use Rattle.std.specs.Prelude.{◌≡◌, ◌⊎◌, ℕ, List, [], ◌∷◌, Option, Some, string_bytes}
+use Rattle.subst_error.specs.Fault.{Fault}
+use Rattle.subst_language.specs.Language.LookUp.{LookUp}
+use Rattle.subst_language.specs.Language.Answer.{Answers, Gives, Refuses}
+use Rattle.subst_walk.specs.declared.step.Step as steps
+use Rattle.subst_walk.specs.declared.step.Step.TheVariants as variants
+
+-- a step to the value under a key, or to the item at an index
+pub data Step : Type 0 where
+  Key : List ℕ → Step
+  Index : ℕ → Step
+
+-- the step
+abbrev pub step_of : steps.Step → Step
+step_of (variants.Key key) = Key (string_bytes key)
+step_of (variants.Index index) = Index index
+
+-- a string of a tree, and the path that leads to it
+pub record Located : Type 0 where
+  pub path : List Step
+  pub text : List ℕ
+
+-- a string that is the tree
+abbrev pub at_root : List ℕ → Located
+at_root s = record { path = []; text = s }
+
+-- a string, seen from a tree from which a step leads to this one
+abbrev pub below : Step → Located → Located
+below step it = record { path = step ∷ it.path; text = it.text }
+
+-- a string that is refused, with its path and its fault
+pub record Refusal : Type 0 where
+  pub path : List Step
+  pub text : List ℕ
+  pub fault : Option Fault
+
+-- that refusal, seen from there
+abbrev pub refusal_below : Step → Refusal → Refusal
+refusal_below step it = record { path = step ∷ it.path; text = it.text; fault = it.fault }
+
+-- The refusals of those of these strings that are refused, in their order. Each other one gives bytes.
+abbrev pub AreRefusals : LookUp → List Located → List Refusal → Type 0
+AreRefusals look [] refusals = refusals ≡ []
+AreRefusals look (it ∷ rest) refusals =
+    (((x : List ℕ) × Answers it.text look (Gives x)) × AreRefusals look rest refusals)
+    ⊎ ((f : Fault) × (more : List Refusal) × Answers it.text look (Refuses f)
+    × (refusals ≡ record { path = it.path; text = it.text; fault = Some f } ∷ more)
+    × AreRefusals look rest more)

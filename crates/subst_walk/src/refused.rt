@@ -1,0 +1,116 @@
+//! The strings of a tree that are refused, as the walks over trees of each format find them.
+
+ghost use Rattle.std.specs.Prelude.{◌≡◌, ◌++◌, [], ◌∷◌, IfOk, OnOk, MatchBool, map};
+ghost use Rattle.std.specs.List.{AllByRecursion};
+ghost use Rattle.subst_language.specs.Language.LookUp.{LookUp};
+ghost use Rattle.subst_walk.specs.Paths.{step_of, at_root, refusal_below};
+ghost use Rattle.subst_walk.specs.Refused.{lent_step_of, refusal_of, AreFound, IsMet, HasRangeInText};
+
+use crate::{Fill, Step};
+use std::alloc::{AllocError, Global};
+use subst_error::Error;
+
+/// A string that is refused.
+#[derive(Debug, Drop)]
+pub struct Refused {
+    /// The steps that lead to it from the root, the last one first.
+    pub steps: Vec<Step>,
+    /// The string.
+    pub text: String,
+    /// Why it is refused.
+    pub error: Error,
+}
+
+/// Which of the refused strings a walk looks for.
+#[derive(Clone, Copy)]
+pub enum Wanted {
+    /// The first one, in the order of the walk.
+    First,
+    /// All, in that order.
+    All,
+}
+
+impl Wanted {
+    /// Returns whether nothing more is looked for.
+    pub fn is_met(self, found: &Vec<Refused>) -> bool
+        ensures { let found = map refusal_of found.now.items in
+            MatchBool result (IsMet self found) (¬ (IsMet self found)) }
+    {
+        matches!(self, Wanted::First) && !found.is_empty()
+    }
+}
+
+/// A step, whose key is lent.
+#[derive(Clone, Copy)]
+pub enum StepRef<'t> {
+    /// To the value under a key.
+    Key(&'t str),
+    /// To the item at an index, from 0.
+    Index(usize),
+}
+
+impl StepRef<'_> {
+    /// Returns the step, with a key of its own.
+    fn into_owned(self, alloc: Global) -> Result<Step, AllocError>
+        ensures { IfOk result (λ step. step_of step ≡ lent_step_of self.entry) }
+    {
+        match self {
+            StepRef::Key(key) => Ok(Step::Key(String::from_str(alloc, key)?)),
+            StepRef::Index(index) => Ok(Step::Index(index)),
+        }
+    }
+}
+
+/// Returns the string if it is refused.
+///
+/// # Errors
+///
+/// When allocation fails, and for nothing else.
+pub fn refused_string<F: Fill>(
+    alloc: Global,
+    text: &str,
+    filler: &F,
+) -> Result<Vec<Refused>, AllocError>
+    ensures found { (look : LookUp) → F.is_look_up filler.now look → IfOk result (λ found.
+        (wanted : Wanted) → AreFound look wanted (at_root text.now ∷ [])
+        (map refusal_of found.items)) }
+    ensures text { IfOk result (λ found.
+        AllByRecursion (λ it. (it.path ≡ []) × (it.text ≡ text.now)) (map refusal_of found.items)) }
+    ensures range { IfOk result (λ found.
+        AllByRecursion HasRangeInText (map refusal_of found.items)) }
+{
+    match filler.refusal(alloc, text)? {
+        None => Ok(Vec::new(alloc)),
+        Some(error) => {
+            let mut found = Vec::new(alloc);
+            found.push(Refused {
+                steps: Vec::new(alloc),
+                text: String::from_str(alloc, text)?,
+                error,
+            })?;
+            Ok(found)
+        }
+    }
+}
+
+/// Appends what was found in a part of a tree, to which a step leads, to what was found before it.
+///
+/// # Errors
+///
+/// When allocation fails, and for nothing else.
+pub fn add_below(
+    alloc: Global,
+    found: &mut Vec<Refused>,
+    part: Vec<Refused>,
+    step: StepRef<'_>,
+) -> Result<(), AllocError>
+    ensures found { OnOk result (map refusal_of found.new.items
+        ≡ map refusal_of found.old.items
+        ++ map (refusal_below (lent_step_of step.entry)) (map refusal_of part.items)) }
+{
+    for mut refused in part {
+        refused.steps.push(step.into_owned(alloc)?)?;
+        found.push(refused)?;
+    }
+    Ok(())
+}
