@@ -3,6 +3,12 @@ pub use Rattle.subst_json.specs.declared.error.Error.{Error}
 pub use Rattle.subst_json.specs.declared.error.Error.TheVariants as error
 pub use Rattle.subst_json.specs.Errors
 pub use Rattle.subst_json.specs.Laws
+pub use Rattle.subst_json.specs.Located
 pub use Rattle.subst_json.specs.Mapped
 pub use Rattle.subst_json.specs.Outcome
+pub use Rattle.subst_json.specs.Paths
+pub use Rattle.subst_json.specs.Places
+pub use Rattle.subst_json.specs.Pointer
+pub use Rattle.subst_json.specs.Refusals
+pub use Rattle.subst_walk.specs.Paths as Walk
 pub use Rattle.subst_walk.specs.Texts

@@ -13,3 +13,4 @@ pub use Rattle.subst_error.specs.Line
 pub use Rattle.subst_error.specs.Position
 pub use Rattle.subst_error.specs.Range
 pub use Rattle.subst_error.specs.Writing
+pub use Rattle.subst_foreign.specs.Foreign

@@ -2,7 +2,13 @@
 pub use Rattle.subst_toml.specs.declared.error.Error.{Error}
 pub use Rattle.subst_toml.specs.declared.error.Error.TheVariants as error
 pub use Rattle.subst_toml.specs.Errors
+pub use Rattle.subst_toml.specs.DottedKey
 pub use Rattle.subst_toml.specs.Laws
+pub use Rattle.subst_toml.specs.Located
 pub use Rattle.subst_toml.specs.Mapped
 pub use Rattle.subst_toml.specs.Outcome
+pub use Rattle.subst_toml.specs.Paths
+pub use Rattle.subst_toml.specs.Places
+pub use Rattle.subst_toml.specs.Refusals
+pub use Rattle.subst_walk.specs.Paths as Walk
 pub use Rattle.subst_walk.specs.Texts

@@ -16,6 +16,8 @@ mod errors;
 #[cfg(test)]
 mod expect;
 #[cfg(test)]
+mod foreign;
+#[cfg(test)]
 mod maps;
 #[cfg(test)]
 mod reports;

@@ -1,0 +1,3 @@
+pub mod ForeignLemmas
+pub mod PlaceLemmas
+pub mod VariableLemmas
