@@ -1,7 +1,7 @@
 #!/usr/bin/env bash
-# Tests the library for C: tools/c_library.c built as C, as C++ and with the sanitizers of the compiler, the same with
-# each request for memory refused in turn, how often memory is asked for, and what tools/install puts in place, by the
-# examples of docs/C.md. What the machine lacks is said. The last line is 'N passed, M failed'.
+# Tests the library for C: tools/c_library.c built as C, as C++ and with the sanitizers of the compiler, sources around
+# 4 GiB, each request for memory refused in turn, how often memory is asked for, and what tools/install puts in place,
+# by the examples of docs/C.md. What the machine lacks is said. The last line is 'N passed, M failed'.
 set -euo pipefail
 cd "$(dirname "$0")/.."
 ulimit -c 0
@@ -60,6 +60,12 @@ built_with_sanitizers() {
   runs "$compiler" -std=c99 "${strict[@]}" "${sanitized[@]}" -Iinclude -o "$folder/sanitized" tools/c_library.c \
     "${archives[@]}" &&
     runs "$folder/sanitized"
+}
+
+# Sources around 4 GiB, which take no memory but for the tables of their pages.
+sources_of_four_gib() {
+  runs "$compiler" -std=c99 "${strict[@]}" -Iinclude -o "$folder/wide" tools/wide_source.c "${archives[@]}" &&
+    runs "$folder/wide"
 }
 
 refusing=$folder/refuse_memory.so
@@ -145,6 +151,7 @@ tools/install --library "$folder/prefix" || {
   exit 1
 }
 test_that 'as C' built_as_c
+test_that 'sources of 4 GiB' sources_of_four_gib
 test_that 'with memory refused' refused_in_turn
 test_that 'requests for memory' asked_by_the_parse_alone
 if command -v "${CXX:-c++}" >/dev/null; then

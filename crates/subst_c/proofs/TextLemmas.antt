@@ -19,10 +19,10 @@ TextsGiveTexts = (s x : List ℕ) (p : ℕ) (look : LookUp) → IsUtf8 s → Giv
     → ByTree s (λ t. value p t look ≡ Bytes x → IsUtf8 x)
 
 -- a test for UTF-8 by a result that is `Ok` exactly for UTF-8
-pub tells_text : {A E : Type 0} (s : List ℕ) (P : A → Type 0) (Q : E → Type 0) (r : Result A E)
-    → MatchResult r (λ x. P x × IsUtf8 s) (λ e. ¬ (IsUtf8 s) × Q e) → is_ok r ≡ is_utf8 s
-tells_text s P Q (Ok x) (p, is) = sym (is_utf8-from_IsUtf8 s is)
-tells_text s P Q (Err e) (none, q) = of (is_utf8 s) refl
+pub tells_text : {A E : Type 0} (s : List ℕ) (P : A → Type 0) (r : Result A E)
+    → MatchResult r (λ x. P x × IsUtf8 s) (λ _. ¬ (IsUtf8 s)) → is_ok r ≡ is_utf8 s
+tells_text s P (Ok x) (p, is) = sym (is_utf8-from_IsUtf8 s is)
+tells_text s P (Err e) none = of (is_utf8 s) refl
   where
     of : (b : Bool) → is_utf8 s ≡ b → false ≡ b
     of true is = absurd (none (IsUtf8-from_is_utf8 s is))

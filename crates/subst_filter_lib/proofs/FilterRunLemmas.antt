@@ -1,7 +1,6 @@
 -- How what was read, what was substituted and what was written make the answer of a run.
-use Rattle.std.proofs.Common.{◌≡◌, ◌⊎◌, ℕ, Bool, List, Option, Some, None, IfSome, IsSomeAnd, MatchOption, Result, Ok, Err, OnOk, IfErr, IsSome, String, string_bytes, arith, inl, inr, refl, sym, subst}
+use Rattle.std.proofs.Common.{◌≡◌, ◌⊎◌, ℕ, Bool, List, Option, Some, None, IfSome, IsSomeAnd, MatchOption, Result, Ok, Err, OnOk, IfErr, IsSome, String, arith, inl, inr, refl, sym, subst}
 use Rattle.std.proofs.lemmas.Grind.{common_steps}
-use Rattle.std.proofs.lemmas.Str.{IsUtf8-string_bytes}
 use Rattle.std.specs.Global.{Global}
 use Rattle.std.specs.Io.KnownBytes.{Appends}
 use Rattle.std.specs.Option.{option_map}
@@ -101,10 +100,6 @@ module _ (left rest : Option (List ℕ)) (all text : List ℕ) (look : LookUp) (
       subst (λ s. IfSome (option_map Refuses (error_fault e)) (Answers s look)) same given in
       holds_of_source (λ source. RunAnswers source look (Err fault) old new) left rest all read
       (answered_by_refusal_of all look e fault old new refuses is)
-
--- bytes that a text has are UTF-8
-pub is_utf8 : (text : String Global) (bytes : List ℕ) → string_bytes text ≡ bytes → IsUtf8 bytes
-is_utf8 text bytes same = subst IsUtf8 same (IsUtf8-string_bytes text)
 
 -- a result of writing, for a source that is UTF-8
 tells_written : (source : List ℕ) (r : Result (Unit {0}) RunError) (failed : Bool) → IsUtf8 source

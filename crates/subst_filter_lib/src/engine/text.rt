@@ -1,8 +1,7 @@
 //! The run over a source of text.
 
-ghost use Rattle.std.specs.Prelude.{◌≡◌, ℕ, List, true, OnOk, IfErr, IfSome, IsErrOf, MatchOption, string_bytes};
+ghost use Rattle.std.specs.Prelude.{◌≡◌, ℕ, List, true, OnOk, IfErr, IfSome, IsErrOf};
 ghost use Rattle.std.specs.Io.KnownBytes.{Keeps};
-ghost use Rattle.std.specs.Str.{IsUtf8};
 ghost use Rattle.subst.specs.Calls.VariableMap.{ByLookUp};
 ghost use Rattle.subst.specs.ErrorFault.{error_fault};
 ghost use Rattle.subst.specs.Range.{IsRangeIn, range_of};
@@ -71,10 +70,10 @@ where
     ensures output_unfailed { UnlessWriteFails result
         (O.has_failed output.new ≡ O.has_failed output.old) }
 {
-    let Some(source) = text_of(read_all(alloc, input)?) else {
+    let bytes = read_all(alloc, input)?;
+    let Ok(source) = simdutf8::basic::from_utf8(&bytes) else {
         return Err(RunError::NotUtf8);
     };
-    let source = source.as_str();
     if is_plain(source.as_bytes()) {
         return deliver(output, source.as_bytes());
     }
@@ -94,16 +93,5 @@ fn highlighted_refusal(alloc: Global, e: Error, source: &str) -> RunError
     match e.source_highlighting(alloc, source) {
         Ok(shown) => refusal(e, shown),
         Err(_) => RunError::OutOfMemory,
-    }
-}
-
-/// Returns the text that has these bytes, without a copy: none if they aren't UTF-8.
-fn text_of(bytes: Vec<u8>) -> Option<String>
-    ensures { MatchOption result (¬ (IsUtf8 bytes.items))
-        (λ text. (string_bytes text ≡ bytes.items) × IsUtf8 bytes.items) }
-{
-    match String::from_utf8(bytes) {
-        Ok(text) => Some(text),
-        Err(_) => None,
     }
 }

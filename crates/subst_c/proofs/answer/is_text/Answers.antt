@@ -5,4 +5,4 @@ use Rattle.subst_c.proofs.answer.is_text.Goals as goal
 
 pub returns : goal.returns
 returns c =
-    c.is_ok.ensures.value ∙ tells_text c.args.bytes.now _ _ c.from_utf8.result c.from_utf8.ensures.cases
+    c.is_ok.ensures.value ∙ tells_text c.args.bytes.now _ c.from_utf8.result c.from_utf8.ensures
