@@ -19,7 +19,7 @@ const TOML: &str =
 /// A document whose second string needs a variable which isn't there.
 const MISSING_IN_TOML: &str = "k = ['$name', ['é$absent'], '$']";
 
-const VARIABLES: &str = "name=the whole round world,a=1";
+pub const VARIABLES: &str = "name=the whole round world,a=1";
 
 impl Shown for serde_json::Value {
     fn show(&self, rt: &HostRuntime, word: &str) {
@@ -36,7 +36,7 @@ impl Shown for json::Error {
     }
 }
 
-fn json_tree(alloc: Global, source: &str) -> Result<serde_json::Value, AllocError> {
+pub fn json_tree(alloc: Global, source: &str) -> Result<serde_json::Value, AllocError> {
     serde_json::Value::from_str(alloc, source).map_err(|_| AllocError)
 }
 
@@ -95,7 +95,7 @@ impl Shown for Compared {
     }
 }
 
-fn toml_tree(alloc: Global, source: &str) -> Result<toml::Value, AllocError> {
+pub fn toml_tree(alloc: Global, source: &str) -> Result<toml::Value, AllocError> {
     match toml::table_from_str(alloc, source) {
         Ok(table) => Ok(toml::Value::Table(table)),
         Err(_) => Err(AllocError),

@@ -7,7 +7,7 @@ ghost use Rattle.subst.specs.Fault as fault;
 use crate::calls::{Shown, again, clone, say_end, tell};
 use std::alloc::{AllocError, Global};
 use subst::Error;
-use subst::error::{ExpandError, MissingVariableName, NoSuchVariable};
+use subst::error::{ExpandError, MissingVariableName, NoSuchVariable, underline};
 use subst_testing::calls::{begin, end, say_out_of_memory};
 
 /// The fault of a variable that isn't there.
@@ -16,7 +16,10 @@ pub fn absent(alloc: Global) -> Result<NoSuchVariable, AllocError> {
     Ok(NoSuchVariable { position: 3, name })
 }
 
-/// The fault of the source `one`, and `Hi $!` in a second line.
+/// A source with a fault in its second line.
+const SOURCE: &str = "one\nHi $!";
+
+/// Its fault.
 pub fn no_name() -> Error
     ensures { error_fault result ≡ Some (fault.MissingVariableName 7 1) }
 {
@@ -27,7 +30,7 @@ pub fn no_name() -> Error
 }
 
 fn underlined(alloc: Global) -> Result<String, AllocError> {
-    no_name().source_highlighting(alloc, "one\nHi $!")
+    no_name().source_highlighting(alloc, SOURCE)
 }
 
 pub fn calls(rt: &HostRuntime) -> Result<(), AllocError> {
@@ -46,5 +49,6 @@ pub fn calls(rt: &HostRuntime) -> Result<(), AllocError> {
     );
     let fault = no_name();
     again!(rt, "Error::source_highlighting", [fault], Err(_) => underlined(alloc));
+    again!(rt, "underline", [SOURCE], Err(_) => underline(alloc, SOURCE, 4..6));
     Ok(())
 }

@@ -9,7 +9,7 @@ use std::fmt::{Display, Write};
 use subst::error::{
     CharOrByte, ExpandError, ExpandIntoError, ExpectedCharacter, InvalidEscapeSequence,
     MissingClosingBrace, MissingVariableName, NoSuchVariableRef, ParseError, SubstituteIntoError,
-    UnexpectedCharacter,
+    UnexpectedCharacter, line_and_column,
 };
 use subst::{Error, json, toml as filled};
 use subst_filter_lib::device::standard::{FromReader, ToWriter};
@@ -39,7 +39,7 @@ fn unexpected() -> UnexpectedCharacter {
 }
 
 /// Prints the text of a value, for which there is room.
-fn display<D: Display>(rt: &HostRuntime, call: &str, value: &D) -> Result<(), AllocError> {
+pub fn display<D: Display>(rt: &HostRuntime, call: &str, value: &D) -> Result<(), AllocError> {
     let mut room = String::with_capacity(rt.alloc(), 128)?;
     begin(rt, call);
     let is_written = write!(room, "{value}").is_ok();
@@ -181,6 +181,10 @@ fn report(rt: &HostRuntime) -> Result<(), AllocError> {
     let position = e.source_position(source);
     end(rt);
     let _ = rt.println(format_args!("{start} {line:?} {position:?}"));
+    begin(rt, "line_and_column");
+    let place = line_and_column(source, 7);
+    end(rt);
+    let _ = rt.println(format_args!("{place:?}"));
     begin(rt, "write_source_highlighting");
     let is_written = e.write_source_highlighting(&mut room, source).is_ok();
     end(rt);

@@ -7,10 +7,12 @@ mod calls;
 mod documents;
 mod errors;
 mod fakes;
+mod foreign;
 mod free_calls;
 mod free_errors;
 mod into;
 mod lists;
+mod refusals;
 mod runs;
 mod texts;
 
@@ -20,9 +22,12 @@ fn main(rt: HostRuntime) -> Result<(), Error> {
     texts::calls(&rt)?;
     bytes::calls(&rt)?;
     into::calls(&rt)?;
+    foreign::calls(&rt);
     lists::calls(&rt)?;
     documents::json_calls(&rt)?;
     documents::toml_calls(&rt)?;
+    refusals::json_calls(&rt)?;
+    refusals::toml_calls(&rt)?;
     errors::calls(&rt)?;
     runs::calls(&rt)?;
     free_calls::calls(&rt)?;
