@@ -11,6 +11,7 @@ import tempfile
 from pathlib import Path
 
 sys.dont_write_bytecode = True
+from inputs import nested_defaults
 from run import HERE, OURS, RESULTS, binary, build, table
 
 # What is between these two lines of RESULTS.md is what this script printed.
@@ -20,8 +21,8 @@ DONE, REFUSED = 0, 1
 
 # Each kind of source, as a function of its size, with the status that it ends with.
 FAMILIES = {
-    "nested defaults": (lambda size: b"${a:" * size + b"x" + b"}" * size, DONE),
-    "nested defaults, one brace fewer": (lambda size: b"${a:" * size + b"x" + b"}" * (size - 1), REFUSED),
+    "nested defaults": (lambda size: nested_defaults(size).encode(), DONE),
+    "nested defaults, one brace fewer": (lambda size: nested_defaults(size).encode()[:-1], REFUSED),
     "nested defaults, a bad escape inside": (lambda size: b"${a:" * size + rb"\x" + b"}" * size, REFUSED),
     "bare braces in a default": (lambda size: b"${a:" + b"{" * size + b"}" * (size + 1), DONE),
     "bare braces, one closing fewer": (lambda size: b"${a:" + b"{" * size + b"}" * size, REFUSED),

@@ -1,22 +1,27 @@
 #!/usr/bin/env python3
-"""Times the filter against other programs, and counts the instructions of the library and of the programs, on
-generated inputs. Prints Markdown tables. README.md says more."""
+"""Times the filter against other programs, and counts the instructions of the library and of the programs, on the
+inputs of inputs.py. Prints Markdown tables. README.md says more."""
 
 import argparse
+import functools
 import itertools
 import math
 import os
-import random
 import re
+import resource
 import shutil
-import string
 import subprocess
 import sys
 import tempfile
 import textwrap
 import time
-from dataclasses import dataclass, field
+from dataclasses import dataclass, field, replace
 from pathlib import Path
+from typing import Optional
+
+sys.dont_write_bytecode = True
+import inputs
+from inputs import MIB
 
 HERE = Path(__file__).resolve().parent
 RESULTS = HERE / "RESULTS.md"
@@ -27,7 +32,10 @@ OURS = "subst_filter"
 BENCH = "subst_bench"
 PROGRAMS = (OURS, "cat", "envsubst", "perl", "string.Template")
 COUNTED = (OURS, "cat", "envsubst")
-MIB = 1 << 20
+# The works of the library that are counted: to parse, to expand, and to do both at once.
+WORKS = ("parse", "expand", "both")
+# The system takes words of a quarter of the stack that a program may have: enough for those of 100,000 variables.
+STACK = 16 * MIB
 
 PERL = r"s/\$(?:\{(\w+)\}|(\w+))/$ENV{$1 \/\/ $2}/gea"
 PERL_WITH_DEFAULTS = r"s/\$(?:\{(\w+)(?::([^{}]*))?\}|(\w+))/$ENV{$1 \/\/ $3} \/\/ $2/gea"
@@ -37,50 +45,40 @@ PYTHON = (
     "sys.stdout.write(string.Template(sys.stdin.read()).substitute(os.environ))"
 )
 
-# Instructions of the Rust crate to parse, to expand and to do both, and of a program over it, on inputs with these
-# descriptions.
-RUST = {
-    "configuration, 196 bytes": (4_360, 4_146, 8_103, 354_000),
-    "variables, 1 MiB": (5_570_000, 10_260_000, 15_180_000, 17_200_000),
-    "plain, 16 MiB": (3_930_000, 1_850_000, 5_780_000, 6_200_000),
-    "escapes, 0.9 MB": (27_600_000, 13_100_000, 41_200_000, 42_300_000),
-    "nested defaults, 50 deep": (37_000_000, 4_100_000, 41_100_000, 41_600_000),
-    "text in a default, 1 MiB": (None, None, None, 2_000_000),
-    "variables in a default, 1 MiB": (None, None, None, 19_000_000),
-}
-
-# The variables of most inputs, in their order; and a name that isn't among them.
-NAMES = (
-    "CACHE CERT DATA GROUP HOME HOST KEYS LANG LEVEL LIMIT LOGS MODE NAME OWNER PAGE PORT QUEUE RATE SEED SIZE "
-    "STAGE TEMP TERM TOPIC USER ZONE"
-).split()
-MISSING = "MISSING"
-
-SMALL_CONFIGURATION = b"""\
-# Where the service listens, and where its data is
-name = $NAME
-port = ${PORT}
-user = ${USER}
-home = /srv/$NAME
-
-# How much it keeps, and how long
-size = $SIZE
-keep = ${KEEP:for 2 days, 12 hours}
-"""
-
 
 @dataclass
 class Workload:
-    """An input, the variables that fill it in, and the programs that can do the same."""
+    """An input, which is made when it is asked for, and the programs that can fill it in."""
 
     name: str
-    source: bytes
-    variables: dict = field(default_factory=dict)
+    # Its name in inputs.py.
+    made_as: str
     # The programs to which the input means the same as to ours: their outputs have to be equal.
     same: tuple = ()
     perl: str = PERL
     # The first word of our program. With `env` the variables are its environment, otherwise its words.
     word: str = "bytes"
+    works: tuple = WORKS
+    # The length up to which the source is repeated, if it is.
+    length: Optional[int] = None
+
+    @functools.cached_property
+    def input(self):
+        return inputs.get(self.made_as) if self.length is None else inputs.repeated(self.made_as, self.length)
+
+    @property
+    def source(self):
+        return self.input.source
+
+    @property
+    def variables(self):
+        return self.input.variables
+
+    @property
+    def rust(self):
+        """What the Rust crate takes for these very bytes, by the work; None where it isn't known."""
+        known = inputs.figures()[self.made_as] if self.length is None else None
+        return {name: getattr(known, name, None) for name in (*WORKS, "limit")}
 
 
 @dataclass
@@ -89,204 +87,101 @@ class Result:
 
     workload: Workload
     # The least time of each program, in milliseconds.
-    times: dict
+    times: dict = field(default_factory=dict)
     # The instructions of programs.
     counts: dict = field(default_factory=dict)
-    # The instructions of the library: to parse, to expand, and to do both.
-    in_process: tuple = ()
+    # The instructions of the library for each work.
+    in_process: dict = field(default_factory=dict)
 
 
 # Inputs.
 
+# The programs that have placeholders alone.
+SIMPLE = ("envsubst", "perl", "string.Template")
 
-def filler(rng, length):
-    """Plain bytes: words of small letters, and line ends."""
-    letters = bytearray(rng.choices(b"etaoinshrdlu", k=length))
-    for at in range(rng.randrange(3, 9), length, rng.randrange(5, 9)):
-        letters[at] = 0x20
-    if length > 0:
-        letters[-1] = 0x0A
-    return bytes(letters)
-
-
-def valued(rng, names, longest):
-    """Variables with these names, and values of 4 bytes up to the longest."""
-    alphabet = string.ascii_lowercase + string.digits + "./-"
-    return {name: "".join(rng.choices(alphabet, k=rng.randrange(4, longest + 1))) for name in names}
-
-
-def some_names(rng, count):
-    names = set()
-    while len(names) < count:
-        names.add("_".join("".join(rng.choices(string.ascii_uppercase, k=rng.randrange(3, 7))) for _ in range(2)))
-    return sorted(names)
-
-
-def placeholder(rng, name):
-    return ("$%s" if rng.random() < 0.5 else "${%s}") % name
-
-
-def pieces(rng, names, length=MIB):
-    """This many bytes in pieces of 50, each beginning with one of these variables."""
-    source = []
-    for _ in range(length // 50):
-        prefix = (placeholder(rng, rng.choice(names)) + " ").encode()
-        source.append(prefix + filler(rng, 50 - len(prefix)))
-    return b"".join(source)
-
-
-def plain_bytes(length):
-    rng = random.Random(3)
-    block = b"".join(filler(rng, 64) for _ in range(min(length, MIB) // 64))
-    return length // len(block) * block
-
-
-def escape_tokens(count):
-    """Escapes and letters, five to three, in any order: 13 bytes for 8 of them."""
-    rng = random.Random(4)
-    tokens = [b"\\\\", b"\\$", b"\\{", b"\\}", b"\\:", b"a", b"b", b"c"]
-    return b"".join(rng.choices(tokens, k=count))
-
-
-def nested_text(names):
-    """Each of these variables in the default of the one before."""
-    return "".join("${%s:" % name for name in names).encode() + b"x" + len(names) * b"}"
-
-
-def empty():
-    """No input: what starting costs."""
-    return Workload("empty", b"", same=("cat", "envsubst", "perl", "string.Template"))
-
-
-def small_configuration():
-    """196 bytes of settings, with six variables and a default that is used."""
-    variables = valued(random.Random(2), NAMES, 20)
-    return Workload("configuration, 196 bytes", SMALL_CONFIGURATION, variables, ("perl",), PERL_WITH_DEFAULTS)
-
-
-def configuration():
-    """2 KB of settings after a comment, and 30 variables, each used twice."""
-    rng = random.Random(1)
-    variables = valued(rng, some_names(rng, 30), 32)
-    names = 2 * list(variables)
-    rng.shuffle(names)
-    settings = "".join(f"{name.lower()} = {placeholder(rng, name)}\n" for name in names).encode()
-    source = b"# " + filler(rng, 2046 - len(settings)) + settings
-    return Workload("configuration, 2 KB", source, variables, ("envsubst", "perl", "string.Template"))
-
-
-def many_variables():
-    """1 MiB with one of 26 variables every 50 bytes."""
-    rng = random.Random(2)
-    variables = valued(rng, NAMES, 20)
-    source = pieces(rng, NAMES)
-    return Workload("variables, 1 MiB", source, variables, ("envsubst", "perl", "string.Template"))
-
-
-def plain(mebibytes=16):
-    """Nothing but plain bytes."""
-    same = ("cat", "envsubst", "perl", "string.Template")
-    return Workload(f"plain, {mebibytes} MiB", plain_bytes(mebibytes * MIB), same=same)
-
-
-def escapes():
-    """Escapes, with some letters between them."""
-    return Workload("escapes, 0.9 MB", escape_tokens(1 << 19), same=("perl",), perl=PERL_WITH_ESCAPES)
-
-
-def nested():
-    """200 times 50 nested defaults, none of whose variables has a value."""
-    variables = valued(random.Random(2), NAMES, 20)
-    source = 200 * nested_text([f"STACK_{level:02}" for level in range(50)])
-    return Workload("nested defaults, 50 deep", source, variables)
-
-
-def text_in_default():
-    """1 MiB of plain bytes in a default that is used."""
-    source = b"${%s:%s}" % (MISSING.encode(), plain_bytes(MIB))
-    return Workload("text in a default, 1 MiB", source, same=("perl",), perl=PERL_WITH_DEFAULTS)
-
-
-def variables_in_default():
-    """1 MiB with a variable every 50 bytes, in a default that is used."""
-    workload = many_variables()
-    source = b"${%s:%s}" % (MISSING.encode(), workload.source)
-    return Workload("variables in a default, 1 MiB", source, workload.variables)
-
-
+# What all programs that can are timed on.
 INPUTS = (
-    empty,
-    small_configuration,
-    configuration,
-    many_variables,
-    plain,
-    escapes,
-    nested,
-    text_in_default,
-    variables_in_default,
+    Workload("empty", "s0", ("cat", *SIMPLE)),
+    Workload("20 bytes, two variables", "s20", SIMPLE),
+    Workload("configuration, 196 bytes", "configuration", ("perl",), PERL_WITH_DEFAULTS),
+    Workload("letter, 4 KiB", "letter4k", ("perl",), PERL_WITH_DEFAULTS),
+    Workload("a variable each 100 bytes, 60 KB", "gap100", SIMPLE),
+    Workload("variables, 1 MiB", "variables", SIMPLE),
+    Workload("plain, 16 MiB", "plain", ("cat", *SIMPLE)),
+    Workload("escapes, 0.9 MB", "escapes", ("perl",), PERL_WITH_ESCAPES),
+    Workload("nested defaults, 50 deep", "nested"),
+    Workload("text in a default, 1 MiB", "default_plain", ("perl",), PERL_WITH_DEFAULTS),
+    Workload("variables in a default, 1 MiB", "default_variables"),
+)
+
+# What is counted in process alone, beside all of those.
+IN_PROCESS = (
+    Workload("10 bytes, plain", "s10plain"),
+    Workload("50 bytes, plain", "s50plain"),
+    Workload("6 bytes, an escape", "s5esc"),
+    Workload("7 bytes, a variable", "s7"),
+    Workload("10 bytes, a variable", "s10"),
+    Workload("50 bytes, three variables", "s50"),
+    Workload("refused, an unknown variable", "sfault", works=("both",)),
+    Workload("refused, a bare dollar sign", "sbad", works=("both",)),
+    *(Workload(f"a variable each {gap:,} bytes, 60 KB", f"gap{gap}") for gap in inputs.GAPS if gap != 100),
+    Workload("1 MiB, 1 name", "names1"),
+    Workload("1 MiB, 10 names", "names10"),
+    Workload("1 MiB, 1,000 names", "names1000"),
+    Workload("1 MiB, 100,000 names", "names100000"),
+    Workload("1 MiB, names of 100 bytes", "longname100"),
+    Workload("1 MiB, names of 1,000 bytes", "longname1000"),
+    Workload("missing, with defaults, 1 MiB", "missing"),
+    Workload("missing, optional, 1 MiB", "optional"),
+    Workload("jump over a default, 1 MiB", "jump"),
+    Workload("jump over defaults, 100,000 deep", "deepjump"),
+    Workload("Cyrillic, 1 MiB", "cyrillic"),
+    Workload("Chinese, 1 MiB", "chinese"),
 )
 
 
-def two_byte_characters():
-    """1 MiB of characters that take two bytes each."""
-    source = "".join(random.Random(6).choices("àâäçéèêëîïôöùûü", k=MIB // 2))
-    return Workload("two-byte characters, 1 MiB", source.encode())
+def those_of(*names):
+    """The workloads over these inputs."""
+    known = {workload.made_as: workload for workload in (*INPUTS, *IN_PROCESS)}
+    return [known[name] for name in names]
 
 
-# What is expanded as bytes and as a text.
-TEXTS = (many_variables, plain, two_byte_characters)
-
-
-def letter():
-    """4 KiB with one of 26 variables every 50 bytes."""
-    rng = random.Random(7)
-    variables = valued(rng, NAMES, 20)
-    source = pieces(rng, NAMES, 4096)
-    return Workload("letter, 4 KiB", source + filler(rng, 4096 - len(source)), variables)
-
-
+# What is filled in as bytes and as a text.
+TEXTS = those_of("variables", "plain", "cyrillic", "chinese")
 # What is expanded again and again, into an output of its own each time, or into one buffer.
-LETTERS = (small_configuration, letter)
+LETTERS = those_of("configuration", "letter4k")
 
 
-# Inputs that grow. Each family has its sizes with their workloads.
+# Inputs that grow. Each family has its sizes with their workloads, of which one work is counted.
+
+
+def growing(name, made_as, **given):
+    return Workload(name, made_as, works=("both",), **given)
 
 
 def by_depth():
-    for depth in (1_000, 10_000, 100_000):
-        yield depth, Workload(f"nested defaults, {depth:,} deep", nested_text(depth * ["a"]))
+    return [(depth, growing(f"nested defaults, {depth:,} deep", f"depth{depth}")) for depth in inputs.DEPTHS]
 
 
-def by_count(what, word):
+def by_count(what, word, *counts):
     """1 MiB with each of so many variables, which our program is given by this word."""
-    for count in (10, 100, 1_000):
-        rng = random.Random(5)
-        variables = valued(rng, some_names(rng, count), 20)
-        source = pieces(rng, list(variables))
-        yield count, Workload(f"variables, 1 MiB, {count:,} {what}", source, variables, word=word)
+    name = "variables, 1 MiB, {:,} " + what
+    return [(count, growing(name.format(count), f"names{count}", word=word)) for count in counts]
 
 
-def by_words():
-    return by_count("words", "bytes")
+def by_length(what, made_as):
+    """The source of an input, repeated or cut."""
+    sizes = ((mebibytes, mebibytes * MIB) for mebibytes in (1, 4, 16, 64))
+    return [(length, growing(f"{what}, {size} MiB", made_as, length=length)) for size, length in sizes]
 
 
-def by_pairs():
-    return by_count("pairs of the environment", "env")
-
-
-def by_plain_length():
-    for mebibytes in (1, 4, 16):
-        workload = plain(mebibytes)
-        yield len(workload.source), workload
-
-
-def by_escapes_length():
-    for size in ("0.25", "1", "4"):
-        source = escape_tokens(round(float(size) * MIB / 13 * 8))
-        yield len(source), Workload(f"escapes, {size} MiB", source)
-
-
-FAMILIES = (by_depth, by_words, by_pairs, by_plain_length, by_escapes_length)
+FAMILIES = (
+    by_depth(),
+    by_count("words", "bytes", 10, 1_000, 100_000),
+    by_count("pairs of the environment", "env", 10, 1_000),
+    by_length("plain", "plain"),
+    by_length("escapes", "escapes"),
+)
 
 
 # Programs.
@@ -369,16 +264,29 @@ def output_of(command, env, source):
         return subprocess.run(command, env=env, stdin=stdin, stdout=subprocess.PIPE, check=True).stdout
 
 
-def compare(workload, programs, source):
-    """Checks that the programs to which a workload means the same write the same, and that in process the same
-    comes out, as far as its length tells."""
+def answer_of(workload, source):
+    """What our program writes, or what it says of a source that it refuses."""
+    with open(source, "rb") as stdin:
+        run = subprocess.run(
+            ours(workload)[OURS], env=environment(OURS, workload), stdin=stdin, capture_output=True, check=False
+        )
+    return run.stdout if run.returncode == 0 else run.stderr.removeprefix(b"subst: ").rstrip(b"\n")
+
+
+def compare_programs(workload, programs, source):
+    """Checks that the programs to which a workload means the same write the same."""
     output = output_of(programs[OURS], environment(OURS, workload), source)
     for name in workload.same:
         if name in programs and output_of(programs[name], environment(name, workload), source) != output:
             sys.exit(f"{workload.name}: {name} writes something else")
-    lengths = {"parse": len(workload.source), "expand": len(output), "both": len(output)}
-    for work, length in lengths.items():
-        if int(output_of(bench(workload, work, 1), environment(BENCH, workload), source)) != length:
+
+
+def compare_in_process(workload, source):
+    """Checks that in process the same comes out as of our program, as far as lengths tell."""
+    length = len(answer_of(workload, source))
+    lengths = {"parse": len(workload.source), "expand": length, "both": length}
+    for work in workload.works:
+        if int(output_of(bench(workload, work, 1), environment(BENCH, workload), source)) != lengths[work]:
             sys.exit(f"{workload.name}: in process something else comes out")
 
 
@@ -401,23 +309,24 @@ def instructions(command, env, source):
 
 
 def rounds_for(workload):
-    return max(1, min(1000, MIB // len(workload.source)))
+    return max(1, min(1000, MIB // max(1, len(workload.source))))
 
 
 def count_in_process(workload, source):
-    """How many instructions the library takes to parse, to expand, and to do both: what a run takes more than one
-    without work, by the number of its rounds."""
+    """How many instructions the library takes for each work of the workload: what a run takes more than one without
+    work, by the number of its rounds."""
+    compare_in_process(workload, source)
     rounds = rounds_for(workload)
 
     def taken(work):
         return instructions(bench(workload, work, rounds), environment(BENCH, workload), source)
 
     nothing = taken("none")
-    parse = (taken("parse") - nothing) / rounds
-    # A run that expands parses once, before its first round.
-    expand = (taken("expand") - nothing - parse) / rounds
-    both = (taken("both") - nothing) / rounds
-    return parse, expand, both
+    counts = {work: (taken(work) - nothing) / rounds for work in workload.works}
+    if "expand" in counts:
+        # A run that expands parses once, before its first round. What memory costs there may differ.
+        counts["expand"] = max(0, counts["expand"] - counts["parse"] / rounds)
+    return counts
 
 
 def count_works(workload, works, source):
@@ -451,16 +360,17 @@ def requests(workload, work, rounds, source):
 
 
 def result_of(workload, programs, arguments, source):
-    """Measures a workload over these programs."""
+    """Measures a workload over these programs and, where instructions are counted, in process."""
     Path(source).write_bytes(workload.source)
-    compare(workload, programs, source)
-    result = Result(workload, least_times(workload, programs, source, arguments.runs))
+    result = Result(workload)
+    if programs:
+        compare_programs(workload, programs, source)
+        result.times = least_times(workload, programs, source, arguments.runs)
     if arguments.callgrind:
         for name in COUNTED:
             if name in programs:
                 result.counts[name] = instructions(programs[name], environment(name, workload), source)
-        if workload.source:
-            result.in_process = count_in_process(workload, source)
+        result.in_process = count_in_process(workload, source)
     return result
 
 
@@ -500,60 +410,63 @@ def table_of_times(results, runs):
 def table_in_process(results):
     rows = []
     for result in results:
-        if result.in_process:
-            rust = RUST.get(result.workload.name, 4 * (None,))[:3]
-            cells = [*map(amount, result.in_process), *map(amount, rust), ratio(result.in_process[2], rust[2])]
-            rows.append([result.workload.name, *cells])
+        counts, rust = result.in_process, result.workload.rust
+        cells = [amount(counts.get(work)) for work in WORKS]
+        cells += [amount(rust[work]) for work in WORKS]
+        cells += [ratio(counts.get(work), rust[work]) for work in WORKS]
+        cells += [amount(rust["limit"]), ratio(counts.get("both"), rust["limit"])]
+        rows.append([result.workload.name, *cells])
     title = (
         "Instructions in process: of `ByteTemplate::from_slice`, of `expand`, and of `substitute_bytes`, which does "
-        "both. Beside them those of the Rust crate, subst 0.3.8, counted by callgrind once, on inputs of the same "
-        "descriptions (rustc 1.95, memchr 2.5 with AVX2):"
+        "both. Beside them those of the Rust crate, subst 0.3.8, on the same bytes, counted by callgrind once (rustc "
+        "1.95, memchr 2.5 with AVX2), and the limit, those of a search for each special byte and one copy of the "
+        "output:"
     )
-    rust_columns = ["Rust: parse", "expand", "both", "ours to Rust"]
-    return table(title, ["Input", "parse", "expand", "both", *rust_columns], rows)
+    groups = [[group + WORKS[0], *WORKS[1:]] for group in ("", "Rust: ", "ours to Rust: ")]
+    return table(title, ["Input", *itertools.chain.from_iterable(groups), "limit", "both to limit"], rows)
+
+
+def cells_of_two(first, second):
+    """Two counts, and the second by the first."""
+    return [amount(first), amount(second), ratio(second, first)]
 
 
 def table_of_texts(counts):
-    """A row for each workload and its two counts."""
-    rows = [[workload.name, *map(amount, kinds), ratio(kinds[1], kinds[0])] for workload, kinds in counts]
+    """A row for each workload, with its two counts in process and the two of our program."""
+    rows = [[workload.name, *cells_of_two(*kinds), *cells_of_two(*runs)] for workload, kinds, runs in counts]
     title = (
         "Instructions in process of `expand` of the same input as bytes, by a `ByteTemplate`, and as a text, by a "
-        "`Template`:"
+        f"`Template`; and those of `{OURS}` with the words `bytes` and `text`, start-up included:"
     )
-    return table(title, ["Input", "bytes", "text", "text to bytes"], rows)
+    columns = ["expand: bytes", "text", "text to bytes", f"{OURS}: bytes", "text", "text to bytes"]
+    return table(title, ["Input", *columns], rows)
 
 
 def table_of_letters(counts):
     """A row for each workload, its two counts, and the requests for memory of 1,000 rounds of both."""
     rows = []
     for workload, kinds, made in counts:
-        rust = RUST.get(workload.name, 4 * (None,))[1]
-        cells = [*map(amount, kinds), ratio(kinds[1], kinds[0]), amount(rust), *map(amount, made)]
-        rows.append([workload.name, *cells])
+        rust = workload.rust["expand"]
+        ratios = [ratio(kind, rust) for kind in kinds]
+        rows.append([workload.name, *cells_of_two(*kinds), amount(rust), *ratios, *map(amount, made)])
     title = (
-        "Instructions in process of `expand`, and of `expand_into` with one buffer, which has room from the start and is "
-        "cleared before each round; beside them those of the Rust crate's `expand`; and the requests for memory of 1,000 "
-        "rounds, without the parse and that room:"
+        "Instructions in process of `expand`, and of `expand_into` with one buffer, which has room from the start and "
+        "is cleared before each round; beside them those of the Rust crate's `expand` on the same bytes; and the "
+        "requests for memory of 1,000 rounds, without the parse and that room:"
     )
-    columns = ["Input", "expand", "into one buffer", "into to expand", "Rust: expand", "requests: expand", "into"]
-    return table(title, columns, rows)
+    columns = ["expand", "into one buffer", "into to expand", "Rust: expand", "expand to Rust", "into to Rust"]
+    return table(title, ["Input", *columns, "requests: expand", "into"], rows)
 
 
 def table_of_programs(results):
     rows = []
     for result in results:
-        name = result.workload.name
         count = result.counts[OURS]
-        rust = RUST.get(name, (None,))[-1]
         others = [amount(result.counts.get(program)) for program in COUNTED[1:]]
         size = len(result.workload.source)
-        a_byte = f"{count / size:.1f}" if size else ""
-        rows.append([name, amount(count), a_byte, amount(rust), ratio(count, rust), *others])
-    title = (
-        "Instructions of whole programs, start-up included. The Rust program is a filter over that crate with the "
-        "same words:"
-    )
-    return table(title, ["Input", OURS, "a byte", "Rust", "ours to Rust", *COUNTED[1:]], rows)
+        rows.append([result.workload.name, amount(count), f"{count / size:.1f}" if size else "", *others])
+    title = "Instructions of whole programs, start-up included:"
+    return table(title, ["Input", OURS, "a byte", *COUNTED[1:]], rows)
 
 
 def slope(size, value, later_size, later_value):
@@ -571,11 +484,12 @@ def rows_of_growth(family, start, counting):
         cells = [f"{result.times[OURS]:.2f}"]
         values = [result.times[OURS] - start.times[OURS]]
         if counting:
-            cells += [amount(result.counts[OURS]), amount(result.in_process[2])]
-            values += [result.counts[OURS] - start.counts[OURS], result.in_process[2]]
+            cells += [amount(result.counts[OURS]), amount(result.in_process["both"])]
+            values += [result.counts[OURS] - start.counts[OURS], result.in_process["both"]]
         slopes = [slope(earlier_size, earlier, size, value) for earlier, value in zip(earlier_values, values)]
         pairs = itertools.zip_longest(cells, slopes, fillvalue="")
-        rows.append([result.workload.name, *itertools.chain.from_iterable(pairs)])
+        rust = [amount(result.workload.rust["both"])] if counting else []
+        rows.append([result.workload.name, *itertools.chain.from_iterable(pairs), *rust])
         earlier_size, earlier_values = size, values
     return rows
 
@@ -584,9 +498,11 @@ def table_of_growth(families, start, counting):
     """The growth of families of sizes and results. Start-up is the result of the empty input."""
     measures = ["ms", "program", "in process"] if counting else ["ms"]
     columns = ["Input", *itertools.chain.from_iterable((measure, "slope") for measure in measures)]
+    columns += ["Rust: both"] if counting else []
     title = (
-        f"Growth: milliseconds of `{OURS}`, its instructions, and those of `substitute_bytes`. A slope is the "
-        "exponent of the growth from the row before, without start-up: 1 is linear, 2 quadratic:"
+        f"Growth: milliseconds of `{OURS}`, its instructions, and those of `substitute_bytes`, and of the Rust crate "
+        "where they are known. A slope is the exponent of the growth from the row before, without start-up: 1 is "
+        "linear, 2 quadratic:"
     )
     return table(title, columns, [row for family in families for row in rows_of_growth(family, start, counting)])
 
@@ -602,7 +518,7 @@ def arguments_given():
     parser = argparse.ArgumentParser(description=__doc__)
     parser.add_argument("--runs", type=int, default=15, help="runs of each program on each input, at least 9")
     parser.add_argument("--no-callgrind", action="store_true", help="count no instructions")
-    parser.add_argument("--only", metavar="WORD", default="", help="only inputs with this in their names, and empty")
+    parser.add_argument("--only", metavar="WORD", default="", help="only inputs of this title or name, and empty")
     parser.add_argument("--write", action="store_true", help="put the tables into RESULTS.md too")
     arguments = parser.parse_args()
     arguments.runs = max(9, arguments.runs)
@@ -613,30 +529,28 @@ def arguments_given():
 
 
 def is_chosen(workload, arguments):
-    return not workload.source or arguments.only in workload.name
+    return workload is INPUTS[0] or arguments.only in workload.name or arguments.only == workload.made_as
 
 
-def measure_all(arguments, source):
-    """The results of the inputs, of which the first is that of no input, and the sizes and results of each family."""
-    inputs = [workload for workload in (make() for make in INPUTS) if is_chosen(workload, arguments)]
-    results = [result_of(workload, programs_for(workload), arguments, source) for workload in inputs]
-    families = []
-    for family in FAMILIES:
-        sizes = [(size, workload) for size, workload in family() if is_chosen(workload, arguments)]
-        families.append([(size, result_of(workload, ours(workload), arguments, source)) for size, workload in sizes])
-    return results, families
-
-
-def chosen(makers, arguments):
-    """The workloads of these that are chosen, where instructions are counted."""
-    workloads = [make() for make in makers] if arguments.callgrind else []
+def chosen(workloads, arguments):
     return [workload for workload in workloads if is_chosen(workload, arguments)]
 
 
+def measure_family(family, arguments, source):
+    """The sizes and results of a family."""
+    sizes = [(size, workload) for size, workload in family if is_chosen(workload, arguments)]
+    return [(size, result_of(workload, ours(workload), arguments, source)) for size, workload in sizes]
+
+
 def measure_texts(arguments, source):
-    """The workloads that are expanded as bytes and as a text, and the two counts of each."""
-    workloads = chosen(TEXTS, arguments)
-    return [(workload, count_works(workload, ("expand", "text"), source)) for workload in workloads]
+    """The workloads that are filled in as bytes and as a text, the two counts of each, and the two of our program."""
+    rows = []
+    for workload in chosen(TEXTS, arguments):
+        kinds = count_works(workload, ("expand", "text"), source)
+        commands = [ours(replace(workload, word=word))[OURS] for word in ("bytes", "text")]
+        runs = [instructions(command, environment(OURS, workload), source) for command in commands]
+        rows.append((workload, kinds, runs))
+    return rows
 
 
 def measure_letters(arguments, source):
@@ -649,23 +563,43 @@ def measure_letters(arguments, source):
     return rows
 
 
+def tables_of_instructions(results, arguments, source):
+    """The tables of what is counted, after those of time."""
+    more = [result_of(workload, {}, arguments, source) for workload in chosen(IN_PROCESS, arguments)]
+    tables = [table_in_process([*results, *more]), table_of_programs(results)]
+    if texts := measure_texts(arguments, source):
+        tables.append(table_of_texts(texts))
+    if letters := measure_letters(arguments, source):
+        tables.append(table_of_letters(letters))
+    return tables
+
+
+def all_tables(arguments, source):
+    """All tables. The first result is that of no input: what starting costs."""
+    workloads = chosen(INPUTS, arguments)
+    results = [result_of(workload, programs_for(workload), arguments, source) for workload in workloads]
+    tables = [table_of_times(results, arguments.runs)]
+    if arguments.callgrind:
+        tables += tables_of_instructions(results, arguments, source)
+    families = [measure_family(family, arguments, source) for family in FAMILIES]
+    if any(families):
+        tables.append(table_of_growth(families, results[0], arguments.callgrind))
+    return tables
+
+
+def make_room_for_words():
+    """Lets the programs that are run have as many words as the largest input needs."""
+    soft, hard = resource.getrlimit(resource.RLIMIT_STACK)
+    if soft != resource.RLIM_INFINITY and soft < STACK:
+        resource.setrlimit(resource.RLIMIT_STACK, (STACK, hard))
+
+
 def main():
     arguments = arguments_given()
     build(OURS, BENCH)
+    make_room_for_words()
     with tempfile.TemporaryDirectory() as folder:
-        source = os.path.join(folder, "source")
-        results, families = measure_all(arguments, source)
-        texts = measure_texts(arguments, source)
-        letters = measure_letters(arguments, source)
-    tables = [table_of_times(results, arguments.runs)]
-    if arguments.callgrind:
-        tables += [table_in_process(results), table_of_programs(results)]
-    if texts:
-        tables.append(table_of_texts(texts))
-    if letters:
-        tables.append(table_of_letters(letters))
-    if any(families):
-        tables.append(table_of_growth(families, results[0], arguments.callgrind))
+        tables = all_tables(arguments, os.path.join(folder, "source"))
     load = " ".join(f"{average:.1f}" for average in os.getloadavg())
     tables.append(f"{os.cpu_count()} processors, load averages {load}.\n")
     text = "\n".join(tables)

@@ -4,8 +4,9 @@
 //! `ROUNDS` says, and prints the length that the last round gave: of the output, of a parsed source, or of
 //! the text of an error. With no round it is 0. `WORK` is `parse`, `variables`, which parses and lists the
 //! variables, `expand`, `into`, which expands the source into one buffer, `text`, which expands it as a text,
-//! `both`, `escape`, `locate`, which prints the column of a text's fault, or `none`, which does nothing; so
-//! rounds take what a run takes more than one with fewer.
+//! `both`, `escape`, `locate`, which prints the column of a text's fault, `json` or `toml`, which print where
+//! the first fault of a document begins, or `none`, which does nothing; so rounds take what a run takes more
+//! than one with fewer.
 #![tactic(auto)]
 
 use std::alloc::Global;
@@ -46,6 +47,7 @@ fn variables(alloc: Global, words: &[String]) -> io::Result<Variables> {
 
 fn wrong_words() -> io::Error {
     io::Error::other(
-        "usage: subst_bench parse|variables|expand|into|text|both|escape|locate|none ROUNDS [NAME=VALUE]...",
+        "usage: subst_bench parse|variables|expand|into|text|both|escape|locate|json|toml|none \
+        ROUNDS [NAME=VALUE]...",
     )
 }

@@ -5,7 +5,9 @@ ghost use Rattle.subst_bench.specs.Work.{IsNameOf};
 use std::alloc::Global;
 use std::collections::BTreeMap;
 use std::str;
-use subst::{ByteTemplate, Error, Template, laws, substitute, substitute_bytes};
+use subst::{
+    ByteTemplate, Error, Template, json, laws, substitute, substitute_bytes, toml as filled,
+};
 
 /// The variables that a source is filled in from.
 pub type Variables = BTreeMap<String, String>;
@@ -30,6 +32,11 @@ pub enum Work {
     /// Fills the source in as a text, finds the line and the column of its fault, and underlines it; nothing
     /// if the source isn't UTF-8.
     Locate,
+    /// Reads the source as JSON, looks for the strings that are refused, and finds the place of the first
+    /// fault; nothing if the source isn't JSON.
+    Json,
+    /// The same of TOML.
+    Toml,
     /// Nothing.
     Nothing,
 }
@@ -48,6 +55,8 @@ impl Work {
             "both" => Some(Work::Both),
             "escape" => Some(Work::Escape),
             "locate" => Some(Work::Locate),
+            "json" => Some(Work::Json),
+            "toml" => Some(Work::Toml),
             "none" => Some(Work::Nothing),
             _ => None,
         }
@@ -61,6 +70,7 @@ impl Work {
         source: &[u8],
         variables: &Variables,
     ) -> Result<usize, Error> {
+        let text = str::from_utf8(source).unwrap_or("");
         match self {
             Work::Parse => last(rounds, || {
                 Ok(ByteTemplate::from_slice(alloc, source)?.source().len())
@@ -75,23 +85,16 @@ impl Work {
             }
             Work::ExpandInto => last_into(alloc, rounds, source, variables),
             Work::ExpandText => {
-                let Ok(text) = str::from_utf8(source) else {
-                    return Ok(0);
-                };
                 let template = Template::from_str(alloc, text)?;
                 last(rounds, || Ok(template.expand(alloc, variables)?.len()))
             }
             Work::Both => last(rounds, || {
                 Ok(substitute_bytes(alloc, source, variables)?.len())
             }),
-            Work::Escape => {
-                let text = str::from_utf8(source).unwrap_or("");
-                last(rounds, || Ok(laws::escaped(alloc, text)?.len()))
-            }
-            Work::Locate => {
-                let text = str::from_utf8(source).unwrap_or("");
-                last(rounds, || located(alloc, text, variables))
-            }
+            Work::Escape => last(rounds, || Ok(laws::escaped(alloc, text)?.len())),
+            Work::Locate => last(rounds, || located(alloc, text, variables)),
+            Work::Json => last(rounds, || located_in_json(alloc, text, variables)),
+            Work::Toml => last(rounds, || located_in_toml(alloc, text, variables)),
             Work::Nothing => Ok(0),
         }
     }
@@ -107,6 +110,40 @@ fn located(alloc: Global, text: &str, variables: &Variables) -> Result<usize, Er
             Ok(column)
         }
     }
+}
+
+/// Returns where the first fault of a JSON document begins, or 0 if there is none. It looks for all refused
+/// strings too.
+fn located_in_json(alloc: Global, text: &str, variables: &Variables) -> Result<usize, Error> {
+    let Ok(tree) = serde_json::Value::from_str(alloc, text) else {
+        return Ok(0);
+    };
+    let _ = json::all_refusals(alloc, &tree, variables)?;
+    let Some(first) = json::first_refusal(alloc, &tree, variables)? else {
+        return Ok(0);
+    };
+    let Some(token) = json::place_of(alloc, text, &first.path)? else {
+        return Ok(0);
+    };
+    let place = json::place_in(alloc, text, token, first.error.source_range())?;
+    Ok(place.map_or(0, |place| place.start))
+}
+
+/// The same of TOML.
+fn located_in_toml(alloc: Global, text: &str, variables: &Variables) -> Result<usize, Error> {
+    let Ok(table) = toml::table_from_str(alloc, text) else {
+        return Ok(0);
+    };
+    let tree = toml::Value::Table(table);
+    let _ = filled::all_refusals(alloc, &tree, variables)?;
+    let Some(first) = filled::first_refusal(alloc, &tree, variables)? else {
+        return Ok(0);
+    };
+    let Some(token) = filled::place_of(alloc, text, &first.path)? else {
+        return Ok(0);
+    };
+    let place = filled::place_in(alloc, text, token, first.error.source_range())?;
+    Ok(place.map_or(0, |place| place.start))
 }
 
 /// Returns what the last round gives, or 0 if there is none.
