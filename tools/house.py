@@ -1,8 +1,8 @@
 #!/usr/bin/env python3
 """house.py   Checks what this repository asks of its own files, without running any of them.
 
-Widths of lines, lengths of pages, that what pages name exists, that code quoted in pages is that of the source, that
-docs/PROVED.md is what tools/proved.py makes, and that each lemma is cited. Each test prints a line, or what is wrong,
+Widths of lines, that macros write no `impl`, lengths of pages, that what pages name exists, that code quoted in pages is
+that of the source, that docs/PROVED.md is what tools/proved.py makes, and that each lemma is cited. Each test prints a line, or what is wrong,
 each with its file and line, and the last line is 'N passed, M failed'.
 """
 import fnmatch
@@ -40,6 +40,8 @@ ANY_NAME = re.compile(r'\b(?:NAME|NN|[A-Z])(?=\b|Lemmas)')
 
 IMPORT = re.compile(r'\s*(?:pub )?(?:ghost )?(?:use|open) ')
 CLAUSES = re.compile(r'\s*(?:requires|ensures|ghost \w+ = )')
+# A macro of the repository, with its margin and its name.
+MACRO = re.compile(r'^( *)macro_rules! (\w+) .*?^\1\}', re.MULTILINE | re.DOTALL)
 FENCE = re.compile(r'^```(\w*)\n(.*?)^```$', re.MULTILINE | re.DOTALL)
 # A definition of a file of lemmas, at the margin.
 DEFINITION = re.compile(r'^(?:pub |abbrev |ruleset |data |record )*([^\s:(){}]+)(?= :| =)', re.MULTILINE)
@@ -133,6 +135,20 @@ def test_proofs_are_not_too_wide():
 
 def test_pages_are_not_too_wide():
     expect_none(wrong for path in pages() for wrong in wider(path, PROSE, in_prose))
+
+
+# Macros
+
+
+def impls_of_macros(path):
+    """The macros of a file that write `impl` blocks: `rt ci` refuses the crate, once all below it is proved."""
+    for macro in MACRO.finditer(read(path)):
+        if re.search(r'^\s*(?:unsafe )?impl\b', macro[0], re.MULTILINE):
+            yield f'{path}:{line_at(read(path), macro.start())}: the macro {macro[2]} writes an impl'
+
+
+def test_no_macro_writes_an_impl():
+    expect_none(wrong for path in matching('crates/*/src/*.rt') for wrong in impls_of_macros(path))
 
 
 # Lengths

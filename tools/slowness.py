@@ -1,10 +1,10 @@
 #!/usr/bin/env python3
-"""slowness.py   Compares what the built programs take for n of something with what they take for four times as many.
+"""slowness.py   Compares what the built programs take for n of something with what they take for eight times as many.
 
-Each work takes 10 ms or more of processor time for 4n, and less than 8 times what n takes: where the time grows with
-the square of n, it is 16 times as much. Contracts bound the reads and the turns of a loop, and nothing else here. Of some
-runs the least time counts, and where it is too much, of more runs. Each test prints a line, and the last line is
-'N passed, M failed'.
+Each work takes less than 24 times as much processor time for 8n as for n: where the time grows with the square of n, it
+is 64 times as much. Contracts bound the reads and the turns of a loop, and nothing else here. Of some runs the least time
+counts, and where it is too much, of more runs. Less than 10 ms for 8n is never too much, since the square of 8n, which is
+40,000 or more, is more steps than that. Each test prints a line, and the last line is 'N passed, M failed'.
 """
 import functools
 import os
@@ -15,9 +15,9 @@ from typing import NamedTuple
 sys.dont_write_bytecode = True
 from running import BENCH, KIB, MIB, PROGRAMS, expect_that, run, run_tests
 
-# How often each work is done at a time, how often at most, how many times as long it may take, and the seconds below
-# which a time says little.
-RUNS, MOST_RUNS, MOST, LEAST = 3, 12, 8, 0.01
+# How often each work is done at a time, how often at most, how many times as much is done, how many times as long that
+# may take, and the seconds that it may take at any rate.
+RUNS, MOST_RUNS, MORE, MOST, LEAST = 3, 12, 8, 24, 0.01
 
 
 class Run(NamedTuple):
@@ -87,12 +87,40 @@ def unclosed_defaults(count):
     return Run('subst_filter', ['bytes'], count * b'${a:\\x')
 
 
+def fault_after_members_of_json(count):
+    members = b''.join(b'"a%d":"$a",' % number for number in range(count))
+    return Run(BENCH, ['json', '1', 'a=1'], b'{' + members + b'"b":"$"}')
+
+
+def faults_of_json(count):
+    return Run(BENCH, ['json', '1'], b'[' + count * b'"$",' + b'1]')
+
+
+def fault_after_escapes_of_json(count):
+    return Run(BENCH, ['json', '1'], b'"' + count * b'\\u0061' + b'$"')
+
+
+def fault_after_pairs_of_toml(count):
+    pairs = b''.join(b'a%d = "$a"\n' % number for number in range(count))
+    return Run(BENCH, ['toml', '1', 'a=1'], pairs + b'b = "$"\n')
+
+
+def faults_of_toml(count):
+    return Run(BENCH, ['toml', '1'], b'a = [' + count * b'"$",' + b']\n')
+
+
+def fault_after_escapes_of_toml(count):
+    return Run(BENCH, ['toml', '1'], b'a = "' + count * b'\\u0061' + b'$"\n')
+
+
 # Each work, with its n.
 WORKS = {
     escape: 2 * MIB, fault_after_a_line: 4 * MIB, fault_after_lines: 4 * MIB, highlighting: 4 * MIB,
     words: 10000, words_of_one_name: 10000, variables_in_a_hash_map: 5000, variables_in_a_tree: 5000,
     variables: 256 * KIB, escapes: 256 * KIB, nested_defaults: 256 * KIB, braces_in_a_default: 2 * MIB,
     unclosed_defaults: 512 * KIB,
+    fault_after_members_of_json: 20000, faults_of_json: 20000, fault_after_escapes_of_json: 256 * KIB,
+    fault_after_pairs_of_toml: 5000, faults_of_toml: 20000, fault_after_escapes_of_toml: 256 * KIB,
 }
 
 
@@ -114,14 +142,13 @@ def time_of(it):
 
 
 def grows_little(work, count):
-    """Fails the test where four times as much takes too long."""
-    few, many = time_of(work(count)), time_of(work(4 * count))
+    """Fails the test where more of it takes too long."""
+    few, many = time_of(work(count)), time_of(work(MORE * count))
     for _ in range(RUNS, MOST_RUNS, RUNS):
-        if many < MOST * few:
-            break
-        few, many = min(few, time_of(work(count))), min(many, time_of(work(4 * count)))
-    expect_that(many >= LEAST, f'{many:.3f} s is too little to compare')
-    expect_that(many < MOST * few, f'{few:.3f} s for {count} and {many:.3f} s for {4 * count}')
+        if many < max(MOST * few, LEAST):
+            return
+        few, many = min(few, time_of(work(count))), min(many, time_of(work(MORE * count)))
+    expect_that(many < max(MOST * few, LEAST), f'{few:.3f} s for {count} and {many:.3f} s for {MORE * count}')
 
 
 def main():
