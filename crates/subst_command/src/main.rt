@@ -1,0 +1,11 @@
+//! Fills in shell-like variables in files. All of it is in `subst_command_lib`.
+//!
+//! The stored run beside it prints the version; `tools/command.py` runs all else.
+#![tactic(auto)]
+
+use std::process::ExitCode;
+use subst_command_lib::process::run;
+
+fn main(rt: HostRuntime) -> ExitCode {
+    run(&rt)
+}

@@ -1,0 +1,378 @@
+//! What the words of the command line ask for.
+
+ghost use Rattle.std.specs.Prelude.{IfOk, ◌<◌, length};
+
+use crate::name::is_name;
+use clap::error::ErrorKind;
+use clap::{Arg, ArgAction, ArgMatches, Command, Error};
+use std::alloc::{AllocError, Global};
+
+/// The version that `--version` prints: that of the change log.
+pub const VERSION: &str = "0.1.0";
+
+/// The file that stands for standard input.
+pub const STANDARD_INPUT: &str = "-";
+
+/// What a source is read as.
+#[derive(Clone, Copy, PartialEq, Eq)]
+pub enum Form {
+    /// Text, in UTF-8.
+    Text,
+    /// Bytes.
+    Bytes,
+    /// A JSON document, whose strings are filled in.
+    Json,
+    /// A TOML document, whose strings are filled in.
+    Toml,
+}
+
+/// What in a source is a variable.
+#[derive(Drop)]
+pub enum Placeholders<'w> {
+    /// What the template language says.
+    Own,
+    /// What envsubst finds.
+    Envsubst,
+    /// `$NAME` and `${NAME}` of these names.
+    Only(Vec<&'w str>),
+}
+
+/// What is done with the sources.
+#[derive(Clone, Copy, PartialEq, Eq)]
+pub enum Task<'w> {
+    /// What they give is printed.
+    Print,
+    /// What they give is written to a file.
+    WriteTo(&'w str),
+    /// Each is replaced by what it gives.
+    Replace,
+    /// Their faults are told.
+    Check,
+    /// Their variables are listed.
+    ListNames,
+}
+
+/// A name and its value.
+pub type Pair = (String, String);
+
+/// What the words ask for.
+#[derive(Drop)]
+pub struct Options<'w> {
+    /// The variables of `--set`, in the order of the words.
+    pub pairs: Vec<Pair>,
+    /// The values files.
+    pub values_files: Vec<&'w str>,
+    /// Whether the environment gives variables.
+    pub environment: bool,
+    /// What the sources are read as.
+    pub form: Form,
+    /// What in them is a variable.
+    pub placeholders: Placeholders<'w>,
+    /// What is done with them.
+    pub task: Task<'w>,
+    /// The sources. There is at least one.
+    pub files: Vec<&'w str>,
+}
+
+impl<'w> Options<'w> {
+    /// Returns what the words ask for, of which the first one is the program's name.
+    ///
+    /// # Errors
+    ///
+    /// That of `clap` where the words are wrong, or ask for the help or the version.
+    pub fn of_words(alloc: Global, words: &'w [String]) -> Result<Options<'w>, Error>
+        ensures { IfOk result (λ options. 0 < length options.files.items) }
+    {
+        let matches = command(alloc)?.try_get_matches_from(words)?;
+        let files = list(alloc, &matches, "files")?;
+        if matches.get_flag("in-place") {
+            check_replaced(alloc, &files)?;
+        }
+        Ok(Options {
+            pairs: asked_pairs(alloc, &matches)?,
+            values_files: list(alloc, &matches, "values")?,
+            environment: matches.get_flag("env"),
+            form: asked_form(&matches),
+            placeholders: asked_placeholders(alloc, &matches)?,
+            task: asked_task(&matches),
+            files: or_standard_input(files)?,
+        })
+    }
+}
+
+/// Returns the values that were given to an option, in their order.
+fn list<'w>(alloc: Global, matches: &ArgMatches<'w>, id: &str) -> Result<Vec<&'w str>, AllocError> {
+    let mut values = Vec::new(alloc);
+    if let Some(given) = matches.get_strs(id) {
+        values.extend_from_slice(given)?;
+    }
+    Ok(values)
+}
+
+/// Returns the files, or standard input where there are none.
+fn or_standard_input(mut files: Vec<&str>) -> Result<Vec<&str>, AllocError>
+    ensures { IfOk result (λ files. 0 < length files.items) }
+{
+    if files.is_empty() {
+        files.push(STANDARD_INPUT)?;
+    }
+    Ok(files)
+}
+
+/// Refuses files that can't be replaced.
+fn check_replaced(alloc: Global, files: &[&str]) -> Result<(), Error> {
+    if files.is_empty() {
+        return Err(wrong(alloc, "--in-place needs a file"));
+    }
+    if files.iter().any(|file| *file == STANDARD_INPUT) {
+        return Err(wrong(alloc, "--in-place can't be of standard input"));
+    }
+    Ok(())
+}
+
+/// Returns the variables of `--set`.
+fn asked_pairs(alloc: Global, matches: &ArgMatches<'_>) -> Result<Vec<Pair>, Error> {
+    let mut pairs = Vec::new(alloc);
+    for word in list(alloc, matches, "set")? {
+        let Some((name, value)) = word.split_once('=') else {
+            let message = format!(in alloc; "no '=' in --set '{word}'")?;
+            return Err(wrong(alloc, &message));
+        };
+        if !is_name(name) {
+            let message = format!(in alloc; "no template can spell the name of --set '{word}'")?;
+            return Err(wrong(alloc, &message));
+        }
+        pairs.push(owned(alloc, name, value)?)?;
+    }
+    Ok(pairs)
+}
+
+/// Returns a pair that owns its texts.
+///
+/// # Errors
+///
+/// When allocation fails.
+pub(crate) fn owned(alloc: Global, name: &str, value: &str) -> Result<Pair, AllocError> {
+    Ok((
+        String::from_str(alloc, name)?,
+        String::from_str(alloc, value)?,
+    ))
+}
+
+/// Returns what the sources are read as.
+fn asked_form(matches: &ArgMatches<'_>) -> Form {
+    if matches.get_flag("bytes") {
+        Form::Bytes
+    } else if matches.get_flag("json") {
+        Form::Json
+    } else if matches.get_flag("toml") {
+        Form::Toml
+    } else {
+        Form::Text
+    }
+}
+
+/// Returns what in the sources is a variable.
+fn asked_placeholders<'w>(
+    alloc: Global,
+    matches: &ArgMatches<'w>,
+) -> Result<Placeholders<'w>, Error> {
+    if matches.get_flag("envsubst") {
+        return Ok(Placeholders::Envsubst);
+    }
+    if !matches.contains_id("only") {
+        return Ok(Placeholders::Own);
+    }
+    let mut names = Vec::new(alloc);
+    for words in list(alloc, matches, "only")? {
+        add_names(alloc, &mut names, words)?;
+    }
+    Ok(Placeholders::Only(names))
+}
+
+/// Adds the names that stand apart by commas or blanks, each as it is or written as a variable.
+fn add_names<'w>(alloc: Global, names: &mut Vec<&'w str>, words: &'w str) -> Result<(), Error> {
+    for word in words.split(|c: char| c == ',' || c.is_ascii_whitespace()) {
+        let name = without_dollar(word);
+        if is_name(name) {
+            names.push(name)?;
+        } else if !word.is_empty() {
+            let message = format!(in alloc; "no template can spell the name '{word}' of --only")?;
+            return Err(wrong(alloc, &message));
+        }
+    }
+    Ok(())
+}
+
+/// Returns the name of `$NAME` and of `${NAME}`, and any other word as it is.
+fn without_dollar(word: &str) -> &str {
+    let Some(name) = word.strip_prefix('$') else {
+        return word;
+    };
+    let Some(open) = name.strip_prefix('{') else {
+        return name;
+    };
+    open.strip_suffix('}').unwrap_or(word)
+}
+
+/// Returns what is done with the sources.
+fn asked_task<'w>(matches: &ArgMatches<'w>) -> Task<'w> {
+    if let Some(file) = matches.get_str("output") {
+        Task::WriteTo(file)
+    } else if matches.get_flag("in-place") {
+        Task::Replace
+    } else if matches.get_flag("check") {
+        Task::Check
+    } else if matches.get_flag("names") {
+        Task::ListNames
+    } else {
+        Task::Print
+    }
+}
+
+/// Returns the error of wrong words, with the usage.
+fn wrong(alloc: Global, message: &str) -> Error {
+    match error(alloc, message) {
+        Ok(e) => e,
+        Err(e) => Error::from(e),
+    }
+}
+
+/// Returns the error of wrong words, or that memory ran out for it.
+fn error(alloc: Global, message: &str) -> Result<Error, AllocError> {
+    command(alloc)?.error(ErrorKind::InvalidValue, message)
+}
+
+/// Returns the words that there are.
+fn command<'a>(alloc: Global) -> Result<Command<'a>, AllocError> {
+    let command = Command::new(alloc, "subst").version(VERSION).about(
+        "Fills in $name, ${name}, ${name:default} and ${name?} in files.",
+    );
+    let command = with_variables(alloc, command)?;
+    let command = with_reading(alloc, command)?;
+    let command = with_writing(alloc, command)?;
+    let command = with_asking(alloc, command)?;
+    command.arg(
+        Arg::new(alloc, "files")
+            .value_name("FILE")
+            .help("The files to fill in; standard input if there are none, and for '-'")
+            .action(ArgAction::Append),
+    )
+}
+
+/// Returns an option with a value.
+fn valued<'a>(alloc: Global, id: &'a str, value: &'a str, help: &'a str) -> Arg<'a> {
+    Arg::new(alloc, id)
+        .long(id)
+        .value_name(value)
+        .help(help)
+        .action(ArgAction::Append)
+}
+
+/// Returns an option without a value.
+fn flag<'a>(alloc: Global, id: &'a str, help: &'a str) -> Arg<'a> {
+    Arg::new(alloc, id)
+        .long(id)
+        .help(help)
+        .action(ArgAction::SetTrue)
+}
+
+/// Adds the options that give variables.
+fn with_variables<'a>(alloc: Global, command: Command<'a>) -> Result<Command<'a>, AllocError> {
+    let set = valued(
+        alloc,
+        "set",
+        "NAME=VALUE",
+        "Gives a variable; of one given twice, the last counts",
+    )
+    .short('s');
+    let values = valued(
+        alloc,
+        "values",
+        "FILE",
+        "Reads NAME=VALUE lines; all after the first '=' is the value",
+    )
+    .short('f');
+    let env = flag(alloc, "env", "Takes variables from the environment").short('e');
+    command
+        .arg(set.help_heading("Variables"))?
+        .arg(values.help_heading("Variables"))?
+        .arg(env.help_heading("Variables"))
+}
+
+/// Adds the options that say how a source is read.
+fn with_reading<'a>(alloc: Global, command: Command<'a>) -> Result<Command<'a>, AllocError> {
+    let bytes = flag(
+        alloc,
+        "bytes",
+        "Takes any bytes, where otherwise text is in UTF-8",
+    )
+    .conflicts_with("json")?
+    .conflicts_with("toml")?;
+    let json = flag(alloc, "json", "Fills in the strings of a JSON document").conflicts_with(
+        "toml",
+    )?;
+    let toml = flag(alloc, "toml", "Fills in the strings of a TOML document");
+    let only = valued(
+        alloc,
+        "only",
+        "NAMES",
+        "Takes $NAME and ${NAME} of these names, and all else as text",
+    )
+    .conflicts_with("envsubst")?;
+    let envsubst = flag(
+        alloc,
+        "envsubst",
+        "Takes what envsubst would fill in, and all else as text",
+    );
+    command
+        .arg(bytes.help_heading("Reading"))?
+        .arg(json.help_heading("Reading"))?
+        .arg(toml.help_heading("Reading"))?
+        .arg(only.help_heading("Reading"))?
+        .arg(envsubst.help_heading("Reading"))
+}
+
+/// Adds the options that say where to write.
+fn with_writing<'a>(alloc: Global, command: Command<'a>) -> Result<Command<'a>, AllocError> {
+    let output = valued(
+        alloc,
+        "output",
+        "FILE",
+        "Writes to a file, whole or not at all",
+    )
+    .short('o')
+    .action(ArgAction::Set)
+    .conflicts_with("in-place")?
+    .conflicts_with("check")?
+    .conflicts_with("names")?;
+    let in_place = flag(
+        alloc,
+        "in-place",
+        "Replaces each file by what it gives, whole or not at all",
+    )
+    .short('i')
+    .conflicts_with("check")?
+    .conflicts_with("names")?;
+    command
+        .arg(output.help_heading("Writing"))?
+        .arg(in_place.help_heading("Writing"))
+}
+
+/// Adds the options that ask about the sources.
+fn with_asking<'a>(alloc: Global, command: Command<'a>) -> Result<Command<'a>, AllocError> {
+    let check = flag(
+        alloc,
+        "check",
+        "Writes nothing, and reports every fault of every file",
+    )
+    .conflicts_with("names")?;
+    let names = flag(
+        alloc,
+        "names",
+        "Prints each name, where it is first used, and whether it is required",
+    );
+    command
+        .arg(check.help_heading("Asking"))?
+        .arg(names.help_heading("Asking"))
+}
