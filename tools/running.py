@@ -72,14 +72,15 @@ def build(program):
     return ran.returncode == 0
 
 
-def run(program, words=(), source=b'', **options):
-    """Runs a program. The source is its input, through a pipe, unless the options, those of subprocess.run, name an
-    input; an output that they don't name is kept."""
+def run(program, words=(), source=b'', name=None, **options):
+    """Runs a program, under its path or another name. The source is its input, through a pipe, unless the options,
+    those of subprocess.run, name an input; an output that they don't name is kept."""
     if 'stdin' not in options:
         options['input'] = source
     for stream in ('stdout', 'stderr'):
         options.setdefault(stream, subprocess.PIPE)
-    ran = subprocess.run([path_of(program), *words], timeout=SECONDS, **options)
+    options.setdefault('executable', path_of(program))
+    ran = subprocess.run([name or path_of(program), *words], timeout=SECONDS, **options)
     return End(ran.returncode, ran.stdout or b'', ran.stderr or b'')
 
 

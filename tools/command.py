@@ -1,0 +1,654 @@
+#!/usr/bin/env python3
+"""command.py   Tests the built program of subst_command, which is installed as `subst`.
+
+No contract says anything of options, files and messages, so these tests run the program as a shell would: each option,
+each message whole, templates of other programs, and, in tools/command_files.py, files that are written whole or not at
+all, and streams and system calls that fail. What is expected is worked out here, from docs/subst.1 and not from a run.
+What needs strace, envsubst or a mount is left out, and said, where that isn't to be had. Each test prints a line, and
+the last line is 'N passed, M failed'.
+"""
+import errno
+import functools
+import json
+import re
+import resource
+import shutil
+import subprocess
+import sys
+
+sys.dont_write_bytecode = True
+import command_files
+from command_running import (NO_NAME, PROGRAM, can, expect_fault, expect_files, failed, missing, subst, tests_of, told,
+                             write, wrong_words)
+from running import TOP, expect, expect_that, run_tests, shown
+
+try:
+    import tomllib
+except ImportError:  # before Python 3.11; what is printed as TOML isn't read again then
+    tomllib = None
+
+TEMPLATES = TOP / 'tests/data/templates'
+
+HELP = b"""\
+Fills in $name, ${name}, ${name:default} and ${name?} in files.
+
+Usage: subst [OPTIONS] [FILE]...
+
+Arguments:
+  [FILE]...  The files to fill in; standard input if there are none, and for '-'
+
+Options:
+  -h, --help     Print help
+  -V, --version  Print version
+
+Variables:
+  -s, --set <NAME=VALUE>  Gives a variable; of one given twice, the last counts
+  -f, --values <FILE>     Reads NAME=VALUE lines; all after the first '=' is the value
+  -e, --env               Takes variables from the environment
+
+Reading:
+      --bytes         Takes any bytes, where otherwise text is in UTF-8
+      --json          Fills in the strings of a JSON document
+      --toml          Fills in the strings of a TOML document
+      --only <NAMES>  Takes $NAME and ${NAME} of these names, and all else as text
+      --envsubst      Takes what envsubst would fill in, and all else as text
+
+Writing:
+  -o, --output <FILE>  Writes to a file, whole or not at all
+  -i, --in-place       Replaces each file by what it gives, whole or not at all
+
+Asking:
+      --check  Writes nothing, and reports every fault of every file
+      --names  Prints each name, where it is first used, and whether it is required
+"""
+
+
+# Tests of help and version
+
+
+def test_help_and_version():
+    for word in ('--help', '-h'):
+        expect(subst([word]), 0, HELP)
+    for word in ('--version', '-V'):
+        expect(subst([word]), 0, b'subst 0.1.0\n')
+    expect(subst(['-s', 'a=1', '--help', 'nothing']), 0, HELP)
+
+
+def test_help_fails_where_its_output_does():
+    for word in ('--help', '-h', '--version', '-V'):
+        with open('/dev/full', 'wb') as full:
+            expect_that(subst([word], stdout=full).status == 3, f'the status of {word} is not 3')
+
+
+def test_help_says_that_its_output_failed():
+    with open('/dev/full', 'wb') as full:
+        expect(subst(['--help'], stdout=full), 3, errors=failed('<stdout>', errno.ENOSPC))
+
+
+# Tests of the options that give variables
+
+
+# Words of --set, a source, and what it gives.
+SETS = (
+    (['-sA=1'], '$A', '1'),
+    (['-s', 'A=1'], '$A', '1'),
+    (['--set=A=1'], '$A', '1'),
+    (['--set', 'A=1'], '$A', '1'),
+    (['-sA=1', '-sB=2', '--set=A=3'], '$A$B', '32'),
+    (['-sA=b=c'], '$A', 'b=c'),
+    (['-sA='], '[$A${A:d}]', '[]'),
+    (['-sA=$B', '-sB=1'], '$A ${A}', '$B $B'),
+    (['-sA=-x'], '$A', '-x'),
+    (['-s0_a=\n \u00e4'], '$0_a', '\n \u00e4'),
+    ([], '${A:d}${A?}', 'd'),
+)
+
+
+def test_set():
+    for words, source, output in SETS:
+        expect(subst(words, source.encode()), 0, output.encode())
+
+
+def test_set_of_no_variable():
+    for word in ('A', ''):
+        expect(subst([f'-s{word}' if word else '--set=']), 2, errors=wrong_words(f"no '=' in --set '{word}'"))
+    for word in ('=1', 'a b=1', 'a-b=1', '\u00e4=1', '$A=1', ' A=1', 'A =1'):
+        text = f"no template can spell the name of --set '{word}'"
+        expect(subst(['--set', word], b'a'), 2, errors=wrong_words(text))
+    for word, value in (('-s', '--set <NAME=VALUE>'), ('--values', '--values <FILE>'), ('--only', '--only <NAMES>'),
+                        ('-o', '--output <FILE>')):
+        text = f"error: a value is required for '{value}' but none was supplied\n\n"
+        expect(subst([word]), 2, errors=(text + "For more information, try '--help'.\n").encode())
+
+
+def test_set_is_shown_without_control_characters():
+    text = "no template can spell the name of --set 'a\\u{1b}=1'"
+    expect(subst(['--set', 'a\x1b=1']), 2, errors=wrong_words(text))
+
+
+VALUES = (b'\xef\xbb\xbfA=1\r\n'
+          b'\n'
+          b'  # B=none\n'
+          b'\t B= "2" # $A \\n\t \n'
+          b' \t\r\n'
+          b'C=\n'
+          b'#D=none\r\n'
+          b"D='a=b'=\r\r\n"
+          b'A=\xc3\xa4')
+
+
+def test_values():
+    write('values', VALUES)
+    for words in (['-fvalues'], ['-f', 'values'], ['--values=values'], ['--values', 'values']):
+        expect(subst(words, b'[$A][$B][$C][$D]'), 0, b'[\xc3\xa4][ "2" # $A \\n\t ][][\'a=b\'=\r]')
+    write('empty', b'')
+    expect(subst(['-f', 'empty'], b'${A:d}'), 0, b'd')
+
+
+def test_values_of_standard_input_and_of_several_files():
+    write('one', b'A=1\nB=1\n')
+    write('two', b'B=2\nC=2\nC=3\n')
+    write('template', b'$A $B $C\n')
+    expect(subst(['-f', 'one', '-f', 'two', 'template']), 0, b'1 2 3\n')
+    expect(subst(['-f', 'two', '-f', 'one', 'template']), 0, b'1 1 3\n')
+    expect(subst(['-f', '-', 'template', '-f', 'two'], b'A=9'), 0, b'9 2 3\n')
+    # All of standard input is values, so there is nothing left to fill in.
+    expect(subst(['-f', '-'], b'A=9'), 0)
+
+
+# Values files that are refused, with their message.
+WRONG_VALUES = (
+    (b'A=1\nB\nC', told('values:2:1', "missing '='", 'B', '^')),
+    (b'\n  A B \r\n', told('values:2:3', "missing '='", '  A B ', '  ^^^^')),
+    (b'A B=1', told('values:1:1', 'no template can spell this name', 'A B=1', '^^^')),
+    (b'\tA =1', told('values:1:2', 'no template can spell this name', ' A =1', ' ^^')),
+    (b'export A=1', told('values:1:1', 'no template can spell this name', 'export A=1', '^^^^^^^^')),
+    (b'=1', told('values:1:1', 'no template can spell this name', '=1', '^')),
+    ('\u6f22=1'.encode(), told('values:1:1', 'no template can spell this name', '\u6f22=1', '^^')),
+    (b'A=1\nB=\xff', told('values:2:3', 'invalid UTF-8', 'B=\ufffd', '  ^')),
+)
+
+
+def test_values_that_are_refused():
+    for values, message in WRONG_VALUES:
+        write('values', values)
+        expect_fault(subst(['-f', 'values'], b'$none'), message)
+        expect_fault(subst(['-f', 'values', '-f', 'values'], b'$none'), message, message)
+        expect_fault(subst(['-i', '-f', 'values', 'nothing']), message)
+    expect_fault(subst(['-f', '-'], b'A'), told('<stdin>:1:1', "missing '='", 'A', '^'))
+
+
+def test_values_that_cannot_be_read():
+    errors = failed('nothing', errno.ENOENT) + failed('.', errno.EISDIR)
+    expect(subst(['-f', 'nothing', '-f', '.'], b'$none'), 3, errors=errors)
+    write('values', b'A')
+    errors = told('values:1:1', "missing '='", 'A', '^') + failed('nothing', errno.ENOENT)
+    expect(subst(['-f', 'values', '-f', 'nothing'], b'$none'), 3, errors=errors)
+
+
+def test_env():
+    env = {b'A': b'1', b'B': b'', b'a-b': b'2', '\u00e4'.encode(): b'3', b'BAD': b'\xff', b'\xff': b'\xff',
+           b'L': b'x' * 10000}
+    for word in ('-e', '--env'):
+        expect(subst([word], b'$A[${B:d}] ${L}', env=env), 0, b'1[] ' + env[b'L'])
+    expect_fault(subst([], b'$A', env=env), missing('A', '<stdin>:1:2', '$A', ' ^'))
+
+
+def test_env_that_is_not_utf8():
+    env, what = {b'BAD': b'\xff'}, "The value of this variable in the environment isn't UTF-8: $BAD"
+    expect(subst(['-e', '-sBAD=1'], b'$BAD', env=env), 0, b'1')
+    expect_fault(subst(['-e'], b'$A ${BAD?} $B', env=env), missing('A', '<stdin>:1:2', '$A ${BAD?} $B', ' ^'),
+                 told('<stdin>:1:6', what, '$A ${BAD?} $B', '     ^^^'),
+                 missing('B', '<stdin>:1:13', '$A ${BAD?} $B', '            ^'))
+    expect_fault(subst(['-e'], b'${A:\n $BAD}', env=env), told('<stdin>:2:3', what, ' $BAD}', '  ^^^'))
+    expect_fault(subst(['-e', '--bytes'], b'\xff$BAD', env=env), told('<stdin>:1:3', what, '\ufffd$BAD', '  ^^^'))
+    expect_fault(subst(['-e', '--json'], b'["", "$BAD"]', env=env),
+                 told('<stdin>:1:8', f'/1: {what}', '["", "$BAD"]', '       ^^^'))
+    expect(subst(['-e', '--names'], b'$BAD', env=env), 0, b'BAD\t<stdin>:1:2\trequired\n')
+
+
+def test_set_comes_before_values_and_these_before_the_environment():
+    write('values', b'A=values\nB=values\n')
+    env = {'A': 'env', 'B': 'env', 'C': 'env'}
+    for words in (['-e', '-f', 'values', '-sA=set'], ['-sA=set', '-f', 'values', '-e']):
+        expect(subst(words, b'$A $B $C', env=env), 0, b'set values env')
+
+
+# Tests of the options that say how to read
+
+
+def test_bytes():
+    plain = bytes(byte for byte in range(256) if byte not in b'\\$')
+    expect(subst(['--bytes', '-sA=\u00e4'], plain + b'$A\\$'), 0, plain + '\u00e4$'.encode())
+    expect(subst(['--bytes', '-sA=1', '--only=A'], b'\xff\\$A$B\\'), 0, b'\xff\\1$B\\')
+    expect(subst(['--bytes', '-sA=1', '--envsubst'], b'\xff\\$A$1\\'), 0, b'\xff\\1$1\\')
+    expect_fault(subst(['--bytes'], b'\xff\xe4$A'), missing('A', '<stdin>:1:4', '\ufffd\ufffd$A', '   ^'))
+    what = r"Unexpected character: '\xFF', expected a closing brace ('}'), colon (':') or question mark ('?')"
+    expect_fault(subst(['--bytes'], b'${A\xff'), told('<stdin>:1:4', what, '${A\ufffd', '   ^'))
+
+
+# Sources that aren't UTF-8, with the place of the first byte that isn't, and its line.
+NOT_UTF8 = (
+    (b'\xff', '1:1', '\ufffd', '^'),
+    (b'$\nab\xe2\x82', '2:3', 'ab\ufffd', '  ^'),
+    (b'\xc3\xa4\xed\xa0\x80.', '1:2', '\u00e4\ufffd\ufffd\ufffd.', ' ^'),
+)
+
+
+def test_text_that_is_not_utf8():
+    for source, place, line, carets in NOT_UTF8:
+        for words in ([], ['--only=A'], ['--envsubst'], ['--json'], ['--toml'], ['--names'], ['--check']):
+            expect_fault(subst(words, source), told(f'<stdin>:{place}', 'invalid UTF-8', line, carets))
+
+
+DOCUMENT = {'b': ['${A}', {'$A': '$A', 'n': [1, 1.5, True, None]}], 'a': '\\$A', '\u00e4': {}, 'E': []}
+FILLED = {'b': ['"\n\\', {'$A': '"\n\\', 'n': [1, 1.5, True, None]}], 'a': '$A', '\u00e4': {}, 'E': []}
+
+
+def test_json():
+    source = json.dumps(DOCUMENT).encode()
+    output = json.dumps(FILLED, ensure_ascii=False, indent=2, sort_keys=True) + '\n'
+    expect(subst(['--json', '-sA="\n\\'], source), 0, output.encode())
+    for text, output in ((b' "$A" ', b'"1"\n'), (b'{}', b'{}\n'), (b'[\r\n]', b'[]\n'), (b'null', b'null\n')):
+        expect(subst(['--json', '-sA=1'], text), 0, output)
+    text = b'["\\\\d $A ${A} ${A:-x} \\u0024B"]'
+    expect(subst(['--json', '--envsubst', '-sA=1', '-sB=2'], text), 0, b'[\n  "\\\\d 1 1 ${A:-x} 2"\n]\n')
+    expect(subst(['--json', '--only=B', '-sB=2'], text), 0, b'[\n  "\\\\d $A ${A} ${A:-x} 2"\n]\n')
+
+
+def test_faults_of_json():
+    line = r'{"a": "\u0041\"$x", "b/~": [1, "$x ${y"], "c": {"": "$x"}}'
+    expect_fault(subst(['--json'], b'\n' + line.encode()),
+                 missing('x', '<stdin>:2:17: /a', line, '                ^'),
+                 told('<stdin>:2:37', '/b~1~0/1: Missing closing brace', line, ' ' * 36 + '^'),
+                 missing('x', '<stdin>:2:55: /c/', line, ' ' * 54 + '^'))
+    # Of a key that is there twice, the last string counts.
+    line = '{"a": "$x", "a": "$y"}'
+    expect_fault(subst(['--json'], line.encode()), missing('y', '<stdin>:1:20: /a', line, ' ' * 19 + '^'))
+    expect_fault(subst(['--json', '--envsubst'], br'["\\ \\$a \u0024b"]'),
+                 missing('a', '<stdin>:1:9: /0', r'["\\ \\$a \u0024b"]', '        ^'),
+                 missing('b', '<stdin>:1:17: /0', r'["\\ \\$a \u0024b"]', '                ^'))
+
+
+def test_fault_of_a_document_that_is_a_string():
+    expect_fault(subst(['--json'], b'"$x"'), missing('x', '<stdin>:1:3', '"$x"', '  ^'))
+
+
+def test_faults_of_documents_are_told_in_the_order_of_their_places():
+    lines = '{"b": "$x",', '"a": "$y"}'
+    expect_fault(subst(['--json'], '\n'.join(lines).encode()),
+                 missing('x', '<stdin>:1:9: /b', lines[0], '        ^'),
+                 missing('y', '<stdin>:2:8: /a', lines[1], '       ^'))
+
+
+# Texts that are no documents, with their fault.
+NO_JSON = (
+    (b'{"a": "$x",}', told('<stdin>:1:12', 'invalid JSON', '{"a": "$x",}', ' ' * 11 + '^')),
+    (b'{"a": 1,\n "b" 2}', told('<stdin>:2:6', 'invalid JSON', ' "b" 2}', ' ' * 5 + '^')),
+    (b'', told('<stdin>:1:1', 'EOF while parsing', '', '^')),
+)
+NO_TOML = (
+    (b'a = "$x"\na = 2\n', told('<stdin>:2:1', 'duplicate key', 'a = 2', '^^^^^')),
+    (b'\n$a = 1', told('<stdin>:2:1', 'invalid key, expected letters, numbers, `-`, `_` or a quoted key', '$a = 1',
+                       '^')),
+)
+
+
+def test_texts_that_are_no_documents():
+    for option, rows in (('--json', NO_JSON), ('--toml', NO_TOML)):
+        for source, message in rows:
+            expect_fault(subst([option], source), message)
+            expect_fault(subst([option, '--names'], source), message)
+
+
+def test_toml():
+    text = b'# lost\nb = "$A"\n"$A" = 1\n[t]\nd = 1979-05-27\nn = ["${A}", 1.5]\n'
+    end = subst(['--toml', '-sA=1'], text)
+    expect(end, 0, b'"$A" = 1\nb = "1"\n\n[t]\nd = 1979-05-27\nn = ["1", 1.5]\n')
+    for value in ('"', "'", '\n', '\\', '"""', "'''", ']\n[x]', '\u00e4'):
+        end = subst(['--toml', f'-sA={value}'], b'a = "$A"\n[t]\nb = ["\\\\$A"]\n')
+        expect(end._replace(output=b''), 0)
+        if tomllib:
+            filled = tomllib.loads(end.output.decode())
+            expect_that(filled == {'a': value, 't': {'b': ['$A']}}, f'{value!r} gives {filled}')
+    expect(subst(['--toml', '--envsubst', '-sA=1'], b"a = '\\$A$1'\n"), 0, b"a = '\\1$1'\n")
+    expect(subst(['--toml'], b''), 0)
+
+
+def test_faults_of_toml():
+    lines = ('[a.b]', '"k k" = "$x"', '[[t]]', 'x = ["a", "\\u00e4$y"]')
+    expect_fault(subst(['--toml'], '\n'.join(lines).encode()),
+                 missing('x', '<stdin>:2:11: a.b."k k"', lines[1], '          ^'),
+                 missing('y', '<stdin>:4:19: t[0].x[1]', lines[3], '                  ^'))
+
+
+ALL = b'$A ${A} \\$A \\. $B ${B} ${A:x} ${A?} $AB $1 $$ ${ $(A) $'
+
+
+def test_only():
+    taken = b'1 1 \\1 \\. $B ${B} ${A:x} ${A?} $AB $1 $$ ${ $(A) $'
+    both = taken.replace(b'$B ${B}', b'2 2')
+    variables = ['-sA=1', '-sB=2']
+    for names in ('A', '$A', '${A}', ' A, ', 'A,A', ',A,'):
+        expect(subst(['--only', names, *variables], ALL), 0, taken)
+    for words in (['--only=A,B'], ['--only=A B'], ['--only=$B\t${A}\n'], ['--only=A', '--only', 'B']):
+        expect(subst([*words, *variables], ALL), 0, both)
+    expect(subst(['--only=', *variables], ALL), 0, ALL)
+    expect(subst(['--only=1', '-s1=x'], b'$1 ${1} $12'), 0, b'x x $12')
+    for name in ('a-b', '$', '${}', '${A', '$A}', '{A}', '\u00e4', '$$A'):
+        text = f"no template can spell the name '{name}' of --only"
+        expect(subst(['--only', f'A,{name}'], b'a'), 2, errors=wrong_words(text))
+
+
+def test_envsubst():
+    taken = b'1 1 \\1 \\. 2 2 ${A:x} ${A?} 3 $1 $$ ${ $(A) $'
+    expect(subst(['--envsubst', '-sA=1', '-sB=2', '-sAB=3'], ALL), 0, taken)
+    expect(subst(['--envsubst', '-sA=$A\\'], b'$A $_a $1', env={}), 1, errors=missing(
+        '_a', '<stdin>:1:5', '$A $_a $1', '    ^^'))
+
+
+def test_places_are_those_in_the_text_that_was_given():
+    lines = (r'\$\. $$ $1 \$A', r'{\} $Q${A?}: \\${Q}')
+    source = '\n'.join(lines).encode()
+    faults = (missing('A', '<stdin>:1:14', lines[0], '             ^'), missing('Q', '<stdin>:2:6', lines[1], '     ^'),
+              missing('Q', '<stdin>:2:18', lines[1], '                 ^'))
+    for words in (['--envsubst'], ['--only=A,Q'], ['--envsubst', '--bytes'], ['--only=A,Q', '--bytes']):
+        expect_fault(subst(words, source), *faults)
+        expect(subst([*words, '--names'], source), 0, b'A\t<stdin>:1:14\trequired\nQ\t<stdin>:2:6\trequired\n')
+
+
+# Tests of files and words
+
+
+def test_files_and_standard_input():
+    write('a', b'a$A')
+    write('b', b'b$A\n')
+    write('-c', b'c$A')
+    expect(subst(['-sA=1', 'a', 'b', 'a']), 0, b'a1b1\na1')
+    expect(subst(['a', '-sA=1', '-', 'b'], b'$A.'), 0, b'a11.b1\n')
+    expect(subst(['-sA=1'], b'$A.'), 0, b'1.')
+    expect(subst(['-sA=1', '-', '-'], b'$A.'), 0, b'1.')
+    expect(subst(['-sA=1', '--', '-c', 'a']), 0, b'c1a1')
+    expect(subst(['-sA=1', './-c']), 0, b'c1')
+    expect(subst(['a', '--', '-sA=1']), 3, errors=missing('A', 'a:1:3', 'a$A', '  ^') + failed('-sA=1', errno.ENOENT))
+    expect(subst(['-sA=1'], b''), 0)
+
+
+def test_nothing_is_written_where_one_file_is_refused():
+    write('a', b'a$A')
+    write('b', b'$\n$B')
+    write('c', b'$B $A')
+    refused = told('b:1:1', 'Missing variable name', '$', '^') + missing('B', 'c:1:2', '$B $A', ' ^')
+    for words in ([], ['--check'], ['-o', 'new']):
+        expect_fault(subst(['-sA=1', 'a', 'b', 'c', *words]), refused)
+        expect_files('a', 'b', 'c')
+
+
+def test_status_is_the_highest():
+    write('bad', b'$')
+    refused, absent = told('bad:1:1', 'Missing variable name', '$', '^'), failed('nothing', errno.ENOENT)
+    expect(subst(['bad', 'nothing']), 3, errors=refused + absent)
+    expect(subst(['nothing', 'bad']), 3, errors=absent + refused)
+    expect(subst(['nothing', 'bad', '-i']), 3, errors=absent + refused)
+    expect(subst(['bad', 'nothing', '--names']), 3, errors=refused + absent)
+
+
+# Pairs of options that can't be given together, as their words and as they are told.
+CONFLICTS = (
+    ('--bytes', '--json'), ('--bytes', '--toml'), ('--json', '--toml'), ('--only <NAMES>', '--envsubst'),
+    ('--output <FILE>', '--in-place'), ('--output <FILE>', '--check'), ('--output <FILE>', '--names'),
+    ('--in-place', '--check'), ('--in-place', '--names'), ('--check', '--names'),
+)
+
+
+def test_options_that_exclude_each_other():
+    for one, other in CONFLICTS:
+        for first, second in ((one, other), (other, one)):
+            words = [re.sub(' <.*', '=A', option) for option in (first, second)]
+            errors = wrong_words(f"the argument '{first}' cannot be used with '{second}'", usage=first)
+            expect(subst(words, b'$'), 2, errors=errors)
+
+
+def test_wrong_words():
+    for word, option, usage in (('--sett', '--set', '--set <NAME=VALUE>'), ('--in-plac', '--in-place', '--in-place'),
+                                ('--outputs', '--output', '--output <FILE>'), ('--jsn', '--json', '--json')):
+        more = f"  tip: a similar argument exists: '{option}'\n\n"
+        expect(subst([word]), 2, errors=wrong_words(f"unexpected argument '{word}' found", usage, more))
+    for word in ('--wrong', '-x'):
+        more = f"  tip: to pass '{word}' as a value, use '-- {word}'\n\n"
+        expect(subst([word], b'$'), 2, errors=wrong_words(f"unexpected argument '{word}' found", more=more))
+    for words, option in ((['-o', 'a', '-o', 'b'], '--output <FILE>'), (['-ii', 'a'], '--in-place')):
+        expect(subst(words), 2, errors=wrong_words(f"the argument '{option}' cannot be used multiple times"))
+    expect(subst([b'\xff']), 2, errors=b"error: a word of the command line isn't UTF-8\n")
+    expect(subst(['-i']), 2, errors=wrong_words('--in-place needs a file'))
+    expect(subst(['-i', 'a', '-']), 2, errors=wrong_words("--in-place can't be of standard input"))
+
+
+# Tests of faults
+
+
+NO_BRACE = 'Missing closing brace'
+NO_CHARACTER = 'Invalid escape sequence: missing escape character'
+EXPECTED = "expected a closing brace ('}'), colon (':') or question mark ('?')"
+WIDE = '\u6f22'
+# Sources of one fault each, with its place, whose columns are those of a terminal, what it is, the line as it is shown,
+# how many columns are before the carets, and how many carets there are.
+FAULTS = (
+    ('$', '1:1', NO_NAME, '$', 0, 1),
+    ('a\n$\nb', '2:1', NO_NAME, '$', 0, 1),
+    ('${}', '1:1', NO_NAME, '${}', 0, 2),
+    ('$A $-', '1:4', NO_NAME, '$A $-', 3, 1),
+    ('${a', '1:2', NO_BRACE, '${a', 1, 1),
+    ('${a:{}', '1:2', NO_BRACE, '${a:{}', 1, 1),
+    ('${a-b} $A', '1:4', f"Unexpected character: '-', {EXPECTED}", '${a-b} $A', 3, 1),
+    (f'${{a{WIDE}', '1:4', f"Unexpected character: '{WIDE}', {EXPECTED}", f'${{a{WIDE}', 3, 2),
+    ('ab\\q', '1:3', 'Invalid escape sequence: \\q', 'ab\\q', 2, 2),
+    ('ab\\', '1:3', NO_CHARACTER, 'ab\\', 2, 1),
+    ('a\tb\t$', '1:5', NO_NAME, 'a b $', 4, 1),
+    ('a\r\nb$\r\n', '2:2', NO_NAME, 'b$', 1, 1),
+    ('\\\r\n', '1:1', 'Invalid escape sequence: \\\\u{d}', '\\', 0, 1),
+    (f'{WIDE}\u00e4{WIDE}$', '1:6', NO_NAME, f'{WIDE}\u00e4{WIDE}$', 5, 1),
+    ('e\u0301$', '1:2', NO_NAME, 'e\u0301$', 1, 1),
+    ('a\x1b[31m$\x1b', '1:7', NO_NAME, 'a\\u{1b}[31m$\\u{1b}', 11, 1),
+    ('\x07\x7f\x9b$', '1:4', NO_NAME, '\\u{7}\\u{7f}\\u{9b}$', 17, 1),
+    ('\u202e\u2066$\u200f', '1:1', NO_NAME, '\\u{202e}\\u{2066}$\\u{200f}', 16, 1),
+    ('${a\x1b', '1:4', f"Unexpected character: '\\u{{1b}}', {EXPECTED}", '${a\\u{1b}', 3, 6),
+    # Lines of 60 columns are shown whole, and of wider ones 60 columns, with the ellipses.
+    ('$' + '-' * 59, '1:1', NO_NAME, '$' + '-' * 59, 0, 1),
+    ('$' + '-' * 60, '1:1', NO_NAME, '$' + '-' * 58 + '\u2026', 0, 1),
+    ('a' * 59 + '$', '1:60', NO_NAME, 'a' * 59 + '$', 59, 1),
+    ('a' * 60 + '$', '1:61', NO_NAME, '\u2026' + 'a' * 58 + '$', 59, 1),
+    ('a' * 10000 + '$', '1:10001', NO_NAME, '\u2026' + 'a' * 58 + '$', 59, 1),
+    ('a' * 99 + '$' + '-' * 99, '1:100', NO_NAME, '\u2026' + 'a' * 29 + '$' + '-' * 28 + '\u2026', 30, 1),
+    ('a' * 9999 + '$' + '-' * 9999, '1:10000', NO_NAME, '\u2026' + 'a' * 29 + '$' + '-' * 28 + '\u2026', 30, 1),
+    (WIDE * 40 + '$', '1:81', NO_NAME, '\u2026' + WIDE * 29 + '$', 59, 1),
+    (WIDE * 40 + '$.', '1:81', NO_NAME, '\u2026' + WIDE * 28 + '$.', 57, 1),
+    ('$.' + WIDE * 40, '1:1', NO_NAME, '$.' + WIDE * 28 + '\u2026', 0, 1),
+)
+
+
+def test_faults():
+    for source, place, what, line, before, count in FAULTS:
+        message = told(f'<stdin>:{place}', what, line, ' ' * before + '^' * count)
+        for words in ([], ['--bytes'], ['--check']):
+            if words != ['--bytes'] or what.isascii():
+                expect_fault(subst(words, source.encode()), message)
+
+
+def test_all_that_is_missing_is_told():
+    first, second = '$a ${b:$c} ${d?} \\$e ${a} ${b}', '${f}'
+    expect_fault(subst(['-sg=1'], f'{first}\r\n$g\r\n{second}'.encode()),
+                 missing('a', '<stdin>:1:2', first, ' ^'), missing('c', '<stdin>:1:9', first, '        ^'),
+                 missing('a', '<stdin>:1:24', first, ' ' * 23 + '^'),
+                 missing('b', '<stdin>:1:29', first, ' ' * 28 + '^'), missing('f', '<stdin>:3:3', second, '  ^'))
+    long = 'a' * 70 + '${' + 'n' * 70 + '}'
+    line = '\u2026' + 'a' * 27 + '${' + 'n' * 29 + '\u2026'
+    expect_fault(subst([], long.encode()), missing('n' * 70, '<stdin>:1:73', line, ' ' * 30 + '^' * 29))
+
+
+def test_names_of_files_are_shown_without_control_characters():
+    for name, as_shown in (('a\x1b[1m', 'a\\u{1b}[1m'), ('b\n', 'b\\u{a}'), ('c\u202e', 'c\\u{202e}'),
+                           ('\u00e4 d', '\u00e4 d')):
+        expect(subst([name]), 3, errors=failed(as_shown, errno.ENOENT))
+        write(name, b'$x')
+        expect_fault(subst([name]), missing('x', f'{as_shown}:1:2', '$x', ' ^'))
+        expect_fault(subst(['-f', name]), told(f'{as_shown}:1:1', "missing '='", '$x', '^^'))
+        expect(subst(['--names', name]), 0, f'x\t{as_shown}:1:2\trequired\n'.encode())
+        expect(subst(['-o', f'{name}/x', '-sx=1', name]), 3, errors=failed(f'{as_shown}/x', errno.ENOTDIR))
+
+
+# Tests of --check and --names
+
+
+def test_check():
+    write('good', b'${A}\n')
+    write('bad', b'$B\n$C')
+    write('worse', b'$A\n${')
+    refused = (missing('B', 'bad:1:2', '$B', ' ^'), missing('C', 'bad:2:2', '$C', ' ^'),
+               told('worse:2:1', NO_NAME, '${', '^^'))
+    expect(subst(['--check', '-sA=1', 'good']), 0)
+    expect(subst(['--check', '-sA=1'], b'$A'), 0)
+    expect(subst(['--check', '-sA=1', 'good', 'good', '--envsubst']), 0)
+    expect_fault(subst(['--check', '-sA=1', 'bad', 'good', 'worse']), *refused)
+    expect(subst(['--check', 'nothing', '-sA=1', 'worse']), 3, errors=failed('nothing', errno.ENOENT) + refused[2])
+    expect_files('good', 'bad', 'worse')
+
+
+def test_names():
+    write('a', b'\n${b:$c} ${d?} \\$no ${e:x}')
+    write('b', b'$a ${b} ${d:x} ${c:} ${e?} $a')
+    expect(subst(['--names', 'a', 'b']), 0, b'b\ta:2:3\trequired\nc\ta:2:6\trequired\nd\ta:2:11\toptional\n'
+           b'e\ta:2:22\tdefault\na\tb:1:2\trequired\n')
+    expect(subst(['--names', 'b', '-sa=1', '-e', '--bytes']), 0, b'a\tb:1:2\trequired\nb\tb:1:6\trequired\n'
+           b'd\tb:1:11\tdefault\nc\tb:1:18\tdefault\ne\tb:1:24\toptional\n')
+    expect(subst(['--names'], b'a\n'), 0)
+    expect(subst(['--names', '--only=a,x'], b'\\$b ${a:x} $a'), 0, b'a\t<stdin>:1:13\trequired\n')
+
+
+def test_names_of_files_that_are_refused():
+    write('a', b'$a')
+    write('bad', b'$b $')
+    write('c', b'$c')
+    output = b'a\ta:1:2\trequired\nc\tc:1:2\trequired\n'
+    refused = told('bad:1:4', NO_NAME, '$b $', '   ^')
+    expect(subst(['--names', 'a', 'bad', 'c']), 1, output, refused)
+    expect(subst(['--names', 'a', 'nothing', 'c', 'bad']), 3, output, failed('nothing', errno.ENOENT) + refused)
+
+
+def test_names_of_documents():
+    expect(subst(['--json', '--names'], b'{"$k": ["\\u0041$a", "${b?}"], "z": "${a:1}$c"}'), 0,
+           b'a\t<stdin>:1:17\trequired\nb\t<stdin>:1:24\toptional\nc\t<stdin>:1:44\trequired\n')
+    expect(subst(['--toml', '--names'], b'a = "${x:1}"\n[t]\nb = ["$y"]\n'), 0,
+           b'x\t<stdin>:1:8\tdefault\ny\t<stdin>:3:8\trequired\n')
+    message = told('<stdin>:1:9', f'/1: {NO_NAME}', '["$a", "$"]', '        ^')
+    expect_fault(subst(['--json', '--names'], b'["$a", "$"]'), message)
+
+
+def test_names_of_documents_are_printed_in_the_order_of_their_places():
+    expect(subst(['--json', '--names'], b'{"b": "$x", "a": "$y $x"}'), 0,
+           b'x\t<stdin>:1:9\trequired\ny\t<stdin>:1:20\trequired\n')
+
+
+# Tests of time
+
+
+# How often a line, a string or a name is repeated, at the least.
+COUNT = 4000
+
+
+def repeated_in_json(count):
+    return b'[' + b'"$a $a",' * count + b'""]'
+
+
+def repeated_in_toml(count):
+    return b''.join(b'k%d = "$a $a"\n' % number for number in range(count))
+
+
+def seconds(words, source):
+    """The processor time of a run, the least of three."""
+    times = []
+    for _ in range(3):
+        before = resource.getrusage(resource.RUSAGE_CHILDREN)
+        subst(words, source)
+        after = resource.getrusage(resource.RUSAGE_CHILDREN)
+        times.append(after.ru_utime + after.ru_stime - before.ru_utime - before.ru_stime)
+    return min(times)
+
+
+def test_time_goes_with_the_size():
+    """Faults, names and values files of eight times the size take less than sixteen times as long."""
+    lines = (b'$a ${a}\n').__mul__
+    names = lambda count: b''.join(b'$n%d ' % number for number in range(count))
+    for words, source_of in (([], lines), (['--bytes'], lines), (['--envsubst'], lines), (['--only=a'], lines),
+                             (['--names'], names), (['--names', '--envsubst'], names), ([], names),
+                             (['--json'], repeated_in_json), (['--toml'], repeated_in_toml),
+                             (['--json', '--names'], repeated_in_json), (['-f', '-'], b'a=1\n'.__mul__)):
+        small, large = (seconds(words, source_of(count)) for count in (COUNT, 8 * COUNT))
+        expect_that(large < 16 * max(small, 0.01), f'{words}: {small:.3f} s, and {large:.3f} s for eight times as much')
+
+
+# Tests of templates of other programs
+
+
+def variables():
+    """The variables of the templates, by their names."""
+    lines = (TEMPLATES / 'variables.env').read_text(encoding='utf-8').splitlines()
+    return dict(line.split('=', 1) for line in lines if line and not line.startswith('#'))
+
+
+def templates():
+    """The templates of other programs."""
+    found = [path for path in sorted(TEMPLATES.iterdir()) if path.with_name(f'{path.name}.expected').exists()]
+    expect_that(len(found) == 8, f'there are {len(found)} templates')
+    return found
+
+
+def test_templates_of_other_programs():
+    for template in templates():
+        wanted = template.with_name(f'{template.name}.expected').read_bytes()
+        expect(subst(['--envsubst', '-f', TEMPLATES / 'variables.env', template]), 0, wanted)
+        expect(subst(['--envsubst', '-e', template], env=variables()), 0, wanted)
+
+
+def test_envsubst_makes_the_same_of_them():
+    if not can('envsubst', '--version', what='what it makes of the templates'):
+        return
+    for template in templates():
+        with open(template, 'rb') as source:
+            ran = subprocess.run([shutil.which('envsubst')], stdin=source, env=variables(), stdout=subprocess.PIPE)
+        expect_that(ran.stdout == template.with_name(f'{template.name}.expected').read_bytes(), template.name)
+
+
+def places_of(name, text):
+    """The lines and columns of the name of a variable in a text, as envsubst finds it. No line has a character before
+    it that isn't one column wide."""
+    found = re.finditer(rf'\$(?:{name}(?!\w)|\{{{name}\}})', text, re.ASCII)
+    starts = [text.index(name, match.start()) for match in found]
+    return [(text.count('\n', 0, at) + 1, at - text.rfind('\n', 0, at)) for at in starts]
+
+
+def test_one_variable_of_a_template_is_missing():
+    pairs = [(template, name, places) for template in templates() for name in variables()
+             if (places := places_of(name, template.read_text(encoding='utf-8')))]
+    expect_that(len(pairs) >= 50, f'{len(pairs)} names of templates are too few')
+    for template, name, places in pairs:
+        others = {other: value for other, value in variables().items() if other != name}
+        end = subst(['--envsubst', '-e', template.name], env=others, cwd=TEMPLATES)
+        heads = [line for line in end.errors.decode().splitlines() if not line.startswith('  ')]
+        wanted = [f'{template.name}:{line}:{column}: No such variable: ${name}' for line, column in places]
+        expect_that(end.status == 1 and not end.output, f'{template.name} without {name}: {shown(end.output)}')
+        expect_that(heads == wanted, f'{template.name} without {name}: {heads} and not {wanted}')
+
+
+def test_templates_of_other_programs_in_our_language():
+    end = functools.partial(subst, cwd=TEMPLATES)
+    expect_fault(end(['-f', 'variables.env', 'crontab', 'entrypoint.sh', 'worker@.service']),
+                 told('crontab:1:50', 'Invalid escape sequence: \\%',
+                      '# Jobs of ${APP_NAME}. A percent sign is written \\% here.', ' ' * 49 + '^^'),
+                 told('entrypoint.sh:6:4', NO_NAME, '[ "$#" -gt 0 ] && shift', '   ^'),
+                 told('worker@.service:11:22', NO_NAME, 'Environment="PRICE=US$$ 5" "ROOT=/srv/${APP_NAME}"',
+                      ' ' * 21 + '^'))
+
+
+if __name__ == '__main__':
+    run_tests([*tests_of(globals()), *tests_of(vars(command_files))], [PROGRAM])
