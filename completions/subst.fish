@@ -1,0 +1,16 @@
+# Completes the words of subst in fish.
+
+complete -c subst -s s -l set -x -d 'Gives a variable; of one given twice, the last counts'
+complete -c subst -s f -l values -r -F -d 'Reads NAME=VALUE lines; all after the first \'=\' is the value'
+complete -c subst -s e -l env -d 'Takes variables from the environment'
+complete -c subst -l bytes -d 'Takes any bytes, where otherwise text is in UTF-8'
+complete -c subst -l json -d 'Fills in the strings of a JSON document'
+complete -c subst -l toml -d 'Fills in the strings of a TOML document'
+complete -c subst -l only -x -d 'Takes $NAME and ${NAME} of these names, and all else as text'
+complete -c subst -l envsubst -d 'Takes what envsubst would fill in, and all else as text'
+complete -c subst -s o -l output -r -F -d 'Writes to a file, whole or not at all'
+complete -c subst -s i -l in-place -d 'Replaces each file by what it gives, whole or not at all'
+complete -c subst -l check -d 'Writes nothing, and reports every fault of every file'
+complete -c subst -l names -d 'Prints each name, where it is first used, and whether it is required'
+complete -c subst -s h -l help -d 'Print help'
+complete -c subst -s V -l version -d 'Print version'
