@@ -18,7 +18,7 @@ from running import CRATES, TOP, Wrong
 PAGE = TOP / 'docs/PROVED.md'
 WIDTH = 120
 # The crates that callers depend on.
-DOORS = ('subst', 'subst_filter_lib', 'subst_c', 'subst_answers_lib')
+DOORS = ('subst', 'subst_filter_lib', 'subst_command_lib', 'subst_c', 'subst_answers_lib')
 # The function whose comment has the main theorem, and how the theorem begins there.
 THEOREM = ('substitute_bytes', 'For every byte source')
 # Files whose public functions callers don't reach, and why; the longest beginning of a path counts, and the functions
@@ -31,6 +31,9 @@ HIDDEN = {
     'subst_toml/src/typed.rt': 'its module is private, and its trait is there for each type of `serde`',
     'subst_c/': 'its modules are private',
     'subst_c/src/lib.rt': '',
+    'subst_command_lib/': 'most of its modules are private',
+    'subst_command_lib/src/options.rt': '',
+    'subst_command_lib/src/process.rt': '',
     'subst_answers_lib/': 'most of its modules are private',
     'subst_answers_lib/src/failure.rt': '',
     'subst_answers_lib/src/process.rt': '',
