@@ -42,7 +42,7 @@ pub(crate) fn text(
         (λ f. Answers source.now (value_under values.now) (Refuses f)))) }
 {
     match substitute(alloc, source, values) {
-        Ok(output) => Ok(Ok(output)),
+        Ok(filled) => Ok(Ok(filled)),
         Err(e) => {
             let range = e.source_range();
             Ok(Err(why_refused(alloc, source.as_bytes(), e, range, values)?))
