@@ -1,5 +1,6 @@
 mod AnswerLemmas
 mod EachLemmas
+mod IndexLemmas
 mod RecordsLemmas
 mod RoomLemmas
 mod TextLemmas

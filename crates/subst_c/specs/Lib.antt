@@ -1,5 +1,6 @@
 pub mod Each
 pub mod Fault
+pub mod Index
 pub mod Pairs
 pub mod Records
 pub mod Room

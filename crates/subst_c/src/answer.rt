@@ -11,7 +11,7 @@ ghost use Rattle.subst_error.specs.Range.{range_of};
 ghost use Rattle.subst_c.specs.Pairs.{first_value};
 ghost use Rattle.subst_c.specs.Text.{IsHighlighting, SaysOf, are_texts as all_are_texts};
 
-use crate::pairs::{Pair, Pairs};
+use crate::pairs::{Pair, Pairs, index_of};
 use std::alloc::{AllocError, Global};
 use std::fmt::{Display, Formatter};
 use subst_error::Error;
@@ -27,7 +27,8 @@ pub fn fill_in(alloc: Global, source: &[u8], pairs: &[Pair]) -> Result<Vec<u8>, 
         (Answers source.now (first_value pairs.now)) }
     ensures range { IfErr result (λ e. (range_of (error_fault e)).end ≤ length source.now) }
 {
-    substitute_bytes(alloc, source, &Pairs { pairs })
+    let index = index_of(alloc, source, pairs);
+    substitute_bytes(alloc, source, &Pairs { pairs, index })
 }
 
 /// Returns the text of the fault that the source is refused for, or the empty text where it isn't refused.

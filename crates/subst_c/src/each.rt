@@ -8,7 +8,7 @@ ghost use Rattle.subst_c.specs.Pairs.{first_value};
 ghost use Rattle.subst_c.specs.declared.outcome.TheConstants.{DONE, ROOM_TOO_SMALL};
 
 use crate::outcome::{DONE, ROOM_TOO_SMALL};
-use crate::pairs::{Pairs, Row};
+use crate::pairs::{Pairs, Row, index_of};
 use crate::room;
 use std::alloc::Global;
 use subst_error::{Error, ExpandError};
@@ -111,7 +111,9 @@ fn add(
         (λ f. Answers template.now (first_value row.now.pairs.now) (Refuses f))) }
     ensures ends { IfErr result (λ e. outputs.new.ends.items ≡ outputs.old.ends.items) }
 {
-    let bytes = template.expand(alloc, &Pairs { pairs: row.pairs })?;
+    let pairs = row.pairs;
+    let index = index_of(alloc, template.source(), pairs);
+    let bytes = template.expand(alloc, &Pairs { pairs, index })?;
     outputs.bytes.extend_from_slice(&bytes)?;
     outputs.ends.push(outputs.bytes.len())?;
     Ok(())

@@ -11,13 +11,16 @@ ghost use Rattle.subst_c.specs.declared.outcome.TheConstants.{DONE, REFUSED, OUT
 
 use crate::fault::{self, FaultRecord};
 use crate::outcome::{DONE, ROOM_TOO_SMALL};
-use crate::pairs::{Pair, Pairs};
+use crate::pairs::{Pair, Pairs, index_of};
+use std::alloc::Global;
 use subst_template::ByteTemplate;
 
 /// Writes what the template gives under the pairs from the front of the room on, and tells how many bytes it
-/// is, also where the room is shorter. This takes no memory: out of memory says that the bytes are too many
-/// for a `usize`. What the room has is unspecified unless all is done.
+/// is, also where the room is shorter. Memory is taken for an index alone, which it may be refused for:
+/// out of memory says that the bytes are too many for a `usize`. What the room has is unspecified unless all
+/// is done.
 pub fn expand_into_room(
+    alloc: Global,
     template: &ByteTemplate,
     pairs: &[Pair],
     room: &mut [u8],
@@ -41,7 +44,9 @@ pub fn expand_into_room(
     ensures fault_kept { result ≢ REFUSED → fault.new ≡ fault.old }
     ensures needed_kept { result ≢ DONE → result ≢ ROOM_TOO_SMALL → needed.new ≡ needed.old }
 {
-    match template.expand_into_slice(room, &Pairs { pairs }) {
+    let index = index_of(alloc, template.source(), pairs);
+    let written = template.expand_into_slice(room, &Pairs { pairs, index });
+    match written {
         Ok(length) => {
             *needed = length;
             if room.len() < length {

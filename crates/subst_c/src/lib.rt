@@ -1,8 +1,8 @@
 //! The library under names of C: variables come as pairs, and what is returned goes into the caller's room.
 //!
 //! The header `include/subst.h` declares what is here, and docs/C.md shows how to call it. Each call returns
-//! one of the numbers of [`outcome`]. No pointer may be null, also where its length is 0; what is lent to be
-//! written overlaps nothing else that is passed.
+//! one of the numbers of [`outcome`]. No pointer is null: where a length is 0, the header passes an address
+//! of its own. What is lent to be written overlaps nothing else that is passed.
 #![tactic(auto)]
 
 ghost use Rattle.std.specs.Prelude.{◌≡◌, ◌≢◌, ◌⊎◌, ◌↔◌, ◌+◌, ◌<◌, ◌≤◌, ◌++◌, ℕ, List, drop, length, take, true, false};
@@ -22,8 +22,8 @@ ghost use Rattle.subst_c.specs.declared.outcome.TheConstants.{DONE, REFUSED, OUT
 
 pub use fault::FaultRecord;
 use outcome::{DONE, NOT_UTF8, OUT_OF_MEMORY, REFUSED};
-use pairs::Pairs;
 pub use pairs::{Pair, Row};
+use pairs::{Pairs, index_of};
 use std::alloc::Global;
 use subst_error::Error;
 use subst_language::laws;
@@ -120,8 +120,9 @@ pub extern "C" fn subst_text(
 }
 
 /// Writes the bytes of `source` with its variables filled in from `pairs` straight into the room, from its
-/// front on. What the room has is unspecified unless the result is done. Memory is taken for the parse alone:
-/// after that, out of memory says that the bytes are too many for a `usize`.
+/// front on. What the room has is unspecified unless the result is done. Memory is taken for the parse, and
+/// for an index, which it may be refused for: after the parse, out of memory says that the bytes are too many
+/// for a `usize`.
 #[unsafe(no_mangle)]
 pub extern "C" fn subst_bytes_into(
     alloc: Global,
@@ -151,7 +152,7 @@ pub extern "C" fn subst_bytes_into(
     ensures room_kept { ¬ (IsSentence source.now) → room.new ≡ room.old }
 {
     match ByteTemplate::from_slice(alloc, source) {
-        Ok(template) => into::expand_into_room(&template, pairs, room, needed, fault),
+        Ok(template) => into::expand_into_room(alloc, &template, pairs, room, needed, fault),
         Err(e) => fault::refuse(&Error::from(e), fault),
     }
 }
@@ -338,10 +339,14 @@ pub extern "C" fn subst_missing(
     ensures needed_kept { result ≢ DONE → result ≢ ROOM_TOO_SMALL → needed.new ≡ needed.old }
 {
     match ByteTemplate::from_slice(alloc, source) {
-        Ok(template) => match template.missing(alloc, &Pairs { pairs }) {
-            Ok(missing) => variables::deliver(&missing, room, needed),
-            Err(_) => OUT_OF_MEMORY,
-        },
+        Ok(template) => {
+            let index = index_of(alloc, source, pairs);
+            let missing = template.missing(alloc, &Pairs { pairs, index });
+            match missing {
+                Ok(missing) => variables::deliver(&missing, room, needed),
+                Err(_) => OUT_OF_MEMORY,
+            }
+        }
         Err(e) => fault::refuse(&Error::from(e), fault),
     }
 }

@@ -1,6 +1,19 @@
 //! Pairs of names and values, as C passes them, as a map of variables.
 
+ghost use Rattle.std.specs.Prelude.{◌≡◌, ℕ, List, Some, None, if◌then◌else◌, OnOk, IfOk, IfSome};
+ghost use Rattle.std.proofs.Props.{props};
+ghost use Rattle.std.specs.Option.{option_map, option_or};
+ghost use Rattle.std.specs.Str.{bytes_eq};
+ghost use Rattle.subst_c.specs.Index.{value_in};
+ghost use Rattle.subst_c.specs.Pairs.{first_value};
+
+use std::alloc::{AllocError, Global};
+use std::collections::HashMap;
 use subst_map::VariableMap;
+
+/// How many pairs, or placeholders, there are at most for which searching the pairs in turn takes no longer
+/// than an index.
+const FEW: usize = 16;
 
 /// A name and a value.
 #[repr(C)]
@@ -17,16 +30,20 @@ pub struct Row<'a> {
     pub pairs: &'a [Pair<'a>],
 }
 
-/// Pairs as a map: the first pair with a name counts.
-#[derive(Clone, Copy)]
+/// The values of pairs under their names: that of the first pair with a name.
+pub type Index<'a> = HashMap<&'a [u8], &'a [u8]>;
+
+/// Pairs as a map: the first pair with a name counts. Where there is an index, a name is looked up in that,
+/// and else the pairs are searched in turn.
+#[derive(Drop)]
 pub struct Pairs<'a> {
     pub pairs: &'a [Pair<'a>],
+    pub index: Option<Index<'a>>,
+    ghost indexed: { IfSome index (λ index. (name : List ℕ)
+        → value_in index name ≡ first_value pairs.now name) } by { Prim.hlevel props },
 }
 
-impl<'a> VariableMap<'a> for Pairs<'a> {
-    ghost use Rattle.std.specs.Prelude.{ℕ, List};
-    ghost use Rattle.subst_c.specs.Pairs.{first_value};
-
+impl<'a> VariableMap<'a> for Pairs<'_> {
     type Value = &'a [u8];
 
     ghost Seen = { List ℕ };
@@ -36,7 +53,66 @@ impl<'a> VariableMap<'a> for Pairs<'a> {
     ghost look_up = { λ self. first_value self.pairs.now };
 
     fn get(&'a self, key: &str) -> Option<&'a [u8]> {
-        let pair = self.pairs.iter().find(|pair| key.as_bytes() == pair.name)?;
-        Some(pair.value)
+        match &self.index {
+            Some(index) => index.get(key.as_bytes()).copied(),
+            None => find(self.pairs, key),
+        }
     }
+}
+
+/// Returns the value of the first pair with the name, for which the pairs are searched in turn.
+fn find<'a>(pairs: &[Pair<'a>], name: &str) -> Option<&'a [u8]>
+    ensures { option_map (λ value. value.now) result ≡ first_value pairs.now name.now }
+{
+    let pair = pairs.iter().find(|pair| name.as_bytes() == pair.name)?;
+    Some(pair.value)
+}
+
+/// Returns the index of many pairs for a source with many placeholders, or nothing where there is no memory
+/// for it.
+pub fn index_of<'a>(alloc: Global, source: &[u8], pairs: &'a [Pair<'a>]) -> Option<Index<'a>>
+    ensures { IfSome result (λ index. (name : List ℕ)
+        → value_in index name ≡ first_value pairs.now name) }
+{
+    if pairs.len() <= FEW || !has_many_placeholders(source) {
+        return None;
+    }
+    index(alloc, pairs).ok()
+}
+
+/// Returns whether a source may have many placeholders.
+fn has_many_placeholders(source: &[u8]) -> bool {
+    let signs = source.iter().filter(|byte| **byte == b'$');
+    signs.count() > FEW
+}
+
+/// Returns the values of pairs under their names.
+///
+/// # Errors
+///
+/// When allocation fails.
+fn index<'a>(alloc: Global, pairs: &'a [Pair<'a>]) -> Result<Index<'a>, AllocError>
+    ensures { IfOk result (λ index. (name : List ℕ)
+        → value_in index name ≡ first_value pairs.now name) }
+{
+    let mut index = HashMap::new(alloc);
+    index.reserve(pairs.len())?;
+    for pair in pairs {
+        insert_if_new(&mut index, pair.name, pair.value)?;
+    }
+    Ok(index)
+}
+
+/// Puts the value under its name, unless a value is there.
+fn insert_if_new<'a>(
+    index: &mut Index<'a>,
+    name: &'a [u8],
+    value: &'a [u8],
+) -> Result<(), AllocError>
+    ensures { OnOk result ((other : List ℕ) → value_in index.new other
+        ≡ option_or (value_in index.old other)
+        (if bytes_eq other name.now then Some value.now else None)) }
+{
+    index.entry(name)?.or_insert(value);
+    Ok(())
 }

@@ -1,0 +1,60 @@
+-- What an index has after a pair is added to it.
+use denote.Ref.{Bor}
+use Rattle.std.proofs.Common.{◌≡◌, ℕ, ◌+◌, ◌<◌, Bool, true, false, List, [], ◌∷◌, ◌++◌, if◌then◌else◌, get_or, length, take, Option, Some, None, refl, ap, arith}
+use Rattle.std.proofs.lemmas.Grind.{common_steps}
+use Rattle.std.proofs.lemmas.List.{take_more}
+use Rattle.std.proofs.lemmas.Map.Text.{hash_map_updates_str}
+use Rattle.std.specs.Cmp.Lexicographic.{bytes_decides, nat_list_eq_equiv}
+use Rattle.std.specs.HashMap.{HashMap, UpdatesBy}
+use Rattle.std.specs.Option.{option_map, option_or, unwrap_or}
+use Rattle.std.specs.Str.{bytes_eq}
+use Rattle.subst_map.specs.Maps.{hash_get_by_lent_text}
+use Rattle.subst_c.specs.Index.{value_in}
+use Rattle.subst_c.specs.Pairs.{first_value}
+use Rattle.subst_c.specs.declared.pairs.Pair.{Pair}
+
+-- a value that is put where there was none, and else is the one that was there
+put_if_new : (o : Option (Bor (List ℕ))) (value w : Bor (List ℕ)) → w ≡ unwrap_or o value
+    → Some w.now ≡ option_or (option_map (λ v. v.now) o) (Some value.now)
+put_if_new None value w is = ap (λ v. Some v.now) is
+put_if_new (Some v) value w is = ap (λ v. Some v.now) is
+
+-- a name that has no value gets this one, and other names keep theirs
+pub adds_if_new : {S : Type 0} (m n : HashMap (Bor (List ℕ)) (Bor (List ℕ)) S)
+    (name value w : Bor (List ℕ))
+    → UpdatesBy (λ x y. bytes_eq x.now y.now) (λ k. bytes_eq name.now k.now) m n (Some w)
+    → w ≡ unwrap_or (hash_get_by_lent_text m name.now) value → (other : List ℕ)
+    → value_in n other ≡ option_or (value_in m other)
+    (if bytes_eq other name.now then Some value.now else None)
+adds_if_new m n name value w updates is other =
+    of (bytes_eq name.now other) refl
+  where
+    after : hash_get_by_lent_text n other
+        ≡ (if bytes_eq name.now other then Some w else hash_get_by_lent_text m other)
+    after = hash_map_updates_str name.now m n (Some w) updates other
+
+    turned : bytes_eq other name.now ≡ bytes_eq name.now other
+    turned = nat_list_eq_equiv.symm other name.now
+
+    of : (b : Bool) → bytes_eq name.now other ≡ b → value_in n other ≡ option_or (value_in m other)
+        (if bytes_eq other name.now then Some value.now else None)
+    of true same =
+        let here = put_if_new (hash_get_by_lent_text m name.now) value w is in
+        let equal : name.now ≡ other = (bytes_decides name.now other).0 same in
+        grind (arith, common_steps, after, turned, here, equal, same)
+    of false differ = grind (arith, common_steps, after, turned, differ)
+
+-- the value that pairs give once a pair is added: that of the pair where none gave one
+first_value-append : (pairs : List Pair) (pair : Pair) (name : List ℕ)
+    → first_value (pairs ++ pair ∷ []) name ≡ option_or (first_value pairs name)
+    (if bytes_eq name pair.name.now then Some pair.value.now else None)
+first_value-append [] pair name = grind (arith, common_steps)
+first_value-append (first ∷ pairs) pair name =
+    grind (arith, common_steps, first_value-append pairs pair name)
+
+-- the value that one pair more gives, where as many as `at` gave it so far
+pub first_value-take : (pairs : List Pair) (at : ℕ) (d : Pair) (name : List ℕ) → at < length pairs
+    → first_value (take (at + 1) pairs) name ≡ option_or (first_value (take at pairs) name)
+    (if bytes_eq name (get_or pairs at d).name.now then Some (get_or pairs at d).value.now else None)
+first_value-take pairs at d name below =
+    rw (take_more pairs at d below) (first_value-append (take at pairs) (get_or pairs at d) name)
