@@ -5,10 +5,11 @@
 //! of its own. What is lent to be written overlaps nothing else that is passed.
 #![tactic(auto)]
 
-ghost use Rattle.std.specs.Prelude.{◌≡◌, ◌≢◌, ◌⊎◌, ◌↔◌, ◌+◌, ◌<◌, ◌≤◌, ◌++◌, ℕ, List, drop, length, take, true, false};
+ghost use Rattle.std.specs.Prelude.{◌≡◌, ◌≢◌, ◌⊎◌, ◌↔◌, ◌+◌, ◌*◌, ◌<◌, ◌≤◌, ◌++◌, ℕ, List, drop, length, take, true, false};
 ghost use Rattle.std.specs.List.{All};
-ghost use Rattle.std.specs.Str.{IsUtf8};
+ghost use Rattle.std.specs.Str.{IsCharBoundary, IsUtf8};
 ghost use Rattle.subst_error.specs.Display.{IsDisplayOfFault};
+ghost use Rattle.subst_error.specs.Position.{position_at};
 ghost use Rattle.subst_language.specs.Language.Answer.{Answers, Gives, Refuses};
 ghost use Rattle.subst_language.specs.Language.BadItem.{HasFault};
 ghost use Rattle.subst_language.specs.Language.Sentence.{IsSentence};
@@ -18,14 +19,15 @@ ghost use Rattle.subst_c.specs.Pairs.{first_value};
 ghost use Rattle.subst_c.specs.Records.{HasRecords, missing_records, variable_records};
 ghost use Rattle.subst_c.specs.Room.{IsPut, IsTooLong};
 ghost use Rattle.subst_c.specs.Text.{IsHighlighting, SaysOf, are_texts};
-ghost use Rattle.subst_c.specs.declared.outcome.TheConstants.{DONE, REFUSED, OUT_OF_MEMORY, ROOM_TOO_SMALL, NOT_UTF8};
+ghost use Rattle.subst_c.specs.declared.outcome.TheConstants.{DONE, REFUSED, OUT_OF_MEMORY, ROOM_TOO_SMALL, NOT_UTF8, NOT_A_BOUNDARY};
+ghost use Rattle.subst_c.specs.declared.version.TheConstants.{MAJOR, MINOR, PATCH};
 
 pub use fault::FaultRecord;
-use outcome::{DONE, NOT_UTF8, OUT_OF_MEMORY, REFUSED};
+use outcome::{DONE, NOT_A_BOUNDARY, NOT_UTF8, OUT_OF_MEMORY, REFUSED};
 pub use pairs::{Pair, Row};
 use pairs::{Pairs, index_of};
 use std::alloc::Global;
-use subst_error::Error;
+use subst_error::{Error, line_and_column};
 use subst_language::laws;
 use subst_template::ByteTemplate;
 pub use variables::VariableRecord;
@@ -38,6 +40,15 @@ pub mod outcome;
 mod pairs;
 mod room;
 mod variables;
+pub mod version;
+
+/// Returns the version of the library as one number, as 102 for 0.1.2.
+#[unsafe(no_mangle)]
+pub extern "C" fn subst_version() -> u32
+    ensures { result ≡ 10000 * MAJOR + 100 * MINOR + PATCH }
+{
+    10000 * version::MAJOR + 100 * version::MINOR + version::PATCH
+}
 
 /// Puts the bytes of `source` with its variables filled in from `pairs` at the front of the room.
 #[unsafe(no_mangle)]
@@ -410,4 +421,36 @@ pub extern "C" fn subst_fault_highlighting(
         Ok(shown) => room::deliver(shown.as_bytes(), room, needed),
         Err(_) => OUT_OF_MEMORY,
     }
+}
+
+/// Tells the line and the column of the byte offset `position` in `source`, both from 1, as
+/// `line_and_column` counts them.
+#[unsafe(no_mangle)]
+pub extern "C" fn subst_place(
+    source: &[u8],
+    position: usize,
+    line: &mut usize,
+    column: &mut usize,
+) -> u32
+    ensures done { result ≡ DONE
+        → (line.new, column.new) ≡ position_at position source.now }
+
+    // The source is told not to be UTF-8 exactly where it isn't.
+    ensures text { result ≢ NOT_UTF8 → IsUtf8 source.now }
+    ensures not_text { result ≡ NOT_UTF8 → ¬ (IsUtf8 source.now) }
+
+    // A position is told not to be a boundary exactly where it isn't one.
+    ensures boundary { result ≡ DONE → IsCharBoundary source.now position }
+    ensures not_boundary { result ≡ NOT_A_BOUNDARY → ¬ (IsCharBoundary source.now position) }
+    ensures others { result ≢ DONE → result ≢ NOT_UTF8 → result ≡ NOT_A_BOUNDARY }
+    ensures kept { result ≢ DONE → (line.new ≡ line.old) × (column.new ≡ column.old) }
+{
+    let Ok(source) = str::from_utf8(source) else {
+        return NOT_UTF8;
+    };
+    if !source.is_char_boundary(position) {
+        return NOT_A_BOUNDARY;
+    }
+    (*line, *column) = line_and_column(source, position);
+    DONE
 }

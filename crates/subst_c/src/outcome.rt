@@ -14,3 +14,6 @@ pub const ROOM_TOO_SMALL: u32 = 5;
 
 /// What has to be a text isn't UTF-8.
 pub const NOT_UTF8: u32 = 6;
+
+/// A position is past the end of the source, or inside one of its characters.
+pub const NOT_A_BOUNDARY: u32 = 7;
