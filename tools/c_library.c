@@ -330,6 +330,58 @@ static void test_bytes(const char *name, filling *call)
              result == SUBST_DONE && written.needed == sizeof wanted && holds(&written, wanted, sizeof wanted));
 }
 
+enum { MOST_INDEXED = 64 };
+
+/* Pairs of which each two have the same name, `0`, `1`, .. */
+static void make_pairs(struct subst_pair *pairs, char (*names)[24], size_t count)
+{
+    size_t i;
+    for (i = 0; i < count; i++) {
+        sprintf(names[i], "%zu", i / 2);
+        pairs[i] = pair_of(names[i], i % 2 == 0 ? "v" : "w");
+    }
+}
+
+/* A source of this many placeholders `${0:x}`, `${1:x}`, .. Returns its length. */
+static size_t make_placeholders(char *source, size_t count)
+{
+    size_t i, length = 0;
+    for (i = 0; i < count; i++)
+        length += (size_t)sprintf(source + length, "${%zu:x}", i);
+    return length;
+}
+
+/* Many pairs and placeholders, for which there is an index: the first pair of a name counts, also where its value is
+ * empty, and a name that no pair has is missing. Without memory for an index the result is the same. */
+static void test_index(size_t count)
+{
+    static char names[MOST_INDEXED][24], source[32 * MOST_INDEXED];
+    struct subst_pair pairs[MOST_INDEXED];
+    struct written written;
+    uint32_t result;
+    size_t i, length = make_placeholders(source, count);
+    make_pairs(pairs, names, count);
+    pairs[0].value_len = 0;
+    do {
+        written = untouched();
+        result = subst_bytes(bytes_of(source), length, pairs, count, written.room, ROOM, &written.needed,
+                             &written.fault);
+    } while (is_out_of_memory(result, &written));
+    for (i = 0; i + 1 < count && written.room[i] == (i < (count - 1) / 2 ? 'v' : 'x'); i++)
+        ;
+    end_test("subst_bytes", "an index", result == SUBST_DONE && written.needed == count - 1 && i + 1 == count
+             && written.room[count - 1] == UNTOUCHED);
+    source[length++] = '$';
+    source[length++] = 'n';
+    do {
+        written = untouched();
+        result = subst_bytes_into(bytes_of(source), length, pairs, count, written.room, ROOM, &written.needed,
+                                  &written.fault);
+    } while (is_out_of_memory(result, &written));
+    end_test("subst_bytes_into", "a name that no index has", result == SUBST_REFUSED
+             && written.fault.kind == SUBST_NO_SUCH_VARIABLE && written.fault.position == length - 1);
+}
+
 /* What subst_bytes_each may write besides what others may. */
 struct each_written {
     struct written written;
@@ -533,6 +585,98 @@ static void test_row_lists(const struct row *row)
              && listed.room[0].position == row->fault.position && listed.room[0].length == row->fault.length);
 }
 
+/* Whether a call tells this line and column of a position, or else this result, and has written nothing. */
+static int is_at(const char *source, size_t length, size_t position, uint32_t wanted, size_t line, size_t column)
+{
+    size_t at[4] = {77, 77, 77, 77};
+    uint32_t result = subst_place(bytes_of(source), length, position, &at[1], &at[2]);
+    if (result != SUBST_DONE)
+        line = column = 77;
+    return result == wanted && at[0] == 77 && at[1] == line && at[2] == column && at[3] == 77;
+}
+
+static void test_place(void)
+{
+    static const char source[] = "a\u00E9\u4E2D$\r\nb\rc\n", no_text[] = "a\xFF";
+    size_t end = strlen(source);
+    end_test("subst_place", "a first position", is_at(source, end, 0, SUBST_DONE, 1, 1));
+    end_test("subst_place", "a wide character", is_at(source, end, 3, SUBST_DONE, 1, 3)
+             && is_at(source, end, 6, SUBST_DONE, 1, 5));
+    end_test("subst_place", "inside a character", is_at(source, end, 2, SUBST_NOT_A_BOUNDARY, 0, 0)
+             && is_at(source, end, 5, SUBST_NOT_A_BOUNDARY, 0, 0));
+    end_test("subst_place", "ends of lines", is_at(source, end, 9, SUBST_DONE, 2, 1)
+             && is_at(source, end, 11, SUBST_DONE, 3, 1) && is_at(source, end, 13, SUBST_DONE, 4, 1));
+    end_test("subst_place", "past the end", is_at(source, end, end + 1, SUBST_NOT_A_BOUNDARY, 0, 0)
+             && is_at(source, end, SIZE_MAX, SUBST_NOT_A_BOUNDARY, 0, 0));
+    end_test("subst_place", "no text", is_at(no_text, 2, 0, SUBST_NOT_UTF8, 0, 0)
+             && is_at(no_text, 1, 1, SUBST_DONE, 1, 2) && is_at(no_text, 2, 3, SUBST_NOT_UTF8, 0, 0));
+    end_test("subst_place", "an empty source", is_at(NULL, 0, 0, SUBST_DONE, 1, 1)
+             && is_at(NULL, 0, 1, SUBST_NOT_A_BOUNDARY, 0, 0));
+}
+
+static void test_version(void)
+{
+    end_test("subst_version", "the header's", subst_version() == SUBST_VERSION
+             && SUBST_VERSION_MINOR < 100 && SUBST_VERSION_PATCH < 100);
+}
+
+/* NULL beside each length of 0. The room that is too small is none. */
+static void test_null(const char *name, filling *call)
+{
+    struct subst_pair empty = {bytes_of("a"), 1, NULL, 0}, nameless = {NULL, 0, bytes_of("1"), 1};
+    struct written written;
+    uint32_t result;
+    do {
+        written = untouched();
+        result = call(NULL, 0, NULL, 0, NULL, 0, &written.needed, &written.fault);
+    } while (is_out_of_memory(result, &written));
+    end_test(name, "no source", result == SUBST_DONE && written.needed == 0 && holds(&written, "", 0));
+    do {
+        written = untouched();
+        result = call(bytes_of("${a:bc}"), 7, NULL, 0, NULL, 0, &written.needed, &written.fault);
+    } while (is_out_of_memory(result, &written));
+    end_test(name, "no room", result == SUBST_ROOM_TOO_SMALL && written.needed == 2 && holds(&written, "", 0));
+    do {
+        written = untouched();
+        result = call(bytes_of("<${a:bc}>"), 9, &empty, 1, written.room, 2, &written.needed, &written.fault);
+    } while (is_out_of_memory(result, &written));
+    end_test(name, "an empty value", result == SUBST_DONE && written.needed == 2 && holds(&written, "<>", 2));
+    do {
+        written = untouched();
+        result = call(bytes_of("$a"), 2, &nameless, 1, NULL, 0, &written.needed, &written.fault);
+    } while (is_out_of_memory(result, &written));
+    end_test(name, "an empty name", result == SUBST_REFUSED && written.fault.kind == SUBST_NO_SUCH_VARIABLE);
+}
+
+/* Makes a call again where it was out of memory, and keeps its result. */
+#define MADE(...) do result = __VA_ARGS__; while (result == SUBST_OUT_OF_MEMORY && puts("out of memory") >= 0)
+
+static void test_null_of_others(void)
+{
+    struct subst_row row = {NULL, 0};
+    struct written written = untouched();
+    size_t end = 77, at = 77;
+    uint32_t result;
+    MADE(subst_missing(NULL, 0, NULL, 0, NULL, 0, &written.needed, &written.fault));
+    end_test("subst_missing", "no source", result == SUBST_DONE && written.needed == 0);
+    MADE(subst_missing(bytes_of("$a"), 2, NULL, 0, NULL, 0, &written.needed, &written.fault));
+    end_test("subst_missing", "no room", result == SUBST_ROOM_TOO_SMALL && written.needed == 1);
+    MADE(subst_variables(NULL, 0, NULL, 0, &written.needed, &written.fault));
+    end_test("subst_variables", "no source", result == SUBST_DONE && written.needed == 0);
+    MADE(subst_check(NULL, 0, &written.fault));
+    end_test("subst_check", "no source", result == SUBST_DONE);
+    MADE(subst_fault_text(NULL, 0, NULL, 0, NULL, 0, &written.needed));
+    end_test("subst_fault_text", "no source", result == SUBST_DONE && written.needed == 0);
+    MADE(subst_fault_highlighting(NULL, 0, NULL, 0, NULL, 0, &written.needed));
+    end_test("subst_fault_highlighting", "no source", result == SUBST_DONE && written.needed == 0);
+    MADE(subst_bytes_each(NULL, 0, NULL, 0, NULL, 0, NULL, 0, &written.needed, &at, &written.fault));
+    end_test("subst_bytes_each", "no rows", result == SUBST_DONE && written.needed == 0);
+    MADE(subst_bytes_each(bytes_of("a"), 1, &row, 1, written.room, 1, &end, 1, &written.needed, &at,
+                          &written.fault));
+    end_test("subst_bytes_each", "a row of no pairs", result == SUBST_DONE && end == 1 && holds(&written, "a", 1));
+    end_test("calls without a source", "the rest", at == 77 && is_fault(&written.fault, &NO_FAULT));
+}
+
 /* Sizes at which a call that gives up at a limit of its own would be found out. */
 enum { MANY_PAIRS = 1000, MANY_ROWS = 10000, LARGE = 1 << 20, LONG_SOURCE = 100000, LONG_NAME = LONG_SOURCE };
 
@@ -601,6 +745,40 @@ static void test_many_pairs(void)
                               &written.fault);
     end_test("subst_bytes_into", "many pairs", result == SUBST_ROOM_TOO_SMALL && written.needed == LARGE
              && large[LARGE - 1] == UNTOUCHED);
+}
+
+/* The time of a source with as many placeholders as pairs. */
+static clock_t time_of_pairs(struct subst_pair *pairs, size_t count, uint8_t *source)
+{
+    struct large_written written = large_untouched();
+    size_t i, length = 0;
+    clock_t start;
+    for (i = 0; i < count; i++)
+        length += (size_t)sprintf((char *)source + length, "${a%zu}", i * 7919 % count);
+    start = clock();
+    if (subst_bytes(source, length, pairs, count, large, LARGE, &written.needed, &written.fault) != SUBST_DONE
+        || written.needed != count)
+        return -1;
+    return clock() - start;
+}
+
+/* Each name is looked up in an index: sixteen times the pairs, and as many placeholders, don't take the time of a
+ * search in turn, which is 256 times that of one. */
+static void test_indexed(void)
+{
+    enum { MOST = 16000, FEWER = MOST / 16 };
+    static struct subst_pair pairs[MOST];
+    static char names[MOST][24];
+    static uint8_t source[32 * MOST];
+    clock_t few, many;
+    size_t i;
+    for (i = 0; i < MOST; i++) {
+        sprintf(names[i], "a%zu", i);
+        pairs[i] = pair_of(names[i], "1");
+    }
+    few = time_of_pairs(pairs, FEWER, source);
+    many = time_of_pairs(pairs, MOST, source);
+    end_test("subst_bytes", "indexed", few >= 0 && many >= 0 && many < 64 * few + CLOCKS_PER_SEC / 20);
 }
 
 /* Many rows, each of which gives one byte. */
@@ -784,8 +962,24 @@ static void call_for_rows(const char *name)
     }
 }
 
+/* Fills in as many placeholders as pairs, straight into the room, or only looks at them where there are no pairs. */
+static void call_for_pairs(size_t pairs_len, size_t count)
+{
+    static char names[MOST_INDEXED][24], source[32 * MOST_INDEXED];
+    struct subst_pair pairs[MOST_INDEXED];
+    struct written written = untouched();
+    size_t length = make_placeholders(source, count);
+    make_pairs(pairs, names, pairs_len);
+    if (pairs_len == 0)
+        subst_check(bytes_of(source), length, &written.fault);
+    else
+        subst_bytes_into(bytes_of(source), length, pairs, pairs_len, written.room, ROOM, &written.needed,
+                         &written.fault);
+}
+
 /* The argument `small` leaves out what is at a size: it asks for memory too often to refuse each request in turn. With
- * `rows`, and the name of a call, that call is made for each row, and nothing is tested. */
+ * `rows`, and the name of a call, that call is made for each row, and with `pairs` and two numbers subst_bytes_into is
+ * called with this many pairs and placeholders; nothing is tested then. */
 int main(int argc, char **argv)
 {
     /* so that only the library asks for memory */
@@ -794,6 +988,10 @@ int main(int argc, char **argv)
     setvbuf(stdout, buffer, _IOFBF, sizeof buffer);
     if (argc > 2 && strcmp(argv[1], "rows") == 0) {
         call_for_rows(argv[2]);
+        return EXIT_SUCCESS;
+    }
+    if (argc > 3 && strcmp(argv[1], "pairs") == 0) {
+        call_for_pairs((size_t)atoi(argv[2]), (size_t)atoi(argv[3]));
         return EXIT_SUCCESS;
     }
     for (i = 0; i < sizeof rows / sizeof rows[0]; i++)
@@ -807,6 +1005,15 @@ int main(int argc, char **argv)
     test_no_text();
     test_no_text_into();
     test_each();
+    test_place();
+    test_version();
+    test_null("subst_bytes", subst_bytes);
+    test_null("subst_text", subst_text);
+    test_null("subst_bytes_into", subst_bytes_into);
+    test_null("subst_text_into", subst_text_into);
+    test_null_of_others();
+    test_index(17);
+    test_index(64);
     if (argc == 1 || strcmp(argv[1], "timed") == 0) {
         test_many_pairs();
         test_many_rows();
@@ -815,8 +1022,10 @@ int main(int argc, char **argv)
         test_long_name(300);
         test_long_name(LONG_NAME);
     }
-    if (argc > 1 && strcmp(argv[1], "timed") == 0)
+    if (argc > 1 && strcmp(argv[1], "timed") == 0) {
         test_parsed_once();
+        test_indexed();
+    }
     test_highlighting("a\n\u00E9 ${b}\nc", "  \u00E9 ${b}\n      ^\n");
     test_highlighting("\\x", "  \\x\n  ^^\n");
     test_highlighting("0123456789012345678901234567890123456789012345678901234567890$", "");

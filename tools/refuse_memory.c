@@ -35,7 +35,7 @@ static void tell(size_t size)
 {
     char line[40];
     const int length = snprintf(line, sizeof line, "request %zu\n", size);
-    if (length < 0 || write(STDOUT_FILENO, line, length) != length)
+    if (length < 0 || write(STDOUT_FILENO, line, (size_t)length) != length)
         _exit(99);
 }
 
