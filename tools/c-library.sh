@@ -1,7 +1,7 @@
 #!/usr/bin/env bash
 # Tests the library for C: tools/c_library.c built as C, as C++ and with the sanitizers of the compiler, sources around
 # 4 GiB, each request for memory refused in turn, how often memory is asked for, and what tools/install puts in place,
-# by the examples of docs/C.md. What the machine lacks is said. The last line is 'N passed, M failed'.
+# by its names and by the examples of docs/C.md. What the machine lacks is said. The last line is 'N passed, M failed'.
 set -euo pipefail
 cd "$(dirname "$0")/.."
 ulimit -c 0
@@ -9,7 +9,7 @@ ulimit -c 0
 seconds_a_run=60
 most_requests=2000
 compiler=${CC:-cc}
-strict=(-O2 -Wall -Wextra -Werror -pedantic)
+strict=(-O2 -Wall -Wextra -Wpedantic -Wconversion -Werror)
 kit=$(dirname "$(rt doc)")
 archives=(crates/subst_c/out/libsubst_c.a "$kit/c/liblibc_c.a")
 
@@ -45,8 +45,17 @@ built_as_c() {
 }
 
 built_as_cpp() {
-  runs "${CXX:-c++}" "${strict[@]}" -Iinclude -x c++ -o "$folder/cpp" tools/c_library.c -x none "${archives[@]}" &&
+  runs "${CXX:-c++}" -std=c++17 "${strict[@]}" -Iinclude -x c++ -o "$folder/cpp" tools/c_library.c -x none \
+    "${archives[@]}" &&
     runs "$folder/cpp"
+}
+
+built_by_clang() {
+  runs clang -std=c99 "${strict[@]}" -Iinclude -o "$folder/clang" tools/c_library.c "${archives[@]}" &&
+    runs clang++ -std=c++17 "${strict[@]}" -Iinclude -x c++ -o "$folder/clang_cpp" tools/c_library.c -x none \
+      "${archives[@]}" &&
+    runs "$folder/clang_cpp" &&
+    runs "$folder/clang"
 }
 
 sanitized=(-g -fsanitize=address,undefined -fno-sanitize-recover=all)
@@ -92,18 +101,71 @@ refused_in_turn() {
   return 1
 }
 
-# How many requests for memory a call makes for the rows of the tests.
+# How many requests for memory the tests make with these words.
 requests_of() {
-  runs env LD_PRELOAD="$refusing" REFUSE_NONE=1 "$folder/c" rows "$1" && grep -c '^request ' "$output"
+  runs env LD_PRELOAD="$refusing" REFUSE_NONE=1 "$folder/c" "$@" && grep -c '^request ' "$output"
 }
 
 # What subst_check asks for is what the parse takes. subst_bytes_into asks for no more, also to tell that a variable is
 # missing, and subst_bytes does.
 asked_by_the_parse_alone() {
   local parse into bytes
-  parse=$(requests_of subst_check) && into=$(requests_of subst_bytes_into) && bytes=$(requests_of subst_bytes) || return
+  parse=$(requests_of rows subst_check) && into=$(requests_of rows subst_bytes_into) &&
+    bytes=$(requests_of rows subst_bytes) || return
   printf '%d requests by subst_check, %d by subst_bytes_into, %d by subst_bytes\n' "$parse" "$into" "$bytes" >"$output"
   [ "$parse" -gt 0 ] && [ "$into" -eq "$parse" ] && [ "$bytes" -gt "$into" ]
+}
+
+# Sixteen pairs, or placeholders, are searched in turn. More take memory for an index.
+asked_for_an_index() {
+  local parse few more
+  parse=$(requests_of pairs 0 17) && few=$(requests_of pairs 16 17) && more=$(requests_of pairs 17 17) || return
+  [ "$parse" -eq "$few" ] && [ "$more" -gt "$few" ] || return
+  parse=$(requests_of pairs 0 16) && few=$(requests_of pairs 64 16) || return
+  printf '%d requests for 16 pairs, %d for 17\n' "$few" "$more" >"$output"
+  [ "$parse" -eq "$few" ]
+}
+
+# The version of the header, which the tests compare with that of the library, is the one of the change log.
+has_the_version_of_the_change_log() {
+  sed -n 's/^#define SUBST_VERSION_[MP][A-Z]* \([0-9]*\)$/\1/p' include/subst.h | paste -sd. >"$output"
+  [ "$(cat "$output")" = "$(sed -n 's/^## \([^ ,]*\).*/\1/p' CHANGELOG.md | head -n 1)" ]
+}
+
+# What a library defines for others.
+defined() {
+  nm --defined-only -g "$@" | sed -n 's/.* [A-Z] //p' | LC_ALL=C sort
+}
+
+# Both libraries define what the header declares, and nothing else, and the tests pass with the shared one.
+shared_library_has_the_calls_alone() {
+  local lib=$folder/prefix/lib
+  sed -n 's/^uint32_t \(subst_[a-z_]*\)(.*/\1/p' include/subst.h | grep -v '^subst_call_' |
+    LC_ALL=C sort >"$folder/calls"
+  defined -D "$lib/libsubst.so" | diff "$folder/calls" - >"$output" || return
+  defined "$lib/libsubst.a" | diff "$folder/calls" - >"$output" || return
+  runs readelf -d "$lib/libsubst.so" && grep -q 'SONAME.*\[libsubst.so.0\]' "$output" || return
+  runs "$compiler" -std=c99 "${strict[@]}" -I"$folder/prefix/include" -o "$folder/shared" tools/c_library.c \
+    -L"$lib" -lsubst &&
+    runs env LD_LIBRARY_PATH="$lib" "$folder/shared"
+}
+
+# By their names in the shared library, as ctypes calls them, the calls take None beside a length of 0.
+called_by_their_names() {
+  runs python3 - "$folder/prefix/lib/libsubst.so.0" <<'END'
+import ctypes
+import sys
+
+library = ctypes.CDLL(sys.argv[1])
+needed, fault = ctypes.c_size_t(77), (ctypes.c_size_t * 3)()
+none = None, ctypes.c_size_t(0)
+results = [call(*none, *none, *none, ctypes.byref(needed), fault)
+           for call in (library.subst_bytes, library.subst_text, library.subst_bytes_into, library.subst_text_into)]
+assert results == [0] * 4 and needed.value == 0, (results, needed)
+assert library.subst_bytes(b'a', ctypes.c_size_t(1), *none, *none, ctypes.byref(needed), fault) == 5
+assert needed.value == 1, needed
+print('version', library.subst_version())
+END
 }
 
 # A block of docs/C.md in this language, of which there is one.
@@ -128,7 +190,7 @@ examples_print_what_is_written() {
   block c >"$folder/examples/greet.c"
   block python >"$folder/examples/greet.py"
   block console >"$folder/wanted"
-  PREFIX=$folder/prefix run_commands <"$folder/wanted" >"$folder/printed"
+  PREFIX=$folder/prefix LD_LIBRARY_PATH=$folder/prefix/lib run_commands <"$folder/wanted" >"$folder/printed"
   diff "$folder/wanted" "$folder/printed" >"$output" || return
   printf '%d commands\n' "$(grep -c '^\$ ' "$folder/wanted")" >"$output"
   [ -s "$folder/wanted" ]
@@ -139,7 +201,8 @@ package_is_found() {
   local words
   words=$(PKG_CONFIG_PATH=$folder/prefix/lib/pkgconfig pkg-config --cflags --libs subst 2>"$output") || return
   read -ra words <<<"$words"
-  runs "$compiler" -o "$folder/found" "$folder/examples/greet.c" "${words[@]}" && runs "$folder/found" 'Hello $name!'
+  runs "$compiler" -o "$folder/found" "$folder/examples/greet.c" "${words[@]}" &&
+    runs env LD_LIBRARY_PATH="$folder/prefix/lib" "$folder/found" 'Hello $name!'
 }
 
 if ! command -v "$compiler" >/dev/null; then
@@ -154,10 +217,18 @@ test_that 'as C' built_as_c
 test_that 'sources of 4 GiB' sources_of_four_gib
 test_that 'with memory refused' refused_in_turn
 test_that 'requests for memory' asked_by_the_parse_alone
+test_that 'memory for an index' asked_for_an_index
+test_that 'version' has_the_version_of_the_change_log
+test_that 'shared library' shared_library_has_the_calls_alone
 if command -v "${CXX:-c++}" >/dev/null; then
   test_that 'as C++' built_as_cpp
 else
   printf 'there is no C++ compiler here, so the header is not tried with one\n'
+fi
+if command -v clang >/dev/null && command -v clang++ >/dev/null; then
+  test_that 'by clang' built_by_clang
+else
+  printf 'clang is not installed, so the header is not tried with it\n'
 fi
 if has_sanitizers; then
   test_that 'with sanitizers' built_with_sanitizers
@@ -166,8 +237,9 @@ else
 fi
 if command -v python3 >/dev/null; then
   test_that 'examples of docs/C.md' examples_print_what_is_written
+  test_that 'by names' called_by_their_names
 else
-  printf 'there is no python3 here, so the examples of docs/C.md are not run\n'
+  printf 'there is no python3 here, so the examples of docs/C.md are not run, and nothing is called by names\n'
 fi
 if command -v pkg-config >/dev/null; then
   test_that 'by pkg-config' package_is_found

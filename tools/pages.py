@@ -120,6 +120,15 @@ def test_install_and_deb_refuse_other_words():
             expect_that((end.returncode, end.stderr) == (2, usage), f'{tool} {words}: {end}')
 
 
+def test_install_says_what_it_does():
+    end = subprocess.run([TOP / 'tools/install', '--help'], stdout=subprocess.PIPE, stderr=subprocess.PIPE, text=True)
+    expect_that((end.returncode, end.stderr) == (0, ''), end)
+    expect_that(end.stdout.startswith('usage: tools/install [--static | --library] PREFIX\n'), end.stdout)
+    installed = install('listed').splitlines()
+    expect_that(installed[-len(COPIES) - len(CRATES) - 1] == 'installed:', installed)
+    expect_that(all(os.path.isfile(line.strip()) for line in installed[-len(COPIES) - len(CRATES):]), installed)
+
+
 # The Debian package
 
 
