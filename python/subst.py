@@ -22,7 +22,8 @@ import os
 from collections import abc
 from typing import Any, AnyStr, Callable, Generic, Iterable, List, Mapping, NamedTuple, Optional, Tuple, Union
 
-__all__ = ['FaultKind', 'SubstError', 'Template', 'Variable', 'VariableKind', 'check', 'fill_in', 'missing', 'variables']
+__all__ = ['FaultKind', 'SubstError', 'Template', 'Variable', 'VariableKind',
+           'check', 'fill_in', 'missing', 'variables']
 
 
 class FaultKind(enum.IntEnum):
@@ -118,11 +119,13 @@ class Template(Generic[AnyStr]):
         return _fill_in_each(self._source, rows)
 
     def variables(self) -> List[Variable]:
-        """Returns the variables in the order of the source, also those in defaults. One that is there twice comes twice."""
+        """Returns the variables in the order of the source, also those in defaults. A name that is there twice comes
+        twice."""
         return _variables(self._source)
 
     def missing(self, variables: Mapping[AnyStr, AnyStr]) -> List[Variable]:
-        """Returns those that are needed and have no value. The variables of a default that isn't used aren't needed."""
+        """Returns those that are needed and have no value, in the same order. Those of a default are needed only where
+        it is used."""
         return _missing(self._source, variables)
 
 
@@ -318,7 +321,8 @@ def _listed(source: _Source, call: Callable) -> List[Variable]:
 def _error(source: _Source, pairs: 'ctypes.Array[_Pair]', fault: _Fault, row: Optional[int] = None) -> SubstError:
     """The error that a fault of the source is."""
     def said(call: Callable) -> str:
-        return _in_room(ctypes.c_char, 256, lambda *room: call(*source.lent, pairs, len(pairs), *room))[1].decode('utf-8')
+        _, text = _in_room(ctypes.c_char, 256, lambda *room: call(*source.lent, pairs, len(pairs), *room))
+        return text.decode('utf-8')
 
     start, end = source.indices([fault.position, fault.position + fault.length])
     return SubstError(said(_library.subst_fault_text), FaultKind(fault.kind), start, end - start,
