@@ -12,7 +12,7 @@ DATA = pathlib.Path(__file__).resolve().parent.parent / 'tests' / 'data'
 # As fuzz/subst.c has them.
 MOST_PAIRS, LONGEST_WORD = 24, 255
 # Pairs and placeholders, so many that the library looks names up in another way.
-MORE_WORDS = [word for number in range(20) for word in (b'z%d' % number, b'value %d' % number)]
+MORE_WORDS = [word for at, number in enumerate([*range(20), 0]) for word in (b'z%d' % number, b'value %d' % at)]
 MORE_SOURCE = b'$z0${z19}${z5?}' * 6
 # The files whose words are texts, each with the number of the column of the source; in the others they are hexadecimal.
 TEXTS = {'rows.tsv': 1, 'variables.tsv': 0}
@@ -35,6 +35,11 @@ def records():
                 yield word_of(source, is_text), [word_of(word, is_text) for word in words]
 
 
+def twice(words):
+    """Names and values, and then the names again, with another value: the first one counts."""
+    return words + [word if at % 2 == 0 else b'last' for at, word in enumerate(words)]
+
+
 def written(source, words):
     """A record as fuzz/subst.c reads it, with a room of a few bytes, and without words that it can't have."""
     words = [word[:LONGEST_WORD] for word in words[:2 * MOST_PAIRS]]
@@ -44,7 +49,7 @@ def written(source, words):
 def main():
     folder = pathlib.Path(sys.argv[1])
     inputs = {data for source, words in records()
-              for data in (written(source, words), written(source + MORE_SOURCE, MORE_WORDS + words))}
+              for data in (written(source, twice(words)), written(source + MORE_SOURCE, words + MORE_WORDS))}
     for data in inputs:
         folder.joinpath(hashlib.sha1(data).hexdigest()).write_bytes(data)
     print(f'{len(inputs)} inputs')

@@ -41,12 +41,20 @@ struct room {
 
 static const struct subst_fault NO_FAULT = {77, 77, 77};
 
-/* Fails with the line of the expectation. libFuzzer keeps the input. */
+/* The input that is tried. */
+static const uint8_t *tried;
+static size_t tried_len;
+
+/* Fails with the expectation, and with the input in hexadecimal. */
 #define EXPECT(fact) ((fact) ? (void)0 : fail(#fact, __func__, __LINE__))
 
 static void fail(const char *fact, const char *where, int line)
 {
-    fprintf(stderr, "%s:%d: not so: %s\n", where, line, fact);
+    size_t i;
+    fprintf(stderr, "%s:%d: not so: %s\ninput: ", where, line, fact);
+    for (i = 0; i < tried_len; i++)
+        fprintf(stderr, "%02x", tried[i]);
+    fputc('\n', stderr);
     abort();
 }
 
@@ -790,7 +798,10 @@ int LLVMFuzzerTestOneInput(const uint8_t *data, size_t size);
 int LLVMFuzzerTestOneInput(const uint8_t *data, size_t size)
 {
     struct input input = input_of(data, size);
-    struct answer answer = answer_of(&input);
+    struct answer answer;
+    tried = data;
+    tried_len = size;
+    answer = answer_of(&input);
     count_answer(&input, &answer);
     try_check(&input, &answer);
     try_filling(&input, &answer);
