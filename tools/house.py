@@ -31,7 +31,7 @@ NOT_QUOTED = '<!-- not quoted -->'
 # Blocks that are no part of the source, by a line of theirs.
 RUN_ELSEWHERE = {'fn greet(alloc: Global) -> Result<String, Error> {': 'tools/other-repository.sh proves and runs it'}
 # The folders whose files pages name, and the ends of names of files.
-FOLDERS = ('.ci', 'benches', 'completions', 'crates', 'docs', 'include', 'tests', 'tools')
+FOLDERS = ('.ci', 'benches', 'completions', 'crates', 'docs', 'fuzz', 'include', 'python', 'tests', 'tools')
 ENDINGS = ('.rt', '.antt', '.py', '.sh', '.md', '.c', '.h', '.tsv', '.edit', '.txt', '.1')
 # Files that pages name in backticks and that a reader makes.
 READERS = ('greet.c', 'greet.py')
