@@ -230,7 +230,10 @@ class _Source(Generic[AnyStr]):
 
 
 def _encoded(word: AnyStr) -> bytes:
-    return word.encode('utf-8') if isinstance(word, str) else word
+    """The bytes of a word. A class over bytes may tell another length than there are, so these are copied."""
+    if isinstance(word, str):
+        return str.encode(word, 'utf-8')
+    return word if type(word) is bytes else bytes(memoryview(word))
 
 
 def _pairs(source: _Source, variables: Mapping[AnyStr, AnyStr]) -> 'ctypes.Array[_Pair]':

@@ -109,6 +109,10 @@ class Results(Case):
         class Text(str):
             pass
         self.assertEqual(subst.fill_in(Text('$a'), {Text('a'): Text('1')}), '1')
+        class Longer(bytes):
+            def __len__(self):
+                return 1 << 30
+        self.assertEqual(subst.fill_in(Longer(b'$a'), {Longer(b'a'): Longer(b'1')}), b'1')
         with mock.patch.dict(os.environ, {'SUBST_TEST': 'x'}):
             self.assertEqual(subst.fill_in(b'$SUBST_TEST', os.environb), b'x')
 
