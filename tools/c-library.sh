@@ -209,7 +209,7 @@ if ! command -v "$compiler" >/dev/null; then
   printf 'there is no C compiler here (%s; the variable CC names another)\n0 passed, 1 failed\n' "$compiler"
   exit 1
 fi
-tools/install --library "$folder/prefix" || {
+{ tools/install --library "$folder/prefix" && tools/install --python "$folder/prefix"; } || {
   printf 'the library is not installed\n0 passed, 1 failed\n'
   exit 1
 }

@@ -113,9 +113,9 @@ def test_install_links_static_programs():
 
 
 def test_install_and_deb_refuse_other_words():
-    usages = {'install': 'usage: tools/install [--static | --library] PREFIX\n', 'deb': 'usage: tools/deb FOLDER\n'}
+    usages = {'install': 'usage: tools/install [--static | --library | --python] PREFIX\n', 'deb': 'usage: tools/deb FOLDER\n'}
     for tool, usage in usages.items():
-        for words in ([], ['--prefix'], ['a', 'b'], ['--static'], ['--library'], ['']):
+        for words in ([], ['--prefix'], ['a', 'b'], ['--static'], ['--library'], ['--python'], ['']):
             end = subprocess.run([TOP / 'tools' / tool, *words], stderr=subprocess.PIPE, text=True)
             expect_that((end.returncode, end.stderr) == (2, usage), f'{tool} {words}: {end}')
 
@@ -123,7 +123,7 @@ def test_install_and_deb_refuse_other_words():
 def test_install_says_what_it_does():
     end = subprocess.run([TOP / 'tools/install', '--help'], stdout=subprocess.PIPE, stderr=subprocess.PIPE, text=True)
     expect_that((end.returncode, end.stderr) == (0, ''), end)
-    expect_that(end.stdout.startswith('usage: tools/install [--static | --library] PREFIX\n'), end.stdout)
+    expect_that(end.stdout.startswith('usage: tools/install [--static | --library | --python] PREFIX\n'), end.stdout)
     installed = install('listed').splitlines()
     expect_that(installed[-len(COPIES) - len(CRATES) - 1] == 'installed:', installed)
     expect_that(all(os.path.isfile(line.strip()) for line in installed[-len(COPIES) - len(CRATES):]), installed)
