@@ -1,6 +1,7 @@
 //! What a run says on standard error, and the status that it ends with.
 
-ghost use Rattle.std.specs.Prelude.{◌≤◌};
+ghost use Rattle.std.specs.Prelude.{◌≡◌, ◌≤◌, OnOk};
+ghost use Rattle.subst_command_lib.specs.Status.{status_of, worse};
 
 use crate::shown::shown;
 use std::alloc::AllocError;
@@ -8,19 +9,35 @@ use std::io;
 use std::io::Write;
 use subst_filter_lib::status::{DEVICE_FAILED, DONE, OUT_OF_MEMORY, REFUSED, WRONG_WORDS};
 
-/// The worst of what happened, from good to bad.
-#[derive(Clone, Copy, PartialEq, Eq, PartialOrd, Ord)]
-enum Worst {
+/// The worst of what happened.
+#[derive(Clone, Copy, PartialEq, Eq)]
+pub(crate) enum Worst {
     /// Nothing bad.
     Nothing,
     /// A source is refused.
     Refusal,
     /// The words of the command line are wrong.
-    WrongWords,
+    Misuse,
     /// A file or a device failed.
     Failure,
     /// Memory ran out.
-    OutOfMemory,
+    Exhaustion,
+}
+
+impl Worst {
+    /// Returns its status.
+    fn status(self) -> u8
+        ensures value { result ≡ status_of self }
+        ensures known { result ≤ OUT_OF_MEMORY }
+    {
+        match self {
+            Worst::Nothing => DONE,
+            Worst::Refusal => REFUSED,
+            Worst::Misuse => WRONG_WORDS,
+            Worst::Failure => DEVICE_FAILED,
+            Worst::Exhaustion => OUT_OF_MEMORY,
+        }
+    }
 }
 
 /// The messages of a run so far.
@@ -46,25 +63,24 @@ impl<'r> Report<'r> {
 
     /// Returns the status of the run: the highest of what was said.
     pub fn status(&self) -> u8
-        ensures { result ≤ OUT_OF_MEMORY }
+        ensures value { result ≡ status_of self.now.worst }
+        ensures known { result ≤ OUT_OF_MEMORY }
     {
-        match self.worst {
-            Worst::Nothing => DONE,
-            Worst::Refusal => REFUSED,
-            Worst::WrongWords => WRONG_WORDS,
-            Worst::Failure => DEVICE_FAILED,
-            Worst::OutOfMemory => OUT_OF_MEMORY,
-        }
+        self.worst.status()
     }
 
     /// Says why a source is refused.
-    pub fn refused(&mut self, messages: &str) {
+    pub fn refused(&mut self, messages: &str)
+        ensures { self.new.worst ≡ worse self.old.worst Worst.Refusal }
+    {
         self.say(Worst::Refusal, messages);
     }
 
     /// Says what is wrong with the words of the command line.
-    pub fn wrong_words(&mut self, message: &str) {
-        self.say(Worst::WrongWords, message);
+    pub fn wrong_words(&mut self, message: &str)
+        ensures { self.new.worst ≡ worse self.old.worst Worst.Misuse }
+    {
+        self.say(Worst::Misuse, message);
     }
 
     /// Says that a file or a device failed, and what the system says of it; or that memory ran out.
@@ -72,7 +88,9 @@ impl<'r> Report<'r> {
     /// # Errors
     ///
     /// When allocation fails.
-    pub fn failed(&mut self, name: &str, e: &io::Error) -> Result<(), AllocError> {
+    pub fn failed(&mut self, name: &str, e: &io::Error) -> Result<(), AllocError>
+        ensures { OnOk result (DEVICE_FAILED ≤ status_of self.new.worst) }
+    {
         if e.kind() == io::ErrorKind::OutOfMemory {
             self.out_of_memory(name);
             return Ok(());
@@ -90,22 +108,30 @@ impl<'r> Report<'r> {
     /// # Errors
     ///
     /// When allocation fails.
-    pub fn unfit(&mut self, name: &str, why: &str) -> Result<(), AllocError> {
+    pub fn unfit(&mut self, name: &str, why: &str) -> Result<(), AllocError>
+        ensures { OnOk result (self.new.worst ≡ worse self.old.worst Worst.Failure) }
+    {
         let message = format!(in self.rt.alloc(); "{name}: {why}\n")?;
         self.say(Worst::Failure, &message);
         Ok(())
     }
 
     /// Says that memory ran out. That takes none.
-    pub fn out_of_memory(&mut self, name: &str) {
-        self.say(Worst::OutOfMemory, name);
-        self.say(Worst::OutOfMemory, ": out of memory\n");
+    pub fn out_of_memory(&mut self, name: &str)
+        ensures { self.new.worst ≡ Worst.Exhaustion }
+    {
+        self.say(Worst::Exhaustion, name);
+        self.say(Worst::Exhaustion, ": out of memory\n");
     }
 
     /// Writes a text, and ignores a failure: there is nowhere else to say it.
-    fn say(&mut self, worst: Worst, text: &str) {
+    fn say(&mut self, worst: Worst, text: &str)
+        ensures { self.new.worst ≡ worse self.old.worst worst }
+    {
         let _ = self.rt.stderr().write_all(text.as_bytes());
-        self.worst = self.worst.max(worst);
+        if self.worst.status() < worst.status() {
+            self.worst = worst;
+        }
     }
 }
 
