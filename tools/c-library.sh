@@ -1,7 +1,8 @@
 #!/usr/bin/env bash
-# Tests the library for C: tools/c_library.c built as C, as C++ and with the sanitizers of the compiler, sources around
-# 4 GiB, each request for memory refused in turn, how often memory is asked for, and what tools/install puts in place,
-# by its names and by the examples of docs/C.md. What the machine lacks is said. The last line is 'N passed, M failed'.
+# Tests the library for C: tools/c_library.c built as C, as C++ and with the sanitizers of the compiler, threads, sources
+# around 4 GiB, each request for memory refused in turn, how often memory is asked for, and what tools/install puts in
+# place, by its names and by the examples of docs/C.md and README.md. What the machine lacks is said. The last line is
+# 'N passed, M failed'.
 set -euo pipefail
 cd "$(dirname "$0")/.."
 ulimit -c 0
@@ -69,6 +70,28 @@ built_with_sanitizers() {
   runs "$compiler" -std=c99 "${strict[@]}" "${sanitized[@]}" -Iinclude -o "$folder/sanitized" tools/c_library.c \
     "${archives[@]}" &&
     runs "$folder/sanitized"
+}
+
+# Calls from several threads at once, built with more words for the compiler.
+in_threads() {
+  runs "$compiler" -std=c99 "${strict[@]}" "$@" -pthread -Iinclude -o "$folder/threads" tools/c_threads.c \
+    "${archives[@]}" &&
+    runs "$folder/threads"
+}
+
+raced=(-g -fsanitize=thread)
+
+has_thread_sanitizer() {
+  printf 'int main(void) { return 0; }\n' | "$compiler" "${raced[@]}" -x c -o "$folder/probe" - 2>/dev/null &&
+    "$folder/probe" 2>/dev/null
+}
+
+in_threads_with_sanitizer() {
+  in_threads "${raced[@]}"
+}
+
+under_valgrind() {
+  runs valgrind -q --error-exitcode=9 --leak-check=full "$folder/c"
 }
 
 # Sources around 4 GiB, which take no memory but for the tables of their pages.
@@ -168,9 +191,9 @@ print('version', library.subst_version())
 END
 }
 
-# A block of docs/C.md in this language, of which there is one.
+# A block of a page, docs/C.md or another, in this language, of which there is one.
 block() {
-  sed -n "/^\`\`\`$1\$/,/^\`\`\`\$/{/^\`\`\`/!p}" docs/C.md
+  sed -n "/^\`\`\`$1\$/,/^\`\`\`\$/{/^\`\`\`/!p}" "${2:-docs/C.md}"
 }
 
 # Runs the commands of the document, and prints each with what it printed.
@@ -194,6 +217,18 @@ examples_print_what_is_written() {
   diff "$folder/wanted" "$folder/printed" >"$output" || return
   printf '%d commands\n' "$(grep -c '^\$ ' "$folder/wanted")" >"$output"
   [ -s "$folder/wanted" ]
+}
+
+# The examples of README.md, each of which greets the world.
+examples_of_readme_greet() {
+  local prefix=$folder/prefix printed
+  block c README.md >"$folder/readme.c"
+  block python README.md >"$folder/readme.py"
+  runs "$compiler" -std=c99 "${strict[@]}" -I"$prefix/include" -o "$folder/readme" "$folder/readme.c" \
+    "$prefix/lib/libsubst.a" || return
+  printed=$("$folder/readme" && PYTHONPATH=$prefix/lib/python3/dist-packages python3 "$folder/readme.py") || return
+  printf '%s\n' "$printed" >"$output"
+  [ "$printed" = $'Hello world!\nHello world!' ]
 }
 
 # The compiler's words by pkg-config build the example too.
@@ -235,11 +270,23 @@ if has_sanitizers; then
 else
   printf 'the compiler has no sanitizers here, so nothing is run under them\n'
 fi
+test_that 'in threads' in_threads
+if has_thread_sanitizer; then
+  test_that 'in threads, with a sanitizer' in_threads_with_sanitizer
+else
+  printf 'the compiler has no sanitizer of threads here, so nothing is built with it\n'
+fi
+if command -v valgrind >/dev/null; then
+  test_that 'under valgrind' under_valgrind
+else
+  printf 'valgrind is not installed, so nothing is run under it\n'
+fi
 if command -v python3 >/dev/null; then
   test_that 'examples of docs/C.md' examples_print_what_is_written
+  test_that 'examples of README.md' examples_of_readme_greet
   test_that 'by names' called_by_their_names
 else
-  printf 'there is no python3 here, so the examples of docs/C.md are not run, and nothing is called by names\n'
+  printf 'there is no python3 here, so no examples are run, and nothing is called by names\n'
 fi
 if command -v pkg-config >/dev/null; then
   test_that 'by pkg-config' package_is_found

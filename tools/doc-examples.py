@@ -27,8 +27,9 @@ def of_readme():
 
 
 def crates():
-    """The crates of the library, as README.md names them."""
-    return re.findall(r'^    (subst\w*): .*$', (TOP / 'README.md').read_text(encoding='utf-8'), re.M)
+    """The crates of the library, in the order of crates.txt."""
+    names = re.findall(r'^(\w+)', (TOP / 'crates.txt').read_text(encoding='utf-8'), re.M)
+    return names[names.index('subst_error'):names.index('subst') + 1]
 
 
 def examples():

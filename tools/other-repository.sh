@@ -15,9 +15,9 @@ fail() {
   exit 1
 }
 
-# The lines of the library in crates.txt, as README has them.
+# The lines of the library, of which README says that they are copied.
 library_lines() {
-  sed -n '/^## The library$/,/^## /s/^    \(subst[a-z_]*: .*\)$/\1/p' README.md
+  sed -n '/^subst_error:/,/^subst:/p' crates.txt
 }
 
 # Copies the folders of the library, without what `rt` keeps in them.

@@ -1,0 +1,67 @@
+/* Tests calls of the library from several threads at once, over a source and pairs that all of them share. Each thread
+ * prints a line, and the last line is 'N passed, M failed'.
+ */
+#include "subst.h"
+
+#include <pthread.h>
+#include <stdio.h>
+#include <string.h>
+
+/* More pairs and placeholders than are searched in turn. */
+enum { THREADS = 4, TURNS = 500, PAIRS = 40, ROOM = 256 };
+
+static char names[PAIRS][8];
+static struct subst_pair pairs[PAIRS];
+static char source[ROOM];
+static char wanted[ROOM];
+
+/* Makes pairs a0, a1, .. whose values are their names, a source of them all, and what that gives. */
+static void make_source(void)
+{
+    for (int at = 0; at < PAIRS; at++) {
+        struct subst_pair pair = {(const uint8_t *)names[at], 0, (const uint8_t *)names[at], 0};
+        const int length = snprintf(names[at], sizeof names[at], "a%d", at);
+        pair.name_len = pair.value_len = (size_t)length;
+        pairs[at] = pair;
+        strcat(strcat(source, at > 0 ? ".$" : "$"), names[at]);
+        strcat(strcat(wanted, at > 0 ? "." : ""), names[at]);
+    }
+}
+
+/* Whether a call gives what is wanted, and another one tells the fault of a source without its last pair. */
+static int is_right(void)
+{
+    uint8_t room[ROOM];
+    size_t needed = 0;
+    struct subst_fault fault = {0, 0, 0};
+    const uint8_t *bytes = (const uint8_t *)source;
+    if (subst_bytes(bytes, strlen(source), pairs, PAIRS, room, sizeof room, &needed, &fault) != SUBST_DONE)
+        return 0;
+    if (needed != strlen(wanted) || memcmp(room, wanted, needed) != 0)
+        return 0;
+    return subst_bytes(bytes, strlen(source), pairs, PAIRS - 1, room, sizeof room, &needed, &fault) == SUBST_REFUSED &&
+           fault.kind == SUBST_NO_SUCH_VARIABLE && fault.position + fault.length == strlen(source);
+}
+
+static void *run_thread(void *right)
+{
+    for (int turn = 0; turn < TURNS; turn++)
+        *(int *)right += is_right();
+    return NULL;
+}
+
+int main(void)
+{
+    pthread_t threads[THREADS];
+    int right[THREADS] = {0}, passed = 0, started = 0;
+    make_source();
+    while (started < THREADS && pthread_create(&threads[started], NULL, run_thread, &right[started]) == 0)
+        started += 1;
+    for (int at = 0; at < started; at++) {
+        const int is_joined = pthread_join(threads[at], NULL) == 0;
+        passed += is_joined && right[at] == TURNS;
+        printf("thread %d: %d of %d turns\n", at, right[at], TURNS);
+    }
+    printf("%d passed, %d failed\n", passed, THREADS - passed);
+    return passed == THREADS ? 0 : 1;
+}
