@@ -213,7 +213,7 @@ examples_print_what_is_written() {
   block c >"$folder/examples/greet.c"
   block python >"$folder/examples/greet.py"
   block console >"$folder/wanted"
-  PREFIX=$folder/prefix LD_LIBRARY_PATH=$folder/prefix/lib run_commands <"$folder/wanted" >"$folder/printed"
+  PREFIX=$folder/prefix run_commands <"$folder/wanted" >"$folder/printed"
   diff "$folder/wanted" "$folder/printed" >"$output" || return
   printf '%d commands\n' "$(grep -c '^\$ ' "$folder/wanted")" >"$output"
   [ -s "$folder/wanted" ]
