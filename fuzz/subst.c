@@ -365,7 +365,8 @@ static void add_row(struct rows *rows, const struct input *input, size_t first)
     free(answer.bytes);
 }
 
-/* The first rows of the input. A source that is no template is refused with row 0, also where there is no row. */
+/* The first rows of the input. A source that is no template is refused with the index 0, also where there
+ * is no row. */
 static struct rows rows_of(const struct input *input, const struct answer *answer, size_t count)
 {
     struct rows rows;
