@@ -1,4 +1,4 @@
-/* A target of libFuzzer that holds each call of include/subst.h to what is said there.
+/* A target of libFuzzer that holds each call of subst.h to what is said there.
  *
  * An input is a length of a room, a number of pairs, for each pair the lengths of its name and its value, these words,
  * and then the source. What a call writes has guards around it, since sanitizers don't see the library's own writes.

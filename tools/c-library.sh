@@ -16,6 +16,8 @@ archives=(crates/subst_c/out/libsubst_c.a "$kit/c/liblibc_c.a")
 
 folder=$(mktemp -d)
 trap 'rm -rf "$folder"' EXIT
+# The header is that which is installed, with the version in it.
+include=$folder/prefix/include
 output=$folder/output
 passed=0
 failed=0
@@ -41,19 +43,19 @@ test_that() {
 }
 
 built_as_c() {
-  runs "$compiler" -std=c99 "${strict[@]}" -Iinclude -o "$folder/c" tools/c_library.c "${archives[@]}" &&
+  runs "$compiler" -std=c99 "${strict[@]}" -I"$include" -o "$folder/c" tools/c_library.c "${archives[@]}" &&
     runs "$folder/c" timed
 }
 
 built_as_cpp() {
-  runs "${CXX:-c++}" -std=c++17 "${strict[@]}" -Iinclude -x c++ -o "$folder/cpp" tools/c_library.c -x none \
+  runs "${CXX:-c++}" -std=c++17 "${strict[@]}" -I"$include" -x c++ -o "$folder/cpp" tools/c_library.c -x none \
     "${archives[@]}" &&
     runs "$folder/cpp"
 }
 
 built_by_clang() {
-  runs clang -std=c99 "${strict[@]}" -Iinclude -o "$folder/clang" tools/c_library.c "${archives[@]}" &&
-    runs clang++ -std=c++17 "${strict[@]}" -Iinclude -x c++ -o "$folder/clang_cpp" tools/c_library.c -x none \
+  runs clang -std=c99 "${strict[@]}" -I"$include" -o "$folder/clang" tools/c_library.c "${archives[@]}" &&
+    runs clang++ -std=c++17 "${strict[@]}" -I"$include" -x c++ -o "$folder/clang_cpp" tools/c_library.c -x none \
       "${archives[@]}" &&
     runs "$folder/clang_cpp" &&
     runs "$folder/clang"
@@ -67,14 +69,14 @@ has_sanitizers() {
 }
 
 built_with_sanitizers() {
-  runs "$compiler" -std=c99 "${strict[@]}" "${sanitized[@]}" -Iinclude -o "$folder/sanitized" tools/c_library.c \
+  runs "$compiler" -std=c99 "${strict[@]}" "${sanitized[@]}" -I"$include" -o "$folder/sanitized" tools/c_library.c \
     "${archives[@]}" &&
     runs "$folder/sanitized"
 }
 
 # Calls from several threads at once, built with more words for the compiler.
 in_threads() {
-  runs "$compiler" -std=c99 "${strict[@]}" "$@" -pthread -Iinclude -o "$folder/threads" tools/c_threads.c \
+  runs "$compiler" -std=c99 "${strict[@]}" "$@" -pthread -I"$include" -o "$folder/threads" tools/c_threads.c \
     "${archives[@]}" &&
     runs "$folder/threads"
 }
@@ -96,7 +98,7 @@ under_valgrind() {
 
 # Sources around 4 GiB, which take no memory but for the tables of their pages.
 sources_of_four_gib() {
-  runs "$compiler" -std=c99 "${strict[@]}" -Iinclude -o "$folder/wide" tools/wide_source.c "${archives[@]}" &&
+  runs "$compiler" -std=c99 "${strict[@]}" -I"$include" -o "$folder/wide" tools/wide_source.c "${archives[@]}" &&
     runs "$folder/wide"
 }
 
@@ -149,10 +151,11 @@ asked_for_an_index() {
   [ "$parse" -eq "$few" ]
 }
 
-# The version of the header, which the tests compare with that of the library, is the one of the change log.
-has_the_version_of_the_change_log() {
-  sed -n 's/^#define SUBST_VERSION_[MP][A-Z]* \([0-9]*\)$/\1/p' include/subst.h | paste -sd. >"$output"
-  [ "$(cat "$output")" = "$(sed -n 's/^## \([^ ,]*\).*/\1/p' CHANGELOG.md | head -n 1)" ]
+# The version of the header, which the tests compare with that of the library, and that of the package.
+has_the_version() {
+  sed -n 's/^#define SUBST_VERSION_[MP][A-Z]* \([0-9]*\)$/\1/p' "$include/subst.h" | paste -sd. >"$output"
+  [ "$(cat "$output")" = "$(tools/version)" ] &&
+    grep -qx "Version: $(tools/version)" "$folder/prefix/lib/pkgconfig/subst.pc"
 }
 
 # What a library defines for others.
@@ -163,12 +166,12 @@ defined() {
 # Both libraries define what the header declares, and nothing else, and the tests pass with the shared one.
 shared_library_has_the_calls_alone() {
   local lib=$folder/prefix/lib
-  sed -n 's/^uint32_t \(subst_[a-z_]*\)(.*/\1/p' include/subst.h | grep -v '^subst_call_' |
+  sed -n 's/^uint32_t \(subst_[a-z_]*\)(.*/\1/p' "$include/subst.h" | grep -v '^subst_call_' |
     LC_ALL=C sort >"$folder/calls"
   defined -D "$lib/libsubst.so" | diff "$folder/calls" - >"$output" || return
   defined "$lib/libsubst.a" | diff "$folder/calls" - >"$output" || return
   runs readelf -d "$lib/libsubst.so" && grep -q 'SONAME.*\[libsubst.so.0\]' "$output" || return
-  runs "$compiler" -std=c99 "${strict[@]}" -I"$folder/prefix/include" -o "$folder/shared" tools/c_library.c \
+  runs "$compiler" -std=c99 "${strict[@]}" -I"$include" -o "$folder/shared" tools/c_library.c \
     -L"$lib" -lsubst &&
     runs env LD_LIBRARY_PATH="$lib" "$folder/shared"
 }
@@ -253,7 +256,7 @@ test_that 'sources of 4 GiB' sources_of_four_gib
 test_that 'with memory refused' refused_in_turn
 test_that 'requests for memory' asked_by_the_parse_alone
 test_that 'memory for an index' asked_for_an_index
-test_that 'version' has_the_version_of_the_change_log
+test_that 'version' has_the_version
 test_that 'shared library' shared_library_has_the_calls_alone
 if command -v "${CXX:-c++}" >/dev/null; then
   test_that 'as C++' built_as_cpp

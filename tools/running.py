@@ -2,6 +2,7 @@
 runs tests. Each test prints a line, and the last line is 'N passed, M failed'.
 """
 import contextlib
+import functools
 import os
 import pathlib
 import resource
@@ -34,6 +35,12 @@ class End(NamedTuple):
 
 class Wrong(Exception):
     """A program didn't do what was expected."""
+
+
+@functools.lru_cache(None)
+def version():
+    """The version of this project."""
+    return subprocess.run([TOP / 'tools/version'], check=True, stdout=subprocess.PIPE, text=True).stdout.rstrip('\n')
 
 
 # Running programs

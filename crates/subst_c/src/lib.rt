@@ -1,6 +1,6 @@
 //! The library under names of C: variables come as pairs, and what is returned goes into the caller's room.
 //!
-//! The header `include/subst.h` declares what is here, and docs/C.md shows how to call it. Each call returns
+//! `include/subst.h.in` declares what is here, and docs/C.md shows how to call it. Each call returns
 //! one of the numbers of [`outcome`]. No pointer is null: where a length is 0, the header passes an address
 //! of its own. What is lent to be written overlaps nothing else that is passed.
 #![tactic(auto)]
@@ -20,7 +20,7 @@ ghost use Rattle.subst_c.specs.Records.{HasRecords, missing_records, variable_re
 ghost use Rattle.subst_c.specs.Room.{IsPut, IsTooLong};
 ghost use Rattle.subst_c.specs.Text.{IsHighlighting, SaysOf, are_texts};
 ghost use Rattle.subst_c.specs.declared.outcome.TheConstants.{DONE, REFUSED, OUT_OF_MEMORY, ROOM_TOO_SMALL, NOT_UTF8, NOT_A_BOUNDARY};
-ghost use Rattle.subst_c.specs.declared.version.TheConstants.{MAJOR, MINOR, PATCH};
+ghost use Rattle.subst_version.specs.declared.TheConstants.{MAJOR, MINOR, PATCH};
 
 pub use fault::FaultRecord;
 use outcome::{DONE, NOT_A_BOUNDARY, NOT_UTF8, OUT_OF_MEMORY, REFUSED};
@@ -30,6 +30,7 @@ use std::alloc::Global;
 use subst_error::{Error, line_and_column};
 use subst_language::laws;
 use subst_template::ByteTemplate;
+use subst_version::{MAJOR, MINOR, PATCH};
 pub use variables::VariableRecord;
 
 mod answer;
@@ -40,14 +41,13 @@ pub mod outcome;
 mod pairs;
 mod room;
 mod variables;
-pub mod version;
 
 /// Returns the version of the library as one number, as 102 for 0.1.2.
 #[unsafe(no_mangle)]
 pub extern "C" fn subst_version() -> u32
     ensures { result ≡ 10000 * MAJOR + 100 * MINOR + PATCH }
 {
-    10000 * version::MAJOR + 100 * version::MINOR + version::PATCH
+    10000 * MAJOR + 100 * MINOR + PATCH
 }
 
 /// Puts the bytes of `source` with its variables filled in from `pairs` at the front of the room.

@@ -1,6 +1,6 @@
 //! Fills in shell-like variables in files. All of it is in `subst_command_lib`.
 //!
-//! The stored run beside it prints the version; `tools/command.py` runs all else.
+//! The stored run beside it fills in a greeting; `tools/command.py` runs all else.
 #![tactic(auto)]
 
 use std::process::ExitCode;
