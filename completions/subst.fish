@@ -10,7 +10,7 @@ complete -c subst -l only -x -d 'Takes $NAME and ${NAME} of these names, and all
 complete -c subst -l envsubst -d 'Takes what envsubst would fill in, and all else as text'
 complete -c subst -s o -l output -r -F -d 'Writes to a file, whole or not at all'
 complete -c subst -s i -l in-place -d 'Replaces each file by what it gives, whole or not at all'
-complete -c subst -l check -d 'Writes nothing, and reports every fault of every file'
+complete -c subst -l check -d 'Writes nothing, and reports the faults of every file'
 complete -c subst -l names -d 'Prints each name, where it is first used, and whether it is required'
 complete -c subst -s h -l help -d 'Print help'
 complete -c subst -s V -l version -d 'Print version'

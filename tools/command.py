@@ -3,7 +3,7 @@
 
 No contract says anything of options, files and messages, so these tests run the program as a shell would: each option,
 each message whole, templates of other programs, and, in tools/command_files.py, files that are written whole or not at
-all, and streams and system calls that fail. What is expected is worked out here, from docs/subst.1 and not from a run.
+all, and streams and system calls that fail. What is expected is worked out here, from docs/subst.1.in and not from a run.
 What needs strace, envsubst or a mount is left out, and said, where that isn't to be had. Each test prints a line, and
 the last line is 'N passed, M failed'.
 """
@@ -18,9 +18,9 @@ import sys
 
 sys.dont_write_bytecode = True
 import command_files
-from command_running import (NO_NAME, PROGRAM, can, expect_fault, expect_files, failed, missing, subst, tests_of, told,
-                             write, wrong_words)
-from running import TOP, expect, expect_that, run_tests, shown
+from command_running import (NO_NAME, PROGRAM, can, expect_fault, expect_file, expect_files, failed, missing, subst,
+                             tests_of, told, write, wrong_words)
+from running import TOP, expect, expect_that, run_tests, shown, version
 
 try:
     import tomllib
@@ -58,7 +58,7 @@ Writing:
   -i, --in-place       Replaces each file by what it gives, whole or not at all
 
 Asking:
-      --check  Writes nothing, and reports every fault of every file
+      --check  Writes nothing, and reports the faults of every file
       --names  Prints each name, where it is first used, and whether it is required
 """
 
@@ -70,7 +70,7 @@ def test_help_and_version():
     for word in ('--help', '-h'):
         expect(subst([word]), 0, HELP)
     for word in ('--version', '-V'):
-        expect(subst([word]), 0, b'subst 0.1.0\n')
+        expect(subst([word]), 0, f'subst {version()}\n'.encode())
     expect(subst(['-s', 'a=1', '--help', 'nothing']), 0, HELP)
 
 
@@ -152,8 +152,10 @@ def test_values_of_standard_input_and_of_several_files():
     expect(subst(['-f', 'one', '-f', 'two', 'template']), 0, b'1 2 3\n')
     expect(subst(['-f', 'two', '-f', 'one', 'template']), 0, b'1 1 3\n')
     expect(subst(['-f', '-', 'template', '-f', 'two'], b'A=9'), 0, b'9 2 3\n')
-    # All of standard input is values, so there is nothing left to fill in.
-    expect(subst(['-f', '-'], b'A=9'), 0)
+    for words in ([], ['-'], ['template', '-'], ['template', '-f', '-'], ['-o', 'one']):
+        errors = wrong_words("standard input is read once: '--values -' needs a FILE")
+        expect(subst(['-f', '-', *words], b'A=9'), 2, errors=errors)
+    expect_file('one', b'A=1\nB=1\n')
 
 
 # Values files that are refused, with their message.
@@ -175,7 +177,7 @@ def test_values_that_are_refused():
         expect_fault(subst(['-f', 'values'], b'$none'), message)
         expect_fault(subst(['-f', 'values', '-f', 'values'], b'$none'), message, message)
         expect_fault(subst(['-i', '-f', 'values', 'nothing']), message)
-    expect_fault(subst(['-f', '-'], b'A'), told('<stdin>:1:1', "missing '='", 'A', '^'))
+    expect_fault(subst(['-f', '-', 'values'], b'A'), told('<stdin>:1:1', "missing '='", 'A', '^'))
 
 
 def test_values_that_cannot_be_read():
@@ -582,7 +584,7 @@ def test_time_goes_with_the_size():
     for words, source_of in (([], lines), (['--bytes'], lines), (['--envsubst'], lines), (['--only=a'], lines),
                              (['--names'], names), (['--names', '--envsubst'], names), ([], names),
                              (['--json'], repeated_in_json), (['--toml'], repeated_in_toml),
-                             (['--json', '--names'], repeated_in_json), (['-f', '-'], b'a=1\n'.__mul__)):
+                             (['--json', '--names'], repeated_in_json), (['-f', '-', '/dev/null'], b'a=1\n'.__mul__)):
         small, large = (seconds(words, source_of(count)) for count in (COUNT, 8 * COUNT))
         expect_that(large < 16 * max(small, 0.01), f'{words}: {small:.3f} s, and {large:.3f} s for eight times as much')
 

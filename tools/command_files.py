@@ -94,6 +94,17 @@ def test_output_writes_through_what_is_no_file():
     expect_files('fifo')
 
 
+def test_output_to_standard_output():
+    for file in ('-', '/dev/stdout'):
+        write('log', b'before\n')
+        with open('log', 'ab') as log:
+            expect(subst(['-o', file], b'after', stdout=log), 0)
+        expect_file('log', b'before\nafter')
+    with open('/dev/full', 'wb') as full:
+        expect(subst(['-o', '-'], b'new', stdout=full), 3, errors=failed('<stdout>', errno.ENOSPC))
+    expect_files('log')
+
+
 def test_output_that_cannot_be_written():
     os.mkdir('folder')
     write('file', b'old')

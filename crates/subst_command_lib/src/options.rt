@@ -7,11 +7,11 @@ use clap::error::ErrorKind;
 use clap::{Arg, ArgAction, ArgMatches, Command, Error};
 use std::alloc::{AllocError, Global};
 
-/// The version that `--version` prints: that of the change log.
-pub const VERSION: &str = "0.1.0";
-
 /// The file that stands for standard input.
 pub const STANDARD_INPUT: &str = "-";
+
+/// The files of `--output` that stand for standard output.
+const STANDARD_OUTPUT: [&str; 2] = ["-", "/dev/stdout"];
 
 /// What a source is read as.
 #[derive(Clone, Copy, PartialEq, Eq)]
@@ -88,9 +88,11 @@ impl<'w> Options<'w> {
         if matches.get_flag("in-place") {
             check_replaced(alloc, &files)?;
         }
+        let values_files = list(alloc, &matches, "values")?;
+        check_read_once(alloc, &values_files, &files)?;
         Ok(Options {
             pairs: asked_pairs(alloc, &matches)?,
-            values_files: list(alloc, &matches, "values")?,
+            values_files,
             environment: matches.get_flag("env"),
             form: asked_form(&matches),
             placeholders: asked_placeholders(alloc, &matches)?,
@@ -126,6 +128,22 @@ fn check_replaced(alloc: Global, files: &[&str]) -> Result<(), Error> {
     }
     if files.iter().any(|file| *file == STANDARD_INPUT) {
         return Err(wrong(alloc, "--in-place can't be of standard input"));
+    }
+    Ok(())
+}
+
+/// Refuses standard input as a values file where it is read once more.
+fn check_read_once(alloc: Global, values_files: &[&str], files: &[&str]) -> Result<(), Error> {
+    let reads_values = values_files
+        .iter()
+        .filter(|file| **file == STANDARD_INPUT)
+        .count();
+    let reads_source = files.is_empty() || files.iter().any(|file| *file == STANDARD_INPUT);
+    if reads_values > 1 || reads_values == 1 && reads_source {
+        return Err(wrong(
+            alloc,
+            "standard input is read once: '--values -' needs a FILE",
+        ));
     }
     Ok(())
 }
@@ -218,7 +236,11 @@ fn without_dollar(word: &str) -> &str {
 /// Returns what is done with the sources.
 fn asked_task<'w>(matches: &ArgMatches<'w>) -> Task<'w> {
     if let Some(file) = matches.get_str("output") {
-        Task::WriteTo(file)
+        if STANDARD_OUTPUT.contains(&file) {
+            Task::Print
+        } else {
+            Task::WriteTo(file)
+        }
     } else if matches.get_flag("in-place") {
         Task::Replace
     } else if matches.get_flag("check") {
@@ -245,9 +267,9 @@ fn error(alloc: Global, message: &str) -> Result<Error, AllocError> {
 
 /// Returns the words that there are.
 fn command<'a>(alloc: Global) -> Result<Command<'a>, AllocError> {
-    let command = Command::new(alloc, "subst").version(VERSION).about(
-        "Fills in $name, ${name}, ${name:default} and ${name?} in files.",
-    );
+    let command = Command::new(alloc, "subst")
+        .version(subst_version::TEXT)
+        .about("Fills in $name, ${name}, ${name:default} and ${name?} in files.");
     let command = with_variables(alloc, command)?;
     let command = with_reading(alloc, command)?;
     let command = with_writing(alloc, command)?;
@@ -364,7 +386,7 @@ fn with_asking<'a>(alloc: Global, command: Command<'a>) -> Result<Command<'a>, A
     let check = flag(
         alloc,
         "check",
-        "Writes nothing, and reports every fault of every file",
+        "Writes nothing, and reports the faults of every file",
     )
     .conflicts_with("names")?;
     let names = flag(

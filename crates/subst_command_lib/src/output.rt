@@ -97,7 +97,7 @@ fn replace_by_new(
         NEW_MODE
     };
     let (new, file) = create_beside(rt, path, mode)?;
-    let outcome = finish(rt, file, old, bytes).and_then(|()| fs::rename(rt, new.as_path(), path));
+    let outcome = finish(file, old, bytes).and_then(|()| fs::rename(rt, new.as_path(), path));
     if outcome.is_err() {
         // Why it failed is told, and not that this failed too.
         let _ = fs::remove_file(rt, new.as_path());
@@ -124,12 +124,7 @@ fn create_beside(rt: &HostRuntime, path: Path<'_>, mode: u32) -> io::Result<(Pat
 
 /// Writes bytes to a new file, gives it the owner and the permissions of the old one, and has all of it on
 /// the disk.
-fn finish(
-    _rt: &HostRuntime,
-    mut file: File,
-    old: Option<&Metadata>,
-    bytes: &[u8],
-) -> io::Result<()> {
+fn finish(mut file: File, old: Option<&Metadata>, bytes: &[u8]) -> io::Result<()> {
     file.write_all(bytes)?;
     if let Some(old) = old {
         let mode = old.permissions().mode();
