@@ -17,6 +17,8 @@ pub use Rattle.subst_language.proofs.CallingLemmas.{range_in_source}
 pub use Rattle.subst_language.proofs.CallingLemmas.{same_look_up}
 -- an answer under values that are bytes already, read as they are, is one under what the map has
 pub use Rattle.subst_language.proofs.CallingLemmas.{answer_as_read}
+-- the output of a source that gives bytes, under values that are bytes already, is these bytes
+pub use Rattle.subst_language.proofs.CallingLemmas.{given_as_read}
 -- outputs of several sources, with one more
 pub use Rattle.subst_language.proofs.Language.SeveralLemmas.{each_more}
 -- sources that give bytes, and more of them

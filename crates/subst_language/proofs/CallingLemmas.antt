@@ -158,6 +158,15 @@ pub answer_as_read : (s : List ℕ) (look : LookUp) (found : Option Answer)
     → IfSome found (Answers s (look_up_of (λ bytes. bytes) look)) → IfSome found (Answers s look)
 answer_as_read s look found h = subst (λ l. IfSome found (Answers s l)) (same_look_up look) h
 
+-- a source that gives the bytes x under a look-up whose values are bytes already: the output of its
+-- substitution, whose values are read as they are, is x
+pub given_as_read : {T : Type 0} (bytes_of : T → List ℕ) (s x : List ℕ) (look : LookUp)
+    (result : Result T Error) → Answers s look (Gives x)
+    → IfSome (answer_of bytes_of result) (Answers s (look_up_of (λ bytes. bytes) look))
+    → IfOk result (λ output. bytes_of output ≡ x)
+given_as_read bytes_of s x look result known h =
+    given bytes_of s x look result known (answer_as_read s look (answer_of bytes_of result) h)
+
 -- a source without dollars and backslashes gives itself, whatever the look-up
 pub plain_answer : (s : List ℕ) (look : LookUp) → All IsPlain s → Answers s look (Gives s)
 plain_answer s look each =

@@ -9,6 +9,7 @@ pub mod any_template;
 pub mod cache;
 pub mod config;
 pub mod filled;
+pub mod greeting;
 pub mod launcher;
 pub mod layered;
 pub mod letter;

@@ -18,6 +18,8 @@ mod expected;
 #[cfg(test)]
 mod filled;
 #[cfg(test)]
+mod greeting;
+#[cfg(test)]
 mod launcher;
 #[cfg(test)]
 mod layered;

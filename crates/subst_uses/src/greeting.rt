@@ -1,0 +1,40 @@
+//! A greeting: a map of one name, and a contract that says what is greeted.
+
+ghost use Rattle.std.specs.Prelude.{◌≡◌, ◌++◌, codes, IfOk, string_bytes};
+
+use std::alloc::Global;
+use subst::{Error, VariableMap, substitute};
+
+/// The variable `name`.
+pub struct Guest<'g> {
+    pub name: &'g str,
+}
+
+impl<'a> VariableMap<'a> for Guest<'a> {
+    ghost use Rattle.std.specs.Prelude.{ℕ, List, Some, None, if◌then◌else◌, bytes_eq};
+
+    type Value = &'a str;
+
+    ghost Seen = { List ℕ };
+
+    ghost see = { λ v. v.now };
+
+    ghost look_up = { λ self key.
+        if bytes_eq key (codes "name") then Some self.name.now else None };
+
+    fn get(&'a self, key: &str) -> Option<&'a str> {
+        if key == "name" { Some(self.name) } else { None }
+    }
+}
+
+/// Returns `Hello`, the guest's name and an exclamation mark.
+///
+/// # Errors
+///
+/// When allocation fails, and for nothing else.
+pub fn greet(alloc: Global, guest: &Guest<'_>) -> Result<String, Error>
+    ensures { IfOk result (λ greeting. string_bytes greeting
+        ≡ codes "Hello " ++ (guest.now.name.now ++ codes "!")) }
+{
+    substitute(alloc, "Hello $name!", guest)
+}
