@@ -64,7 +64,7 @@ class SubstError(ValueError):
     """A source that is refused. Its text is the library's, as 'No such variable: $name'.
 
     What is at fault is source[position:position + length]: a str is counted in characters, bytes in bytes. Its line and
-    column count from 1, columns as a terminal has them; they are None where the source isn't UTF-8. The highlighting is
+    column count from 1, columns as a terminal has them, a tab as one; they are None where the source isn't UTF-8. The highlighting is
     that line with carets below what is at fault, and is empty where the source isn't UTF-8 or the line is wider than 60
     columns. The row is the index of the one that fill_in_each can't fill in, and None for other calls.
     """
@@ -149,7 +149,7 @@ def missing(source: AnyStr, variables: Mapping[AnyStr, AnyStr]) -> List[Variable
     return _missing(_Source(source), variables)
 
 
-# What include/subst.h declares
+# What subst.h declares
 
 _DONE, _REFUSED, _OUT_OF_MEMORY, _ROOM_TOO_SMALL, _NOT_UTF8 = 0, 1, 4, 5, 6
 
@@ -187,11 +187,8 @@ _ARGUMENTS = {
     'subst_missing': [*_BYTES, *_PAIRS, *_VARIABLES, _SIZE, _FAULT],
     'subst_fault_text': [*_BYTES, *_PAIRS, *_ROOM, _SIZE],
     'subst_fault_highlighting': [*_BYTES, *_PAIRS, *_ROOM, _SIZE],
-}
-# Those that the first libraries don't have.
-_LATER_ARGUMENTS = {
-    'subst_version': [],
     'subst_place': [*_BYTES, ctypes.c_size_t, _SIZE, _SIZE],
+    'subst_version': [],
 }
 
 
@@ -335,7 +332,7 @@ def _error(source: _Source, pairs: 'ctypes.Array[_Pair]', fault: _Fault, row: Op
 def _place(source: _Source, offset: int) -> Tuple[Optional[int], Optional[int]]:
     """The line and the column at an offset, where the source is UTF-8."""
     line, column = ctypes.c_size_t(), ctypes.c_size_t()
-    if not hasattr(_library, 'subst_place') or _library.subst_place(*source.lent, offset, line, column) != _DONE:
+    if _library.subst_place(*source.lent, offset, line, column) != _DONE:
         return None, None
     return line.value, column.value
 
@@ -358,19 +355,16 @@ def _loaded(path: str) -> ctypes.CDLL:
         library = ctypes.CDLL(path)
     except OSError as error:
         raise ImportError(f'the library of subst is not loaded: {error} (SUBST_LIBRARY can name it)') from error
-    for name, arguments in {**_ARGUMENTS, **_LATER_ARGUMENTS}.items():
-        if hasattr(library, name):
-            call = getattr(library, name)
-            call.argtypes, call.restype = arguments, ctypes.c_uint32
-        elif name in _ARGUMENTS:
+    for name, arguments in _ARGUMENTS.items():
+        if not hasattr(library, name):
             raise ImportError(f'{path} is not the library of subst: it has no {name}')
+        call = getattr(library, name)
+        call.argtypes, call.restype = arguments, ctypes.c_uint32
     return library
 
 
-def _version() -> Optional[str]:
+def _version() -> str:
     """The version of the library, which it tells as one number, 102 for 0.1.2."""
-    if not hasattr(_library, 'subst_version'):
-        return None
     number = _library.subst_version()
     return f'{number // 10000}.{number // 100 % 100}.{number % 100}'
 

@@ -26,7 +26,6 @@ CASES = {'InvalidEscapeSequence': FaultKind.INVALID_ESCAPE_SEQUENCE,
          'MissingClosingBrace': FaultKind.MISSING_CLOSING_BRACE,
          'NoSuchVariable': FaultKind.NO_SUCH_VARIABLE}
 KINDS = {'required': VariableKind.REQUIRED, 'optional': VariableKind.OPTIONAL, 'default': VariableKind.WITH_DEFAULT}
-HAS_PLACES = hasattr(subst._library, 'subst_place')
 
 
 def load_tests(_loader, tests, _pattern):
@@ -48,7 +47,7 @@ class Case(unittest.TestCase):
         return caught.exception
 
     def expect_place(self, error, line, column):
-        self.assertEqual((error.line, error.column), (line, column) if HAS_PLACES else (None, None))
+        self.assertEqual((error.line, error.column), (line, column))
 
 
 class Results(Case):
@@ -365,10 +364,7 @@ class Outside(Case):
     def test_names(self):
         for name in subst.__all__:
             self.assertTrue(hasattr(subst, name) and getattr(subst, name).__doc__, name)
-        if hasattr(subst._library, 'subst_version'):
-            self.assertRegex(subst.__version__, r'^\d+\.\d+\.\d+$')
-        else:
-            self.assertIsNone(subst.__version__)
+        self.assertRegex(subst.__version__, r'^\d+\.\d+\.\d+$')
 
 
 def rows(name, kind=None):
