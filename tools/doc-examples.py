@@ -1,9 +1,10 @@
 #!/usr/bin/env python3
-"""doc-examples.py program | output   Prints a program of the examples in the comments of the library, or what it prints.
+"""doc-examples.py program | map | output   Prints a program of the library's examples, the module of it that is the map
+of docs/CALLING.md, or what the program prints.
 
 An example is a block of Rust in a comment `///` of a crate below crates/subst. What it computes is its `output`, and its
-last line is a comment with the text of that. The first example is the function `greet` of README.md. It is used by
-tools/other-repository.sh.
+last line is a comment with the text of that. The first examples are the function `greet` of README.md, the environment
+as README.md reads it, and the map of docs/CALLING.md. It is used by tools/other-repository.sh.
 """
 import pathlib
 import re
@@ -13,17 +14,52 @@ TOP = pathlib.Path(__file__).resolve().parent.parent
 HEAD = '''//! The examples of the library, one after the other.
 #![tactic(auto)]
 
+use layered::Layered;
+use std::env;
 use subst::{ByteTemplate, Env, NoSubstitution, Template, TemplateBuf};
 use subst::{json, laws, substitute_bytes, substitute_bytes_into, substitute_bytes_owned, substitute_into};
 use subst::{substitute_owned, toml};
+
+mod layered;
+
+'''
+# A function that fills in from the environment, as README.md reads it.
+FROM_ENVIRONMENT = '''
+fn from_environment(rt: &HostRuntime) -> anyhow::Result<String> {
+    let alloc = rt.alloc();
+    let variables = %s;
+    Ok(substitute(alloc, "Hello ${GREETED:world}!", &variables)?)
+}
+'''
+# A function that fills in from the map of docs/CALLING.md.
+FROM_LAYERS = '''
+fn from_layers(alloc: Global) -> Result<String, Error> {
+    let mut first = BTreeMap::new(alloc);
+    first.insert(String::from_str(alloc, "name")?, "world")?;
+    let mut second = BTreeMap::new(alloc);
+    second.insert(String::from_str(alloc, "name")?, "nobody")?;
+    second.insert(String::from_str(alloc, "greeting")?, "Hello")?;
+    substitute(alloc, "$greeting $name!", &Layered { first: &first, second: &second })
+}
 '''
 # The type of the errors of the calls of a crate.
 ERRORS = {'subst_json': 'json::Error', 'subst_toml': 'toml::Error'}
 
 
+def found(path, pattern):
+    """The first part of a page that an expression is for."""
+    return re.search(pattern, (TOP / path).read_text(encoding='utf-8'), re.M | re.S)[1]
+
+
 def of_readme():
-    """The first block of Rust in README.md."""
-    return re.search(r'^```rust\n(.*?)^```$', (TOP / 'README.md').read_text(encoding='utf-8'), re.M | re.S)[1]
+    """The first block of Rust in README.md, and a function with its words for the environment."""
+    environment = found('README.md', r'`(Env::from_pairs\([^`]*)`')
+    return found('README.md', r'^```rust\n(.*?)^```$') + FROM_ENVIRONMENT % environment
+
+
+def own_map():
+    """The block of docs/CALLING.md with a map."""
+    return found('docs/CALLING.md', r'^```rust\n((?:(?!```).)*?^impl(?:(?!```).)*?VariableMap.*?)^```$')
 
 
 def crates():
@@ -52,16 +88,18 @@ def function(number, crate, lines):
 
 def program():
     numbered = list(enumerate(examples()))
-    calls = ['greet', *(f'example_{number}' for number, _ in numbered)]
-    prints = ''.join(f'    println!(rt; "{{}}", {call}(rt.alloc())?)?;\n' for call in calls)
-    functions = ''.join(function(number, crate, lines) for number, (crate, lines, _) in numbered)
+    calls = ['greet(rt.alloc())', 'from_environment(&rt)', 'from_layers(rt.alloc())',
+             *(f'example_{number}(rt.alloc())' for number, _ in numbered)]
+    prints = ''.join(f'    println!(rt; "{{}}", {call}?)?;\n' for call in calls)
+    functions = FROM_LAYERS + ''.join(function(number, crate, lines) for number, (crate, lines, _) in numbered)
     return f'{HEAD}{of_readme()}{functions}\nfn main(rt: HostRuntime) -> anyhow::Result<()> {{\n{prints}    Ok(())\n}}\n'
 
 
 def output():
-    return ''.join(f'{line}\n' for line in ['Hello world!', *(printed for _, _, printed in examples())])
+    return ''.join(f'{line}\n' for line in [*(['Hello world!'] * 3), *(printed for _, _, printed in examples())])
 
 
-if sys.argv[1:] not in (['program'], ['output']):
-    sys.exit('usage: tools/doc-examples.py program | output')
-sys.stdout.write(program() if sys.argv[1] == 'program' else output())
+PRINTED = {'program': program, 'map': own_map, 'output': output}
+if len(sys.argv) != 2 or sys.argv[1] not in PRINTED:
+    sys.exit(f'usage: tools/doc-examples.py {" | ".join(PRINTED)}')
+sys.stdout.write(PRINTED[sys.argv[1]]())

@@ -14,7 +14,7 @@ import sys
 
 sys.dont_write_bytecode = True
 import proved
-from running import CRATES, TOP, Wrong, run_tests
+from running import CRATES, TOP, Wrong, run_tests, version
 
 # The columns of a line of code or of a definition, of a line of a clause, and of a line of a page.
 CODE, CLAUSE, PROSE = 110, 100, 120
@@ -30,9 +30,21 @@ QUOTING = ('README.md', 'docs/CALLING.md', 'docs/CONTRIBUTING.md')
 NOT_QUOTED = '<!-- not quoted -->'
 # Blocks that are no part of the source, by a line of theirs.
 RUN_ELSEWHERE = {'fn greet(alloc: Global) -> Result<String, Error> {': 'tools/other-repository.sh proves and runs it'}
+# What tries the blocks of a page, by their language, where these are neither quoted nor commands that tools/pages.py runs.
+TRIED = {('README.md', 'python'): 'tools/c-library.sh', ('README.md', 'c'): 'tools/c-library.sh',
+         ('docs/C.md', 'python'): 'tools/c-library.sh', ('docs/C.md', 'c'): 'tools/c-library.sh',
+         ('docs/MEMORY.md', 'text'): 'tools/refuse-memory.py',
+         **{(f'docs/decisions/{name}.md', 'rust'): 'tools/forms.py'
+            for name in ('01-message-in-place', '03-never-value', '04-writers-that-fail', '26-c-no-handles',
+                        '28-two-kinds-of-maps')}}
+# Blocks that nothing tries: a grammar, a drawing, and parts of programs.
+UNTRIED = (('docs/DEFINITIONS.md', 'ebnf'), ('docs/DESIGN.md', ''), ('docs/decisions/26-c-no-handles.md', 'c'),
+           ('docs/decisions/02-errors-by-hand.md', 'rust'), ('docs/decisions/29-out-of-memory-with-cause.md', 'rust'))
+# The pages whose indented blocks are lines of these files.
+INDENTED = {'docs/CONTRIBUTING.md': ('tests/data/*.tsv', 'crates/*/must-fail/*')}
 # The folders whose files pages name, and the ends of names of files.
 FOLDERS = ('.ci', 'benches', 'completions', 'crates', 'docs', 'fuzz', 'include', 'python', 'tests', 'tools')
-ENDINGS = ('.rt', '.antt', '.py', '.sh', '.md', '.c', '.h', '.tsv', '.edit', '.txt', '.1')
+ENDINGS = ('.rt', '.antt', '.py', '.sh', '.md', '.c', '.h', '.in', '.tsv', '.edit', '.txt', '.1')
 # Files that pages name in backticks and that a reader makes.
 READERS = ('greet.c', 'greet.py')
 # What stands for any name in the name of a file.
@@ -226,8 +238,9 @@ def places():
 
 
 def is_a_place(span):
-    """Whether the path of a file or a folder has these last segments, also without the ending of a module."""
-    names = [span.rstrip('/') + ending for ending in ('', '.rt', '.antt')]
+    """Whether the path of a file or a folder has these last segments, also without the ending of a module, or of a file
+    that the version is put into."""
+    names = [span.rstrip('/') + ending for ending in ('', '.rt', '.antt', '.in')]
     patterns = [pattern for name in names for pattern in (name, ANY_NAME.sub('*', name))]
     return any(fnmatch.fnmatchcase(f'/{place}', f'*/{pattern}') for pattern in patterns for place in places())
 
@@ -288,6 +301,18 @@ def test_items_that_pages_name_exist():
 def test_lemmas_that_pages_name_exist():
     expect_none(f'{path}:{line}: {wrong}' for path in pages() if path != MADE
                 for line, span in spans(path) if (wrong := wrong_lemmas(span)))
+
+
+def test_change_log_begins_with_the_version():
+    first = re.search(r'^## ([^\s,]+)', read('CHANGELOG.md'), re.MULTILINE)
+    expect_none([] if first[1] == version() else [f'CHANGELOG.md: it begins with {first[1]}, and not {version()}'])
+
+
+def test_no_other_file_has_the_version():
+    other = matching('README.md', 'docs/*', 'include/*', 'tools/*', 'python/*', 'completions/*', 'crates/*.rt', 'crates/*/stdout')
+    pattern = re.compile(rf'(?<![\d.]){re.escape(version())}(?![\d.])')
+    expect_none(f'{path}:{line_at(read(path), match.start())}: the version stands here too'
+                for path in other for match in pattern.finditer(read(path)))
 
 
 # Quoted code
@@ -357,6 +382,83 @@ def unquoted(path):
 
 def test_quoted_code_is_that_of_the_source():
     expect_none(wrong for path in QUOTING for wrong in unquoted(path))
+
+
+def is_tried(path, language):
+    """Whether a block is quoted, run by tools/pages.py, or tried by a script that names its page."""
+    if language == 'console' or path in QUOTING and language in ('rust', 'antt'):
+        return True
+    script = TRIED.get((path, language))
+    return script is not None and path.split('/')[-1].split('.')[0] in read(script)
+
+
+def test_blocks_of_pages_are_tried():
+    blocks = ((path, block) for path in pages() for block in FENCE.finditer(read(path)) if path != MADE)
+    expect_none(f'{path}:{line_at(read(path), block.start())}: nothing tries this block' for path, block in blocks
+                if not is_tried(path, block[1]) and (path, block[1]) not in UNTRIED)
+
+
+def indented(path):
+    """The indented blocks of a page, each with its line and its lines."""
+    for block in re.finditer(r'(?:^    +\S.*\n)+', prose(read(path)), re.MULTILINE):
+        yield line_at(read(path), block.start()), stripped(block[0])
+
+
+def test_indented_lines_are_those_of_files():
+    expect_none(f'{path}:{line}: not in {" or ".join(patterns)}: {lines[0]}'
+                for path, patterns in INDENTED.items() for line, lines in indented(path)
+                if not any(is_quoted(lines, stripped(read(file))) for file in matching(*patterns)))
+
+
+# Numbers
+
+# Small numbers as pages write them.
+NUMBERS = 'no one two three four five six seven eight nine ten eleven twelve thirteen fourteen fifteen'.split()
+
+
+def numbers():
+    """Numbers of pages that other files have: a page, an expression for them, and what they are."""
+    names = re.findall(r'^(\w+)', read('crates.txt'), re.MULTILINE)
+    library = names[names.index('subst_error'):names.index('subst') + 1]
+    yield 'README.md', r'first (\w+) crates', [NUMBERS[len(library)]]
+    for path in matching('tests/data/*.tsv'):
+        records = [line for line in read(path).splitlines() if line and not line.startswith('#')]
+        yield 'tests/data/README.md', rf'`{os.path.basename(path)}` \| ([\d,]+) \|', [f'{len(records):,}']
+    for word in ('bytes', 'json', 'toml'):
+        rows = re.findall(rf'^{word}\t', read('tests/data/rows.tsv'), re.MULTILINE)
+        yield 'tests/data/README.md', rf'`{word}` \((\d+)(?: rows)?\)', [str(len(rows))]
+    measured = re.search(r'^\| variables, 1 MiB \|(?: [\d.]+M \|){2} ([\d.]+)M \|(?: [\d.]+M \|){2} ([\d.]+)M \|',
+                         read('benches/RESULTS.md'), re.MULTILINE)
+    yield 'README.md', r'takes ([\d.]+) million instructions, in the Rust crate\s([\d.]+)', \
+        [f'{float(number):.2f}' for number in measured.groups()]
+
+
+def wrong_numbers():
+    for path, pattern, wanted in numbers():
+        found = re.search(pattern, read(path))
+        if found is None or list(found.groups()) != wanted:
+            is_ = 'nothing' if found is None else found[0]
+            yield f'{path}: it says {is_}, and it is {", ".join(wanted)}'
+
+
+def test_numbers_that_pages_name_are_right():
+    expect_none(wrong_numbers())
+
+
+# Options
+
+
+def wrong_options(span):
+    """The options that something in backticks gives to a script, and that the script doesn't have."""
+    command = re.match(r'(?:python3 |bash )?((?:tools|benches|fuzz)/[\w.-]+)((?: \S+)*)$', span)
+    if command is None or not (TOP / command[1]).is_file():
+        return []
+    return [word for word in command[2].split() if word.startswith('--') and word not in read(command[1])]
+
+
+def test_options_that_pages_name_exist():
+    expect_none(f'{path}:{line}: `{span}`: there is no {word}' for path in pages() if path != MADE
+                for line, span in spans(path) for word in wrong_options(span))
 
 
 # What is proved

@@ -21,18 +21,19 @@ import tarfile
 import tempfile
 
 sys.dont_write_bytecode = True
-from running import SECONDS, TOP, Wrong, expect_that, path_of, run_tests
+from running import SECONDS, TOP, Wrong, expect_that, path_of, run_tests, version
 
 # The crates of the programs, by the names under which these are installed.
 CRATES = {'subst': 'subst_command', 'subst_filter': 'subst_filter'}
-PAGES = [TOP / f'docs/{name}.1' for name in CRATES]
+PAGES = [TOP / f'docs/{name}.1.in' for name in CRATES]
 COMPLETIONS = TOP / 'completions'
-# What tools/install puts below a prefix beside the programs, each with the file that it is a copy of.
-COPIES = {**{f'share/man/man1/{page.name}': page for page in PAGES},
+# What tools/install puts below a prefix beside the programs, each with the file that it is a copy of, but for the version.
+COPIES = {**{f'share/man/man1/{page.stem}': page for page in PAGES},
           'share/bash-completion/completions/subst': COMPLETIONS / 'subst.bash',
           'share/zsh/site-functions/_subst': COMPLETIONS / '_subst',
           'share/fish/vendor_completions.d/subst.fish': COMPLETIONS / 'subst.fish'}
-EXAMPLES = ('docs/ENVSUBST.md', 'docs/SECURITY.md', 'docs/subst.1', 'docs/subst_filter.1')
+# The files over which a document's examples are run.
+GIVEN = {'README.md': {'shop.env': 'name=Shop\n', 'web.conf.in': 'server {\nserver_name ${name};\nroot /srv/$app;\n}\n'}}
 # What is written in a page for these characters.
 ROFF = {r'\(aq': "'", r'\(ha': '^', r'\-': '-', r'\e': '\\'}
 # What an example of a document prints after each command, so that outputs are told apart.
@@ -60,11 +61,6 @@ def is_there(program, without):
     return True
 
 
-@functools.lru_cache(None)
-def version():
-    return re.search(r'^## ([^\s,]+)', (TOP / 'CHANGELOG.md').read_text(encoding='utf-8'), re.MULTILINE)[1]
-
-
 # What is installed
 
 
@@ -75,7 +71,13 @@ def expect_files(folder, sources):
     for path, source in sources.items():
         made = pathlib.Path(folder, path).read_bytes()
         made = gzip.decompress(made) if path.endswith('.gz') else made
-        expect_that(made == pathlib.Path(source).read_bytes(), f'{folder}/{path} is not {source}')
+        expect_that(made == with_version(pathlib.Path(source)), f'{folder}/{path} is not {source}')
+
+
+def with_version(source):
+    """The bytes of a file, in those named .in with the version."""
+    data = source.read_bytes()
+    return data.replace(b'@VERSION@', version().encode()) if source.suffix == '.in' else data
 
 
 def expect_that_programs_run(folder):
@@ -162,8 +164,9 @@ def test_deb_makes_the_same_package_again():
     if not (is_there('dpkg-deb', 'no package is made') and has_static_library()):
         return
     packages = [deb('first'), deb('other', env={**os.environ, 'TZ': 'Asia/Tokyo'}, preexec_fn=lambda: os.umask(0o77))]
-    paths = [os.path.abspath(f'{folder}/subst_{version()}_amd64.deb') for folder in ('first', 'other')]
-    expect_that(packages == paths, f'the packages are {packages} and not {paths}')
+    name = rf'subst_{re.escape(version())}(~\d+)?_amd64\.deb'
+    for folder, package in zip(('first', 'other'), packages):
+        expect_that(re.fullmatch(f'{os.path.abspath(folder)}/{name}', package), f'the package in {folder} is {package}')
     first, other = (pathlib.Path(package).read_bytes() for package in packages)
     expect_that(first == other, 'two packages of the same files are not the same')
     expect_that_all_can_read(packages[0])
@@ -282,16 +285,10 @@ def test_pages_have_no_warnings():
                 expect_that(end.returncode == 0 and not said, f'{program} ends with status {end.returncode}: {said}')
 
 
-def test_pages_have_the_version_of_the_change_log():
-    for page in PAGES:
-        title = page.read_text(encoding='utf-8').split('.TH ')[1].split('\n')[0]
-        expect_that(f'"subst {version()}"' in title, f'{page} is of another version than {version()}: {title}')
-
-
 def test_page_has_the_options_of_the_help():
-    text = (TOP / 'docs/subst.1').read_text(encoding='utf-8').replace(r'\-', '-')
+    text = (TOP / 'docs/subst.1.in').read_text(encoding='utf-8').replace(r'\-', '-')
     heads = '\n'.join(re.findall(r'^\.TP\n(\..*)', text, re.MULTILINE))
-    expect_same('docs/subst.1', set(re.findall(r'(?<![\w-])--?[a-zA-Z][\w-]*', heads)), words())
+    expect_same('docs/subst.1.in', set(re.findall(r'(?<![\w-])--?[a-zA-Z][\w-]*', heads)), words())
 
 
 # The examples
@@ -300,7 +297,7 @@ def test_page_has_the_options_of_the_help():
 def blocks(path):
     """The blocks of examples of a document, as lines."""
     text = (TOP / path).read_text(encoding='utf-8')
-    if not path.endswith('.1'):
+    if path.endswith('.md'):
         return re.findall(r'^```console\n(.*?)^```$', text, re.MULTILINE | re.DOTALL)
     found = re.findall(r'^\.EX\n(.*?)^\.EE$', text, re.MULTILINE | re.DOTALL)
     return [re.sub('|'.join(map(re.escape, ROFF)), lambda match: ROFF[match[0]], block) for block in found]
@@ -317,14 +314,21 @@ def examples(path):
     return [(command, ''.join(printed)) for command, printed in made]
 
 
+def documents():
+    """The documents that have examples, but docs/C.md, whose tools/c-library.sh runs over the library for C."""
+    paths = [str(path.relative_to(TOP)) for path in (TOP / 'README.md', *sorted((TOP / 'docs').rglob('*.*')))]
+    return [path for path in paths if path.endswith(('.md', '.1.in')) and path != 'docs/C.md' and blocks(path)]
+
+
 def examples_print_what_is_written(path):
     """Runs all examples of a document in one shell."""
     install('prefix')
     wanted = examples(path)
-    expect_that(wanted, 'there are no examples')
     script = 'exec 2>&1\n' + ''.join(f'{command}printf "{MARK}"\n' for command, _ in wanted)
     env = {'PATH': f"{os.path.abspath('prefix/bin')}:/usr/bin:/bin", 'LC_ALL': 'C.UTF-8'}
     with tempfile.TemporaryDirectory() as folder:
+        for name, text in GIVEN.get(path, {}).items():
+            pathlib.Path(folder, name).write_text(text, encoding='utf-8')
         printed = ran(['bash', '-c', script], cwd=folder, env=env).split(MARK)
     for (command, written), is_ in zip(wanted, printed):
         if is_ != written:
@@ -335,7 +339,7 @@ def examples_print_what_is_written(path):
 def tests():
     found = [(name[len('test_'):], it) for name, it in globals().items() if name.startswith('test_')]
     return [*found, *((f'examples_of_{path}', functools.partial(examples_print_what_is_written, path))
-                      for path in EXAMPLES)]
+                      for path in documents())]
 
 
 run_tests(tests(), CRATES.values())
