@@ -9,9 +9,9 @@ Without a value ${name?} gives nothing, and ${name:default} its default, which i
 each of \\ $ { } and :. Values are inserted as they are, and never read as templates.
 
 A source is str or bytes, and the names, the values and the result are of its type: another type is a TypeError, and
-nothing is converted. A str with lone surrogates, which UTF-8 doesn't have, is a UnicodeEncodeError. A source that is
-refused is a SubstError, and a lack of memory is a MemoryError. Calls share nothing, so they may be made in several
-threads, of which each lets the others run.
+nothing is converted. All items of a map are passed, and no default of the map is asked for. A str with lone
+surrogates, as os.environ may have, is a UnicodeEncodeError. A source that is refused is a SubstError, and a lack of
+memory is a MemoryError. Calls share nothing, so they may be made in several threads, of which each lets the others run.
 
 The work is done by the library libsubst.so.0: the one that the variable SUBST_LIBRARY of the environment names, or else
 the one beside this file, or two folders above it, where tools/install puts it, or the one that the loader finds.
@@ -27,28 +27,32 @@ __all__ = ['FaultKind', 'SubstError', 'Template', 'Variable', 'VariableKind',
 
 
 class FaultKind(enum.IntEnum):
-    """What is wrong with a source."""
+    """What is wrong with a source.
 
-    #: A backslash before a character that can't be escaped, or at the end of the source.
+    INVALID_ESCAPE_SEQUENCE: a backslash before a character that can't be escaped, or at the end of the source.
+    MISSING_VARIABLE_NAME: a placeholder with no name.
+    UNEXPECTED_CHARACTER: a character that can't follow the name of a placeholder in braces.
+    MISSING_CLOSING_BRACE: a placeholder whose opening brace is never closed.
+    NO_SUCH_VARIABLE: a variable that is needed and has no value.
+    """
+
     INVALID_ESCAPE_SEQUENCE = 1
-    #: A placeholder with no name.
     MISSING_VARIABLE_NAME = 2
-    #: A character that can't follow the name of a placeholder in braces.
     UNEXPECTED_CHARACTER = 3
-    #: A placeholder whose opening brace is never closed.
     MISSING_CLOSING_BRACE = 4
-    #: A variable that is needed and has no value.
     NO_SUCH_VARIABLE = 5
 
 
 class VariableKind(enum.IntEnum):
-    """What there is in the place of a variable without a value."""
+    """What there is in the place of a variable without a value.
 
-    #: $name or ${name}: the source is refused.
+    REQUIRED: $name or ${name}, and the source is refused.
+    OPTIONAL: ${name?}, nothing.
+    WITH_DEFAULT: ${name:default}, its default.
+    """
+
     REQUIRED = 0
-    #: ${name?}: nothing.
     OPTIONAL = 1
-    #: ${name:default}: its default.
     WITH_DEFAULT = 2
 
 
@@ -64,9 +68,10 @@ class SubstError(ValueError):
     """A source that is refused. Its text is the library's, as 'No such variable: $name'.
 
     What is at fault is source[position:position + length]: a str is counted in characters, bytes in bytes. Its line and
-    column count from 1, columns as a terminal has them, a tab as one; they are None where the source isn't UTF-8. The highlighting is
-    that line with carets below what is at fault, and is empty where the source isn't UTF-8 or the line is wider than 60
-    columns. The row is the index of the one that fill_in_each can't fill in, and None for other calls.
+    column count from 1, columns as a terminal has them, a tab as one; they are None where the source isn't UTF-8. The
+    highlighting is that line with carets below what is seen of the fault, and is empty where the source isn't UTF-8 or
+    the line is wider than 60 columns. The row is the index of the one that fill_in_each can't fill in, and None for
+    other calls.
     """
 
     def __init__(self, text: str, kind: FaultKind, position: int, length: int, line: Optional[int],

@@ -304,7 +304,8 @@ class Outside(Case):
 
     def test_out_of_memory(self):
         template = Template('$a')
-        names = [name for name in subst._ARGUMENTS if name not in ('subst_fault_text', 'subst_fault_highlighting')]
+        others = ('subst_fault_text', 'subst_fault_highlighting', 'subst_place', 'subst_version')
+        names = [name for name in subst._ARGUMENTS if name not in others]
         library = mock.Mock(**{f'{name}.return_value': 4 for name in names})
         with mock.patch.object(subst, '_library', library):
             for call in (lambda: subst.fill_in('', {}), lambda: subst.check(''), lambda: subst.variables(''),

@@ -3,9 +3,9 @@
 
 No contract says anything of options, files and messages, so these tests run the program as a shell would: each option,
 each message whole, templates of other programs, and, in tools/command_files.py, files that are written whole or not at
-all, and streams and system calls that fail. What is expected is worked out here, from docs/subst.1.in and not from a run.
-What needs strace, envsubst or a mount is left out, and said, where that isn't to be had. Each test prints a line, and
-the last line is 'N passed, M failed'.
+all, and streams and system calls that fail. What is expected is worked out here, from docs/subst.1.in and not from a
+run. What needs strace, envsubst or a mount is left out, and said, where that isn't to be had. Each test prints a line,
+and the last line is 'N passed, M failed'.
 """
 import errno
 import functools

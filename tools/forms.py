@@ -42,7 +42,8 @@ pub struct Both<'a, M, N> {
 FORMS = {
     '01-message-in-place': Form('', 'fn form::look: no proof'),
     '03-never-value': Form('use std::convert::AsStr;\n', 'fn form::NeverValueAsStr::as_str: proved'),
-    '04-writers-that-fail': Form('ghost use Rattle.std.specs.Prelude.{IsOk};\n\nuse std::fmt;\n', 'fn form::say: no proof'),
+    '04-writers-that-fail': Form('ghost use Rattle.std.specs.Prelude.{IsOk};\n\nuse std::fmt;\n',
+                                 'fn form::say: no proof'),
     '26-c-no-handles': Form('use std::alloc::Global;\n', 'error[cell-in-c]', ' staticlib'),
     '28-two-kinds-of-maps': Form(TWO_MAPS, 'impl form::BothMap: not proved; antt refuses `look_up-value`'),
 }

@@ -1,9 +1,9 @@
 #!/usr/bin/env python3
 """house.py   Checks what this repository asks of its own files, without running any of them.
 
-Widths of lines, that macros write no `impl`, lengths of pages, that what pages name exists, that code quoted in pages is
-that of the source, that docs/PROVED.md is what tools/proved.py makes, and that each lemma is cited. Each test prints a line, or what is wrong,
-each with its file and line, and the last line is 'N passed, M failed'.
+Widths of lines, that macros write no `impl`, lengths of pages, that what pages name exists, that blocks of pages are
+tried or quoted and numbers right, that docs/PROVED.md is what tools/proved.py makes, and that each lemma is cited. Each
+test prints a line, or what is wrong, each with its file and line, and the last line is 'N passed, M failed'.
 """
 import fnmatch
 import functools
@@ -30,7 +30,7 @@ QUOTING = ('README.md', 'docs/CALLING.md', 'docs/CONTRIBUTING.md')
 NOT_QUOTED = '<!-- not quoted -->'
 # Blocks that are no part of the source, by a line of theirs.
 RUN_ELSEWHERE = {'fn greet(alloc: Global) -> Result<String, Error> {': 'tools/other-repository.sh proves and runs it'}
-# What tries the blocks of a page, by their language, where these are neither quoted nor commands that tools/pages.py runs.
+# What tries the blocks of a page, by their language, that are neither quoted nor commands that tools/pages.py runs.
 TRIED = {('README.md', 'python'): 'tools/c-library.sh', ('README.md', 'c'): 'tools/c-library.sh',
          ('docs/C.md', 'python'): 'tools/c-library.sh', ('docs/C.md', 'c'): 'tools/c-library.sh',
          ('docs/MEMORY.md', 'text'): 'tools/refuse-memory.py',
@@ -309,7 +309,8 @@ def test_change_log_begins_with_the_version():
 
 
 def test_no_other_file_has_the_version():
-    other = matching('README.md', 'docs/*', 'include/*', 'tools/*', 'python/*', 'completions/*', 'crates/*.rt', 'crates/*/stdout')
+    other = matching('README.md', 'docs/*', 'include/*', 'tools/*', 'python/*', 'completions/*', 'crates/*.rt',
+                     'crates/*/stdout')
     pattern = re.compile(rf'(?<![\d.]){re.escape(version())}(?![\d.])')
     expect_none(f'{path}:{line_at(read(path), match.start())}: the version stands here too'
                 for path in other for match in pattern.finditer(read(path)))
