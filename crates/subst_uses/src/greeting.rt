@@ -6,6 +6,7 @@ use std::alloc::Global;
 use subst::{Error, VariableMap, substitute};
 
 /// The variable `name`.
+#[derive(Drop)]
 pub struct Guest<'g> {
     pub name: &'g str,
 }
