@@ -23,13 +23,10 @@ use subst::{substitute_owned, toml};
 mod layered;
 
 '''
-# A function that fills in from the environment, as README.md reads it.
-FROM_ENVIRONMENT = '''
-fn from_environment(rt: &HostRuntime) -> anyhow::Result<String> {
-    let alloc = rt.alloc();
+# The first lines of `main`, which fill in from the environment as README.md reads it.
+FROM_ENVIRONMENT = '''    let alloc = rt.alloc();
     let variables = %s;
-    Ok(substitute(alloc, "Hello ${GREETED:world}!", &variables)?)
-}
+    println!(rt; "{}", substitute(alloc, "Hello ${GREETED:world}!", &variables)?)?;
 '''
 # A function that fills in from the map of docs/CALLING.md.
 FROM_LAYERS = '''
@@ -52,9 +49,8 @@ def found(path, pattern):
 
 
 def of_readme():
-    """The first block of Rust in README.md, and a function with its words for the environment."""
-    environment = found('README.md', r'`(Env::from_pairs\([^`]*)`')
-    return found('README.md', r'^```rust\n(.*?)^```$') + FROM_ENVIRONMENT % environment
+    """The first block of Rust in README.md."""
+    return found('README.md', r'^```rust\n(.*?)^```$')
 
 
 def own_map():
@@ -88,11 +84,12 @@ def function(number, crate, lines):
 
 def program():
     numbered = list(enumerate(examples()))
-    calls = ['greet(rt.alloc())', 'from_environment(&rt)', 'from_layers(rt.alloc())',
-             *(f'example_{number}(rt.alloc())' for number, _ in numbered)]
-    prints = ''.join(f'    println!(rt; "{{}}", {call}?)?;\n' for call in calls)
+    calls = ['greet', 'from_layers', *(f'example_{number}' for number, _ in numbered)]
+    prints = FROM_ENVIRONMENT % found('README.md', r'`(Env::from_pairs\([^`]*)`')
+    prints += ''.join(f'    println!(rt; "{{}}", {call}(alloc)?)?;\n' for call in calls)
     functions = FROM_LAYERS + ''.join(function(number, crate, lines) for number, (crate, lines, _) in numbered)
-    return f'{HEAD}{of_readme()}{functions}\nfn main(rt: HostRuntime) -> anyhow::Result<()> {{\n{prints}    Ok(())\n}}\n'
+    main = f'\nfn main(rt: HostRuntime) -> anyhow::Result<()> {{\n{prints}    Ok(())\n}}\n'
+    return HEAD + of_readme() + functions + main
 
 
 def output():
