@@ -315,7 +315,7 @@ def examples(path):
 
 
 def documents():
-    """The documents that have examples, but docs/C.md, whose tools/c-library.sh runs over the library for C."""
+    """The documents that have examples, but docs/C.md: tools/c-library.sh runs its own over the library for C."""
     paths = [str(path.relative_to(TOP)) for path in (TOP / 'README.md', *sorted((TOP / 'docs').rglob('*.*')))]
     return [path for path in paths if path.endswith(('.md', '.1.in')) and path != 'docs/C.md' and blocks(path)]
 

@@ -1,6 +1,7 @@
 //! A greeting: a map of one name, and a contract that says what is greeted.
 
-ghost use Rattle.std.specs.Prelude.{◌≡◌, ◌++◌, codes, IfOk, string_bytes};
+ghost use Rattle.std.specs.Prelude.{◌≡◌, ◌++◌, None, codes, IfErr, IfOk, string_bytes};
+ghost use Rattle.subst.specs.ErrorFault.{error_fault};
 
 use std::alloc::Global;
 use subst::{Error, VariableMap, substitute};
@@ -34,8 +35,9 @@ impl<'a> VariableMap<'a> for Guest<'a> {
 ///
 /// When allocation fails, and for nothing else.
 pub fn greet(alloc: Global, guest: &Guest<'_>) -> Result<String, Error>
-    ensures { IfOk result (λ greeting. string_bytes greeting
+    ensures ok { IfOk result (λ greeting. string_bytes greeting
         ≡ codes "Hello " ++ (guest.now.name.now ++ codes "!")) }
+    ensures err { IfErr result (λ e. error_fault e ≡ None) }
 {
     substitute(alloc, "Hello $name!", guest)
 }
