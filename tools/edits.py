@@ -1,37 +1,38 @@
 #!/usr/bin/env python3
-"""edits.py [--all] [--quick] [CRATE | EDIT]..   Tries must-fail edits, many of them with one check.
+"""edits.py [--all] [CRATE | EDIT]..   Tries must-fail edits, many of them with one check.
 
-An edit, crates/X/must-fail/Y.edit or Y.edit.md, is a wrong program that the prover has to refuse. Without words these
-are the edits that `rt ci` leaves out, Y.edit.md, with --all all of them, or those that are named, by their files or by
-their crates. With --quick a crate is left out if its files are as they were when all its edits were last refused, and
-the others are taken to be proved.
+An edit, crates/X/must-fail/Y.edit.md, is a wrong program that the prover has to refuse. Those that end in .edit are
+for `rt ci`, and tried here only if they are named. Without words all edits are tried, but those of a crate whose sum
+is in tests/data/edits-refused.tsv: that of its files and its line in crates.txt, of what it uses, and of the kit.
+With --all these are tried too. A crate gets into that list, which nothing else writes, once all its edits are
+refused, and out of it with one that isn't.
 
-The crates are proved first, or kept work of `rt check` is trusted; nothing else may run over the tree meanwhile. Then
-edits of different functions are put into one copy of their crate, which is checked once. An edit is refused if the
-check refuses a function that it changes, by name, at something that it owes by its contract. An edit that isn't judged
-so, since its function waits for the proof of another one for example, is tried again, and at last alone, where any
-function may be the one that is refused. An edit that is proved fails the run. The last line is 'N passed, M failed'.
+The crates are proved first, over kept work; nothing else may run over the tree meanwhile. Then edits of different
+functions are put into one copy of their crate, which is checked once. An edit is refused if the check refuses a
+function that it changes, by name, at something that it owes by its contract. An edit that isn't judged so, since its
+function waits for the proof of another one for example, is tried again, and at last alone, where any function may be
+the one that is refused. An edit that is proved fails the run. The last line is 'N passed, M failed, K skipped':
+skipped are the edits of the crates in the list.
 """
 import argparse
 import collections
 import concurrent.futures
 import functools
 import hashlib
-import os
 import pathlib
 import re
-import shutil
 import subprocess
 import sys
 import tempfile
 
-TOP = pathlib.Path(__file__).resolve().parent.parent
-PARTS = ('src', 'specs', 'proofs')
-LANES = int(os.environ.get('RT_JOBS') or len(os.sched_getaffinity(0)))
+sys.dont_write_bytecode = True
+from prove import LANES, PARTS, copy_of, crates, prove_all, rt, with_those_below
+from running import CRATES, TOP, Wrong, end
+
+REFUSED = TOP / 'tests/data/edits-refused.tsv'
 # How many edits share a check at most, in each round.
-ROUNDS = (16, 16, 1)
-# The file in a crate's out/ that says of which files all edits were refused.
-STAMP = 'out/edits-refused'
+ROUNDS = (32, 32, 1)
+HEAD = '# Written by tools/edits.py alone: the crates whose edits were all refused, each with its sum.\n'
 
 FUNCTION = re.compile(r'^( *)(?:pub(?:\(\w+\))? )?(?:unsafe )?(?:extern "C" )?fn (\w+)', re.MULTILINE)
 # The head of an `impl` block: its parameters, a trait, if it has one, and a type.
@@ -43,6 +44,8 @@ WRITTEN = re.compile(r'^((?:note: .*\n)*)fn (\S+): not proved', re.MULTILINE)
 NOTED = re.compile(r'^note: src/\S+: it is not proved [^`]*\(`([^`]+)`\)', re.MULTILINE)
 # A goal that a written proof doesn't show, and the folder of the function.
 ERROR = re.compile(r'^(?:\./)?proofs/(\S+)/\w+\.antt:\d+:\d+: error: `([^`]+)`: (.*)', re.MULTILINE)
+# The last line of a check that isn't passed.
+ENDED = re.compile('^(?:logic=not-proved|only=)', re.MULTILINE)
 # What an open goal is told by, whatever function it is of.
 TOLD = re.compile(r'^(?:note: src/\S+: it is not proved .*|(?:\./)?proofs/\S+: error: .*)', re.MULTILINE)
 # A proof that names what the edit took away says little of a contract.
@@ -50,10 +53,6 @@ ONLY_NAMES = re.compile('has no field|is not in scope|has no `|was not admitted'
 # What a function owes: what it returns and leaves, what holds in each turn of a loop, of a value that it makes, and
 # before a call. Other goals are of numbers that fit, and of places that are in range.
 OWED = re.compile('returns|loop|clause|invariant|requires')
-
-
-class Wrong(Exception):
-    """Why the run can't go on."""
 
 
 class Edit:
@@ -109,91 +108,20 @@ def name_of(block):
     return ''.join(word[0].upper() + word[1:] if word else 'Ref' for word in words if word not in parameters)
 
 
-# Copies, and proofs of the crates themselves
-
-
-def libraries():
-    """The crates of crates.txt, each with those of them that it uses."""
-    lines = [line.partition('#')[0] for line in (TOP / 'crates.txt').read_text(encoding='utf-8').splitlines()]
-    rows = [(words[0].split()[0], words[2].split()) for line in lines if (words := line.partition(':'))[1]]
-    names = {name for name, _ in rows}
-    return {name: [it for it in uses if it in names] for name, uses in rows}
-
-
-def with_those_below(names, uses):
-    """These crates and all that they use, each after those that it uses."""
-    found = []
-    for name in names:
-        found += [it for it in [*with_those_below(uses[name], uses), name] if it not in found]
-    return found
-
-
-def rt(crate, *words):
-    """Runs `rt` in the folder of a crate, by one process."""
-    return subprocess.run(['rt', *words, '--jobs=1'], cwd=crate, stdin=subprocess.DEVNULL, stdout=subprocess.PIPE,
-                          stderr=subprocess.STDOUT, encoding='utf-8', errors='replace')
-
-
-def copy_of(name, room, uses):
-    """A copy of a crate over its kept work, with links to the files that a check leaves as they are."""
-    (room / 'crates').mkdir()
-    shutil.copy(TOP / 'crates.txt', room)
-    for below in uses:
-        (room / 'crates' / below / 'src').mkdir(parents=True)
-    links = '-al' if room.stat().st_dev == TOP.stat().st_dev else '-a'
-    for below in with_those_below([name], uses):
-        shutil.rmtree(room / 'crates' / below)
-        subprocess.run(['cp', links, TOP / 'crates' / below, room / 'crates' / below], check=True)
-    crate = room / 'crates' / name
-    for part in PARTS:
-        if (crate / part).is_dir():
-            shutil.rmtree(crate / part)
-            shutil.copytree(TOP / 'crates' / name / part, crate / part)
-    return crate
-
-
-def prove(name, is_used, uses):
-    """Proves a crate over what is kept, and builds the library that those above it need. It does so in a copy, since no
-    two runs of `rt` work over one library at a time, and puts the work in the place of what was kept."""
-    with tempfile.TemporaryDirectory() as room:
-        crate, kept = copy_of(name, pathlib.Path(room), uses), TOP / 'crates' / name / 'out'
-        for verb in ['check', 'lib'] if is_used else ['check']:
-            ran = rt(crate, verb)
-            if ran.returncode != 0:
-                raise Wrong(f'{name} is not proved, so no edit of it can be tried:\n{ran.stdout[-3000:]}')
-        if kept.is_dir():
-            shutil.move(kept, pathlib.Path(room) / 'before')
-        shutil.move(crate / 'out', kept)
-
-
-def prove_all(names, uses):
-    """Proves crates, each once those that it uses are proved."""
-    wanted = with_those_below(names, uses)
-    used = {below for name in wanted for below in uses[name]}
-    with concurrent.futures.ThreadPoolExecutor(LANES) as lanes:
-        running, done = {}, set()
-        while len(done) < len(wanted):
-            for name in wanted:
-                if name not in running and done.issuperset(uses[name]):
-                    running[name] = lanes.submit(prove, name, name in used, uses)
-            left = [it for name, it in running.items() if name not in done]
-            concurrent.futures.wait(left, return_when=concurrent.futures.FIRST_COMPLETED)
-            for name, it in running.items():
-                if it.done() and name not in done:
-                    it.result()
-                    done.add(name)
-
-
 # Checks of edits
 
 
 def check(edits, uses):
-    """What `rt check` says of a crate with these edits, and whether it is proved."""
+    """What `rt check` says of a crate with these edits, and whether it is proved. Of several edits it is asked for the
+    functions that they change alone, unless it knows one by another name."""
+    names = sorted({name for edit in edits for name in edit.functions}) if len(edits) > 1 else []
     with tempfile.TemporaryDirectory() as room:
         crate = copy_of(edits[0].crate, pathlib.Path(room), uses)
         for edit in edits:
             edit.apply(crate)
-        ran = rt(crate, 'check')
+        ran = rt(crate, 'check', *(f'--only={name}' for name in names))
+        if names and ran.returncode == 2:
+            ran = rt(crate, 'check')
     return ran.stdout, ran.returncode == 0
 
 
@@ -214,8 +142,8 @@ def verdicts(edits, uses):
     except Wrong as wrong:
         return [(False, str(wrong))] if len(edits) == 1 else [None for _ in edits]
     if is_proved:
-        return [(False, 'PROVED') for _ in edits]
-    if 'logic=not-proved' not in said:
+        return [(False, 'PROVED')] if len(edits) == 1 else [None for _ in edits]
+    if not ENDED.search(said):
         return [(False, f'no verdict:\n{said[-3000:]}')] if len(edits) == 1 else [None for _ in edits]
     goals = goals_of(said)
     found = []
@@ -265,54 +193,66 @@ def try_all(edits, uses):
 # Which edits
 
 
-def sum_of(name):
-    """A sum of the files of a crate that its edits go by."""
-    folders = [TOP / 'crates' / name / part for part in (*PARTS, 'must-fail')]
-    made = hashlib.sha256()
-    for file in (it for folder in folders for it in sorted(folder.rglob('*')) if it.is_file()):
-        made.update(f'{file.relative_to(TOP)}\n'.encode() + file.read_bytes())
+def sum_of(name, uses, kit):
+    """The sum of what the edits of a crate go by."""
+    lines, made = (TOP / 'crates.txt').read_text(encoding='utf-8'), hashlib.sha256(kit)
+    for crate in with_those_below([name], uses):
+        made.update(re.search(rf'^{crate}\b[^#\n]*', lines, re.MULTILINE)[0].encode())
+        folders = [CRATES / crate / part for part in (*PARTS, *['must-fail'] * (crate == name))]
+        for file in (it for folder in folders for it in sorted(folder.rglob('*')) if it.is_file()):
+            made.update(f'\n{file.relative_to(TOP)}\n'.encode() + file.read_bytes())
     return made.hexdigest()
 
 
-def stamp_of(name):
-    path = TOP / 'crates' / name / STAMP
-    return path.read_text(encoding='ascii') if path.is_file() else ''
+def read_list():
+    """The crates all of whose edits were refused, each with its sum."""
+    lines = REFUSED.read_text(encoding='ascii').splitlines() if REFUSED.is_file() else []
+    return dict(line.split('\t') for line in lines if not line.startswith('#'))
 
 
-def edits_in(name, endings):
-    return [it for it in sorted((TOP / 'crates' / name / 'must-fail').glob('*')) if it.name.endswith(endings)]
+def write_list(sums):
+    REFUSED.write_text(HEAD + ''.join(f'{name}\t{it}\n' for name, it in sorted(sums.items())), encoding='ascii')
 
 
-def chosen(options, names):
-    """The files of the edits that the words ask for."""
-    endings = ('.edit', '.edit.md') if options.all or options.words else '.edit.md'
-    words = options.words or [name for name in names if not options.quick or stamp_of(name) != sum_of(name)]
-    files = []
-    for word in words:
-        files += edits_in(word, endings) if word in names else [pathlib.Path(word).resolve()]
-    return files
+def file_of(word):
+    """The file of an edit that is named."""
+    path = pathlib.Path(word).resolve()
+    if path.parent.name != 'must-fail' or not path.is_file():
+        raise Wrong(f'{word} is neither a crate nor a must-fail edit')
+    return path
+
+
+def run(options):
+    """Tries the edits that are asked for, keeps the list, and returns the words that they are counted under."""
+    uses, before = crates(), read_list()
+    kit = subprocess.run(['rt', 'version'], check=True, stdout=subprocess.PIPE).stdout
+    files = {name: sorted((CRATES / name / 'must-fail').glob('*.edit.md')) for name in uses}
+    sums = {name: sum_of(name, uses, kit) for name in uses if files[name]}
+    named = [file_of(word) for word in options.words if word not in uses]
+    asked = [name for name in sums if name in options.words or not options.words]
+    whole = [name for name in asked if options.all or options.words or before.get(name) != sums[name]]
+    edits = [Edit(path) for path in dict.fromkeys([*named, *(it for name in whole for it in files[name])])]
+    prove_all(dict.fromkeys(edit.crate for edit in edits), uses)
+    found = try_all(edits, uses)
+    failed = {edit.crate for edit in edits if not found[edit][0]}
+    after = {**before, **{name: sums[name] for name in whole}}
+    after = {name: it for name, it in after.items() if name in sums and name not in failed}
+    if after != before:
+        write_list(after)
+    skipped = sum(len(files[name]) for name in asked if name not in whole)
+    return ['passed' if refused else 'failed' for refused, _ in found.values()] + ['skipped'] * skipped
 
 
 def main():
     parser = argparse.ArgumentParser(description=__doc__.partition('   ')[2].partition('\n')[0])
     parser.add_argument('--all', action='store_true')
-    parser.add_argument('--quick', action='store_true')
     parser.add_argument('words', nargs='*')
-    options = parser.parse_args()
-    uses = libraries()
-    sums = {name: sum_of(name) for name in uses}
-    edits = [Edit(path) for path in chosen(options, uses)]
     try:
-        prove_all([] if options.quick else dict.fromkeys(edit.crate for edit in edits), uses)
+        end(run(parser.parse_args()))
     except Wrong as wrong:
-        sys.exit(f'{wrong}\n0 passed, 1 failed')
-    found = try_all(edits, uses)
-    for name in {edit.crate for edit in edits} if not options.words else ():
-        if all(refused for edit, (refused, _) in found.items() if edit.crate == name):
-            (TOP / 'crates' / name / STAMP).write_text(sums[name], encoding='ascii')
-    failed = sum(not refused for refused, _ in found.values())
-    print(f'{len(found) - failed} passed, {failed} failed')
-    sys.exit(failed > 0)
+        print(wrong)
+        end(['failed'])
 
 
-main()
+if __name__ == '__main__':
+    main()
