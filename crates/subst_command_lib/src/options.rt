@@ -267,13 +267,12 @@ fn error(alloc: Global, message: &str) -> Result<Error, AllocError> {
 
 /// Returns the words that there are.
 fn command<'a>(alloc: Global) -> Result<Command<'a>, AllocError> {
-    let command = Command::new(alloc, "subst")
+    let mut command = Command::new(alloc, "subst")
         .version(subst_version::TEXT)
         .about("Fills in $name, ${name}, ${name:default} and ${name?} in files.");
-    let command = with_variables(alloc, command)?;
-    let command = with_reading(alloc, command)?;
-    let command = with_writing(alloc, command)?;
-    let command = with_asking(alloc, command)?;
+    for row in &OPTIONS {
+        command = command.arg(row.to_arg(alloc)?)?;
+    }
     command.arg(
         Arg::new(alloc, "files")
             .value_name("FILE")
@@ -282,119 +281,142 @@ fn command<'a>(alloc: Global) -> Result<Command<'a>, AllocError> {
     )
 }
 
-/// Returns an option with a value.
-fn valued<'a>(alloc: Global, id: &'a str, value: &'a str, help: &'a str) -> Arg<'a> {
-    Arg::new(alloc, id)
-        .long(id)
-        .value_name(value)
-        .help(help)
-        .action(ArgAction::Append)
+/// An option.
+struct Row {
+    /// What it stands under in the help.
+    heading: &'static str,
+    long: &'static str,
+    short: Option<char>,
+    /// What its value is called, and what is done with that, if it has one.
+    takes: Option<(&'static str, ArgAction)>,
+    help: &'static str,
+    /// The options below that it can't stand with.
+    conflicts: &'static [&'static str],
 }
 
-/// Returns an option without a value.
-fn flag<'a>(alloc: Global, id: &'a str, help: &'a str) -> Arg<'a> {
-    Arg::new(alloc, id)
-        .long(id)
-        .help(help)
-        .action(ArgAction::SetTrue)
+impl Row {
+    /// Returns the option as `clap` has it.
+    fn to_arg<'a>(&self, alloc: Global) -> Result<Arg<'a>, AllocError> {
+        let arg = Arg::new(alloc, self.long)
+            .long(self.long)
+            .help(self.help)
+            .help_heading(self.heading);
+        with_value(with_short(arg, self.short), self.takes).conflicts_with_all(self.conflicts)
+    }
 }
 
-/// Adds the options that give variables.
-fn with_variables<'a>(alloc: Global, command: Command<'a>) -> Result<Command<'a>, AllocError> {
-    let set = valued(
-        alloc,
-        "set",
-        "NAME=VALUE",
-        "Gives a variable; of one given twice, the last counts",
-    )
-    .short('s');
-    let values = valued(
-        alloc,
-        "values",
-        "FILE",
-        "Reads NAME=VALUE lines; all after the first '=' is the value",
-    )
-    .short('f');
-    let env = flag(alloc, "env", "Takes variables from the environment").short('e');
-    command
-        .arg(set.help_heading("Variables"))?
-        .arg(values.help_heading("Variables"))?
-        .arg(env.help_heading("Variables"))
+/// Returns an option that has a letter too, if there is one.
+fn with_short<'a>(arg: Arg<'a>, short: Option<char>) -> Arg<'a> {
+    match short {
+        Some(short) => arg.short(short),
+        None => arg,
+    }
 }
 
-/// Adds the options that say how a source is read.
-fn with_reading<'a>(alloc: Global, command: Command<'a>) -> Result<Command<'a>, AllocError> {
-    let bytes = flag(
-        alloc,
-        "bytes",
-        "Takes any bytes, where otherwise text is in UTF-8",
-    )
-    .conflicts_with("json")?
-    .conflicts_with("toml")?;
-    let json = flag(alloc, "json", "Fills in the strings of a JSON document").conflicts_with(
-        "toml",
-    )?;
-    let toml = flag(alloc, "toml", "Fills in the strings of a TOML document");
-    let only = valued(
-        alloc,
-        "only",
-        "NAMES",
-        "Takes $NAME and ${NAME} of these names, and all else as text",
-    )
-    .conflicts_with("envsubst")?;
-    let envsubst = flag(
-        alloc,
-        "envsubst",
-        "Takes what envsubst would fill in, and all else as text",
-    );
-    command
-        .arg(bytes.help_heading("Reading"))?
-        .arg(json.help_heading("Reading"))?
-        .arg(toml.help_heading("Reading"))?
-        .arg(only.help_heading("Reading"))?
-        .arg(envsubst.help_heading("Reading"))
+/// Returns an option that takes a value, if there is a name of it, and otherwise a flag.
+fn with_value<'a>(arg: Arg<'a>, takes: Option<(&'a str, ArgAction)>) -> Arg<'a> {
+    match takes {
+        Some((name, action)) => arg.value_name(name).action(action),
+        None => arg.action(ArgAction::SetTrue),
+    }
 }
 
-/// Adds the options that say where to write.
-fn with_writing<'a>(alloc: Global, command: Command<'a>) -> Result<Command<'a>, AllocError> {
-    let output = valued(
-        alloc,
-        "output",
-        "FILE",
-        "Writes to a file, whole or not at all",
-    )
-    .short('o')
-    .action(ArgAction::Set)
-    .conflicts_with("in-place")?
-    .conflicts_with("check")?
-    .conflicts_with("names")?;
-    let in_place = flag(
-        alloc,
-        "in-place",
-        "Replaces each file by what it gives, whole or not at all",
-    )
-    .short('i')
-    .conflicts_with("check")?
-    .conflicts_with("names")?;
-    command
-        .arg(output.help_heading("Writing"))?
-        .arg(in_place.help_heading("Writing"))
-}
-
-/// Adds the options that ask about the sources.
-fn with_asking<'a>(alloc: Global, command: Command<'a>) -> Result<Command<'a>, AllocError> {
-    let check = flag(
-        alloc,
-        "check",
-        "Writes nothing, and reports the faults of every file",
-    )
-    .conflicts_with("names")?;
-    let names = flag(
-        alloc,
-        "names",
-        "Prints each name, where it is first used, and whether it is required",
-    );
-    command
-        .arg(check.help_heading("Asking"))?
-        .arg(names.help_heading("Asking"))
-}
+/// The options, in the order of the help.
+static OPTIONS: [Row; 12] = [
+    Row {
+        heading: "Variables",
+        long: "set",
+        short: Some('s'),
+        takes: Some(("NAME=VALUE", ArgAction::Append)),
+        help: "Gives a variable; of one given twice, the last counts",
+        conflicts: &[],
+    },
+    Row {
+        heading: "Variables",
+        long: "values",
+        short: Some('f'),
+        takes: Some(("FILE", ArgAction::Append)),
+        help: "Reads NAME=VALUE lines; all after the first '=' is the value",
+        conflicts: &[],
+    },
+    Row {
+        heading: "Variables",
+        long: "env",
+        short: Some('e'),
+        takes: None,
+        help: "Takes variables from the environment",
+        conflicts: &[],
+    },
+    Row {
+        heading: "Reading",
+        long: "bytes",
+        short: None,
+        takes: None,
+        help: "Takes any bytes, where otherwise text is in UTF-8",
+        conflicts: &["json", "toml"],
+    },
+    Row {
+        heading: "Reading",
+        long: "json",
+        short: None,
+        takes: None,
+        help: "Fills in the strings of a JSON document",
+        conflicts: &["toml"],
+    },
+    Row {
+        heading: "Reading",
+        long: "toml",
+        short: None,
+        takes: None,
+        help: "Fills in the strings of a TOML document",
+        conflicts: &[],
+    },
+    Row {
+        heading: "Reading",
+        long: "only",
+        short: None,
+        takes: Some(("NAMES", ArgAction::Append)),
+        help: "Takes $NAME and ${NAME} of these names, and all else as text",
+        conflicts: &["envsubst"],
+    },
+    Row {
+        heading: "Reading",
+        long: "envsubst",
+        short: None,
+        takes: None,
+        help: "Takes what envsubst would fill in, and all else as text",
+        conflicts: &[],
+    },
+    Row {
+        heading: "Writing",
+        long: "output",
+        short: Some('o'),
+        takes: Some(("FILE", ArgAction::Set)),
+        help: "Writes to a file, whole or not at all",
+        conflicts: &["in-place", "check", "names"],
+    },
+    Row {
+        heading: "Writing",
+        long: "in-place",
+        short: Some('i'),
+        takes: None,
+        help: "Replaces each file by what it gives, whole or not at all",
+        conflicts: &["check", "names"],
+    },
+    Row {
+        heading: "Asking",
+        long: "check",
+        short: None,
+        takes: None,
+        help: "Writes nothing, and reports the faults of every file",
+        conflicts: &["names"],
+    },
+    Row {
+        heading: "Asking",
+        long: "names",
+        short: None,
+        takes: None,
+        help: "Prints each name, where it is first used, and whether it is required",
+        conflicts: &[],
+    },
+];
