@@ -1,12 +1,12 @@
 //! Calls over bytes and their templates.
 
 use crate::calls::{Shown, again, clone, say_bytes, say_end, tell};
+use crate::marks::{begin, end, say_out_of_memory};
 use std::alloc::{AllocError, Global};
 use std::mem;
 use subst::error::{ExpandError, ParseError};
 use subst::steps::{Reads, Turns};
 use subst::{ByteTemplate, ByteTemplateBuf, Error, substitute_bytes, substitute_bytes_owned};
-use subst_testing::calls::{begin, end, say_out_of_memory};
 use subst_testing::variables::{ByteValues, byte_values};
 
 /// A default in a default, escapes, and a variable.

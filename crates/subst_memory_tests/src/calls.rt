@@ -1,10 +1,10 @@
 //! Calls between marks, and what is shown of them.
 
+use crate::marks::{begin, end, say_out_of_memory};
 use std::alloc::AllocError;
 use subst::Error;
 use subst::error::{ExpandError, NoSuchVariable, ParseError};
 use subst_testing::answers::told_fault;
-use subst_testing::calls::{begin, end, say_out_of_memory};
 
 /// Makes a call, by the name that it has in `docs/MEMORY.md`, and once more if what came matches the pattern
 /// of out of memory. Shows what the call is lent before it and after it, and what it gives. An empty line is
@@ -126,6 +126,7 @@ impl Shown for ExpandError {
 
 impl Shown for NoSuchVariable {
     fn show(&self, rt: &HostRuntime, word: &str) {
-        let _ = rt.println(format_args!("{word} {}: {self}", self.position));
+        let (position, name) = (self.position, &self.name);
+        let _ = rt.println(format_args!("{word} {position}: NoSuchVariable {name}"));
     }
 }

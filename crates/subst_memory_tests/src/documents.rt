@@ -1,9 +1,9 @@
 //! Calls over JSON and TOML.
 
 use crate::calls::{Shown, again, say, say_end, tell};
+use crate::marks::{begin, end, say_out_of_memory};
 use std::alloc::{AllocError, Global};
 use subst::{Error, json, toml as filled};
-use subst_testing::calls::{begin, end, say_out_of_memory};
 use subst_testing::variables::texts;
 
 /// A tree of each kind, in its compact form.

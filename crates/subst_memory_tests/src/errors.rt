@@ -5,10 +5,10 @@ ghost use Rattle.subst.specs.ErrorFault.{error_fault};
 ghost use Rattle.subst.specs.Fault as fault;
 
 use crate::calls::{Shown, again, clone, say_end, tell};
+use crate::marks::{begin, end, say_out_of_memory};
 use std::alloc::{AllocError, Global};
 use subst::Error;
 use subst::error::{ExpandError, MissingVariableName, NoSuchVariable, underline};
-use subst_testing::calls::{begin, end, say_out_of_memory};
 
 /// The fault of a variable that isn't there.
 pub fn absent(alloc: Global) -> Result<NoSuchVariable, AllocError> {

@@ -1,8 +1,8 @@
 //! Calls that make templates for texts of other tools.
 
 use crate::calls::{Shown, again, say_end, tell};
+use crate::marks::{begin, end, say_out_of_memory};
 use subst::laws;
-use subst_testing::calls::{begin, end, say_out_of_memory};
 
 /// A text with variables, and with dollars and a backslash that are text.
 const TEXT: &str = "a $b \\ $1 ${c} $";

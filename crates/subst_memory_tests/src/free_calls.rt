@@ -1,6 +1,7 @@
 //! Calls of the library that take no memory.
 
 use crate::calls::{say, say_bytes};
+use crate::marks::{begin, end};
 use indexmap::IndexMap;
 use std::alloc::{AllocError, Global};
 use std::collections::{BTreeMap, HashMap};
@@ -9,7 +10,6 @@ use subst::{
     ByteTemplate, ByteTemplateBuf, Env, Error, NoSubstitution, Template, TemplateBuf, VariableMap,
     laws, substitute_bytes_owned, substitute_owned,
 };
-use subst_testing::calls::{begin, end};
 
 /// Looks `name` and `absent` up.
 fn get<'a, M: VariableMap<'a>>(rt: &HostRuntime, call: &str, variables: &'a M)
@@ -33,29 +33,45 @@ fn key(alloc: Global) -> Result<String, AllocError> {
     String::from_str(alloc, "name")
 }
 
-fn get_of_maps_with_own_keys(rt: &HostRuntime) -> Result<(), AllocError> {
-    let mut tree = BTreeMap::new(rt.alloc());
-    tree.insert(key(rt.alloc())?, "world")?;
-    get(rt, "get of BTreeMap<String>", &tree);
-    let mut hash = HashMap::new(rt.alloc());
-    hash.insert(key(rt.alloc())?, "world")?;
-    get(rt, "get of HashMap<String>", &hash);
-    let mut index = IndexMap::new(rt.alloc());
-    index.insert(key(rt.alloc())?, "world")?;
-    get(rt, "get of IndexMap<String>", &index);
+fn get_of_tree_with_own_keys(rt: &HostRuntime) -> Result<(), AllocError> {
+    let mut map = BTreeMap::new(rt.alloc());
+    map.insert(key(rt.alloc())?, "world")?;
+    get(rt, "get of BTreeMap<String>", &map);
     Ok(())
 }
 
-fn get_of_maps_with_lent_keys(rt: &HostRuntime) -> Result<(), AllocError> {
-    let mut tree = BTreeMap::new(rt.alloc());
-    tree.insert("name", "world")?;
-    get(rt, "get of BTreeMap<&str>", &tree);
-    let mut hash = HashMap::new(rt.alloc());
-    hash.insert("name", "world")?;
-    get(rt, "get of HashMap<&str>", &hash);
-    let mut index = IndexMap::new(rt.alloc());
-    index.insert("name", "world")?;
-    get(rt, "get of IndexMap<&str>", &index);
+fn get_of_hash_map_with_own_keys(rt: &HostRuntime) -> Result<(), AllocError> {
+    let mut map = HashMap::new(rt.alloc());
+    map.insert(key(rt.alloc())?, "world")?;
+    get(rt, "get of HashMap<String>", &map);
+    Ok(())
+}
+
+fn get_of_index_map_with_own_keys(rt: &HostRuntime) -> Result<(), AllocError> {
+    let mut map = IndexMap::new(rt.alloc());
+    map.insert(key(rt.alloc())?, "world")?;
+    get(rt, "get of IndexMap<String>", &map);
+    Ok(())
+}
+
+fn get_of_tree_with_lent_keys(rt: &HostRuntime) -> Result<(), AllocError> {
+    let mut map = BTreeMap::new(rt.alloc());
+    map.insert("name", "world")?;
+    get(rt, "get of BTreeMap<&str>", &map);
+    Ok(())
+}
+
+fn get_of_hash_map_with_lent_keys(rt: &HostRuntime) -> Result<(), AllocError> {
+    let mut map = HashMap::new(rt.alloc());
+    map.insert("name", "world")?;
+    get(rt, "get of HashMap<&str>", &map);
+    Ok(())
+}
+
+fn get_of_index_map_with_lent_keys(rt: &HostRuntime) -> Result<(), AllocError> {
+    let mut map = IndexMap::new(rt.alloc());
+    map.insert("name", "world")?;
+    get(rt, "get of IndexMap<&str>", &map);
     Ok(())
 }
 
@@ -167,8 +183,12 @@ fn steps_and_laws(rt: &HostRuntime) {
 }
 
 pub fn calls(rt: &HostRuntime) -> Result<(), Error> {
-    get_of_maps_with_own_keys(rt)?;
-    get_of_maps_with_lent_keys(rt)?;
+    get_of_tree_with_own_keys(rt)?;
+    get_of_hash_map_with_own_keys(rt)?;
+    get_of_index_map_with_own_keys(rt)?;
+    get_of_tree_with_lent_keys(rt)?;
+    get_of_hash_map_with_lent_keys(rt)?;
+    get_of_index_map_with_lent_keys(rt)?;
     get_of_env(rt)?;
     get(rt, "get of NoSubstitution", &NoSubstitution);
     templates(rt)?;

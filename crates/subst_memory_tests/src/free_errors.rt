@@ -3,6 +3,7 @@
 use crate::calls::{Shown, say};
 use crate::errors::{absent, no_name};
 use crate::fakes::{Drip, Trickle};
+use crate::marks::{begin, end};
 use crate::runs::{status_of_run, words_of};
 use std::alloc::AllocError;
 use std::fmt::{Display, Write};
@@ -16,7 +17,6 @@ use subst_filter_lib::device::standard::{FromReader, ToWriter};
 use subst_filter_lib::device::{ByteInput, ByteOutput};
 use subst_filter_lib::program::end_with;
 use subst_filter_lib::run_error::RunError;
-use subst_testing::calls::{begin, end};
 
 const ESCAPE: InvalidEscapeSequence = InvalidEscapeSequence {
     position: 3,
@@ -38,16 +38,18 @@ fn unexpected() -> UnexpectedCharacter {
     }
 }
 
-/// Prints the text of a value, for which there is room.
+/// Writes the text of a value, for which there is room, and prints whether that is all of it.
 pub fn display<D: Display>(rt: &HostRuntime, call: &str, value: &D) -> Result<(), AllocError> {
+    let text = value.to_string(rt.alloc())?;
     let mut room = String::with_capacity(rt.alloc(), 128)?;
     begin(rt, call);
     let is_written = write!(room, "{value}").is_ok();
     end(rt);
+    let is_whole = is_written && room == text;
     say(
         rt,
-        if is_written { "gives" } else { "fails after" },
-        room.as_str(),
+        "gives",
+        if is_whole { "its text" } else { "another text" },
     );
     Ok(())
 }
@@ -203,12 +205,13 @@ fn refusal(rt: &HostRuntime) -> Result<RunError, AllocError> {
 
 fn end_with_refusal(rt: &HostRuntime) -> Result<(), AllocError> {
     let refusal = refusal(rt)?;
+    let text = format!(in rt.alloc(); "subst: {refusal}\n  $\n  ^\n")?;
     let mut drip = Drip::new(rt.alloc())?;
     begin(rt, "end_with");
     let status = end_with(&refusal, &mut ToWriter::new(&mut drip));
     end(rt);
-    let _ = rt.println(format_args!("status {status}"));
-    drip.show(rt, "gives");
+    let is_whole = drip.taken.as_slice() == text.as_bytes() && drip.flushed == text.len();
+    let _ = rt.println(format_args!("status {status}, all of its text: {is_whole}"));
     Ok(())
 }
 

@@ -1,6 +1,7 @@
 //! Calls that append to an output that is lent, with hardly any room in it and with enough.
 
 use crate::calls::{Shown, again, say, say_end, tell};
+use crate::marks::{begin, end, say_out_of_memory};
 use crate::{bytes, texts};
 use std::alloc::{AllocError, Global};
 use subst::error::{
@@ -10,7 +11,6 @@ use subst::{
     ByteTemplate, ByteTemplateBuf, Error, Template, TemplateBuf, laws, substitute_bytes_into,
     substitute_into,
 };
-use subst_testing::calls::{begin, end, say_out_of_memory};
 use subst_testing::variables;
 
 /// Room for what an output begins with, and no more.
@@ -23,7 +23,8 @@ impl Shown for ExpandIntoError<'_> {
     fn show(&self, rt: &HostRuntime, word: &str) {
         match self {
             ExpandIntoError::NoSuchVariable(fault) => {
-                let _ = rt.println(format_args!("{word} {}: {fault}", fault.position));
+                let (position, name) = (fault.position, fault.name);
+                let _ = rt.println(format_args!("{word} {position}: NoSuchVariable {name}"));
             }
             ExpandIntoError::OutOfMemory(fault) => fault.show(rt, word),
         }

@@ -1,11 +1,11 @@
 //! Calls that list the variables of templates, and those that a map has nothing for.
 
 use crate::calls::{Shown, again, say, say_end, tell};
+use crate::marks::{begin, end, say_out_of_memory};
 use crate::{bytes, texts};
 use std::alloc::AllocError;
 use subst::error::NoSuchVariable;
 use subst::{ByteTemplate, ByteTemplateBuf, Error, Template, TemplateBuf, Variable};
-use subst_testing::calls::{begin, end, say_out_of_memory};
 use subst_testing::variables::{byte_values, texts as text_values};
 
 /// Names that are missing: one twice, and two in a default.

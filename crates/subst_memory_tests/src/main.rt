@@ -12,6 +12,7 @@ mod free_calls;
 mod free_errors;
 mod into;
 mod lists;
+mod marks;
 mod refusals;
 mod runs;
 mod texts;

@@ -3,11 +3,11 @@
 use crate::calls::{Shown, again, say, say_end, tell};
 use crate::documents::{VARIABLES, json_tree, toml_tree};
 use crate::free_errors::display;
+use crate::marks::{begin, end, say_out_of_memory};
 use std::alloc::AllocError;
 use std::fmt::Display;
 use std::ops::Range;
 use subst::{Error, json, toml as filled};
-use subst_testing::calls::{begin, end, say_out_of_memory};
 use subst_testing::variables::texts;
 
 /// A document with two members of one key. In the second one, and after it, is a refused string.

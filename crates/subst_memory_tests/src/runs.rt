@@ -2,6 +2,7 @@
 
 use crate::calls::{Shown, again, say, say_end, tell};
 use crate::fakes::{Drip, Trickle};
+use crate::marks::{begin, end, say_out_of_memory};
 use std::alloc::{AllocError, Global};
 use subst_filter_lib::device::standard::{FromReader, ToWriter};
 use subst_filter_lib::engine::{run_bytes, run_text};
@@ -9,7 +10,6 @@ use subst_filter_lib::program::run_program;
 use subst_filter_lib::run_error::RunError;
 use subst_filter_lib::status::OUT_OF_MEMORY;
 use subst_filter_lib::values::{Values, values_of_pairs, values_of_words};
-use subst_testing::calls::{begin, end, say_out_of_memory};
 use subst_testing::variables::{ByteValues, Texts, byte_values, texts};
 
 /// A sentence that needs a variable which isn't there.
@@ -24,10 +24,14 @@ impl Shown for Drip {
 
 impl Shown for RunError {
     fn show(&self, rt: &HostRuntime, word: &str) {
-        let _ = rt.println(format_args!("{word}: {self}"));
-        if let RunError::Subst(fault, highlighting) = self {
-            fault.show(rt, word);
-            let _ = rt.println(format_args!("{word} {highlighting:?}"));
+        match self {
+            RunError::Subst(fault, highlighting) => {
+                fault.show(rt, word);
+                let _ = rt.println(format_args!("{word} {highlighting:?}"));
+            }
+            _ => {
+                let _ = rt.println(format_args!("{word}: {self}"));
+            }
         }
     }
 }

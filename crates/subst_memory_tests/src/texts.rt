@@ -1,11 +1,11 @@
 //! Calls over texts and their templates.
 
 use crate::calls::{Shown, again, clone, say, say_end, tell};
+use crate::marks::{begin, end, say_out_of_memory};
 use std::alloc::{AllocError, Global};
 use std::mem;
 use subst::error::{ExpandError, ParseError};
 use subst::{Error, Template, TemplateBuf, laws, substitute, substitute_owned};
-use subst_testing::calls::{begin, end, say_out_of_memory};
 use subst_testing::variables::{Texts, texts};
 
 /// A default in a default, escapes, and a variable.

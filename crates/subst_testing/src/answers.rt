@@ -1,4 +1,4 @@
-//! Answers as texts: `gives Hello world!`, or `6..7: Missing variable name`.
+//! Answers as texts: `gives Hello world!`, or a fault by its kind, as `6..7: MissingVariableName`.
 
 use std::alloc::{AllocError, Global};
 use subst_error::{CharOrByte, Error};
@@ -23,11 +23,29 @@ fn place_of(fault: &Error) -> (usize, usize) {
     }
 }
 
-/// The range of a fault in its source, in byte offsets, and its text.
+/// The kind of a fault, and the name or the character that it names, as it stands in the source.
+fn told_kind(alloc: Global, fault: &Error) -> Result<String, AllocError> {
+    match fault {
+        Error::InvalidEscapeSequence(e) => match e.character {
+            Some(character) => format!(in alloc; "InvalidEscapeSequence \\{character}"),
+            None => String::from_str(alloc, "InvalidEscapeSequence at the end"),
+        },
+        Error::MissingVariableName(_) => String::from_str(alloc, "MissingVariableName"),
+        Error::UnexpectedCharacter(e) => {
+            format!(in alloc; "UnexpectedCharacter {}", e.character)
+        }
+        Error::MissingClosingBrace(_) => String::from_str(alloc, "MissingClosingBrace"),
+        Error::NoSuchVariable(e) => format!(in alloc; "NoSuchVariable {}", e.name),
+        Error::OutOfMemory(_) => String::from_str(alloc, "OutOfMemory"),
+    }
+}
+
+/// The range of a fault in its source, in byte offsets, and its kind.
 pub fn told_fault(alloc: Global, fault: &Error) -> Result<String, AllocError> {
     let (start, len) = place_of(fault);
     let end = start.saturating_add(len);
-    format!(in alloc; "{start}..{end}: {fault}")
+    let kind = told_kind(alloc, fault)?;
+    format!(in alloc; "{start}..{end}: {kind}")
 }
 
 /// What a call gives that fills in a text, or its fault.

@@ -1,6 +1,6 @@
-//! What tests of several crates share: variables of pairs, answers as texts, and marks of calls.
+//! What tests of several crates share: variables of pairs, answers as texts, and a fake reader and writer.
 #![tactic(auto)]
 
 pub mod answers;
-pub mod calls;
+pub mod fakes;
 pub mod variables;

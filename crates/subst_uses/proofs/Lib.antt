@@ -1,5 +1,3 @@
-pub mod LetterLemmas
-pub mod LettersLemmas
 pub mod LineLemmas
 pub mod LoaderLemmas
 pub mod NameLemmas

@@ -5,7 +5,7 @@ use Rattle.std.specs.List.{concat}
 use Rattle.subst.specs.Display.{display_of_error}
 use Rattle.subst.specs.Fault.{Fault}
 use Rattle.subst.specs.Highlighting.{highlighting_of}
-use Rattle.subst.specs.Language.Answer.{Answer, Answers, Gives, Refuses}
+use Rattle.subst.specs.Language.Answer.{Answers, Gives}
 use Rattle.subst.specs.Language.BadItem.{HasFault}
 use Rattle.subst.specs.Language.LookUp.{LookUp}
 use Rattle.subst.specs.Language.Sentence.{Spells}
@@ -25,12 +25,6 @@ report_of file e s =
 -- the text is the report, where that is one text
 abbrev pub IsReport : List ℕ → Option Fault → List ℕ → List ℕ → Type 0
 IsReport file e s text = IfSome (report_of file e s) (λ shown. text ≡ shown)
-
--- what the source gives, or the report of a fault that it is refused for
-abbrev pub IsOutcome : (Answer → Type 0) → List ℕ → List ℕ → Outcome → Type 0
-IsOutcome IsAnswer file s (Output output) = IsAnswer (Gives (string_bytes output))
-IsOutcome IsAnswer file s (Report text) =
-    (f : Fault) × IsAnswer (Refuses f) × IsReport file (Some f) s (string_bytes text)
 
 -- the text is the reports of the faults, one for each, in their order
 abbrev pub AreReports : List ℕ → List Fault → List ℕ → List ℕ → Type 0

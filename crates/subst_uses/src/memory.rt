@@ -1,11 +1,11 @@
 //! The error of a call that can fail by memory alone.
 
 ghost use Rattle.std.specs.Prelude.{◌≡◌, None};
-ghost use Rattle.subst.specs.ErrorFault.{error_fault, expand_fault, parse_fault};
+ghost use Rattle.subst.specs.ErrorFault.{error_fault, expand_fault};
 
 use std::alloc::AllocError;
 use subst::Error;
-use subst::error::{ExpandError, ParseError};
+use subst::error::ExpandError;
 
 /// Returns what an error of substitution says where it states no fault.
 pub fn of_substituting(e: Error) -> AllocError
@@ -13,16 +13,6 @@ pub fn of_substituting(e: Error) -> AllocError
 {
     match e {
         Error::OutOfMemory(e) => e,
-        _ => unreachable!(),
-    }
-}
-
-/// Returns what an error of parsing says where it states no fault.
-pub fn of_parsing(e: ParseError) -> AllocError
-    requires { parse_fault e ≡ None }
-{
-    match e {
-        ParseError::OutOfMemory(e) => e,
         _ => unreachable!(),
     }
 }

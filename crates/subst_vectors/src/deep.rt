@@ -12,7 +12,7 @@ type Part<'a> = (usize, &'a str);
 
 const DEPTH: usize = 100_000;
 
-const UNCLOSED: &str = "1..2: Missing closing brace";
+const UNCLOSED: &str = "1..2: MissingClosingBrace";
 
 /// The parts, concatenated.
 fn repeated(alloc: Global, parts: &[Part<'_>]) -> Result<String, AllocError> {
@@ -58,7 +58,7 @@ fn expect_answer(rt: &impl Testing, parts: &[Part<'_>], want: &str) -> Result<()
 fn deep_defaults(rt: HostRuntime) -> Result<(), Fail> {
     let (opened, escape) = ((DEPTH, "${a:"), (1, "\\x"));
     let (closed, one_fewer) = ((DEPTH, "}"), (DEPTH - 1, "}"));
-    let refused = "400000..400002: Invalid escape sequence: \\x";
+    let refused = "400000..400002: InvalidEscapeSequence \\x";
     expect_answer(&rt, &[opened, closed], "gives ")?;
     expect_answer(&rt, &[opened, one_fewer], UNCLOSED)?;
     expect_answer(&rt, &[opened, escape, closed], refused)?;

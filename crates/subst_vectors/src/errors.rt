@@ -1,6 +1,6 @@
-//! Errors: their texts, what `{:?}` shows, equality, conversions and clones.
+//! Errors: what their texts and `{:?}` show, equality, conversions and clones. The texts are columns of rows.
 
-use crate::expect::{Testing, expect, expect_debug, expect_shown};
+use crate::expect::{Testing, expect_debug, expect_plain, expect_shown};
 use CharOrByte::{Byte, Char};
 use std::alloc::{AllocError, AllocFailed, Global};
 use std::fmt::{Debug, Display};
@@ -10,7 +10,6 @@ use subst::error::{
     MissingClosingBrace, MissingVariableName, NoSuchVariable, NoSuchVariableRef, ParseError,
     SubstituteIntoError, UnexpectedCharacter,
 };
-use subst::{ByteTemplate, NoSubstitution};
 
 #[test]
 fn characters_and_bytes(rt: HostRuntime) {
@@ -64,14 +63,12 @@ fn characters_are_quoted_as_debug_does(rt: HostRuntime) -> Result<(), Fail> {
     Ok(())
 }
 
-/// What may come after a name in braces.
-const AFTER_NAME: &str = "a closing brace ('}'), colon (':') or question mark ('?')";
-
 #[test]
 fn long_messages_are_cut(rt: HostRuntime) {
+    let longest = "a letter, a digit, an underscore, a brace, a colon or a dot here";
     let long = "a letter, a digit, an underscore, a brace, a colon, a dollar or a backslash";
     let cut = "a letter, a digit, an underscore, a brace, a colon, a dollar ...";
-    for (text, want) in [(AFTER_NAME, AFTER_NAME), (long, cut)] {
+    for (text, want) in [(longest, longest), (long, cut)] {
         let message = ExpectedCharacter::new(text);
         assert_eq!(rt; message.message(), want);
         assert!(rt; message == ExpectedCharacter::new(text));
@@ -102,11 +99,12 @@ fn unclosed(position: usize) -> ParseError {
     ParseError::from(MissingClosingBrace { position })
 }
 
-/// A fault has this text, in two parts, and so has the error that it becomes.
-fn expect_text(rt: &impl Testing, fault: ParseError, text: (&str, &str)) -> Result<(), AllocError> {
-    let text = format!(in rt.alloc(); "{}{}", text.0, text.1)?;
+/// A fault has the same text with each option, and so has the error that it becomes.
+fn expect_one_text(rt: &impl Testing, fault: ParseError) -> Result<(), AllocError> {
+    let error = Error::from(fault);
+    let text = fault.to_string(rt.alloc())?;
     expect_shown(rt, &fault, &text);
-    expect_shown(rt, &Error::from(fault), &text);
+    expect_shown(rt, &error, &text);
     Ok(())
 }
 
@@ -119,47 +117,30 @@ fn expect_equality(rt: &impl Testing, one: ParseError, other: ParseError, are_eq
 
 #[test]
 fn texts_and_equality_of_faults(rt: HostRuntime) -> Result<(), Fail> {
-    const ESCAPE: &str = "Invalid escape sequence: ";
-    const UNEXPECTED: &str = "Unexpected character: ";
-    let rows: &[(ParseError, (&str, &str))] = &[
-        (escape(6, None), (ESCAPE, "missing escape character")),
-        (escape(12, None), (ESCAPE, "missing escape character")),
-        (escape(6, Some(Char('w'))), (ESCAPE, "\\w")),
-        (escape(6, Some(Char('y'))), (ESCAPE, "\\y")),
-        (escape(6, Some(Byte(0x79))), (ESCAPE, "\\y")),
-        (escape(6, Some(Char('❤'))), (ESCAPE, "\\❤")),
-        (escape(10, Some(Char('（'))), (ESCAPE, "\\（")),
-        (escape(0, Some(Byte(0x80))), (ESCAPE, "\\0x80")),
-        (no_name(6, 1), ("Missing variable name", "")),
-        (no_name(6, 2), ("Missing variable name", "")),
-        (no_name(7, 1), ("Missing variable name", "")),
-        (
-            unexpected(6, Char(')'), "a dot"),
-            (UNEXPECTED, "')', expected a dot"),
-        ),
-        (
-            unexpected(6, Char(')'), "a tab"),
-            (UNEXPECTED, "')', expected a tab"),
-        ),
-        (
-            unexpected(6, Char('❤'), "a dot"),
-            (UNEXPECTED, "'❤', expected a dot"),
-        ),
-        (
-            unexpected(6, Byte(0xE2), "a dot"),
-            (UNEXPECTED, "'\\xE2', expected a dot"),
-        ),
-        (
-            unexpected(7, Byte(0xE2), "a dot"),
-            (UNEXPECTED, "'\\xE2', expected a dot"),
-        ),
-        (unclosed(6), ("Missing closing brace", "")),
-        (unclosed(7), ("Missing closing brace", "")),
-        (ParseError::from(AllocError), ("out of memory", "")),
+    let faults = [
+        escape(6, None),
+        escape(12, None),
+        escape(6, Some(Char('w'))),
+        escape(6, Some(Char('y'))),
+        escape(6, Some(Byte(0x79))),
+        escape(6, Some(Char('❤'))),
+        escape(10, Some(Char('（'))),
+        escape(0, Some(Byte(0x80))),
+        no_name(6, 1),
+        no_name(6, 2),
+        no_name(7, 1),
+        unexpected(6, Char(')'), "a dot"),
+        unexpected(6, Char(')'), "a tab"),
+        unexpected(6, Char('❤'), "a dot"),
+        unexpected(6, Byte(0xE2), "a dot"),
+        unexpected(7, Byte(0xE2), "a dot"),
+        unclosed(6),
+        unclosed(7),
+        ParseError::from(AllocError),
     ];
-    for (row, &(fault, text)) in rows.iter().enumerate() {
-        expect_text(&rt, fault, text)?;
-        for (other_row, &(other, _)) in rows.iter().enumerate() {
+    for (row, &fault) in faults.iter().enumerate() {
+        expect_one_text(&rt, fault)?;
+        for (other_row, &other) in faults.iter().enumerate() {
             expect_equality(&rt, fault, other, row == other_row);
         }
     }
@@ -228,39 +209,64 @@ fn absent(alloc: Global, position: usize, name: &str) -> Result<NoSuchVariable, 
     Ok(NoSuchVariable { position, name })
 }
 
+/// A value has the same text with each option, and `{:?}` shows this of it.
+fn expect_texts<D: Debug + Display>(
+    rt: &impl Testing,
+    value: &D,
+    debug: &str,
+) -> Result<(), AllocError> {
+    expect_debug(rt, value, debug);
+    expect_plain(rt, value)
+}
+
 #[test]
 fn texts_of_a_missing_variable(rt: HostRuntime) -> Result<(), Fail> {
-    let want = "No such variable: $name";
     let missing = absent(rt.alloc(), 8, "name")?;
-    expect_shown(&rt, &missing, want);
     let debug = "NoSuchVariable { position: 8, name: \"name\" }";
-    expect_debug(&rt, &missing, debug);
+    expect_texts(&rt, &missing, debug)?;
     let debug = "NoSuchVariable(NoSuchVariable { position: 8, name: \"name\" })";
     let missing = ExpandError::from(missing);
-    expect_shown(&rt, &missing, want);
-    expect_debug(&rt, &missing, debug);
-    let missing = Error::from(missing);
-    expect_shown(&rt, &missing, want);
-    expect_debug(&rt, &missing, debug);
+    expect_texts(&rt, &missing, debug)?;
+    expect_texts(&rt, &Error::from(missing), debug)?;
     Ok(())
 }
 
-/// Whether clones of a missing `name` at 8 are equal to this one: by themselves, and as each error.
-fn are_equal(alloc: Global, position: usize, name: &str) -> Result<[bool; 3], AllocError> {
-    let (one, other) = (absent(alloc, 8, "name")?, absent(alloc, position, name)?);
-    let are_names_equal = one.clone()? == other;
-    let (one, other) = (ExpandError::from(one), ExpandError::from(other));
-    let are_expansions_equal = one.clone()? == other;
-    let (one, other) = (Error::from(one), Error::from(other));
-    Ok([are_names_equal, are_expansions_equal, one.clone()? == other])
+/// Whether a clone of one value is equal to the other.
+fn is_clone_equal<T: Clone + PartialEq + Drop>(one: T, other: T) -> Result<bool, AllocError> {
+    let clone: Result<T, AllocError> = one.clone();
+    Ok(clone? == other)
+}
+
+/// Whether clones of a missing `name` at 8 are equal to this one.
+fn is_equal(alloc: Global, position: usize, name: &str) -> Result<bool, AllocError> {
+    is_clone_equal(absent(alloc, 8, "name")?, absent(alloc, position, name)?)
+}
+
+/// The same of the errors of expansion that they become.
+fn is_equal_in_expansion(alloc: Global, position: usize, name: &str) -> Result<bool, AllocError> {
+    let one = ExpandError::from(absent(alloc, 8, "name")?);
+    is_clone_equal(one, ExpandError::from(absent(alloc, position, name)?))
+}
+
+/// The same of the errors that they become.
+fn is_equal_as_error(alloc: Global, position: usize, name: &str) -> Result<bool, AllocError> {
+    let one = Error::from(absent(alloc, 8, "name")?);
+    is_clone_equal(one, Error::from(absent(alloc, position, name)?))
 }
 
 #[test]
 fn equality_and_clones_of_missing_variables(rt: HostRuntime) {
-    assert_eq!(rt; are_equal(rt.alloc(), 8, "name"), Ok([true; 3]));
-    assert_eq!(rt; are_equal(rt.alloc(), 7, "name"), Ok([false; 3]));
-    assert_eq!(rt; are_equal(rt.alloc(), 8, "game"), Ok([false; 3]));
-    assert_eq!(rt; are_equal(rt.alloc(), 8, ""), Ok([false; 3]));
+    let rows = [
+        (8, "name", true),
+        (7, "name", false),
+        (8, "game", false),
+        (8, "", false),
+    ];
+    for (position, name, want) in rows {
+        assert_eq!(rt; is_equal(rt.alloc(), position, name), Ok(want));
+        assert_eq!(rt; is_equal_in_expansion(rt.alloc(), position, name), Ok(want));
+        assert_eq!(rt; is_equal_as_error(rt.alloc(), position, name), Ok(want));
+    }
 }
 
 #[test]
@@ -289,26 +295,4 @@ fn errors_without_names_are_kept(rt: HostRuntime) {
     assert_eq!(rt; full.into_owned(alloc), Error::from(AllocError));
     let refused = SubstituteIntoError::from(unclosed(6));
     assert_eq!(rt; refused.into_owned(alloc), Error::from(unclosed(6)));
-}
-
-/// The text of an error that a call returns.
-fn told<T: Drop, E: Display + Drop>(
-    alloc: Global,
-    came: Result<T, E>,
-) -> Result<String, AllocError> {
-    match came {
-        Ok(_) => String::from_str(alloc, "no error"),
-        Err(e) => e.to_string(alloc),
-    }
-}
-
-#[test]
-fn texts_of_faults_of_templates(rt: HostRuntime) -> Result<(), Fail> {
-    let refused = ByteTemplate::from_slice(rt.alloc(), b"Hello ${name");
-    let refused = told(rt.alloc(), refused);
-    expect(&rt, "a parse", refused, "Missing closing brace");
-    let template = ByteTemplate::from_slice(rt.alloc(), b"Hello ${name}!")?;
-    let refused = told(rt.alloc(), template.expand(rt.alloc(), &NoSubstitution));
-    expect(&rt, "an expansion", refused, "No such variable: $name");
-    Ok(())
 }

@@ -17,6 +17,19 @@ pub fn expect<E: Debug + Drop>(rt: &impl Testing, of: &str, told: Result<String,
     }
 }
 
+/// The bytes that were told are those of this text.
+pub fn expect_bytes<E: Debug + Drop>(
+    rt: &impl Testing,
+    of: &str,
+    told: Result<Vec<u8>, E>,
+    want: &str,
+) {
+    match told {
+        Ok(told) => assert_eq!(rt; told.as_slice(), want.as_bytes(), "{of:?}"),
+        Err(e) => panic!(rt; "{of:?}: {e:?}"),
+    }
+}
+
 /// `{:?}` shows this of a value.
 pub fn expect_debug<T: Debug>(rt: &impl Testing, value: &T, want: &str) {
     let shown: Result<String, AllocError> = format!(in rt.alloc(); "{value:?}");
@@ -26,6 +39,13 @@ pub fn expect_debug<T: Debug>(rt: &impl Testing, value: &T, want: &str) {
 /// The text of a value, formatted with each of these options.
 fn shown<D: Display>(alloc: Global, value: &D) -> Result<String, AllocError> {
     format!(in alloc; "{value}|{value:>90}|{value:<90}|{value:*^90}|{value:.2}|{value:+#090.2}")
+}
+
+/// The text of a value is the same with whatever option it is formatted.
+pub fn expect_plain<D: Display>(rt: &impl Testing, value: &D) -> Result<(), AllocError> {
+    let plain = value.to_string(rt.alloc())?;
+    expect_shown(rt, value, &plain);
+    Ok(())
 }
 
 /// The text of a value is this, with whatever option it is formatted.

@@ -58,16 +58,21 @@ const NAMES: [(&str, usize); 3] = [("$x", 1), ("$5 for ${x}", 9), ("\\$$x $y", 3
 
 const VARIABLES: &str = "a=1,b_2=$a,1=one";
 
+fn given(alloc: Global, template: &str) -> Result<String, Error> {
+    substitute(alloc, template, &texts(alloc, VARIABLES)?)
+}
+
+fn given_bytes(alloc: Global, template: &[u8]) -> Result<Vec<u8>, Error> {
+    substitute_bytes(alloc, template, &byte_values(alloc, VARIABLES)?)
+}
+
 /// A template, and what it gives, both as a text and as bytes.
 fn told(alloc: Global, template: String, bytes: Vec<u8>) -> Result<String, Error> {
-    let given = substitute(alloc, template.as_str(), &texts(alloc, VARIABLES)?)?;
-    let given_bytes = substitute_bytes(alloc, &bytes, &byte_values(alloc, VARIABLES)?)?;
+    let (text, given_bytes) = (given(alloc, &template)?, given_bytes(alloc, &bytes)?);
     let is_same = template.as_bytes() == bytes.as_slice()
-        && given.as_bytes() == given_bytes.as_slice();
-    Ok(format!(in alloc;
-        "{template} gives {given}{}",
-        if is_same { "" } else { " not as bytes" }
-    )?)
+        && text.as_bytes() == given_bytes.as_slice();
+    let end = if is_same { "" } else { " not as bytes" };
+    Ok(format!(in alloc; "{template} gives {text}{end}")?)
 }
 
 fn told_of_envsubst(alloc: Global, text: &str) -> Result<String, Error> {

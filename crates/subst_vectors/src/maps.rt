@@ -1,13 +1,15 @@
 //! Each kind of map of variables.
 
-use crate::expect::{Testing, expect, expect_debug};
+use crate::expect::{Testing, expect, expect_bytes, expect_debug};
 use indexmap::IndexMap;
 use std::alloc::{AllocError, Global};
 use std::collections::{BTreeMap, HashMap};
 use std::convert::{AsSlice, AsStr};
 use std::test::Fail;
-use subst::{Env, NoSubstitution, VariableMap, substitute, substitute_bytes};
+use subst::{Env, Error, NoSubstitution, VariableMap, substitute, substitute_bytes};
 use subst_testing::answers::{told_bytes, told_text};
+use subst_uses::filled::by_strings;
+use subst_uses::maps::{bytes, texts};
 
 /// A source has this answer, as a text and as bytes.
 fn expect_answer<'a, M: VariableMap<'a>>(
@@ -42,6 +44,17 @@ where
     }
 }
 
+/// The callers of `subst_uses` for a kind of map give this of the first source.
+fn expect_callers(
+    rt: &impl Testing,
+    text: Result<String, Error>,
+    bytes: Result<Vec<u8>, Error>,
+    want: &str,
+) {
+    expect(rt, "a text", text, want);
+    expect_bytes(rt, "bytes", bytes, want);
+}
+
 fn key(alloc: Global) -> Result<String, AllocError> {
     String::from_str(alloc, "name")
 }
@@ -51,6 +64,8 @@ fn btree_map_that_owns_its_keys(rt: HostRuntime) -> Result<(), Fail> {
     let mut variables = BTreeMap::new(rt.alloc());
     variables.insert(key(rt.alloc())?, "world")?;
     expect_world(&rt, &variables);
+    let text = texts::btree_map(rt.alloc(), SOURCES[0], &variables);
+    expect(&rt, "a text", text, "Hello world!");
     Ok(())
 }
 
@@ -59,6 +74,9 @@ fn btree_map_whose_keys_are_lent(rt: HostRuntime) -> Result<(), Fail> {
     let mut variables = BTreeMap::new(rt.alloc());
     variables.insert("name", "world")?;
     expect_world(&rt, &variables);
+    let text = texts::btree_map_of_lent(rt.alloc(), SOURCES[0], &variables);
+    let bytes = bytes::btree_map_of_lent(rt.alloc(), SOURCES[0].as_bytes(), &variables);
+    expect_callers(&rt, text, bytes, "Hello world!");
     Ok(())
 }
 
@@ -67,6 +85,9 @@ fn hash_map_that_owns_its_keys(rt: HostRuntime) -> Result<(), Fail> {
     let mut variables = HashMap::new(rt.alloc());
     variables.insert(key(rt.alloc())?, "world")?;
     expect_world(&rt, &variables);
+    let text = texts::hash_map(rt.alloc(), SOURCES[0], &variables);
+    let bytes = bytes::hash_map(rt.alloc(), SOURCES[0].as_bytes(), &variables);
+    expect_callers(&rt, text, bytes, "Hello world!");
     Ok(())
 }
 
@@ -75,6 +96,9 @@ fn hash_map_whose_keys_are_lent(rt: HostRuntime) -> Result<(), Fail> {
     let mut variables = HashMap::new(rt.alloc());
     variables.insert("name", "world")?;
     expect_world(&rt, &variables);
+    let text = texts::hash_map_of_lent(rt.alloc(), SOURCES[0], &variables);
+    let bytes = bytes::hash_map_of_lent(rt.alloc(), SOURCES[0].as_bytes(), &variables);
+    expect_callers(&rt, text, bytes, "Hello world!");
     Ok(())
 }
 
@@ -83,6 +107,9 @@ fn index_map_that_owns_its_keys(rt: HostRuntime) -> Result<(), Fail> {
     let mut variables = IndexMap::new(rt.alloc());
     variables.insert(key(rt.alloc())?, "world")?;
     expect_world(&rt, &variables);
+    let text = texts::index_map(rt.alloc(), SOURCES[0], &variables);
+    let bytes = bytes::index_map(rt.alloc(), SOURCES[0].as_bytes(), &variables);
+    expect_callers(&rt, text, bytes, "Hello world!");
     Ok(())
 }
 
@@ -91,6 +118,9 @@ fn index_map_whose_keys_are_lent(rt: HostRuntime) -> Result<(), Fail> {
     let mut variables = IndexMap::new(rt.alloc());
     variables.insert("name", "world")?;
     expect_world(&rt, &variables);
+    let text = texts::index_map_of_lent(rt.alloc(), SOURCES[0], &variables);
+    let bytes = bytes::index_map_of_lent(rt.alloc(), SOURCES[0].as_bytes(), &variables);
+    expect_callers(&rt, text, bytes, "Hello world!");
     Ok(())
 }
 
@@ -152,7 +182,7 @@ fn names_in_an_environment_differ_in_case(rt: HostRuntime) -> Result<(), Fail> {
 fn no_substitution_has_no_value(rt: HostRuntime) {
     expect_answer(&rt, "", &NoSubstitution, "gives ");
     expect_answer(&rt, "${a:x}", &NoSubstitution, "gives x");
-    expect_answer(&rt, "$a", &NoSubstitution, "1..2: No such variable: $a");
+    expect_answer(&rt, "$a", &NoSubstitution, "1..2: NoSuchVariable a");
     expect_debug(&rt, &NoSubstitution, "NoSubstitution");
     expect_debug(&rt, &NoSubstitution.get("a"), "None");
 }

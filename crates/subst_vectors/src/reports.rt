@@ -1,6 +1,6 @@
 //! Where a report says that a fault is: its line and its column, both from 1.
 //!
-//! The range, the line and the underline are columns of `tests/data/rows.tsv`, which has all these sources.
+//! The range, the line and the underline are columns of `data/rows.tsv`, which has all these sources.
 
 ghost use Rattle.subst.specs.ErrorFault.{error_fault};
 ghost use Rattle.subst.specs.Range.{range_of, IsRangeIn};
@@ -131,17 +131,27 @@ fn expect_report(
 }
 
 #[test]
-fn ranges_made_by_hand(rt: HostRuntime) -> Result<(), Fail> {
+fn range_of_two_lines(rt: HostRuntime) -> Result<(), Fail> {
     let two_lines = Error::from(MissingVariableName {
         position: 1,
         len: 4,
     });
     let want = "1..5 of \"ab\"\n  ab\n   ^\n";
     expect_report(&rt, &two_lines, "ab\ncd", "1:2", want)?;
+    Ok(())
+}
+
+#[test]
+fn ranges_at_the_end_of_a_line(rt: HostRuntime) -> Result<(), Fail> {
     let line_end = Error::from(MissingClosingBrace { position: 2 });
     let want = "2..3 of \"ab\"\n  ab\n    \n";
     expect_report(&rt, &line_end, "ab\ncd", "1:3", want)?;
     expect_report(&rt, &line_end, "a\r\nb", "2:1", "2..3 of \"\"\n  \n  \n")?;
+    Ok(())
+}
+
+#[test]
+fn range_of_out_of_memory(rt: HostRuntime) -> Result<(), Fail> {
     let nowhere = Error::from(AllocError);
     expect_report(&rt, &nowhere, "a\nb", "1:1", "0..0 of \"a\"\n")?;
     Ok(())

@@ -1,0 +1,217 @@
+//! The program over its words, its pairs and its streams.
+
+use std::alloc::{AllocError, Global};
+use std::io::ErrorKind;
+use std::test::Fail;
+use subst::error::{
+    CharOrByte, Error, ExpectedCharacter, MissingVariableName, NoSuchVariable, UnexpectedCharacter,
+};
+use subst_filter_lib::device::standard::{FromReader, ToWriter};
+use subst_filter_lib::program::run_program;
+use subst_testing::fakes::{Drip, Fault, Trickle};
+
+fn words(alloc: Global, texts: &[&str]) -> Result<Vec<String>, AllocError> {
+    let mut words = Vec::new(alloc);
+    for text in texts {
+        words.push(String::from_str(alloc, text)?)?;
+    }
+    Ok(words)
+}
+
+fn pairs(alloc: Global, texts: &[(&str, &str)]) -> Result<Vec<(String, String)>, AllocError> {
+    let mut pairs = Vec::new(alloc);
+    for &(name, value) in texts {
+        let name = String::from_str(alloc, name)?;
+        pairs.push((name, String::from_str(alloc, value)?))?;
+    }
+    Ok(pairs)
+}
+
+/// The words of a command line, over a source, and when a read and a write fail.
+#[derive(Clone, Copy)]
+struct Program<'a> {
+    line: &'a [&'a str],
+    source: &'a [u8],
+    read: Fault,
+    write: Fault,
+}
+
+impl<'a> Program<'a> {
+    /// A program in which nothing fails.
+    fn new(line: &'a [&'a str], source: &'a [u8]) -> Self {
+        Program {
+            line,
+            source,
+            read: Fault::never(),
+            write: Fault::never(),
+        }
+    }
+
+    /// It ends with this status, output and standard error, which are told with bars in between.
+    fn expect(&self, alloc: Global, wanted: &str) -> Result<(), Fail> {
+        let came = self.told(alloc)?;
+        if came.as_str() == wanted {
+            return Ok(());
+        }
+        let (line, source) = (self.line, String::from_utf8_lossy(alloc, self.source)?);
+        let end = came.as_str();
+        Err(Fail::new(format_args!("{line:?} over {source}: wanted: {wanted}; came: {end}")))
+    }
+
+    fn told(&self, alloc: Global) -> Result<String, AllocError> {
+        let mut output = Drip::new(alloc, usize::MAX, self.write)?;
+        let mut errors = Vec::new(alloc);
+        let status = self.run(alloc, &mut output, &mut errors)?;
+        told(alloc, status, output.taken.as_slice(), errors.as_slice())
+    }
+
+    fn run(
+        &self,
+        alloc: Global,
+        output: &mut Drip,
+        errors: &mut Vec<u8>,
+    ) -> Result<u8, AllocError> {
+        let words = words(alloc, self.line)?;
+        let pairs = pairs(alloc, &[("A", "1"), ("A", "2"), ("B", "")])?;
+        let (left, fault) = (self.source, self.read);
+        let mut input = FromReader::new(Trickle { left, fault });
+        let mut output = ToWriter::new(output);
+        let mut errors = ToWriter::new(errors);
+        Ok(run_program(alloc, &words, pairs, &mut input, &mut output, &mut errors))
+    }
+}
+
+fn told(alloc: Global, status: u8, output: &[u8], errors: &[u8]) -> Result<String, AllocError> {
+    let output = String::from_utf8_lossy(alloc, output)?;
+    let errors = String::from_utf8_lossy(alloc, errors)?;
+    format!(in alloc; "{status}|{output}|{errors}")
+}
+
+/// Programs with these words over these sources end so.
+fn expect_ends(alloc: Global, rows: &[(&[&str], &[u8], &str)]) -> Result<(), Fail> {
+    for &(line, source, wanted) in rows {
+        Program::new(line, source).expect(alloc, wanted)?;
+    }
+    Ok(())
+}
+
+#[test]
+fn wrong_words_print_the_usage_line(rt: HostRuntime) -> Result<(), Fail> {
+    let lines: &[&[&str]] = &[
+        &[],
+        &[""],
+        &["a=1"],
+        &["Bytes"],
+        &["bytes", "a=1", "name"],
+        &["text", "name"],
+        &["env", "A=1"],
+        &["env", "env"],
+        &["bytes", "name"],
+    ];
+    let wanted = "2||usage: subst_filter bytes|text|env [NAME=VALUE]...\n";
+    for line in lines {
+        Program::new(line, b"a").expect(rt.alloc(), wanted)?;
+    }
+    Ok(())
+}
+
+#[test]
+fn variables_are_filled_in_where_the_task_takes_the_source(rt: HostRuntime) -> Result<(), Fail> {
+    let rows: &[(&[&str], &[u8], &str)] = &[
+        (&["bytes", "name=world"], b"Hello $name!", "0|Hello world!|"),
+        (&["bytes", "A=1", "A=2"], b"$A", "0|2|"),
+        (&["bytes", "=x", "a=b=c"], b"$a", "0|b=c|"),
+        (&["bytes", "e=", "="], b"<$e>", "0|<>|"),
+        (&["bytes"], b"", "0||"),
+        (&["bytes", "a=1"], b"a}:{?", "0|a}:{?|"),
+        (&["text", "A=1", "A=2"], b"$A", "0|2|"),
+        (&["text", "=x", "a=b=c"], b"$a", "0|b=c|"),
+        (&["text"], b"\xC3\xA9", "0|é|"),
+        (&["text"], b"a${x?}b", "0|ab|"),
+        (&["env"], b"a", "0|a|"),
+        (&["env"], b"$A<$B>${C?}", "0|1<>|"),
+        (&["text"], b"\xFF", "1||subst: input is not UTF-8\n"),
+        (&["env"], b"\xFF", "1||subst: input is not UTF-8\n"),
+    ];
+    expect_ends(rt.alloc(), rows)
+}
+
+/// A program with these words over this source prints this fault, and then what is shown of it.
+fn expect_refusal<'a>(
+    alloc: Global,
+    line: &'a [&'a str],
+    source: &'a [u8],
+    fault: Error,
+    shown: &str,
+) -> Result<(), Fail> {
+    let wanted = format!(in alloc; "1||subst: {fault}\n{shown}")?;
+    Program::new(line, source).expect(alloc, wanted.as_str())
+}
+
+fn absent(alloc: Global, position: usize, name: &str) -> Result<Error, AllocError> {
+    let name = String::from_str(alloc, name)?;
+    Ok(Error::from(NoSuchVariable { position, name }))
+}
+
+#[test]
+fn fault_of_a_source_is_printed(rt: HostRuntime) -> Result<(), Fail> {
+    let alloc = rt.alloc();
+    let (position, len) = (0, 1);
+    let fault = Error::from(MissingVariableName { position, len });
+    expect_refusal(alloc, &["bytes"], b"$", fault, "")?;
+    let (position, character) = (4, CharOrByte::Char('y'));
+    let unexpected = UnexpectedCharacter {
+        position,
+        character,
+        expected: ExpectedCharacter::new("a closing brace ('}')"),
+    };
+    let shown = "  ${x?y}\n      ^\n";
+    expect_refusal(alloc, &["text"], b"${x?y}", Error::from(unexpected), shown)
+}
+
+#[test]
+fn missing_variable_of_a_source_is_printed(rt: HostRuntime) -> Result<(), Fail> {
+    let alloc = rt.alloc();
+    let rows: &[(&[&str], &[u8], &str, &str)] = &[
+        (&["bytes"], b"$A", "A", ""),
+        (&["text"], b"$A", "A", "  $A\n   ^\n"),
+        (&["env"], b"${A}\n$C", "C", "  $C\n   ^\n"),
+    ];
+    for &(line, source, name, shown) in rows {
+        expect_refusal(alloc, line, source, absent(alloc, 1, name)?, shown)?;
+    }
+    Ok(())
+}
+
+/// Programs that give `a1`, but whose read or write fails so, end so.
+fn expect_failure(alloc: Global, read: Fault, write: Fault, wanted: &str) -> Result<(), Fail> {
+    let lines: [&[&str]; 3] = [&["bytes", "A=1"], &["text", "A=1"], &["env"]];
+    for line in lines {
+        let mut program = Program::new(line, b"a$A");
+        program.read = read;
+        program.write = write;
+        program.expect(alloc, wanted)?;
+    }
+    Ok(())
+}
+
+#[test]
+fn failed_read_or_write_is_printed(rt: HostRuntime) -> Result<(), Fail> {
+    let (alloc, kind, never) = (rt.alloc(), ErrorKind::Other, Fault::never());
+    expect_failure(
+        alloc,
+        Fault { call: 1, kind },
+        never,
+        "3||subst: read failed\n",
+    )?;
+    let rows = [
+        (0, "3||subst: write failed\n"),
+        (1, "3|a|subst: write failed\n"),
+        (2, "3|a1|subst: write failed\n"),
+        (3, "0|a1|"),
+    ];
+    for (call, wanted) in rows {
+        expect_failure(alloc, never, Fault { call, kind }, wanted)?;
+    }
+    Ok(())
+}

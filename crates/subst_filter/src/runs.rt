@@ -1,0 +1,119 @@
+//! Runs over a source that is read one byte per call, and how they end.
+
+use std::alloc::{AllocError, Global};
+use std::test::Fail;
+use subst_filter_lib::device::standard::{FromReader, ToWriter};
+use subst_filter_lib::engine::{run_bytes, run_text};
+use subst_filter_lib::run_error::RunError;
+use subst_testing::answers::told_fault;
+use subst_testing::fakes::{Drip, Fault, Trickle};
+use subst_testing::variables::{ByteValues, Texts, byte_values, texts};
+
+type Ended = Result<(), RunError>;
+
+/// The calls under test.
+#[derive(Clone, Copy)]
+pub enum Call {
+    RunBytes,
+    RunText,
+}
+
+pub const CALLS: [Call; 2] = [Call::RunBytes, Call::RunText];
+
+/// A run, with the pairs of its variables, and when its reader and its writer fail.
+#[derive(Clone, Copy)]
+pub struct Run<'a> {
+    pub call: Call,
+    pub source: &'a [u8],
+    pub pairs: &'a str,
+    pub read: Fault,
+    pub write: Fault,
+    pub room: usize,
+}
+
+impl<'a> Run<'a> {
+    /// A run in which nothing fails.
+    pub fn new(call: Call, source: &'a [u8], pairs: &'a str) -> Self {
+        Run {
+            call,
+            source,
+            pairs,
+            read: Fault::never(),
+            write: Fault::never(),
+            room: usize::MAX,
+        }
+    }
+
+    /// It ends so.
+    pub fn expect(&self, alloc: Global, wanted: &str) -> Result<(), Fail> {
+        let came = self.told(alloc)?;
+        if came.as_str() == wanted {
+            return Ok(());
+        }
+        let source = String::from_utf8_lossy(alloc, self.source)?;
+        let end = came.as_str();
+        Err(Fail::new(format_args!("{source}: wanted: {wanted}; came: {end}")))
+    }
+
+    fn told(&self, alloc: Global) -> Result<String, AllocError> {
+        let mut drip = Drip::new(alloc, self.room, self.write)?;
+        let ended = match self.call {
+            Call::RunBytes => self.over_bytes(alloc, &mut drip, &byte_values(alloc, self.pairs)?),
+            Call::RunText => self.over_text(alloc, &mut drip, &texts(alloc, self.pairs)?),
+        };
+        told(alloc, &ended, &drip)
+    }
+
+    fn over_bytes(&self, alloc: Global, drip: &mut Drip, variables: &ByteValues<'_>) -> Ended {
+        let mut input = FromReader::new(self.reader());
+        run_bytes(alloc, &mut input, &mut ToWriter::new(drip), variables)
+    }
+
+    fn over_text(&self, alloc: Global, drip: &mut Drip, variables: &Texts<'_>) -> Ended {
+        let mut input = FromReader::new(self.reader());
+        run_text(alloc, &mut input, &mut ToWriter::new(drip), variables)
+    }
+
+    fn reader(&self) -> Trickle<'a> {
+        Trickle {
+            left: self.source,
+            fault: self.read,
+        }
+    }
+}
+
+/// How a run ended: `gives Hello world!`, `read failed`, `write failed after Hello`, or a fault and, in the
+/// lines after it, what is shown of it. All that is given was flushed, and nothing else.
+fn told(alloc: Global, ended: &Ended, drip: &Drip) -> Result<String, AllocError> {
+    let written = String::from_utf8_lossy(alloc, drip.taken.as_slice())?;
+    let written = written.as_str();
+    let to_flush = if ended.is_ok() { drip.taken.len() } else { 0 };
+    if drip.flushed != to_flush {
+        return format!(in alloc; "{} bytes flushed of {written}", drip.flushed);
+    }
+    match ended {
+        Ok(()) => format!(in alloc; "gives {written}"),
+        Err(e) if !written.is_empty() => format!(in alloc; "{e} after {written}"),
+        Err(RunError::Subst(e, shown)) => {
+            let fault = told_fault(alloc, e)?;
+            format!(in alloc; "{}\n{}", fault.as_str(), shown.as_str())
+        }
+        Err(e) => format!(in alloc; "{e}"),
+    }
+}
+
+/// Runs over sources with the pairs of their variables end so.
+pub fn expect_runs(alloc: Global, call: Call, rows: &[(&str, &str, &str)]) -> Result<(), Fail> {
+    for &(source, pairs, wanted) in rows {
+        Run::new(call, source.as_bytes(), pairs).expect(alloc, wanted)?;
+    }
+    Ok(())
+}
+
+/// Runs over texts without variables end so.
+pub fn expect_texts(alloc: Global, rows: &[(&str, &str)]) -> Result<(), Fail> {
+    for &(source, wanted) in rows {
+        Run::new(Call::RunText, source.as_bytes(), "").expect(alloc, wanted)?;
+    }
+    Ok(())
+}

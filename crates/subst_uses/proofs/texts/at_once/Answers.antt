@@ -1,6 +1,0 @@
--- How the bytes of a value are read.
-use Rattle.std.proofs.Common.{refl, string_bytes}
-use Rattle.subst_uses.proofs.texts.at_once.Goals as goal
-
-pub returns : goal.returns
-returns c = c.substitute.ensures.answer (λ v. string_bytes v) (λ v. refl)

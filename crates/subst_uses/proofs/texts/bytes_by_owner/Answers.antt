@@ -1,6 +1,0 @@
--- How the bytes of a value are read.
-use Rattle.std.proofs.Common.{refl, string_bytes}
-use Rattle.subst_uses.proofs.texts.bytes_by_owner.Goals as goal
-
-pub returns : goal.returns
-returns c = c.expand.ensures.value (λ v. string_bytes v) (λ v. refl)

@@ -1,0 +1,89 @@
+"""The library and its module for Python, as tools/install puts them below a prefix, and what they answer, in columns of
+the rows of crates/subst_vectors/data. Sources and variables are bytes or texts.
+"""
+import contextlib
+import importlib
+import os
+import pathlib
+import re
+import subprocess
+import sys
+import tempfile
+
+import faults
+from running import TOP, end
+from vectors import character_column, encode
+
+# Where tools/install puts the library and the module below a prefix.
+LIBRARY, PACKAGES = 'lib/libsubst.so.0', 'lib/python3/dist-packages'
+
+
+@contextlib.contextmanager
+def installed(given=None):
+    """A prefix that has both: the given one, or else a new one, to which they are installed, which takes long where the
+    library has to be proved first."""
+    with tempfile.TemporaryDirectory() as folder:
+        prefix = pathlib.Path(given or folder).resolve()
+        for option in () if given else ('--library', '--python'):
+            if subprocess.run([TOP / 'tools/install', option, prefix], stdin=subprocess.DEVNULL).returncode != 0:
+                end(['failed'])
+        yield prefix
+
+
+def module(prefix):
+    """The installed module, over the library beside it."""
+    os.environ.pop('SUBST_LIBRARY', None)
+    sys.path.insert(0, str(prefix / PACKAGES))
+    return importlib.import_module('subst')
+
+
+def to_bytes(text):
+    return text.encode() if isinstance(text, str) else text
+
+
+def answer(subst, source, variables):
+    """The columns of the answer to a source."""
+    try:
+        return ['ok', encode(to_bytes(subst.fill_in(source, variables)))]
+    except subst.SubstError as error:
+        return fault(source, error)
+
+
+def lists(subst, source, variables):
+    """The columns of the lists of a source, or those of its fault."""
+    try:
+        all_, missing = subst.variables(source), subst.missing(source, variables)
+    except subst.SubstError as error:
+        return fault(source, error)
+    kinds = [it.kind.name.lower().replace('with_', '') for it in all_]
+    return [','.join(f'{kind}@{entry}' for kind, entry in zip(kinds, entries(source, all_))) or '-',
+            ','.join(entries(source, missing)) or '-']
+
+
+def entries(source, variables):
+    return [f'{len(to_bytes(source[:it.position]))}={to_bytes(it.name).decode()}' for it in variables]
+
+
+def fault(source, error):
+    """The columns of a fault."""
+    start, end_ = (len(to_bytes(source[:at])) for at in (error.position, error.position + error.length))
+    case, at_fault, text = error.kind.name.title().replace('_', ''), to_bytes(source)[start:end_], str(error)
+    expected = text.rpartition(faults.texts()['UnexpectedCharacter'][1])[2] if case == 'UnexpectedCharacter' else ''
+    detail = {
+        'InvalidEscapeSequence': lambda: character_column(at_fault[1:]) if at_fault[1:] else 'none',
+        'MissingVariableName': lambda: str(error.length),
+        'UnexpectedCharacter': lambda: character_column(at_fault),
+        'MissingClosingBrace': lambda: '-',
+        'NoSuchVariable': lambda: encode(at_fault),
+    }[case]()
+    line = highlighting = '.'
+    if error.line is not None:
+        lines = re.split(b'\r\n|\r|\n', to_bytes(source))
+        line, highlighting = map(of_text, (lines[error.line - 1], error.highlighting.encode()))
+    texts = [encode(it.encode()) for it in (expected, text)]
+    return ['fault', case, str(start), detail, *texts, f'{start}..{end_}', line, highlighting]
+
+
+def of_text(data):
+    """The column of a line or highlighting: a dot would say that there is none."""
+    return '%2E' if data == b'.' else encode(data)

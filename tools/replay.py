@@ -1,0 +1,133 @@
+#!/usr/bin/env python3
+"""replay.py [--prefix PREFIX]   Compares what people get for each row of crates/subst_vectors/data, in each column.
+
+The library for C answers through the module for Python, both as tools/install puts them below PREFIX, or else below a
+new one: each row of bytes and of lists, and those that are texts once more as texts. The program `subst` answers each
+document; what it prints is read back by Python's readers. The rows are compared with tools/rules.py too. A row that
+differs is printed with what came in the place of its answer. Each test prints a line, and the last line is
+'N passed, M failed, K skipped'.
+"""
+import argparse
+import functools
+import sys
+
+sys.dont_write_bytecode = True
+import faults
+import installed
+import rules
+from running import Wrong, as_told, run, run_tests, shown
+from vectors import (decode, is_text, read_document, rows, ruled_answer, ruled_fault, ruled_lists, text_of_tree,
+                     tree_of_row)
+
+FILES = ('answers.tsv', 'rows.tsv', 'variables.tsv')
+# How many rows that differ are printed of a test.
+MOST_PRINTED = 20
+# Two columns of a fault.
+EXPECTED, DISPLAY = 4, 5
+# What may come after a name in braces, as the Rust crate says it.
+AFTER_NAME_IN_RUST = "a closing brace ('}') or colon (':')"
+
+
+def rows_of(name):
+    """The rows of a file, those of the Rust crate in this library's words."""
+    words = AFTER_NAME_IN_RUST, faults.expected_after_name()
+    for row in rows(name):
+        yield row._replace(answer=[column.replace(*words) if at in (EXPECTED, DISPLAY) else column
+                                   for at, column in enumerate(row.answer)])
+
+
+# What comes for a row, as columns of its answer
+
+
+def by_bytes(module, row):
+    ask = installed.lists if row.kind == 'lists' else installed.answer
+    return ask(module, row.source, row.variables)
+
+
+def by_texts(module, row):
+    ask = installed.lists if row.kind == 'lists' else installed.answer
+    return ask(module, row.source.decode(), {name.decode(): value.decode() for name, value in row.variables.items()})
+
+
+def by_the_rules(row):
+    """Of a fault the case and the position alone. Of a document that can't be read there are no rules."""
+    if row.kind == 'bytes':
+        return ruled_answer(row.source, row.variables)
+    if row.kind == 'lists':
+        return ruled_lists(row.source, row.variables)
+    if row.answer[0] == 'refused':
+        return row.answer
+    try:
+        tree = rules.filled(read_document(row.kind, row.source.decode()), row.variables)
+    except rules.Refused as refused:
+        return ruled_fault(refused)
+    return of_tree(row, tree)
+
+
+def of_tree(row, tree):
+    """The answer that is a tree."""
+    is_same = row.answer[0] == 'ok' and text_of_tree(tree) == text_of_tree(tree_of_row(row))
+    return row.answer if is_same else ['ok', repr(tree)]
+
+
+def by_subst(row):
+    """Of a fault the text has to be among those of the faults of all strings."""
+    words = [word for name, value in row.variables.items() for word in (b'-s', name + b'=' + value)]
+    end = run('subst_command', [f'--{row.kind}', *words], row.source, name='subst')
+    if end.status == 0 and not end.errors:
+        return of_tree(row, read_document(row.kind, end.output.decode()))
+    texts = [line for line in end.errors.decode().splitlines() if line.startswith('<stdin>:')]
+    text = as_told(decode(row.answer[DISPLAY]).decode()) if row.answer[0] == 'fault' else ''
+    if (end.status, end.output) == (1, b'') and row.answer[0] != 'ok' and any(it.endswith(text) for it in texts):
+        return row.answer
+    return [str(end.status), shown(end.output), *texts]
+
+
+# Tests
+
+
+def compare(picked, came_for):
+    """Fails the test unless for each row came its answer, or how that begins."""
+    wrong = []
+    for row in picked:
+        came = came_for(row)
+        if came != row.answer[:max(len(came), 2)]:
+            asked = ' '.join(row.line.split('\t')[:3])
+            wrong.append(f'{row.place}: {asked}\n    expected {" ".join(row.answer)}\n    came     {" ".join(came)}')
+    if wrong:
+        raise Wrong('\n'.join([f'{len(wrong)} of {len(picked)} differ', *wrong[:MOST_PRINTED]]))
+
+
+def tests(prefix):
+    module = installed.module(prefix)
+
+    def is_of_library(row):
+        return row.kind in ('bytes', 'lists')
+
+    def is_text_of_library(row):
+        return is_of_library(row) and is_text(row)
+
+    ways = {
+        'as bytes by the library': (is_of_library, functools.partial(by_bytes, module)),
+        'as texts by the library': (is_text_of_library, functools.partial(by_texts, module)),
+        'of JSON by subst': (lambda row: row.kind == 'json', by_subst),
+        'of TOML by subst': (lambda row: row.kind == 'toml', by_subst),
+        'by the rules': (is_of_library, by_the_rules),
+        'of JSON by the rules': (lambda row: row.kind == 'json', by_the_rules),
+        'of TOML by the rules': (lambda row: row.kind == 'toml', by_the_rules),
+    }
+    for name in FILES:
+        every = list(rows_of(name))
+        for way, (is_picked, came_for) in ways.items():
+            if picked := list(filter(is_picked, every)):
+                yield f'{len(picked)} rows of {name} {way}', functools.partial(compare, picked, came_for)
+
+
+def main():
+    parser = argparse.ArgumentParser(description=__doc__.partition('   ')[2].partition('\n')[0])
+    parser.add_argument('--prefix')
+    with installed.installed(parser.parse_args().prefix) as prefix:
+        run_tests(list(tests(prefix)), ['subst_command'])
+
+
+main()
