@@ -1,38 +1,33 @@
 #!/usr/bin/env python3
-"""corpus.py FOLDER   Makes the first inputs of fuzz/subst.c: the sources of tests/data, each with its variables.
+"""corpus.py FOLDER   Makes the first inputs of fuzz/subst.c: the sources of the stored answers with their variables.
 
-Each is a file in the folder, and comes once. The last line that is printed says how many there are.
+Some long sources are added. Each is a file in the folder, and comes once. The last line says how many there are.
 """
 import hashlib
 import pathlib
 import sys
-import urllib.parse
 
-DATA = pathlib.Path(__file__).resolve().parent.parent / 'tests' / 'data'
+sys.dont_write_bytecode = True
+sys.path.insert(0, str(pathlib.Path(__file__).resolve().parent.parent / 'tools'))
+from vectors import DATA, rows
+
 # As fuzz/subst.c has them.
 MOST_PAIRS, LONGEST_WORD = 24, 255
-# Pairs and placeholders, so many that the library looks names up in another way.
+# Pairs and placeholders, so many that the library looks names up in another way, and a name that is no text.
 MORE_WORDS = [word for at, number in enumerate([*range(20), 0]) for word in (b'z%d' % number, b'value %d' % at)]
+MORE_WORDS += [b'\xc3', b'value']
 MORE_SOURCE = b'$z0${z19}${z5?}' * 6
-# The files whose words are texts, each with the number of the column of the source; in the others they are hexadecimal.
-TEXTS = {'rows.tsv': 1, 'variables.tsv': 0}
-
-
-def word_of(column, is_text):
-    if column == '-':
-        return b''
-    return urllib.parse.unquote_to_bytes(column) if is_text else bytes.fromhex(column)
+# Sources of a size at which a call that gives up at a limit of its own would be found out.
+LONG = (50000 * b'$z0', b'$' + 100000 * b'n', 100000 * b'\n' + b'$', 50000 * b'${n:', 20000 * b'${a:' + 20000 * b'}')
 
 
 def records():
-    """The source and the names and values of each record."""
+    """The source of each row with its names and values, and the long ones."""
     for path in sorted(DATA.glob('*.tsv')):
-        is_text, at = path.name in TEXTS, TEXTS.get(path.name, 0)
-        for line in path.read_text(encoding='utf-8').split('\n'):
-            if line and not line.startswith('#'):
-                source, pairs = line.split('\t')[at:at + 2]
-                words = [] if pairs == '-' else [word for pair in pairs.split(',') for word in pair.split('=')]
-                yield word_of(source, is_text), [word_of(word, is_text) for word in words]
+        for row in rows(path.name):
+            yield row.source, [word for pair in row.variables.items() for word in pair]
+    for source in LONG:
+        yield source, []
 
 
 def twice(words):

@@ -65,7 +65,7 @@ class Variable(NamedTuple):
 
 
 class SubstError(ValueError):
-    """A source that is refused. Its text is the library's, as 'No such variable: $name'.
+    """A source that is refused. Its text is the library's, and its kind says what is wrong.
 
     What is at fault is source[position:position + length]: a str is counted in characters, bytes in bytes. Its line and
     column count from 1, columns as a terminal has them, a tab as one; they are None where the source isn't UTF-8. The

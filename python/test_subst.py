@@ -1,4 +1,6 @@
-"""Tests of the module subst, over the library that it finds."""
+"""Tests of the module subst, over the library that it finds. What it answers to each stored row, every text of a fault
+with it, is compared by tools/replay.py.
+"""
 import concurrent.futures
 import copy
 import doctest
@@ -11,21 +13,12 @@ import subprocess
 import sys
 import tempfile
 import unittest
-import urllib.parse
 from unittest import mock
 
 import subst
 from subst import FaultKind, SubstError, Template, Variable, VariableKind
 
-DATA = pathlib.Path(__file__).resolve().parent.parent / 'tests' / 'data'
 MIB = 1 << 20
-# The kinds of faults and of variables, as the rows of the tests name them.
-CASES = {'InvalidEscapeSequence': FaultKind.INVALID_ESCAPE_SEQUENCE,
-         'MissingVariableName': FaultKind.MISSING_VARIABLE_NAME,
-         'UnexpectedCharacter': FaultKind.UNEXPECTED_CHARACTER,
-         'MissingClosingBrace': FaultKind.MISSING_CLOSING_BRACE,
-         'NoSuchVariable': FaultKind.NO_SUCH_VARIABLE}
-KINDS = {'required': VariableKind.REQUIRED, 'optional': VariableKind.OPTIONAL, 'default': VariableKind.WITH_DEFAULT}
 
 
 def load_tests(_loader, tests, _pattern):
@@ -46,9 +39,6 @@ class Case(unittest.TestCase):
             call(*arguments)
         return caught.exception
 
-    def expect_place(self, error, line, column):
-        self.assertEqual((error.line, error.column), (line, column))
-
 
 class Results(Case):
     """What is filled in."""
@@ -62,47 +52,24 @@ class Results(Case):
                           *template.fill_in_each([variables] * 2)):
                 self.assertEqual(found, wanted)
                 self.assertIs(type(found), type(source))
+            self.assertIsNone(subst.check(source))
             self.assertEqual(subst.missing(source, variables), [])
 
-    def test_forms(self):
-        self.expect('$a ${a} ${a?} ${a:d}', {'a': '1'}, '1 1 1 1')
-        self.expect('<${a?}> ${a:d} ${a:<${b:$c}>}', {'c': '3'}, '<> d <3>')
-        self.expect(r'\$a \{\}\: \\', {}, '$a {}: \\')
-
-    def test_values_are_no_templates(self):
-        self.expect('$a', {'a': r'$b ${c \x'}, r'$b ${c \x')
-
-    def test_empty(self):
-        self.expect('', {}, '')
-        self.expect('', {'a': '1'}, '')
-        self.expect('$a', {'a': ''}, '')
-        self.expect('$a', {'': '0', 'aa': '2', 'a': '1'}, '1')
-
-    def test_no_variables(self):
-        self.expect('Hello', {}, 'Hello')
-
-    def test_characters(self):
-        self.expect('ä ${a}\U0001F600', {'é': 'x', 'a': '→'}, 'ä →\U0001F600')
-
-    def test_zeros(self):
-        self.expect('\0$a\0', {'a': '\0\0', '\0': 'x'}, '\0\0\0\0')
+    def test_each_way(self):
+        for source, variables, wanted in (
+                ('', {'a': '1'}, ''),
+                ('Hello', {}, 'Hello'),
+                (r'\$ä ${a}${b?} ${c:<$d>}', {'é': 'x', 'a': r'→$c', 'd': ''}, '$ä →$c <>'),
+                ('\0$a\0', {'a': '\0\0', '\0': 'x'}, '\0\0\0\0'),
+                ('$a0 $a1999', {f'a{number}': str(number) for number in range(2000)}, '0 1999'),
+                ('$a' * 1024, {'a': 'é' * 512}, 'é' * (MIB // 2)),
+                *(('$a', {'a': 'x' * length}, 'x' * length) for length in (0, *range(1000, 1050), MIB))):
+            self.expect(source, variables, wanted)
 
     def test_bytes_that_are_not_utf8(self):
         variables = {b'a': b'\xc3', b'\xfe': b''}
         self.assertEqual(subst.fill_in(b'\xff$a\x80', variables), b'\xff\xc3\x80')
         self.assertEqual(Template(b'\xff$a').fill_in_each([variables]), [b'\xff\xc3'])
-
-    def test_large_outputs(self):
-        self.expect('$a' * 1024, {'a': 'é' * 512}, 'é' * (MIB // 2))
-        self.expect('$a', {'a': 'x' * MIB}, 'x' * MIB)
-        self.expect('x' * MIB, {}, 'x' * MIB)
-
-    def test_lengths_around_the_first_room(self):
-        for length in range(1000, 1050):
-            self.expect('$a', {'a': 'x' * length}, 'x' * length)
-
-    def test_many_variables(self):
-        self.expect('$a0 $a1999', {f'a{number}': str(number) for number in range(2000)}, '0 1999')
 
     def test_other_types_of_these_kinds(self):
         class Text(str):
@@ -115,13 +82,9 @@ class Results(Case):
         with mock.patch.dict(os.environ, {'SUBST_TEST': 'x'}):
             self.assertEqual(subst.fill_in(b'$SUBST_TEST', os.environb), b'x')
 
-    def test_check(self):
-        for source in ('', 'a', '$a', '${a:$b}', b'\xff${a?}'):
-            self.assertIsNone(subst.check(source))
 
-
-class Rows(Case):
-    """A template that is filled in for several rows."""
+class Templates(Case):
+    """A template, which is filled in for several rows."""
 
     def test_rows(self):
         letter = Template('Dear ${name:friend},')
@@ -137,7 +100,7 @@ class Rows(Case):
 
     def test_row_that_is_refused(self):
         error = self.refused(Template('é$a').fill_in_each, [{'a': '1'}, {'a': '2'}, {'b': '3'}, {}])
-        self.assertEqual((error.row, error.position, str(error)), (2, 2, 'No such variable: $a'))
+        self.assertEqual((error.row, error.kind, error.position), (2, FaultKind.NO_SUCH_VARIABLE, 2))
         self.assertIsNone(self.refused(Template('$a').fill_in, {}).row)
 
     def test_template(self):
@@ -149,12 +112,25 @@ class Rows(Case):
         for other in (copy.deepcopy(template), pickle.loads(pickle.dumps(template))):
             self.assertEqual(other.fill_in({'a': '1'}), '1')
 
+    def test_lists(self):
+        source = 'ä$a ${b?} ${c:x$a${d}}'
+        wanted = [(VariableKind.REQUIRED, 'a', 2), (VariableKind.OPTIONAL, 'b', 6),
+                  (VariableKind.WITH_DEFAULT, 'c', 12), (VariableKind.REQUIRED, 'a', 16),
+                  (VariableKind.REQUIRED, 'd', 19)]
+        self.assertEqual(subst.variables(source), wanted)
+        self.assertEqual(Template(source).missing({'d': ''}), [wanted[0], wanted[3]])
+        of_bytes = [(kind, name.encode(), position + 1) for kind, name, position in wanted]
+        self.assertEqual(Template(source.encode()).variables(), of_bytes)
+        first = subst.variables(source)[0]
+        self.assertEqual((type(first), type(first.kind)), (Variable, VariableKind))
+        self.assertEqual([it.position for it in subst.variables('é$a' * 50000)], list(range(2, 150000, 3)))
+
 
 class Faults(Case):
     """What is refused, and what is told of it."""
 
-    def expect(self, kind, source, part, text):
-        """Every call that can tells this of a text, and of its bytes, where this part is at fault."""
+    def expect(self, kind, source, part):
+        """Every call that can tells this of a text, and of its bytes, where this part is at fault, by the same text."""
         for source, part in ((source, part), (source.encode(), part.encode())):
             calls = [(subst.fill_in, source, {}), (lambda: Template(source).fill_in_each([{}]),)]
             if kind is not FaultKind.NO_SUCH_VARIABLE:
@@ -164,89 +140,35 @@ class Faults(Case):
                 error = self.refused(*call)
                 self.assertIs(error.kind, kind)
                 self.assertEqual((error.position, error.length), (source.rindex(part), len(part)))
-                self.assertEqual(str(error), text)
+                self.assertEqual(str(error), str(self.refused(*calls[0])))
 
-    def test_kinds(self):
-        after_name = "expected a closing brace ('}'), colon (':') or question mark ('?')"
-        for kind, source, part, text in (
-                (FaultKind.INVALID_ESCAPE_SEQUENCE, r'ä\x', r'\x', r'Invalid escape sequence: \x'),
-                (FaultKind.INVALID_ESCAPE_SEQUENCE, 'ä\\é!', '\\é', 'Invalid escape sequence: \\é'),
-                (FaultKind.INVALID_ESCAPE_SEQUENCE, 'ä\\', '\\', 'Invalid escape sequence: missing escape character'),
-                (FaultKind.MISSING_VARIABLE_NAME, 'ä$', '$', 'Missing variable name'),
-                (FaultKind.MISSING_VARIABLE_NAME, 'ä${}', '${', 'Missing variable name'),
-                (FaultKind.UNEXPECTED_CHARACTER, 'ä${a→}', '→', f"Unexpected character: '→', {after_name}"),
-                (FaultKind.UNEXPECTED_CHARACTER, '${a?b}', 'b', "Unexpected character: 'b', "
-                 "expected a closing brace ('}')"),
-                (FaultKind.MISSING_CLOSING_BRACE, 'ä${a:b', '{', 'Missing closing brace'),
-                (FaultKind.NO_SUCH_VARIABLE, 'ä${b:$name}', 'name', 'No such variable: $name')):
-            with self.subTest(source):
-                self.expect(kind, source, part, text)
-
-    def test_a_missing_variable_is_not_checked(self):
-        self.assertIsNone(subst.check('$a'))
-        self.assertEqual(self.refused(subst.fill_in, '$a${', {}).kind, FaultKind.MISSING_VARIABLE_NAME)
+    def test_each_call(self):
+        self.expect(FaultKind.INVALID_ESCAPE_SEQUENCE, 'ä\\é!', '\\é')
+        self.expect(FaultKind.UNEXPECTED_CHARACTER, 'ä${a→}', '→')
+        self.expect(FaultKind.NO_SUCH_VARIABLE, 'ä${b:$name}', 'name')
 
     def test_places(self):
-        for source in ('a\r\nb\nä ${}\n', 'a\r\nb\nä ${}\n'.encode()):
+        for source in ('a\r\nb\nä中 ${}\n', 'a\r\nb\nä中 ${}\n'.encode()):
             error = self.refused(subst.check, source)
-            self.expect_place(error, 3, 3)
-            self.assertEqual(error.highlighting, '  ä ${}\n    ^^\n')
-
-    def test_bytes_that_are_not_utf8(self):
+            self.assertEqual((error.line, error.column, error.highlighting), (3, 5, '  ä中 ${}\n      ^^\n'))
+        error = self.refused(subst.check, 'é\n' * (MIB // 2) + '$')
+        self.assertEqual((error.position, error.line, error.column, error.highlighting),
+                         (MIB, MIB // 2 + 1, 1, '  $\n  ^\n'))
         error = self.refused(subst.check, b'\xff\n${a\x81}')
-        self.assertEqual((error.kind, error.position, error.length), (FaultKind.UNEXPECTED_CHARACTER, 5, 1))
-        self.assertEqual((error.line, error.column, error.highlighting), (None, None, ''))
-        self.assertIn(r"'\x81'", str(error))
-
-    def test_no_highlighting_of_wide_lines(self):
-        self.assertEqual(self.refused(subst.check, ' ' * 59 + '$').highlighting, f"  {' ' * 59}$\n  {' ' * 59}^\n")
-        self.assertEqual(self.refused(subst.check, ' ' * 60 + '$').highlighting, '')
+        self.assertEqual((error.position, error.length, error.line, error.column, error.highlighting),
+                         (5, 1, None, None, ''))
 
     def test_long_text(self):
         name = 'n' * 5000
-        self.assertEqual(str(self.refused(subst.fill_in, f'${name}', {})), f'No such variable: ${name}')
-
-    def test_fault_after_a_mebibyte(self):
-        source = 'é\n' * (MIB // 2) + '$'
-        error = self.refused(subst.check, source)
-        self.assertEqual((error.position, error.highlighting), (MIB, '  $\n  ^\n'))
-        self.expect_place(error, MIB // 2 + 1, 1)
+        error = self.refused(subst.fill_in, f'${name}', {})
+        self.assertEqual((error.position, error.length), (1, 5000))
+        self.assertTrue(str(error).endswith(f'${name}'))
 
     def test_error_is_a_value_error_that_is_kept(self):
         error = self.refused(Template('$a').fill_in_each, [{}])
         self.assertIsInstance(error, ValueError)
         for other in (copy.copy(error), pickle.loads(pickle.dumps(error))):
             self.assertEqual((str(other), vars(other)), (str(error), vars(error)))
-
-
-class Lists(Case):
-    """Variables, and those that are missing."""
-
-    SOURCE = 'ä$a ${b?} ${c:x$a${d}}'
-
-    def test_variables(self):
-        wanted = [(VariableKind.REQUIRED, 'a', 2), (VariableKind.OPTIONAL, 'b', 6),
-                  (VariableKind.WITH_DEFAULT, 'c', 12), (VariableKind.REQUIRED, 'a', 16),
-                  (VariableKind.REQUIRED, 'd', 19)]
-        self.assertEqual(subst.variables(self.SOURCE), wanted)
-        of_bytes = [(kind, name.encode(), position + 1) for kind, name, position in wanted]
-        self.assertEqual(Template(self.SOURCE.encode()).variables(), of_bytes)
-        self.assertIsInstance(subst.variables('$a')[0], Variable)
-        self.assertIs(subst.variables('$a')[0].kind, VariableKind.REQUIRED)
-
-    def test_missing(self):
-        self.assertEqual([name for _, name, _ in subst.missing(self.SOURCE, {})], ['a', 'a', 'd'])
-        self.assertEqual([name for _, name, _ in subst.missing(self.SOURCE, {'c': ''})], ['a'])
-        self.assertEqual(Template(self.SOURCE).missing({'a': '', 'd': ''}), [])
-        self.assertEqual(Template(b'$a').missing({}), [(VariableKind.REQUIRED, b'a', 1)])
-
-    def test_none(self):
-        for source in ('', r'\$', b'', b'a'):
-            self.assertEqual((subst.variables(source), subst.missing(source, {})), ([], []))
-
-    def test_many(self):
-        source = 'é$a' * 50000
-        self.assertEqual([position for _, _, position in subst.variables(source)], list(range(2, 150000, 3)))
 
 
 class Types(Case):
@@ -321,7 +243,7 @@ class Outside(Case):
                 value = f'{word}{number}' * number
                 self.assertEqual(template.fill_in({'a': value}), f'{value} - {value}')
                 self.assertEqual(template.fill_in_each([{'a': word}] * 3), [f'{word} - {word}'] * 3)
-                self.assertEqual(str(self.refused(subst.fill_in, f'${word}', {})), f'No such variable: ${word}')
+                self.assertTrue(str(self.refused(subst.fill_in, f'${word}', {})).endswith(f'${word}'))
             return word
 
         with concurrent.futures.ThreadPoolExecutor(4) as threads:
@@ -366,89 +288,6 @@ class Outside(Case):
         for name in subst.__all__:
             self.assertTrue(hasattr(subst, name) and getattr(subst, name).__doc__, name)
         self.assertRegex(subst.__version__, r'^\d+\.\d+\.\d+$')
-
-
-def rows(name, kind=None):
-    """The rows of a file, as lists of columns, without the kind in front."""
-    for line in (DATA / name).read_text(encoding='utf-8').split('\n'):
-        columns = line.split('\t')
-        if line and not line.startswith('#') and columns[0] == (kind or columns[0]):
-            yield columns[1:] if kind else columns
-
-
-def word_of(column):
-    return b'' if column == '-' else urllib.parse.unquote_to_bytes(column)
-
-
-def variables_of(column):
-    pairs = [] if column == '-' else [pair.split('=') for pair in column.split(',')]
-    return {word_of(name): word_of(value) for name, value in pairs}
-
-
-def as_texts(source, variables):
-    """A source and its variables as str, or None where one isn't UTF-8."""
-    try:
-        return source.decode(), {name.decode(): value.decode() for name, value in variables.items()}
-    except UnicodeDecodeError:
-        return None
-
-
-class StoredRows(Case):
-    """The rows that were worked out by hand."""
-
-    def given(self, columns):
-        """What a row has in front, as bytes, and as str where that can be."""
-        source, variables = word_of(columns[0]), variables_of(columns[1])
-        return filter(None, [(source, variables), as_texts(source, variables)])
-
-    def expect_fault(self, source, variables, fault):
-        case, position, _, _, text, part, _, highlighting = fault
-        error = self.refused(subst.fill_in, source, variables)
-        self.assertIs(error.kind, CASES[case])
-        start, end = map(int, part.split('..'))
-        as_bytes = source if isinstance(source, bytes) else source.encode()
-        at_fault = source[error.position:error.position + error.length]
-        self.assertEqual(at_fault, as_bytes[start:end] if isinstance(source, bytes) else as_bytes[start:end].decode())
-        before = source[:error.position]
-        self.assertEqual(len(before if isinstance(source, bytes) else before.encode()), int(position))
-        self.assertEqual(str(error), word_of(text).decode())
-        self.assertEqual(error.highlighting, '' if highlighting == '.' else word_of(highlighting).decode())
-        if highlighting == '.':
-            self.assertEqual((error.line, error.column), (None, None))
-        elif re.fullmatch(rb'[ -~\r\n]*', as_bytes[:start]):
-            lines = re.split(rb'\r\n|\r|\n', as_bytes[:start])
-            self.expect_place(error, len(lines), len(lines[-1]) + 1)
-
-    def test_answers(self):
-        count = 0
-        for columns in rows('rows.tsv', 'bytes'):
-            for source, variables in self.given(columns):
-                with self.subTest(source=source, variables=variables):
-                    count += 1
-                    if columns[2] == 'fault':
-                        self.expect_fault(source, variables, columns[3:])
-                    else:
-                        found = subst.fill_in(source, variables)
-                        self.assertEqual(found if isinstance(found, bytes) else found.encode(), word_of(columns[3]))
-        self.assertGreater(count, 500)
-
-    def test_lists(self):
-        for columns in rows('variables.tsv'):
-            for source, variables in self.given(columns):
-                with self.subTest(source=source, variables=variables):
-                    self.assertEqual(self.entries(source, subst.variables(source), False), columns[2])
-                    self.assertEqual(self.entries(source, subst.missing(source, variables), True), columns[3])
-
-    def entries(self, source, found, are_missing):
-        """Variables as a row has them."""
-        words = {kind: word for word, kind in KINDS.items()}
-        entries = []
-        for kind, name, position in found:
-            if isinstance(source, str):
-                position, name = len(source[:position].encode()), name.encode()
-            kind = '' if are_missing else f'{words[kind]}@'
-            entries.append(f'{kind}{position}={name.decode()}')
-        return ','.join(entries) or '-'
 
 
 if __name__ == '__main__':

@@ -3,19 +3,18 @@
 
 Each template goes through envsubst, and through subst with --envsubst, or with --only where two names are listed; both
 have to write the same. What subst tells as missing is given to it as an empty value, which is what envsubst takes it
-for. Where envsubst isn't installed, nothing is compared. The seed is fixed, unless SEED gives another; a failure names
-it. The last line is 'N passed, M failed'.
+for. The seed is fixed, unless SEED gives another; a failure names it. The last line is 'N passed, M failed, K skipped'.
 """
 import argparse
 import functools
 import random
 import re
-import shutil
 import subprocess
 import sys
 
 sys.dont_write_bytecode = True
-from running import SECONDS, Wrong, path_of, run_tests, shown
+from faults import no_such_variable
+from running import SECONDS, Wrong, need, path_of, run_tests, shown
 
 TEMPLATES = 300
 LISTED = '$HOST $PORT'
@@ -55,12 +54,14 @@ def output_of_ours(words, source, env):
     first = ended(command, source, env)
     if first.returncode == 0:
         return first.stdout
-    missing = re.findall(rb'^<stdin>:\d+:\d+: No such variable: \$(\w+)$', first.stderr, re.MULTILINE)
-    return output_of([*command, *(f'--set={name.decode()}=' for name in missing)], source, env)
+    fault = re.escape(no_such_variable(''))
+    missing = re.findall(rf'^<stdin>:\d+:\d+: {fault}(\w+)$', first.stderr.decode(), re.MULTILINE | re.ASCII)
+    return output_of([*command, *(f'-s{name}=' for name in missing)], source, env)
 
 
 def compare(seed, listed, words):
     """Compares the two on templates, of which every second isn't UTF-8."""
+    need('envsubst')
     rng = random.Random(f'{seed} {words}')
     env = {'PATH': '/usr/bin:/bin', 'LC_ALL': 'C.UTF-8', **VARIABLES}
     for number in range(TEMPLATES):
@@ -75,14 +76,11 @@ def main():
     parser = argparse.ArgumentParser(description=__doc__.partition('   ')[2].partition('\n')[0])
     parser.add_argument('--seed', default='1')
     seed = parser.parse_args().seed
-    if shutil.which('envsubst') is None:
-        print('envsubst is not installed, so subst is not compared with it')
-        print('0 passed, 0 failed')
-        return
     print(f'seed {seed}')
     tests = {f'envsubst_on_{TEMPLATES}_templates': ([], ['--envsubst']),
              f'envsubst_with_names_on_{TEMPLATES}_templates': ([LISTED], ['--only', LISTED])}
-    run_tests([(name, functools.partial(compare, seed, *words)) for name, words in tests.items()], ['subst_command'])
+    run_tests([(name, functools.partial(compare, seed, *words)) for name, words in tests.items()], ['subst_command'],
+              ['envsubst'])
 
 
 main()

@@ -1,11 +1,12 @@
 #!/usr/bin/env bash
-# Tests the library for C: tools/c_library.c built as C, as C++ and with the sanitizers of the compiler, threads, sources
-# around 4 GiB, each request for memory refused in turn, how often memory is asked for, and what tools/install puts in
-# place, by its names and by the examples of docs/C.md and README.md. What the machine lacks is said. The last line is
-# 'N passed, M failed'.
+# Tests the library for C: tools/c_library.c built as C, as C++ and with the sanitizers of the compiler, threads,
+# sources around 4 GiB, each request for memory refused in turn, how often memory is asked for, and what tools/install
+# puts in place, by its names and by the examples of docs/C.md and README.md. The last line is
+# 'N passed, M failed, K skipped'.
 set -euo pipefail
 cd "$(dirname "$0")/.."
 ulimit -c 0
+. tools/testing.sh
 
 seconds_a_run=60
 most_requests=2000
@@ -13,33 +14,17 @@ compiler=${CC:-cc}
 strict=(-O2 -Wall -Wextra -Wpedantic -Wconversion -Werror)
 kit=$(dirname "$(rt doc)")
 archives=(crates/subst_c/out/libsubst_c.a "$kit/c/liblibc_c.a")
-
-folder=$(mktemp -d)
-trap 'rm -rf "$folder"' EXIT
 # The header is that which is installed, with the version in it.
 include=$folder/prefix/include
-output=$folder/output
-passed=0
-failed=0
+ran=$folder/ran
 
-# Runs a command, whose output is kept. It has to end with status 0.
+# Runs a command, and prints what it prints, which is kept too. It has to end with status 0.
 runs() {
   local status=0
-  timeout --foreground "$seconds_a_run" "$@" >"$output" 2>&1 || status=$?
-  [ "$status" -eq 0 ] || printf 'status %d\n' "$status" >>"$output"
+  timeout --foreground "$seconds_a_run" "$@" >"$ran" 2>&1 || status=$?
+  cat "$ran"
+  [ "$status" -eq 0 ] || printf 'status %d\n' "$status"
   return "$status"
-}
-
-# Runs a test, a function, and prints its line.
-test_that() {
-  if "$2"; then
-    printf '%s: %s\n' "$1" "$(tail -n 1 "$output")"
-    passed=$((passed + 1))
-  else
-    printf '%s: FAILED\n' "$1"
-    sed 's/^/    /' "$output"
-    failed=$((failed + 1))
-  fi
 }
 
 built_as_c() {
@@ -111,33 +96,33 @@ refused_in_turn() {
   runs "$compiler" "${strict[@]}" -shared -fPIC -o "$refusing" tools/refuse_memory.c || return
   for ((request = 1; request <= most_requests; request++)); do
     rm -f "$report"
-    runs env LD_PRELOAD="$refusing" REFUSE_REQUEST="$request" REFUSE_REPORT="$report" "$folder/c" small || return
+    runs env LD_PRELOAD="$refusing" REFUSE_REQUEST="$request" REFUSE_REPORT="$report" "$folder/c" || return
     if [ ! -e "$report" ]; then
-      ! grep -qx 'out of memory' "$output" || return
-      printf '%d requests refused in turn, %d times out of memory\n' $((request - 1)) "$times" >"$output"
+      ! grep -qx 'out of memory' "$ran" || return
+      printf '%d requests refused in turn, %d times out of memory\n' $((request - 1)) "$times"
       [ "$times" -gt 0 ]
       return
     fi
-    if grep -qx 'out of memory' "$output"; then
+    if grep -qx 'out of memory' "$ran"; then
       times=$((times + 1))
     fi
   done
-  printf 'no end of requests\n' >"$output"
+  printf 'no end of requests\n'
   return 1
 }
 
 # How many requests for memory the tests make with these words.
 requests_of() {
-  runs env LD_PRELOAD="$refusing" REFUSE_NONE=1 "$folder/c" "$@" && grep -c '^request ' "$output"
+  runs env LD_PRELOAD="$refusing" REFUSE_NONE=1 "$folder/c" "$@" >&2 && grep -c '^request ' "$ran"
 }
 
 # What subst_check asks for is what the parse takes. subst_bytes_into asks for no more, also to tell that a variable is
 # missing, and subst_bytes does.
 asked_by_the_parse_alone() {
   local parse into bytes
-  parse=$(requests_of rows subst_check) && into=$(requests_of rows subst_bytes_into) &&
-    bytes=$(requests_of rows subst_bytes) || return
-  printf '%d requests by subst_check, %d by subst_bytes_into, %d by subst_bytes\n' "$parse" "$into" "$bytes" >"$output"
+  parse=$(requests_of calls subst_check) && into=$(requests_of calls subst_bytes_into) &&
+    bytes=$(requests_of calls subst_bytes) || return
+  printf '%d requests by subst_check, %d by subst_bytes_into, %d by subst_bytes\n' "$parse" "$into" "$bytes"
   [ "$parse" -gt 0 ] && [ "$into" -eq "$parse" ] && [ "$bytes" -gt "$into" ]
 }
 
@@ -147,15 +132,16 @@ asked_for_an_index() {
   parse=$(requests_of pairs 0 17) && few=$(requests_of pairs 16 17) && more=$(requests_of pairs 17 17) || return
   [ "$parse" -eq "$few" ] && [ "$more" -gt "$few" ] || return
   parse=$(requests_of pairs 0 16) && few=$(requests_of pairs 64 16) || return
-  printf '%d requests for 16 pairs, %d for 17\n' "$few" "$more" >"$output"
+  printf '%d requests for 16 pairs, %d for 17\n' "$few" "$more"
   [ "$parse" -eq "$few" ]
 }
 
 # The version of the header, which the tests compare with that of the library, and that of the package.
 has_the_version() {
-  sed -n 's/^#define SUBST_VERSION_[MP][A-Z]* \([0-9]*\)$/\1/p' "$include/subst.h" | paste -sd. >"$output"
-  [ "$(cat "$output")" = "$(tools/version)" ] &&
-    grep -qx "Version: $(tools/version)" "$folder/prefix/lib/pkgconfig/subst.pc"
+  local version
+  version=$(sed -n 's/^#define SUBST_VERSION_[MP][A-Z]* \([0-9]*\)$/\1/p' "$include/subst.h" | paste -sd.)
+  printf '%s\n' "$version"
+  [ "$version" = "$(tools/version)" ] && grep -qx "Version: $version" "$folder/prefix/lib/pkgconfig/subst.pc"
 }
 
 # What a library defines for others.
@@ -168,9 +154,9 @@ shared_library_has_the_calls_alone() {
   local lib=$folder/prefix/lib
   sed -n 's/^uint32_t \(subst_[a-z_]*\)(.*/\1/p' "$include/subst.h" | grep -v '^subst_call_' |
     LC_ALL=C sort >"$folder/calls"
-  defined -D "$lib/libsubst.so" | diff "$folder/calls" - >"$output" || return
-  defined "$lib/libsubst.a" | diff "$folder/calls" - >"$output" || return
-  runs readelf -d "$lib/libsubst.so" && grep -q 'SONAME.*\[libsubst.so.0\]' "$output" || return
+  defined -D "$lib/libsubst.so" | diff "$folder/calls" - || return
+  defined "$lib/libsubst.a" | diff "$folder/calls" - || return
+  runs readelf -d "$lib/libsubst.so" && grep -q 'SONAME.*\[libsubst.so.0\]' "$ran" || return
   runs "$compiler" -std=c99 "${strict[@]}" -I"$include" -o "$folder/shared" tools/c_library.c \
     -L"$lib" -lsubst &&
     runs env LD_LIBRARY_PATH="$lib" "$folder/shared"
@@ -217,9 +203,8 @@ examples_print_what_is_written() {
   block python >"$folder/examples/greet.py"
   block console >"$folder/wanted"
   PREFIX=$folder/prefix run_commands <"$folder/wanted" >"$folder/printed"
-  diff "$folder/wanted" "$folder/printed" >"$output" || return
-  printf '%d commands\n' "$(grep -c '^\$ ' "$folder/wanted")" >"$output"
-  [ -s "$folder/wanted" ]
+  [ -s "$folder/wanted" ] && diff "$folder/wanted" "$folder/printed" &&
+    printf '%d commands\n' "$(grep -c '^\$ ' "$folder/wanted")"
 }
 
 # The examples of README.md, each of which greets the world.
@@ -230,27 +215,23 @@ examples_of_readme_greet() {
   runs "$compiler" -std=c99 "${strict[@]}" -I"$prefix/include" -o "$folder/readme" "$folder/readme.c" \
     "$prefix/lib/libsubst.a" || return
   printed=$("$folder/readme" && PYTHONPATH=$prefix/lib/python3/dist-packages python3 "$folder/readme.py") || return
-  printf '%s\n' "$printed" >"$output"
+  printf '%s\n' "$printed"
   [ "$printed" = $'Hello world!\nHello world!' ]
 }
 
 # The compiler's words by pkg-config build the example too.
 package_is_found() {
   local words
-  words=$(PKG_CONFIG_PATH=$folder/prefix/lib/pkgconfig pkg-config --cflags --libs subst 2>"$output") || return
+  words=$(PKG_CONFIG_PATH=$folder/prefix/lib/pkgconfig pkg-config --cflags --libs subst) || return
   read -ra words <<<"$words"
   runs "$compiler" -o "$folder/found" "$folder/examples/greet.c" "${words[@]}" &&
     runs env LD_LIBRARY_PATH="$folder/prefix/lib" "$folder/found" 'Hello $name!'
 }
 
-if ! command -v "$compiler" >/dev/null; then
-  printf 'there is no C compiler here (%s; the variable CC names another)\n0 passed, 1 failed\n' "$compiler"
-  exit 1
-fi
-{ tools/install --library "$folder/prefix" && tools/install --python "$folder/prefix"; } || {
-  printf 'the library is not installed\n0 passed, 1 failed\n'
-  exit 1
-}
+look_for "${CXX:-c++}" clang++ valgrind python3 pkg-config
+command -v "$compiler" >/dev/null || give_up "there is no C compiler here ($compiler; the variable CC names another)"
+{ tools/install --library "$folder/prefix" && tools/install --python "$folder/prefix"; } ||
+  give_up 'the library is not installed'
 test_that 'as C' built_as_c
 test_that 'sources of 4 GiB' sources_of_four_gib
 test_that 'with memory refused' refused_in_turn
@@ -258,43 +239,22 @@ test_that 'requests for memory' asked_by_the_parse_alone
 test_that 'memory for an index' asked_for_an_index
 test_that 'version' has_the_version
 test_that 'shared library' shared_library_has_the_calls_alone
-if command -v "${CXX:-c++}" >/dev/null; then
-  test_that 'as C++' built_as_cpp
-else
-  printf 'there is no C++ compiler here, so the header is not tried with one\n'
-fi
-if command -v clang >/dev/null && command -v clang++ >/dev/null; then
-  test_that 'by clang' built_by_clang
-else
-  printf 'clang is not installed, so the header is not tried with it\n'
-fi
+test_with "${CXX:-c++}" 'as C++' built_as_cpp
+test_with clang++ 'by clang' built_by_clang
 if has_sanitizers; then
   test_that 'with sanitizers' built_with_sanitizers
 else
-  printf 'the compiler has no sanitizers here, so nothing is run under them\n'
+  skip 'with sanitizers' 'the compiler has none here'
 fi
 test_that 'in threads' in_threads
 if has_thread_sanitizer; then
   test_that 'in threads, with a sanitizer' in_threads_with_sanitizer
 else
-  printf 'the compiler has no sanitizer of threads here, so nothing is built with it\n'
+  skip 'in threads, with a sanitizer' 'the compiler has none of threads here'
 fi
-if command -v valgrind >/dev/null; then
-  test_that 'under valgrind' under_valgrind
-else
-  printf 'valgrind is not installed, so nothing is run under it\n'
-fi
-if command -v python3 >/dev/null; then
-  test_that 'examples of docs/C.md' examples_print_what_is_written
-  test_that 'examples of README.md' examples_of_readme_greet
-  test_that 'by names' called_by_their_names
-else
-  printf 'there is no python3 here, so no examples are run, and nothing is called by names\n'
-fi
-if command -v pkg-config >/dev/null; then
-  test_that 'by pkg-config' package_is_found
-else
-  printf 'there is no pkg-config here, so subst.pc is not read\n'
-fi
-printf '%d passed, %d failed\n' "$passed" "$failed"
-[ "$failed" -eq 0 ]
+test_with valgrind 'under valgrind' under_valgrind
+test_with python3 'examples of docs/C.md' examples_print_what_is_written
+test_with python3 'examples of README.md' examples_of_readme_greet
+test_with python3 'by names' called_by_their_names
+test_with pkg-config 'by pkg-config' package_is_found
+end

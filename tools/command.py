@@ -4,8 +4,7 @@
 No contract says anything of options, files and messages, so these tests run the program as a shell would: each option,
 each message whole, templates of other programs, and, in tools/command_files.py, files that are written whole or not at
 all, and streams and system calls that fail. What is expected is worked out here, from docs/subst.1.in and not from a
-run. What needs strace, envsubst or a mount is left out, and said, where that isn't to be had. Each test prints a line,
-and the last line is 'N passed, M failed'.
+run. Each test prints a line, and the last line is 'N passed, M failed, K skipped'.
 """
 import errno
 import functools
@@ -18,14 +17,16 @@ import sys
 
 sys.dont_write_bytecode = True
 import command_files
-from command_running import (NO_NAME, PROGRAM, can, expect_fault, expect_file, expect_files, failed, missing, subst,
+from command_running import (NO_NAME, PROGRAM, expect_fault, expect_file, expect_files, failed, missing, subst,
                              tests_of, told, write, wrong_words)
-from running import TOP, expect, expect_that, run_tests, shown, version
+from faults import invalid_escape, missing_brace, no_such_variable, unexpected
+from running import TOP, Skipped, expect, expect_that, need, run_tests, shown, version
 
 try:
     import tomllib
-except ImportError:  # before Python 3.11; what is printed as TOML isn't read again then
+except ImportError:
     tomllib = None
+    print('Python has no tomllib before 3.11: what needs it is skipped')
 
 TEMPLATES = TOP / 'tests/data/templates'
 
@@ -225,8 +226,7 @@ def test_bytes():
     expect(subst(['--bytes', '-sA=1', '--only=A'], b'\xff\\$A$B\\'), 0, b'\xff\\1$B\\')
     expect(subst(['--bytes', '-sA=1', '--envsubst'], b'\xff\\$A$1\\'), 0, b'\xff\\1$1\\')
     expect_fault(subst(['--bytes'], b'\xff\xe4$A'), missing('A', '<stdin>:1:4', '\ufffd\ufffd$A', '   ^'))
-    what = r"Unexpected character: '\xFF', expected a closing brace ('}'), colon (':') or question mark ('?')"
-    expect_fault(subst(['--bytes'], b'${A\xff'), told('<stdin>:1:4', what, '${A\ufffd', '   ^'))
+    expect_fault(subst(['--bytes'], b'${A\xff'), told('<stdin>:1:4', unexpected(r"'\xFF'"), '${A\ufffd', '   ^'))
 
 
 # Sources that aren't UTF-8, with the place of the first byte that isn't, and its line.
@@ -262,7 +262,7 @@ def test_faults_of_json():
     line = r'{"a": "\u0041\"$x", "b/~": [1, "$x ${y"], "c": {"": "$x"}}'
     expect_fault(subst(['--json'], b'\n' + line.encode()),
                  missing('x', '<stdin>:2:17: /a', line, '                ^'),
-                 told('<stdin>:2:37', '/b~1~0/1: Missing closing brace', line, ' ' * 36 + '^'),
+                 told('<stdin>:2:37', f'/b~1~0/1: {missing_brace()}', line, ' ' * 36 + '^'),
                  missing('x', '<stdin>:2:55: /c/', line, ' ' * 54 + '^'))
     # Of a key that is there twice, the last string counts.
     line = '{"a": "$x", "a": "$y"}'
@@ -307,14 +307,18 @@ def test_toml():
     text = b'# lost\nb = "$A"\n"$A" = 1\n[t]\nd = 1979-05-27\nn = ["${A}", 1.5]\n'
     end = subst(['--toml', '-sA=1'], text)
     expect(end, 0, b'"$A" = 1\nb = "1"\n\n[t]\nd = 1979-05-27\nn = ["1", 1.5]\n')
+    expect(subst(['--toml', '--envsubst', '-sA=1'], b"a = '\\$A$1'\n"), 0, b"a = '\\1$1'\n")
+    expect(subst(['--toml'], b''), 0)
+
+
+def test_toml_is_read_again():
+    if tomllib is None:
+        raise Skipped('Python has no tomllib')
     for value in ('"', "'", '\n', '\\', '"""', "'''", ']\n[x]', '\u00e4'):
         end = subst(['--toml', f'-sA={value}'], b'a = "$A"\n[t]\nb = ["\\\\$A"]\n')
         expect(end._replace(output=b''), 0)
-        if tomllib:
-            filled = tomllib.loads(end.output.decode())
-            expect_that(filled == {'a': value, 't': {'b': ['$A']}}, f'{value!r} gives {filled}')
-    expect(subst(['--toml', '--envsubst', '-sA=1'], b"a = '\\$A$1'\n"), 0, b"a = '\\1$1'\n")
-    expect(subst(['--toml'], b''), 0)
+        filled = tomllib.loads(end.output.decode())
+        expect_that(filled == {'a': value, 't': {'b': ['$A']}}, f'{value!r} gives {filled}')
 
 
 def test_faults_of_toml():
@@ -380,7 +384,7 @@ def test_nothing_is_written_where_one_file_is_refused():
     write('a', b'a$A')
     write('b', b'$\n$B')
     write('c', b'$B $A')
-    refused = told('b:1:1', 'Missing variable name', '$', '^') + missing('B', 'c:1:2', '$B $A', ' ^')
+    refused = told('b:1:1', NO_NAME, '$', '^') + missing('B', 'c:1:2', '$B $A', ' ^')
     for words in ([], ['--check'], ['-o', 'new']):
         expect_fault(subst(['-sA=1', 'a', 'b', 'c', *words]), refused)
         expect_files('a', 'b', 'c')
@@ -388,7 +392,7 @@ def test_nothing_is_written_where_one_file_is_refused():
 
 def test_status_is_the_highest():
     write('bad', b'$')
-    refused, absent = told('bad:1:1', 'Missing variable name', '$', '^'), failed('nothing', errno.ENOENT)
+    refused, absent = told('bad:1:1', NO_NAME, '$', '^'), failed('nothing', errno.ENOENT)
     expect(subst(['bad', 'nothing']), 3, errors=refused + absent)
     expect(subst(['nothing', 'bad']), 3, errors=absent + refused)
     expect(subst(['nothing', 'bad', '-i']), 3, errors=absent + refused)
@@ -429,9 +433,6 @@ def test_wrong_words():
 # Tests of faults
 
 
-NO_BRACE = 'Missing closing brace'
-NO_CHARACTER = 'Invalid escape sequence: missing escape character'
-EXPECTED = "expected a closing brace ('}'), colon (':') or question mark ('?')"
 WIDE = '\u6f22'
 # Sources of one fault each, with its place, whose columns are those of a terminal, what it is, the line as it is shown,
 # how many columns are before the carets, and how many carets there are.
@@ -440,21 +441,21 @@ FAULTS = (
     ('a\n$\nb', '2:1', NO_NAME, '$', 0, 1),
     ('${}', '1:1', NO_NAME, '${}', 0, 2),
     ('$A $-', '1:4', NO_NAME, '$A $-', 3, 1),
-    ('${a', '1:2', NO_BRACE, '${a', 1, 1),
-    ('${a:{}', '1:2', NO_BRACE, '${a:{}', 1, 1),
-    ('${a-b} $A', '1:4', f"Unexpected character: '-', {EXPECTED}", '${a-b} $A', 3, 1),
-    (f'${{a{WIDE}', '1:4', f"Unexpected character: '{WIDE}', {EXPECTED}", f'${{a{WIDE}', 3, 2),
-    ('ab\\q', '1:3', 'Invalid escape sequence: \\q', 'ab\\q', 2, 2),
-    ('ab\\', '1:3', NO_CHARACTER, 'ab\\', 2, 1),
+    ('${a', '1:2', missing_brace(), '${a', 1, 1),
+    ('${a:{}', '1:2', missing_brace(), '${a:{}', 1, 1),
+    ('${a-b} $A', '1:4', unexpected("'-'"), '${a-b} $A', 3, 1),
+    (f'${{a{WIDE}', '1:4', unexpected(f"'{WIDE}'"), f'${{a{WIDE}', 3, 2),
+    ('ab\\q', '1:3', invalid_escape('q'), 'ab\\q', 2, 2),
+    ('ab\\', '1:3', invalid_escape(), 'ab\\', 2, 1),
     ('a\tb\t$', '1:5', NO_NAME, 'a b $', 4, 1),
     ('a\r\nb$\r\n', '2:2', NO_NAME, 'b$', 1, 1),
-    ('\\\r\n', '1:1', 'Invalid escape sequence: \\\\u{d}', '\\', 0, 1),
+    ('\\\r\n', '1:1', invalid_escape('\\u{d}'), '\\', 0, 1),
     (f'{WIDE}\u00e4{WIDE}$', '1:6', NO_NAME, f'{WIDE}\u00e4{WIDE}$', 5, 1),
     ('e\u0301$', '1:2', NO_NAME, 'e\u0301$', 1, 1),
     ('a\x1b[31m$\x1b', '1:7', NO_NAME, 'a\\u{1b}[31m$\\u{1b}', 11, 1),
     ('\x07\x7f\x9b$', '1:4', NO_NAME, '\\u{7}\\u{7f}\\u{9b}$', 17, 1),
     ('\u202e\u2066$\u200f', '1:1', NO_NAME, '\\u{202e}\\u{2066}$\\u{200f}', 16, 1),
-    ('${a\x1b', '1:4', f"Unexpected character: '\\u{{1b}}', {EXPECTED}", '${a\\u{1b}', 3, 6),
+    ('${a\x1b', '1:4', unexpected("'\\u{1b}'"), '${a\\u{1b}', 3, 6),
     # Lines of 60 columns are shown whole, and of wider ones 60 columns, with the ellipses.
     ('$' + '-' * 59, '1:1', NO_NAME, '$' + '-' * 59, 0, 1),
     ('$' + '-' * 60, '1:1', NO_NAME, '$' + '-' * 58 + '\u2026', 0, 1),
@@ -613,8 +614,7 @@ def test_templates_of_other_programs():
 
 
 def test_envsubst_makes_the_same_of_them():
-    if not can('envsubst', '--version', what='what it makes of the templates'):
-        return
+    need('envsubst')
     for template in templates():
         with open(template, 'rb') as source:
             ran = subprocess.run([shutil.which('envsubst')], stdin=source, env=variables(), stdout=subprocess.PIPE)
@@ -637,7 +637,7 @@ def test_one_variable_of_a_template_is_missing():
         others = {other: value for other, value in variables().items() if other != name}
         end = subst(['--envsubst', '-e', template.name], env=others, cwd=TEMPLATES)
         heads = [line for line in end.errors.decode().splitlines() if not line.startswith('  ')]
-        wanted = [f'{template.name}:{line}:{column}: No such variable: ${name}' for line, column in places]
+        wanted = [f'{template.name}:{line}:{column}: {no_such_variable(name)}' for line, column in places]
         expect_that(end.status == 1 and not end.output, f'{template.name} without {name}: {shown(end.output)}')
         expect_that(heads == wanted, f'{template.name} without {name}: {heads} and not {wanted}')
 
@@ -645,7 +645,7 @@ def test_one_variable_of_a_template_is_missing():
 def test_templates_of_other_programs_in_our_language():
     end = functools.partial(subst, cwd=TEMPLATES)
     expect_fault(end(['-f', 'variables.env', 'crontab', 'entrypoint.sh', 'worker@.service']),
-                 told('crontab:1:50', 'Invalid escape sequence: \\%',
+                 told('crontab:1:50', invalid_escape('%'),
                       '# Jobs of ${APP_NAME}. A percent sign is written \\% here.', ' ' * 49 + '^^'),
                  told('entrypoint.sh:6:4', NO_NAME, '[ "$#" -gt 0 ] && shift', '   ^'),
                  told('worker@.service:11:22', NO_NAME, 'Environment="PRICE=US$$ 5" "ROOT=/srv/${APP_NAME}"',
@@ -653,4 +653,4 @@ def test_templates_of_other_programs_in_our_language():
 
 
 if __name__ == '__main__':
-    run_tests([*tests_of(globals()), *tests_of(vars(command_files))], [PROGRAM])
+    run_tests([*tests_of(globals()), *tests_of(vars(command_files))], [PROGRAM], ['strace', 'unshare', 'envsubst'])

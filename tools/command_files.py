@@ -10,9 +10,10 @@ import shutil
 import subprocess
 import time
 
-from command_running import (NO_NAME, PROGRAM, by_another_user, can, expect_fault, expect_file, expect_files,
-                             expect_mode, failed, missing, read, subst, told, write)
-from running import KIB, MIB, SECONDS, expect, expect_that, in_memory, path_of, pipe, run, shown, unread_pipe, without
+from command_running import (NO_NAME, PROGRAM, by_another_user, expect_fault, expect_file, expect_files, expect_mode,
+                             failed, missing, need_to_run, read, subst, told, write)
+from running import (KIB, MIB, SECONDS, Skipped, expect, expect_that, in_memory, path_of, pipe, run, shown, unread_pipe,
+                     without)
 
 # How often a run is killed.
 KILLS = 200
@@ -200,8 +201,7 @@ def test_names_of_new_files_that_are_taken():
 
 def test_owner_stays():
     if os.getuid() != 0:
-        print("only root can give files away, so that their owners stay isn't tried")
-        return
+        raise Skipped('only root can give files away')
     for words in (['-i', 'file'], ['-o', 'file']):
         write('file', b'a')
         os.chown('file', 1, 2)
@@ -281,8 +281,7 @@ CALLS = (('write', errno.EIO), ('fchmod', errno.EPERM), ('fsync', errno.EIO), ('
 
 
 def test_system_calls_that_fail():
-    if not can('strace', '-o', '/dev/null', 'true', what='what follows when system calls fail'):
-        return
+    need_to_run('strace', '-o', '/dev/null', 'true')
     for call, number in CALLS:
         for words in (['-i', 'old'], ['-o', 'old', 'old'], ['-o', 'old']):
             write('old', b'$A', 0o640)
@@ -296,8 +295,7 @@ def test_system_calls_that_fail():
 
 
 def test_new_file_that_cannot_be_created():
-    if not can('strace', '-o', '/dev/null', 'true', what='what follows when a new file is refused'):
-        return
+    need_to_run('strace', '-o', '/dev/null', 'true')
     for folder, words, target in (('', ['-o', 'new'], 'new'), (os.getcwd() + '/', ['-i', 'old'], 'old')):
         write('old', b'$A')
         for number in (errno.EROFS, errno.EDQUOT):
@@ -308,8 +306,7 @@ def test_new_file_that_cannot_be_created():
 
 
 def test_owner_that_is_refused():
-    if not can('strace', '-o', '/dev/null', 'true', what='what follows when an owner is refused'):
-        return
+    need_to_run('strace', '-o', '/dev/null', 'true')
     for words in (['-i', 'file'], ['-o', 'file']):
         write('file', b'$A\n')
         if os.getuid() == 0:
@@ -373,8 +370,7 @@ exit $status
 def test_full_disk():
     rights = ['-m'] if os.getuid() == 0 else ['-r', '-m']
     os.mkdir('disk')
-    if not can('unshare', *rights, 'mount', '-t', 'tmpfs', '-o', 'size=64k', 'none', 'disk', what='a full disk'):
-        return
+    need_to_run('unshare', *rights, 'mount', '-t', 'tmpfs', '-o', 'size=64k', 'none', 'disk')
     write('old', b'$A' * 50)
     write('template', b'$A' * 50)
     for words, target in ((['-i', 'disk/file'], 'disk/file'), (['-o', 'disk/file'], 'disk/file'),

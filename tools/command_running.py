@@ -1,7 +1,6 @@
 """What the tests of the program `subst` share: running it as a shell would, its messages, and the files of a test,
 which runs in an empty folder.
 """
-import contextlib
 import functools
 import os
 import shutil
@@ -9,12 +8,13 @@ import stat
 import subprocess
 import tempfile
 
-from running import expect, expect_that, path_of, run, shown
+from faults import missing_name, no_such_variable
+from running import Skipped, expect, expect_that, need, path_of, run, shown
 
 PROGRAM = 'subst_command'
 # A user that owns no file.
 NOBODY = 65534
-NO_NAME = 'Missing variable name'
+NO_NAME = missing_name()
 
 
 # Running the program
@@ -43,13 +43,11 @@ def become_nobody():
         os.setuid(NOBODY)
 
 
-def can(program, *words, what):
-    """Whether a command can be run here. Where it can't, says what is left out."""
-    with contextlib.suppress(OSError):
-        if subprocess.run([program, *words], stdout=subprocess.DEVNULL, stderr=subprocess.DEVNULL).returncode == 0:
-            return True
-    print(f"{program} can't be run here, so {what} isn't tried")
-    return False
+def need_to_run(program, *words):
+    """Skips the test unless a command is there and ends well here."""
+    need(program)
+    if subprocess.run([program, *words], stdout=subprocess.DEVNULL, stderr=subprocess.DEVNULL).returncode != 0:
+        raise Skipped(f"{program} can't do this here")
 
 
 # Messages
@@ -61,7 +59,7 @@ def told(place, what, line, carets):
 
 
 def missing(name, place, line, carets):
-    return told(place, f'No such variable: ${name}', line, carets)
+    return told(place, no_such_variable(name), line, carets)
 
 
 def wrong_words(text, usage='[OPTIONS]', more=''):

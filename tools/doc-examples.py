@@ -1,16 +1,18 @@
 #!/usr/bin/env python3
 """doc-examples.py program | map | output   Prints a program of the library's examples, the module of it that is the map
-of docs/CALLING.md, or what the program prints.
+of docs/CALLING.md, or what the program prints, for tools/other-repository.sh.
 
-An example is a block of Rust in a comment `///` of a crate below crates/subst. What it computes is its `output`, and its
+An example is a block of Rust in a comment `///` of a crate of the library. What it computes is its `output`, and its
 last line is a comment with the text of that. The first examples are the function `greet` of README.md, the environment
-as README.md reads it, and the map of docs/CALLING.md. It is used by tools/other-repository.sh.
+as README.md reads it, and the map of docs/CALLING.md.
 """
-import pathlib
 import re
 import sys
 
-TOP = pathlib.Path(__file__).resolve().parent.parent
+sys.dont_write_bytecode = True
+from prove import crates, with_those_below
+from running import TOP
+
 HEAD = '''//! The examples of the library, one after the other.
 #![tactic(auto)]
 
@@ -48,25 +50,9 @@ def found(path, pattern):
     return re.search(pattern, (TOP / path).read_text(encoding='utf-8'), re.M | re.S)[1]
 
 
-def of_readme():
-    """The first block of Rust in README.md."""
-    return found('README.md', r'^```rust\n(.*?)^```$')
-
-
-def own_map():
-    """The block of docs/CALLING.md with a map."""
-    return found('docs/CALLING.md', r'^```rust\n((?:(?!```).)*?^impl(?:(?!```).)*?VariableMap.*?)^```$')
-
-
-def crates():
-    """The crates of the library, in the order of crates.txt."""
-    names = re.findall(r'^(\w+)', (TOP / 'crates.txt').read_text(encoding='utf-8'), re.M)
-    return names[names.index('subst_error'):names.index('subst') + 1]
-
-
 def examples():
     """Each example in a comment: its crate, its lines, and what it prints."""
-    for crate in crates():
+    for crate in with_those_below(['subst'], crates()):
         for path in sorted((TOP / 'crates' / crate / 'src').rglob('*.rt')):
             for block in re.findall(r'^ */// ```rust\n(.*?)^ */// ```$', path.read_text(encoding='utf-8'), re.M | re.S):
                 *lines, printed = [line.strip()[len('/// '):] for line in block.splitlines()]
@@ -83,13 +69,17 @@ def function(number, crate, lines):
 
 
 def program():
-    numbered = list(enumerate(examples()))
-    calls = ['greet', 'from_layers', *(f'example_{number}' for number, _ in numbered)]
+    of_comments = [function(number, crate, lines) for number, (crate, lines, _) in enumerate(examples())]
+    calls = ['greet', 'from_layers', *(f'example_{number}' for number in range(len(of_comments)))]
     prints = FROM_ENVIRONMENT % found('README.md', r'`(Env::from_pairs\([^`]*)`')
     prints += ''.join(f'    println!(rt; "{{}}", {call}(alloc)?)?;\n' for call in calls)
-    functions = FROM_LAYERS + ''.join(function(number, crate, lines) for number, (crate, lines, _) in numbered)
     main = f'\nfn main(rt: HostRuntime) -> anyhow::Result<()> {{\n{prints}    Ok(())\n}}\n'
-    return HEAD + of_readme() + functions + main
+    return ''.join([HEAD, found('README.md', r'^```rust\n(.*?)^```$'), FROM_LAYERS, *of_comments, main])
+
+
+def own_map():
+    """The block of docs/CALLING.md with a map."""
+    return found('docs/CALLING.md', r'^```rust\n((?:(?!```).)*?^impl(?:(?!```).)*?VariableMap.*?)^```$')
 
 
 def output():

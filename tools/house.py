@@ -1,10 +1,10 @@
 #!/usr/bin/env python3
-"""house.py   Checks what this repository asks of its own files, without running any of them.
+"""house.py   Checks what this repository asks of its own files, without running any of them: widths and sizes, names,
+blocks and numbers of pages, what README.md says is proved, facts in few files, and that each lemma is cited.
 
-Widths of lines, that macros write no `impl`, lengths of pages, that what pages name exists, that blocks of pages are
-tried or quoted and numbers right, that docs/PROVED.md is what tools/proved.py makes, and that each lemma is cited. Each
-test prints a line, or what is wrong, each with its file and line, and the last line is 'N passed, M failed'.
+Each test gives what is wrong, mostly with its file and line, and the last line is 'N passed, M failed, K skipped'.
 """
+import collections
 import fnmatch
 import functools
 import os
@@ -13,50 +13,46 @@ import subprocess
 import sys
 
 sys.dont_write_bytecode = True
+import faults
 import proved
-from running import CRATES, TOP, Wrong, run_tests, version
+from running import TOP, Wrong, run_tests, version
 
 # The columns of a line of code or of a definition, of a line of a clause, and of a line of a page.
 CODE, CLAUSE, PROSE = 110, 100, 120
-# The lines of pages, at most; those of a decision; and the words of all pages that are written by hand.
+# The lines of pages, at most; the last one is for each decision.
 LINES = {'README.md': 170, 'docs/DESIGN.md': 160, 'docs/DEFINITIONS.md': 200, 'docs/CALLING.md': 200,
-         'docs/CONTRIBUTING.md': 200}
-DECISION = 40
-WORDS = 17000
-# A page that is made by a script.
-MADE = 'docs/PROVED.md'
-# The pages whose blocks of code are quoted from the source, and what says above a block that it isn't.
-QUOTING = ('README.md', 'docs/CALLING.md', 'docs/CONTRIBUTING.md')
-NOT_QUOTED = '<!-- not quoted -->'
-# Blocks that are no part of the source, by a line of theirs.
-RUN_ELSEWHERE = {'fn greet(alloc: Global) -> Result<String, Error> {': 'tools/other-repository.sh proves and runs it'}
-# What tries the blocks of a page, by their language, that are neither quoted nor commands that tools/pages.py runs.
-TRIED = {('README.md', 'python'): 'tools/c-library.sh', ('README.md', 'c'): 'tools/c-library.sh',
-         ('docs/C.md', 'python'): 'tools/c-library.sh', ('docs/C.md', 'c'): 'tools/c-library.sh',
-         ('docs/MEMORY.md', 'text'): 'tools/refuse-memory.py',
-         **{(f'docs/decisions/{name}.md', 'rust'): 'tools/forms.py'
-            for name in ('01-message-in-place', '03-never-value', '04-writers-that-fail', '26-c-no-handles',
-                        '28-two-kinds-of-maps')}}
+         'docs/CONTRIBUTING.md': 200, 'docs/decisions/[0-9]*.md': 40}
+# The words of all pages, the lines of code, of definitions and proofs, and of scripts, and the crates, at most; and the
+# ends of files beside scripts that are none.
+SIZES = {'.rt': 22850, '.antt': 24500, 'scripts': 9450, 'crates': 24}
+NO_SCRIPTS = ('.rt', '.antt', '.md', '.tsv', '.txt', 'args', 'stdin', 'stdout')
+# The files that have an option of subst, at most, and those that have the text of a fault.
+OPTION_FILES, FAULT_FILES = 7, 6
+# The page whose blocks of code are quoted from the source.
+QUOTING = 'docs/CALLING.md'
+# What tries the blocks of pages, by their language, that are neither quoted nor commands that tools/pages.py runs; it
+# names the page.
+TRIED = (('README.md', ['rust'], 'tools/doc-examples.py'), ('README.md', ['c', 'python'], 'tools/c-library.sh'),
+         ('docs/C.md', ['c', 'python'], 'tools/c-library.sh'), ('docs/MEMORY.md', ['text'], 'tools/refuse-memory.py'),
+         ('docs/decisions/*.md', ['rust'], 'tools/forms.py'))
 # Blocks that nothing tries: a grammar, a drawing, and parts of programs.
 UNTRIED = (('docs/DEFINITIONS.md', 'ebnf'), ('docs/DESIGN.md', ''), ('docs/decisions/26-c-no-handles.md', 'c'),
            ('docs/decisions/02-errors-by-hand.md', 'rust'), ('docs/decisions/29-out-of-memory-with-cause.md', 'rust'))
-# The pages whose indented blocks are lines of these files.
-INDENTED = {'docs/CONTRIBUTING.md': ('tests/data/*.tsv', 'crates/*/must-fail/*')}
-# The folders whose files pages name, and the ends of names of files.
-FOLDERS = ('.ci', 'benches', 'completions', 'crates', 'docs', 'fuzz', 'include', 'python', 'tests', 'tools')
+# The folder of rows and stored answers.
+DATA = 'crates/subst_vectors/data'
+# A page whose indented blocks are lines of these files.
+INDENTED = 'docs/CONTRIBUTING.md', (f'{DATA}/*.tsv', 'crates/*/must-fail/*')
+# The folders whose files pages name, the ends of names of files, and files in backticks that a reader makes.
+FOLDERS = ('.ci', 'benches', 'crates', 'docs', 'fuzz', 'include', 'python', 'tests', 'tools')
 ENDINGS = ('.rt', '.antt', '.py', '.sh', '.md', '.c', '.h', '.in', '.tsv', '.edit', '.txt', '.1')
-# Files that pages name in backticks and that a reader makes.
 READERS = ('greet.c', 'greet.py')
-# What stands for any name in the name of a file.
-ANY_NAME = re.compile(r'\b(?:NAME|NN|[A-Z])(?=\b|Lemmas)')
+# Small numbers as pages write them.
+NUMBERS = 'no one two three four five six seven eight nine ten eleven twelve thirteen fourteen fifteen'.split()
 
 IMPORT = re.compile(r'\s*(?:pub )?(?:ghost )?(?:use|open) ')
-CLAUSES = re.compile(r'\s*(?:requires|ensures|ghost \w+ = )')
-# A macro of the repository, with its margin and its name.
-MACRO = re.compile(r'^( *)macro_rules! (\w+) .*?^\1\}', re.MULTILINE | re.DOTALL)
 FENCE = re.compile(r'^```(\w*)\n(.*?)^```$', re.MULTILINE | re.DOTALL)
 # A definition of a file of lemmas, at the margin.
-DEFINITION = re.compile(r'^(?:pub |abbrev |ruleset |data |record )*([^\s:(){}]+)(?= :| =)', re.MULTILINE)
+DEFINITION = re.compile(r'(?:pub |abbrev |ruleset |data |record )*([^\s:(){}]+)(?= :| =)')
 
 
 @functools.lru_cache(None)
@@ -81,26 +77,11 @@ def pages():
     return [path for path in matching('*.md') if '/must-fail/' not in path]
 
 
-def expect_none(found):
-    """Fails the test with the lines that say what is wrong, if there are any."""
-    found = list(found)
-    if found:
-        raise Wrong('\n'.join(['', *found]))
-
-
 def line_at(text, at):
     return text.count('\n', 0, at) + 1
 
 
 # Widths
-
-
-def wider(path, columns, are_meant):
-    """The lines of a file that have more columns, of those that are meant."""
-    lines = read(path).splitlines()
-    for number, (line, is_meant) in enumerate(zip(lines, are_meant(lines)), 1):
-        if is_meant and len(line) > columns:
-            yield f'{path}:{number}: {len(line)} columns, and not {columns}: {line.strip()[:60]}..'
 
 
 def can_be_broken(lines):
@@ -111,10 +92,10 @@ def can_be_broken(lines):
 
 def in_clauses(lines):
     """Of each line whether it is in a clause or a ghost member, and no comment."""
-    found, open_brackets = [], 0
+    found, depth = [], 0
     for line in lines:
-        is_in = open_brackets > 0 or bool(CLAUSES.match(line))
-        open_brackets = open_brackets + proved.depth(line) if is_in else 0
+        is_in = depth > 0 or bool(re.match(r'\s*(?:requires|ensures|ghost \w+ = )', line))
+        depth = depth + sum(map(line.count, '([{')) - sum(map(line.count, ')]}')) if is_in else 0
         found.append(is_in and not line.strip().startswith('//'))
     return found
 
@@ -128,59 +109,52 @@ def in_prose(lines):
     return found
 
 
-def test_lines_of_code_are_not_too_wide():
-    expect_none(wrong for path in matching('crates/*/src/*.rt', 'crates/*/tests/*.rt')
-                for wrong in wider(path, CODE, can_be_broken))
+def wider(paths, columns, are_meant):
+    """The lines of files that have more columns, of those that are meant."""
+    for path in paths:
+        lines = read(path).splitlines()
+        for number, (line, is_meant) in enumerate(zip(lines, are_meant(lines)), 1):
+            if is_meant and len(line) > columns:
+                yield f'{path}:{number}: {len(line)} columns, and not {columns}: {line.strip()[:60]}..'
 
 
-def test_clauses_are_not_too_wide():
-    expect_none(wrong for path in matching('crates/*/src/*.rt') for wrong in wider(path, CLAUSE, in_clauses))
-
-
-def test_definitions_are_not_too_wide():
-    expect_none(wrong for path in matching('crates/*/specs/*.antt') for wrong in wider(path, CODE, can_be_broken))
-
-
-def test_proofs_are_not_too_wide():
-    expect_none(wrong for path in matching('crates/*/proofs/*.antt') for wrong in wider(path, CODE, can_be_broken))
-
-
-def test_pages_are_not_too_wide():
-    expect_none(wrong for path in pages() for wrong in wider(path, PROSE, in_prose))
-
-
-# Macros
-
-
-def impls_of_macros(path):
-    """The macros of a file that write `impl` blocks: `rt ci` refuses the crate, once all below it is proved."""
-    for macro in MACRO.finditer(read(path)):
-        if re.search(r'^\s*(?:unsafe )?impl\b', macro[0], re.MULTILINE):
-            yield f'{path}:{line_at(read(path), macro.start())}: the macro {macro[2]} writes an impl'
+def test_lines_are_not_too_wide():
+    sources = matching('crates/*/src/*.rt')
+    proofs = matching('crates/*/tests/*.rt', 'crates/*/specs/*.antt', 'crates/*/proofs/*.antt')
+    yield from wider(sources + proofs, CODE, can_be_broken)
+    yield from wider(sources, CLAUSE, in_clauses)
+    yield from wider(pages(), PROSE, in_prose)
 
 
 def test_no_macro_writes_an_impl():
-    expect_none(wrong for path in matching('crates/*/src/*.rt') for wrong in impls_of_macros(path))
+    """`rt ci` refuses the crate of such a macro, once all below it is proved."""
+    for path in matching('crates/*/src/*.rt'):
+        for macro in re.finditer(r'^( *)macro_rules! (\w+) .*?^\1\}', read(path), re.MULTILINE | re.DOTALL):
+            if re.search(r'^\s*(?:unsafe )?impl\b', macro[0], re.MULTILINE):
+                yield f'{path}:{line_at(read(path), macro.start())}: the macro {macro[2]} writes an impl'
 
 
-# Lengths
+# Sizes
 
 
 def test_pages_are_not_too_long():
-    decisions = {path: DECISION for path in matching('docs/decisions/*.md') if not path.endswith('README.md')}
-    counts = {path: len(read(path).splitlines()) for path in {**LINES, **decisions}}
-    expect_none(f'{path}:{counts[path]}: {counts[path]} lines, and not {most}'
-                for path, most in {**LINES, **decisions}.items() if counts[path] > most)
+    for pattern, most in LINES.items():
+        for path in matching(pattern):
+            count = len(read(path).splitlines())
+            if count > most:
+                yield f'{path}:{count}: {count} lines, and not {most}'
 
 
-def test_pages_do_not_have_too_many_words():
-    counts = {path: len(read(path).split()) for path in matching('README.md', 'docs/*.md') if path != MADE}
-    if sum(counts.values()) > WORDS:
-        shown = ', '.join(f'{path} {count}' for path, count in counts.items())
-        raise Wrong(f'{sum(counts.values())} words, and not {WORDS}: {shown}')
+def test_tree_is_not_too_large():
+    scripts = [path for path in matching('tools/*', 'fuzz/*', 'python/*', 'benches/*') if not path.endswith(NO_SCRIPTS)]
+    counts = {'crates': len({path.split('/')[1] for path in matching('crates/*')}),
+              'words of pages': sum(len(read(path).split()) for path in matching('README.md', 'docs/*.md'))}
+    for what, paths in (('.rt', matching('*.rt')), ('.antt', matching('*.antt')), ('scripts', scripts)):
+        counts[what] = sum(read(path).count('\n') for path in paths)
+    yield from (f'{what}: {counts[what]}, and not {most}' for what, most in SIZES.items() if counts[what] > most)
 
 
-# Names
+# What pages name
 
 
 def prose(text):
@@ -198,27 +172,18 @@ def spans(path):
 @functools.lru_cache(None)
 def anchors(path):
     """The anchors of the headings of a page."""
-    found = set()
-    for title in re.findall(r'^#+ (.*)$', prose(read(path)), re.MULTILINE):
-        anchor = proved.anchor(re.sub(r'\[([^]]*)\]\([^)]*\)', r'\1', title))
-        copies = (f'{anchor}-{number}' for number in range(1, 1000))
-        found.add(anchor if anchor not in found else next(it for it in copies if it not in found))
-    return found
+    titles = re.findall(r'^#+ (.*)$', prose(read(path)), re.MULTILINE)
+    texts = [re.sub(r'\[([^]]*)\]\([^)]*\)', r'\1', title).lower() for title in titles]
+    return [re.sub(r'[^\w\- ]', '', text).replace(' ', '-') for text in texts]
 
 
-def wrong_links(path):
-    """The links of a page that lead to no file, or to no heading."""
-    text = prose(read(path))
-    for match in re.finditer(r'\]\(([^)\s]+)\)', text):
-        target, _, anchor = match[1].partition('#')
-        if re.match(r'\w+:', target):
-            continue
-        to = (TOP / path).parent / target if target else TOP / path
-        where = f'{path}:{line_at(text, match.start())}'
-        if not to.exists():
-            yield f'{where}: there is no {target}'
-        elif anchor and anchor not in anchors(str(to.resolve().relative_to(TOP))):
-            yield f'{where}: {target or path} has no heading #{anchor}'
+def test_links_of_pages_lead_somewhere():
+    for path in pages():
+        text = prose(read(path))
+        for match in re.finditer(r'\]\((?!\w+:)([^)\s#]*)#?([^)\s]*)\)', text):
+            to = (TOP / path).parent / match[1] if match[1] else TOP / path
+            if not to.exists() or match[2] and match[2] not in anchors(str(to.resolve().relative_to(TOP))):
+                yield f'{path}:{line_at(text, match.start())}: it leads nowhere: {match[0]}'
 
 
 def names_a_file(span):
@@ -230,28 +195,18 @@ def names_a_file(span):
     return begins or span.endswith(ENDINGS) and not span.startswith('.')
 
 
-@functools.lru_cache(None)
-def places():
-    """All files and folders, as paths from the top."""
-    return {'/'.join(parts[:end]) for parts in (path.split('/') for path in files())
-            for end in range(1, len(parts) + 1)}
-
-
 def is_a_place(span):
     """Whether the path of a file or a folder has these last segments, also without the ending of a module, or of a file
     that the version is put into."""
-    names = [span.rstrip('/') + ending for ending in ('', '.rt', '.antt', '.in')]
-    patterns = [pattern for name in names for pattern in (name, ANY_NAME.sub('*', name))]
-    return any(fnmatch.fnmatchcase(f'/{place}', f'*/{pattern}') for pattern in patterns for place in places())
+    pattern = re.escape(span.rstrip('/')).replace(r'\*', '.*')
+    return re.search(rf'(?:^|/){pattern}(?:\.rt|\.antt|\.in)?(?:/|$)', '\n'.join(files()), re.MULTILINE)
 
 
 @functools.lru_cache(None)
 def known():
     """All words of the code, of its definitions and proofs, of the header, and of the scripts."""
-    sources = matching('crates/*.rt', 'crates/*.antt', 'crates.txt', 'include/*', 'tools/*', 'benches/*')
-    crates = {path.split('/')[1] for path in matching('crates/*')}
-    return crates.union(*(re.findall(r'[\w-]+|\w+', read(path)) for path in sources),
-                        *(re.findall(r'\w+', read(path)) for path in sources))
+    paths = matching('crates/*.rt', 'crates/*.antt', 'crates.txt', 'include/*', 'tools/*', 'benches/*')
+    return {word for path in paths for pattern in (r'[\w-]+', r'\w+') for word in re.findall(pattern, read(path))}
 
 
 @functools.lru_cache(None)
@@ -262,211 +217,188 @@ def is_of_the_kit(word):
     return subprocess.run(command, check=False).returncode == 0
 
 
-def unknown(span):
-    """What of a span is a path of items or the name of a crate, and isn't known."""
+def unknown_items(span):
+    """What of something in backticks is a path of items or the name of a crate, and isn't known."""
     words = [path.split('::')[-1] for path in re.findall(r'\w+(?:::\w+)+', span)]
     words += re.findall(r'\bsubst_\w+', span) if not names_a_file(span) else []
     words += re.findall(r'\bRattle(?:\.\w+)*\.([\w-]+)', span)
-    words = [word for word in words if word not in known() and not word.endswith(('_', '_X'))]
-    return [word for word in words if not is_of_the_kit(word)]
+    return [word for word in words
+            if word not in known() and not word.endswith(('_', '_X')) and not is_of_the_kit(word)]
 
 
-def wrong_lemmas(span):
-    """What is wrong with the name of a file of lemmas, or of a lemma after it."""
+def is_no_lemma(span):
+    """Whether something in backticks is the name of a file of lemmas or of a lemma in one, and isn't there."""
     match = re.fullmatch(r'(\w+Lemmas)(?:\.(?!antt$)([\w-]+))?', span)
-    if match is None:
-        return None
-    homes = [path for path in files() if fnmatch.fnmatchcase(path, f"*/{ANY_NAME.sub('*', match[1])}.antt")]
-    if not homes:
-        return f'there is no {match[1]}.antt'
-    if match[2] and not any(match[2] in {owner for _, owner, _ in owned(path)} for path in homes):
-        return f'{match[1]}.antt has no {match[2]}'
-    return None
+    homes = matching(f'*/{match[1]}.antt') if match else []
+    return match and not any(match[2] is None or match[2] in definitions(path) for path in homes)
 
 
-def test_links_of_pages_lead_somewhere():
-    expect_none(wrong for path in pages() for wrong in wrong_links(path))
+def unknown_options(span):
+    """The options that something in backticks gives to a script, and that the script doesn't have."""
+    command = re.match(r'(?:python3 |bash )?((?:tools|benches|fuzz)/[\w.-]+)((?: \S+)*)$', span)
+    if command is None or command[1] not in files():
+        return []
+    return [word for word in command[2].split() if word.startswith('--') and word not in read(command[1])]
 
 
-def test_files_that_pages_name_exist():
-    expect_none(f'{path}:{line}: there is no {span}' for path in pages() for line, span in spans(path)
-                if names_a_file(span) and not is_a_place(span))
+def test_what_pages_name_exists():
+    for path in pages():
+        for line, span in spans(path):
+            is_missing = names_a_file(span) and not is_a_place(span) or is_no_lemma(span)
+            for wrong in [span] if is_missing else [*unknown_items(span), *unknown_options(span)]:
+                yield f'{path}:{line}: `{span}`: there is no {wrong}'
 
 
-def test_items_that_pages_name_exist():
-    expect_none(f'{path}:{line}: `{span}`: {word} is not found' for path in pages() if path != MADE
-                for line, span in spans(path) for word in unknown(span))
+def test_version_begins_the_change_log_and_stands_in_no_other_file():
+    first = re.search(r'^## ([^\s,]+)', read('CHANGELOG.md'), re.MULTILINE)[1]
+    if first != version():
+        yield f'CHANGELOG.md: it begins with {first}, and not {version()}'
+    for path in matching('README.md', 'docs/*', 'include/*', 'tools/*', 'python/*', 'crates/*.rt', 'crates/*/stdout'):
+        for match in re.finditer(rf'(?<![\d.]){re.escape(version())}(?!\d|\.\d)', read(path)):
+            yield f'{path}:{line_at(read(path), match.start())}: the version stands here too'
 
 
-def test_lemmas_that_pages_name_exist():
-    expect_none(f'{path}:{line}: {wrong}' for path in pages() if path != MADE
-                for line, span in spans(path) if (wrong := wrong_lemmas(span)))
-
-
-def test_change_log_begins_with_the_version():
-    first = re.search(r'^## ([^\s,]+)', read('CHANGELOG.md'), re.MULTILINE)
-    expect_none([] if first[1] == version() else [f'CHANGELOG.md: it begins with {first[1]}, and not {version()}'])
-
-
-def test_no_other_file_has_the_version():
-    other = matching('README.md', 'docs/*', 'include/*', 'tools/*', 'python/*', 'completions/*', 'crates/*.rt',
-                     'crates/*/stdout')
-    pattern = re.compile(rf'(?<![\d.]){re.escape(version())}(?!\d|\.\d)')
-    expect_none(f'{path}:{line_at(read(path), match.start())}: the version stands here too'
-                for path in other for match in pattern.finditer(read(path)))
-
-
-# Quoted code
+# Blocks of pages
 
 
 def stripped(text):
-    return [line.strip() for line in text.splitlines() if line.strip()]
+    """The lines of a text that aren't empty, without what they begin and end with."""
+    return '\n'.join(['', *filter(None, map(str.strip, text.splitlines())), ''])
 
 
 @functools.lru_cache(None)
-def sources():
-    """The lines of each file of the crates that code is quoted from."""
-    return {path: stripped(read(path)) for path in matching('crates/*.rt', 'crates/*.antt')}
+def sources(*patterns):
+    return [stripped(read(path)) for path in matching(*patterns)]
 
 
-def is_quoted(lines, source):
-    """Whether lines stand together in a source; a line `..` stands for any lines."""
-    text = '\n'.join(lines)
-    parts = re.split(r'^(?:(?://|--) )?\.\.$', text, flags=re.MULTILINE)
-    at = 0
-    for part in (part.strip('\n').split('\n') for part in parts if part.strip()):
-        starts = range(at, len(source) - len(part) + 1)
-        start = next((start for start in starts if source[start:start + len(part)] == part), None)
-        if start is None:
-            return False
-        at = start + len(part)
-    return True
-
-
-def pieces(block):
-    """The parts of a block that an empty line parts, each with the file that a comment above it names, if one does."""
-    named, lines = None, []
-    for line in [*block.splitlines(), '']:
-        name = re.fullmatch(r'(?://|--) ([\w/]+\.(?:rt|antt))', line)
-        named, line = (name[1], '') if name else (named, line.strip())
-        if line:
-            lines.append(line)
-        elif lines:
-            yield named, lines
-            lines = []
-
-
-def parts_of(language, block):
-    """What has to be found of a block, each with its file, if that is named: of Rust all of it, unless it names files,
-    and of antt each part, since imports stand between them."""
-    found = list(pieces(block))
-    is_one = language == 'rust' and all(named is None for named, _ in found)
-    return [(None, stripped(block))] if is_one else found
-
-
-def is_in_source(named, lines):
-    homes = [path for path in sources() if named is None or path.endswith(f'/{named}')]
-    return any(is_quoted(lines, sources()[path]) for path in homes)
-
-
-def unquoted(path):
-    """The blocks of a page that claim to be of the source and aren't found there."""
-    text = read(path)
-    for match in FENCE.finditer(text):
-        is_marked = text[:match.start()].rstrip().endswith(NOT_QUOTED)
-        if match[1] in ('rust', 'antt') and not is_marked and not any(line in match[2] for line in RUN_ELSEWHERE):
-            for named, lines in parts_of(match[1], match[2]):
-                if not is_in_source(named, lines):
-                    where = f'{path}:{line_at(text, match.start())}'
-                    yield f"{where}: not in {named or 'the source'}: {lines[0]} .."
+def is_quoted(lines, *patterns):
+    """Whether lines stand together in a file; a line `..` stands for any lines."""
+    parts = [re.escape(part) for part in re.split(r'\n(?:(?://|--) )?\.\.(?=\n)', stripped(lines))]
+    return any(re.search(r'(?:\n.*)*?'.join(parts), source) for source in sources(*patterns))
 
 
 def test_quoted_code_is_that_of_the_source():
-    expect_none(wrong for path in QUOTING for wrong in unquoted(path))
-
-
-def is_tried(path, language):
-    """Whether a block is quoted, run by tools/pages.py, or tried by a script that names its page."""
-    if language == 'console' or path in QUOTING and language in ('rust', 'antt'):
-        return True
-    script = TRIED.get((path, language))
-    return script is not None and path.split('/')[-1].split('.')[0] in read(script)
-
-
-def test_blocks_of_pages_are_tried():
-    blocks = ((path, block) for path in pages() for block in FENCE.finditer(read(path)) if path != MADE)
-    expect_none(f'{path}:{line_at(read(path), block.start())}: nothing tries this block' for path, block in blocks
-                if not is_tried(path, block[1]) and (path, block[1]) not in UNTRIED)
-
-
-def indented(path):
-    """The indented blocks of a page, each with its line and its lines."""
-    for block in re.finditer(r'(?:^    +\S.*\n)+', prose(read(path)), re.MULTILINE):
-        yield line_at(read(path), block.start()), stripped(block[0])
+    """Of antt each part of a block is found alone, since imports stand between them."""
+    text = read(QUOTING)
+    for block in FENCE.finditer(text):
+        for part in {'rust': [block[2]], 'antt': block[2].split('\n\n')}.get(block[1], []):
+            if not is_quoted(part, 'crates/*.rt', 'crates/*.antt'):
+                yield f'{QUOTING}:{line_at(text, block.start())}: not in the source: {part.strip().splitlines()[0]} ..'
 
 
 def test_indented_lines_are_those_of_files():
-    expect_none(f'{path}:{line}: not in {" or ".join(patterns)}: {lines[0]}'
-                for path, patterns in INDENTED.items() for line, lines in indented(path)
-                if not any(is_quoted(lines, stripped(read(file))) for file in matching(*patterns)))
+    path, patterns = INDENTED
+    for block in re.finditer(r'(?:^    +\S.*\n)+', prose(read(path)), re.MULTILINE):
+        if not is_quoted(block[0], *patterns):
+            first = block[0].splitlines()[0]
+            yield f'{path}:{line_at(read(path), block.start())}: not in {" or ".join(patterns)}: {first}'
 
 
-# Numbers
-
-# Small numbers as pages write them.
-NUMBERS = 'no one two three four five six seven eight nine ten eleven twelve thirteen fourteen fifteen'.split()
+def test_blocks_of_pages_are_tried():
+    """Each is quoted, run by tools/pages.py, tried by a script that names its page, or meant not to be."""
+    for path in pages():
+        name = path.removeprefix('docs/decisions/').removesuffix('.md')
+        tried = ['console', *(language for page, language in UNTRIED if page == path)]
+        tried += ['rust', 'antt'] if path == QUOTING else []
+        for pattern, languages, script in TRIED:
+            tried += languages if path in matching(pattern) and name in read(script) else []
+        for block in FENCE.finditer(read(path)):
+            if block[1] not in tried:
+                yield f'{path}:{line_at(read(path), block.start())}: nothing tries this block'
 
 
 def numbers():
     """Numbers of pages that other files have: a page, an expression for them, and what they are."""
     names = re.findall(r'^(\w+)', read('crates.txt'), re.MULTILINE)
-    library = names[names.index('subst_error'):names.index('subst') + 1]
-    yield 'README.md', r'first (\w+) crates', [NUMBERS[len(library)]]
-    for path in matching('tests/data/*.tsv'):
-        records = [line for line in read(path).splitlines() if line and not line.startswith('#')]
-        yield 'tests/data/README.md', rf'`{os.path.basename(path)}` \| ([\d,]+) \|', [f'{len(records):,}']
-    for word in ('bytes', 'json', 'toml'):
-        rows = re.findall(rf'^{word}\t', read('tests/data/rows.tsv'), re.MULTILINE)
-        yield 'tests/data/README.md', rf'`{word}` \((\d+)(?: rows)?\)', [str(len(rows))]
+    yield 'README.md', r'first (\w+) crates', [NUMBERS[names.index('subst') - names.index('subst_error') + 1]]
+    for path in matching(f'{DATA}/*.tsv'):
+        records = [line for line in read(path).split('\n') if line and not line.startswith('#')]
+        yield f'{DATA}/README.md', rf'`{os.path.basename(path)}` \| ([\d,]+) \|', [f'{len(records):,}']
+    for kind, what in (('bytes', 'bytes'), ('json', 'JSON documents'), ('toml', 'TOML documents')):
+        rows = re.findall(rf'^{kind}\t', read(f'{DATA}/answers.tsv'), re.MULTILINE)
+        yield f'{DATA}/README.md', rf'([\d,]+) to {what}', [f'{len(rows):,}']
     measured = re.search(r'^\| variables, 1 MiB \|(?: [\d.]+M \|){2} ([\d.]+)M \|(?: [\d.]+M \|){2} ([\d.]+)M \|',
                          read('benches/RESULTS.md'), re.MULTILINE)
     yield 'README.md', r'takes ([\d.]+) million instructions, in the Rust crate\s([\d.]+)', \
         [f'{float(number):.2f}' for number in measured.groups()]
 
 
-def wrong_numbers():
+def test_numbers_that_pages_name_are_right():
     for path, pattern, wanted in numbers():
         found = re.search(pattern, read(path))
         if found is None or list(found.groups()) != wanted:
-            is_ = 'nothing' if found is None else found[0]
-            yield f'{path}: it says {is_}, and it is {", ".join(wanted)}'
-
-
-def test_numbers_that_pages_name_are_right():
-    expect_none(wrong_numbers())
-
-
-# Options
-
-
-def wrong_options(span):
-    """The options that something in backticks gives to a script, and that the script doesn't have."""
-    command = re.match(r'(?:python3 |bash )?((?:tools|benches|fuzz)/[\w.-]+)((?: \S+)*)$', span)
-    if command is None or not (TOP / command[1]).is_file():
-        return []
-    return [word for word in command[2].split() if word.startswith('--') and word not in read(command[1])]
-
-
-def test_options_that_pages_name_exist():
-    expect_none(f'{path}:{line}: `{span}`: there is no {word}' for path in pages() if path != MADE
-                for line, span in spans(path) for word in wrong_options(span))
+            yield f'{path}: it says {found and found[0]}, and it is {", ".join(wanted)}'
 
 
 # What is proved
 
+# A link to a function, and the names of its clauses; where there is no name, its clause has none.
+PROVED_BY = re.compile(r'\[`(\w+)`\]\((crates/[\w/]+\.rt)\)((?: `\w+`,?)*)')
 
-def test_page_of_what_is_proved_is_that_of_the_source():
-    expect_none(proved.wrongs())
+
+def clauses(path, name):
+    """The names of what the functions of a file that have this name ensure; that of a clause without one is empty."""
+    heads = [it.head for item in proved.items_of(read(path)) for it in (item, *item.members) if it.name == name]
+    return {found for head in heads for line in head for found in re.findall(r'^ *ensures (?:(\w+) )?\{', line)}
+
+
+def test_what_readme_says_is_proved_is_in_clauses():
+    text = read('README.md')
+    begin = text.index('\n## What is proved\n')
+    rows = list(re.finditer(r'^\|(?! What |---).*', text[begin:text.index('\n## ', begin + 1)], re.MULTILINE))
+    if not rows:
+        yield 'README.md: there is no table of what is proved'
+    for row in rows:
+        where, links = f'README.md:{line_at(text, begin + row.start())}', PROVED_BY.findall(row[0])
+        if not links:
+            yield f'{where}: it names no function whose clause says this'
+        for name, path, labels in links:
+            there = clauses(path, name) if path in files() else ()
+            for label in sorted(set(re.findall(r'\w+', labels) or ['']).difference(there)):
+                yield f"{where}: `{name}` of {path} has no clause {label or 'without a name'}"
+
+
+def test_readme_has_the_theorem():
+    path = 'crates/subst_template/src/lib.rt'
+    comment = re.search(r'((?:^///.*\n)+)pub fn substitute_bytes\b', read(path), re.MULTILINE)[1]
+    paragraphs = [' '.join(text.replace('///', '').split()) for text in comment.split('\n///\n')]
+    theorem = next((text for text in paragraphs if text.startswith('For every byte source')), None)
+    if theorem is None or theorem not in ' '.join(read('README.md').replace('\n> ', ' ').split()):
+        yield f'README.md: it has not the theorem of the comment of `substitute_bytes`, word for word: {theorem}'
+
+
+def test_all_that_is_public_is_printed():
+    yield from proved.wrongs()
+
+
+# Facts in few files
+
+# The options of subst as its source has them, and what other programs that have options are told by.
+OPTIONS = 'crates/subst_command_lib/src/options.rt'
+OTHER_PROGRAM = re.compile(r'\b(?:tools|benches|fuzz)/\w|\brt[ (]\w')
+
+
+def has_option(path, option):
+    """Whether a file has an option of subst. Benches and other programs have options of the same names."""
+    if path == OPTIONS:
+        return f'"{option[2:]}"' in read(path)
+    text = read(path).replace(r'\-', '-')
+    if option not in text or path.startswith('benches/'):
+        return False
+    word = re.compile(rf'(?<![\w-]){option}(?![\w-])')
+    return any(word.search(line) and not OTHER_PROGRAM.search(line) for line in text.splitlines())
+
+
+def test_facts_are_in_few_files():
+    heads = '\n'.join(re.findall(r'^\.TP\n(\..*)', read('docs/subst.1.in').replace(r'\-', '-'), re.MULTILINE))
+    texts = {texts[0].partition(':')[0] for texts in faults.texts().values() if texts} - {'out of memory'}
+    found = [(option, OPTION_FILES, has_option) for option in re.findall(r'(?<![\w-])--[a-z][\w-]*', heads)]
+    found += [(text, FAULT_FILES, lambda path, text: text in read(path))
+              for text in sorted({*texts, faults.expected_after_name()})]
+    for fact, most, has in found:
+        paths = [path for path in files() if has(path, fact)]
+        if len(paths) > most:
+            yield f'{fact!r} is in {len(paths)} files, and not {most}: {" ".join(paths)}'
 
 
 # Lemmas
@@ -474,8 +406,7 @@ def test_page_of_what_is_proved_is_that_of_the_source():
 
 def module_of(path):
     """The name of the module that a file of proofs is, as imports have it."""
-    crate, below = re.fullmatch(r'crates/(\w+)/(.*)\.antt', path).groups()
-    return f"Rattle.{crate}.{below.replace('/', '.')}"
+    return 'Rattle.' + path.removeprefix('crates/').removesuffix('.antt').replace('/', '.')
 
 
 @functools.lru_cache(None)
@@ -491,17 +422,16 @@ def imported():
         for module, alias in re.findall(r'^(?:pub )?use (Rattle\.[\w.]+?\w)(?: as (\w+))?$', text, re.MULTILINE):
             found |= {(module, name) for name in re.findall(rf"\b{alias or module.split('.')[-1]}\.([\w-]+)", text)}
     for path in matching('crates/*.rt'):
-        for crate, below in re.findall(r'\b(\w+)((?:::\w+)*::proofs(?:::[\w-]+)+)', read(path)):
-            crate = path.split('/')[1] if crate == 'crate' else crate
-            *modules, name = below.lstrip(':').split('::')
-            found.add(('.'.join(['Rattle', crate, *modules]), name))
+        for crate, modules, name in re.findall(r'\b(\w+)((?:::\w+)*::proofs(?:::[\w-]+)*)::([\w-]+)', read(path)):
+            found.add((f"Rattle.{path.split('/')[1] if crate == 'crate' else crate}{modules.replace('::', '.')}", name))
     return found
 
 
-def owned(path):
-    """The lines of a file of lemmas, but comments and imports, each with its number and the definition that it is of:
-    that at the margin, or at that of a block of definitions that cite one another."""
-    margin, owner = '', None
+@functools.lru_cache(None)
+def definitions(path):
+    """The definitions of a file of lemmas by their names, each with the number of its first line and its lines but
+    comments and imports. They are at the margin, or at that of a block of definitions that cite one another."""
+    found, margin, name = {}, '', None
     for number, line in enumerate(read(path).splitlines(), 1):
         if line == 'mutual':
             margin = '  '
@@ -509,37 +439,32 @@ def owned(path):
             margin = ''
         if line.startswith(margin) and re.match(r'[^\s-]', line[len(margin):]):
             head = DEFINITION.match(line[len(margin):])
-            owner = head[1] if head else line.split()[0]
+            name = head[1] if head else line.split()[0]
         if not re.match(r'\s*--', line) and not IMPORT.match(line):
-            yield number, owner, line
-
-
-def uncited(path):
-    """The definitions of a file of lemmas that nothing but themselves cites."""
-    lines, first = list(owned(path)), {}
-    for number, owner, line in lines:
-        if DEFINITION.match(line.strip()) and DEFINITION.match(line.strip())[1] == owner:
-            first.setdefault(owner, number)
-    for name, number in first.items():
-        word = re.compile(rf'(?<![\w-]){re.escape(name)}(?![\w-])')
-        is_cited = any(owner != name and word.search(line) for _, owner, line in lines)
-        if not is_cited and (module_of(path), name) not in imported():
-            yield f'{path}:{number}: nothing cites {name}'
-
-
-def is_of_lemmas(path):
-    """Whether a file has lemmas: not answers to goals, which are found by their names, and no worked examples."""
-    is_answer = re.search(r'/(Answers|Invariants|Proof|Lib)\.antt$', path)
-    return not is_answer and 'WorkedExamples' not in path
+            found.setdefault(name, (number, []))[1].append(line)
+    return found
 
 
 def test_each_lemma_is_cited():
-    expect_none(wrong for path in matching('crates/*/proofs/*.antt') if is_of_lemmas(path) for wrong in uncited(path))
+    """Not answers to goals, which are found by their names, and no worked examples."""
+    for path in matching('crates/*/proofs/*.antt'):
+        if re.search(r'/(Answers|Invariants|Proof|Lib)\.antt$|WorkedExamples', path):
+            continue
+        words = [set(re.findall(r'[\w-]+', '\n'.join(lines))) for _, lines in definitions(path).values()]
+        counts = collections.Counter(word for of_one in words for word in of_one)
+        for name, (number, lines) in definitions(path).items():
+            is_definition = DEFINITION.match(lines[0].strip())
+            if is_definition and counts[name] < 2 and (module_of(path), name) not in imported():
+                yield f'{path}:{number}: nothing cites {name}'
 
 
-def tests():
-    return [(name[len('test_'):], it) for name, it in globals().items() if name.startswith('test_')]
+def expect_none(found):
+    """Fails the test with what it gives, if there is anything."""
+    wrong = list(found())
+    if wrong:
+        raise Wrong('\n'.join(['', *wrong]))
 
 
 if __name__ == '__main__':
-    run_tests(tests(), [])
+    run_tests([(name.removeprefix('test_'), functools.partial(expect_none, test))
+               for name, test in list(globals().items()) if name.startswith('test_')], [])

@@ -3,18 +3,10 @@
 # README.md, of the map of docs/CALLING.md, and of the examples in the library's comments, and runs that with `rt try`,
 # which proves nothing and so takes half a minute.
 # Then a program that uses a lent template after its owner was taken apart has to be refused for that. The last line is
-# 'N passed, M failed'.
+# 'N passed, M failed, K skipped'.
 set -euo pipefail
 cd "$(dirname "$0")/.."
-
-folder=$(mktemp -d)
-trap 'rm -rf "$folder"' EXIT
-. tools/stoppable.sh
-
-fail() {
-  printf '%s\n0 passed, 1 failed\n' "$1"
-  exit 1
-}
+. tools/testing.sh
 
 # The lines of the library, of which README says that they are copied.
 library_lines() {
@@ -59,21 +51,21 @@ PROGRAM
 }
 
 try() {
-  (cd "$folder/crates/greeting" && rt try) >"$folder/output" 2>"$folder/errors"
+  (cd "$folder/crates/greeting" && rt try)
+}
+
+examples_are_run() {
+  write_program && try >"$folder/printed" && diff "$folder/expected" "$folder/printed" &&
+    printf '%d examples\n' "$(wc -l <"$folder/printed")"
+}
+
+use_after_taking_apart_is_refused() {
+  write_use_after_taking_apart && ! try >"$folder/refused" 2>&1 || return
+  cat "$folder/refused"
+  grep -F 'cannot move out of `owner` because it is borrowed' "$folder/refused"
 }
 
 copy_library
-write_program
-if ! stoppable try; then
-  cat "$folder/errors"
-  fail 'the program of another repository does not run'
-fi
-diff "$folder/expected" "$folder/output" || fail 'the examples of the library print something else'
-printf 'a program of another repository ran %d examples\n' "$(wc -l <"$folder/output")"
-write_use_after_taking_apart
-refusal='cannot move out of `owner` because it is borrowed'
-if stoppable try || ! grep -qF "$refusal" "$folder/errors" "$folder/output"; then
-  cat "$folder/errors"
-  fail 'a lent template can be used after its owner was taken apart'
-fi
-printf 'a lent template used after its owner was taken apart is refused: %s\n2 passed, 0 failed\n' "$refusal"
+test_that 'a program of another repository' examples_are_run
+test_that 'a lent template after its owner was taken apart' use_after_taking_apart_is_refused
+end

@@ -2,26 +2,16 @@
 """python-library.py   Tests the module for Python over the library, both as tools/install puts them below a prefix.
 
 The tests of python/test_subst.py are run over the installed library, and print what unittest prints. The last line is
-'N passed, M failed'.
+'N passed, M failed, K skipped'.
 """
 import os
-import pathlib
 import subprocess
 import sys
-import tempfile
 import unittest
 
 sys.dont_write_bytecode = True
-from running import TOP
-
-# Where tools/install puts the library and the module below a prefix.
-LIBRARY, PACKAGES = 'lib/libsubst.so.0', 'lib/python3/dist-packages'
-
-
-def is_installed(prefix):
-    """Installs the library, which takes long where it has to be proved first, and the module."""
-    return all(subprocess.run([TOP / 'tools/install', option, prefix], stdin=subprocess.DEVNULL).returncode == 0
-               for option in ('--library', '--python'))
+from installed import LIBRARY, PACKAGES, installed
+from running import TOP, end
 
 
 def is_found(prefix):
@@ -36,25 +26,20 @@ def is_found(prefix):
 
 
 def tested(prefix):
-    """Runs the tests of the module, and returns how many passed and how many failed."""
+    """Runs the tests of the module, and returns the word that each is counted under."""
     os.environ['SUBST_LIBRARY'] = str(prefix / LIBRARY)
     sys.path.insert(0, str(TOP / 'python'))
     tests = unittest.defaultTestLoader.loadTestsFromName('test_subst')
     result = unittest.TextTestRunner(sys.stdout).run(tests)
     wrong = {test.id().split(' ')[0] for test, _ in result.failures + result.errors}
-    return result.testsRun - len(result.skipped) - len(wrong), len(wrong)
+    skipped = len(result.skipped)
+    passed = result.testsRun - skipped - len(wrong)
+    return passed * ['passed'] + len(wrong) * ['failed'] + skipped * ['skipped']
 
 
 def main():
-    with tempfile.TemporaryDirectory() as folder:
-        prefix = pathlib.Path(folder).resolve()
-        passed, failed = 0, 1
-        if is_installed(prefix):
-            passed, failed = tested(prefix)
-            is_right = is_found(prefix)
-            passed, failed = passed + is_right, failed + (not is_right)
-    print(f'{passed} passed, {failed} failed')
-    sys.exit(1 if failed else 0)
+    with installed() as prefix:
+        end([*tested(prefix), 'passed' if is_found(prefix) else 'failed'])
 
 
 main()

@@ -1,146 +1,136 @@
 #!/usr/bin/env python3
-"""random-documents.py [--seed SEED] [--count COUNT | --write]   Checks places of strings in random documents: 100,000.
+"""random-documents.py [--seed SEED] [--count COUNT]   Runs `subst` on random documents: 100,000.
 
 Half of the documents are JSON, and half TOML, small ones but for a few that are deep or wide, with strings spelled in
-all ways, comments and white space. `subst_places` checks each by the readers of documents: a change that is made at a
-place has to be read back as a change of that string, at that place. No document may be wrong or refused, and there have
-to be as many strings, places and faults as were put in. The stored run of subst_places is of the documents of BY_HAND
-and of tests/data, and prints what Python's readers count; --write makes it. The seed is fixed, unless SEED gives
-another. Each test prints a line, and the last line is 'N passed, M failed'.
+all ways, comments and white space. Their strings are templates. What `subst` makes of them is read back by Python's
+readers, and is the document with its strings filled in by tools/rules.py. Then a fault is put at one place in each, and
+`subst --check` tells that one alone, at its line and column. The seed is fixed, unless SEED gives another; a failure
+names it with the document. Each test prints a line, and the last line is 'N passed, M failed, K skipped'.
 """
 import argparse
 import functools
 import itertools
-import json
+import os
 import random
+import re
 import sys
-from concurrent.futures import ThreadPoolExecutor
-from typing import NamedTuple
+import unicodedata
+from concurrent.futures import ProcessPoolExecutor
 
 sys.dont_write_bytecode = True
-from running import CRATES, TOP, Wrong, expect, run, run_tests
+import faults
+import rules
+from running import Wrong, expect, expect_that, run, run_tests
+from vectors import read_document, text_of_tree
 
-try:
-    import tomllib
-except ImportError:  # before Python 3.11; the stored run isn't worked out again then
-    tomllib = None
-
-PROGRAM = 'subst_places'
-KINDS = ('json', 'toml')
-# How many documents are checked by one run of the program.
-CHUNK = 5000
+# How many documents one run of the program has.
+CHUNK = 1000
 # How many spellings of strings there are to make documents from.
 TOKENS = 3000
-
-# Documents by hand, each with what it is in TOML 1.0 where Python's reader knows no TOML 1.1.
-BY_HAND = (
-    ('json', '"$a"'),
-    ('json', ' "" '),
-    ('json', '{"a": "first", "b": "a", "a": "last"}'),
-    ('json', '{"a": {"b": "x"}, "a": {"c": "y", "\\u0063": "z"}, "": ""}'),
-    ('json', '{"a/b": "1", "a~b": "2", "~1": "3", "\\"": "\\"", "\\u00e9\\n": ["\\\\"], "\\ud83d\\ude00": "k"}'),
-    ('json', '["\\u00e9", "\u00e9", "\\uD83D\\uDE00\\ud83d\\ude00x\U0001f600"]'),
-    ('json', '["\\b\\f\\n\\r\\t\\/\\"\\\\", "\\u0000"]'),
-    ('json', '[[["a"], []], [[], ["b", ["c"]]],\r\n\t"d"]'),
-    ('json', '{"$a": "$a", "k": ["k", "[", "]", "{", "}", ",", ":", "\\""], "\\"k\\"": "\\"k\\""}'),
-    ('json', '["a" , "\\u0041" ,"\\u20ac\\u07ff\\u0080\\u007f\\uffff" ]\n'),
-    ('toml', 'a.b = "1"\na."b.c".d = "2"\n"" = "3"\n\'"\' = "4"\n"\\u00e9 \\"" = "5"\n"$x" = "$x"\n'),
-    ('toml', 'k = 1 # "v"\n[t.u]\nk = "v" # "v"\n[t]\nk = \'v\'\n[[l]]\nk = "v"\n[l.m]\nk = "w"\n[[l]]\nk = "x"\n'
-             '[[l.n]]\nk = "y"\n[[l.n]]\nk = "z"\n'),
-    ('toml', 'a = 1 # see $PORT below\nurl = "http://$PORT/"\nv = "url"\n"v = \\"url\\"" = "v"\n'),
-    ('toml', 'a = [ # "b"\n "b", # ]\n [ "]", "," ], { c = "d" },\n]\n'),
-    ('toml', 'a = { b = "c", d.e = "f", "g" = { h = ["i"] } }\n'),
-    ('toml', 'a = {\n  b = "c", # }\n  d = [\n"e", {},],\n}\nf = "\\e\\x7e\\xe9"\n',
-     'a = { b = "c", d = ["e", {}] }\nf = "\\u001b~\\u00e9"\n'),
-    ('toml', 'a = ""\nb = \'\'\nc = """"""\nd = \'\'\'\'\'\'\ne = """""x"\n"""""\nf = \'\'\'\'x\'\'\'\'\n'),
-    ('toml', 'a = "#\'[\\b\\t\\n\\f\\r\\"\\\\\\u00e9\\U0001F600\u00e9\U0001f600"\nb = \'\\n"#\'\n'),
-    ('toml', 'a = """\nfirst"""\nb = """\\\n   second \\  \n\n  third\\\n"""\n'),
-    ('toml', 'c = \'\'\'\n\\\n\n\'\'\'\nd = """\n\n"""\n'),
-    ('toml', 'a = """\r\nb\r\nc"""\r\nd = """\\\r\n  e\\r\nf\\r\\n\r\n"""\r\n# "\r\ng = \'\'\'\r\n\r\n\'\'\'\r\n'),
-    ('toml', '\ufeffa = "b"\n'),
-    ('toml', 'd = 1979-05-27T07:32:00Z\ne = [1.5, 0x1F, true, "1979-05-27"]\n"1.5" = 1.5\n1.5 = "1.5"\n'),
+VALUE = '$a"\\\n\u00e9'
+# Each fault, with the index of its first character, and its text.
+FAULTS = (
+    ('${none}', 2, faults.no_such_variable('none')),
+    ('$none_2-', 1, faults.no_such_variable('none_2')),
+    ('$-', 0, faults.missing_name()),
+    ('${-', 0, faults.missing_name()),
+    ('${a!}', 3, faults.unexpected("'!'")),
+    ('${a:', 1, faults.missing_brace()),
+    ('\\z', 0, faults.invalid_escape('z')),
 )
-
-
-class Counts(NamedTuple):
-    """What a document has of strings, of places of character boundaries, and of places before any fault."""
-    strings: int
-    places: int
-    faults: int
-
-
-class Made(NamedTuple):
-    """A text, and what it has."""
-    text: str
-    counts: Counts
-
-
-NONE = Counts(0, 0, 0)
-
-
-def total(counts):
-    return Counts(*map(sum, zip(NONE, *counts)))
-
 
 # Strings
 
-
-def counts_of(spelled):
-    """The counts of a string of pieces, each a pair of its spelling and what that spells. A newline of two characters
-    that stands there as it is can't be parted."""
-    string = ''.join(text for _, text in spelled)
-    parted = set(range(len(string) + 1))
-    at = 0
-    for spelling, text in spelled:
-        if spelling == text == '\r\n':
-            parted.discard(at + 1)
-        at += len(text)
-    first = min([string.find(mark) for mark in '$\\' if mark in string], default=len(string))
-    return Counts(1, len(parted), sum(at <= first for at in parted))
-
-
-PLAIN = tuple((c, c) for c in 'abz09 _-.,:;#=[]{}()/?~\u00e9\u0416\u20ac\u4e2d\U0001f600\u200b')
+# Where a fault can be put into a string, by how the string is spelled.
+IN_JSON, IN_BASIC, IN_LITERAL = MARKS = '\ufdd0\ufdd1\ufdd2'
+MARK = re.compile(f'[{MARKS}]')
+# What is there for the program, and what for Python's reader, which knows no TOML 1.1.
+EITHER = re.compile('\ufdd3(.*?)\ufdd4(.*?)\ufdd5', re.DOTALL)
+PLAIN = 'abz09 _-.,:;#=[]()/?~\u00e9\u0416\u20ac\u4e2d\U0001f600\u200b'
+# Templates, to each of which any other can be joined.
+PARTS = (*PLAIN, *PLAIN, '${a}', '${a:b}', '$a-', '${none:c}', '${none?}', '{}', '\\$', '\\\\', '\\}', '\\:')
 # At the ends of how many bytes and units they take, and others.
-SPELLED_BY_NUMBER = 'a$\\"\x00\x1f\x7f\x80\u07ff\u0800\u20ac\ud7ff\ue000\uffff\U00010000\U0001f600\U0010ffff'
-MARKS = tuple((text, text) for text in ('$', '${a}', '${a:b}', '$-', '{', '}'))
+SPELLED_BY_NUMBER = 'a"\x00\x1f\x1b\x7f\x80\u07ff\u0800\u20ac\ud7ff\ue000\u2028\uffff\U00010000\U0010ffff'
+ESCAPES = {'"': '"', '\\': '\\', '\b': 'b', '\f': 'f', '\n': 'n', '\r': 'r', '\t': 't'}
 
 
-def some(rng, *pools):
-    return rng.choice(rng.choice(pools))
+def either(new, old):
+    return f'\ufdd3{new}\ufdd4{old}\ufdd5'
+
+
+def for_program(text):
+    return EITHER.sub(r'\1', text)
+
+
+def for_python(text):
+    return EITHER.sub(r'\2', text)
 
 
 def cased(rng, digits):
     return rng.choice((digits, digits.upper(), digits.capitalize()))
 
 
-def json_unicode(rng):
-    """A character as its units of UTF-16."""
-    c = rng.choice(SPELLED_BY_NUMBER)
+def is_raw(c, others=''):
+    """Whether a character may stand in a string as it is."""
+    return c in PLAIN or c in others or (' ' <= c < '\x7f' and c not in '"\\')
+
+
+def in_json(rng, c):
+    """A spelling of a character."""
     units = c.encode('utf-16-be').hex()
-    return ''.join('\\u' + cased(rng, units[at:at + 4]) for at in range(0, len(units), 4)), c
+    ways = [''.join('\\u' + cased(rng, units[at:at + 4]) for at in range(0, len(units), 4))]
+    if c in ESCAPES or c == '/':
+        ways += 2 * ['\\' + ESCAPES.get(c, c)]
+    return rng.choice([*ways, *(6 * [c] if is_raw(c, '\u2028\x7f') else [])])
 
 
-JSON_ESCAPES = (('\\"', '"'), ('\\\\', '\\'), ('\\/', '/'), ('\\b', '\b'), ('\\f', '\f'), ('\\n', '\n'), ('\\r', '\r'),
-                ('\\t', '\t'))
-JSON_PLAIN = (("'", "'"), ('\u2028', '\u2028'), ('\x7f', '\x7f'))
+def in_basic(rng, c):
+    number = f'{ord(c):x}'
+    ways = ['\\' + letter + cased(rng, number.zfill(width)) for letter, width in (('u', 4), ('U', 8))
+            if len(number) <= width]
+    new = ['\\x' + cased(rng, number.zfill(2))] if len(number) <= 2 else []
+    new += ['\\e'] if c == '\x1b' else []
+    ways += [either(way, ways[0]) for way in new]
+    if c in ESCAPES:
+        ways += 2 * ['\\' + ESCAPES[c]]
+    return rng.choice([*ways, *(6 * [c] if is_raw(c, '\t') else [])])
 
 
-def json_token(rng):
-    pools = (PLAIN, PLAIN, MARKS, JSON_ESCAPES, [json_unicode(rng) for _ in range(3)], JSON_PLAIN)
-    spelled = [some(rng, *pools) for _ in range(rng.choice((0, 1, 1, 2, 2, 3, 4)))]
-    return spelling_of('"', spelled)
+def in_literal(_, c):
+    return c
 
 
-def spelling_of(quotes, spelled):
-    """The token, and what its string is."""
-    text = ''.join(spelling for spelling, _ in spelled)
-    return Made(quotes + text + quotes, counts_of(spelled)), ''.join(text for _, text in spelled)
+SPELLINGS = {IN_JSON: in_json, IN_BASIC: in_basic, IN_LITERAL: in_literal}
+
+
+def spelled(rng, mark, text):
+    return ''.join(SPELLINGS[mark](rng, c) for c in text)
+
+
+def some_parts(rng, mark, *pools):
+    """Parts of a string as pairs, each of a spelling and what it spells; those of the pools are such pairs."""
+    others = '"' if mark == IN_LITERAL else '"\'' + SPELLED_BY_NUMBER + ''.join(ESCAPES).replace('\\', '')
+    made = [rng.choice(rng.choice((PARTS, PARTS, others, *pools))) for _ in range(rng.choice((0, 1, 1, 2, 2, 3, 4)))]
+    return [part if isinstance(part, tuple) else (spelled(rng, mark, part), part) for part in made]
+
+
+def token_of(quotes, mark, parts):
+    """The spelling of a string with its marks, and the string."""
+    return (mark.join([quotes, *(spelling for spelling, _ in parts), quotes]), ''.join(text for _, text in parts))
+
+
+def without_marks(text):
+    return MARK.sub('', text)
 
 
 # JSON
 
 JSON_SPACE = ('', '', '', '', ' ', ' ', '\n', '\t', '\r\n  ', '  ')
-JSON_OTHER = tuple(Made(text, NONE) for text in ('0', '-1', '1.5e+3', 'true', 'false', 'null', '12345678901'))
+JSON_OTHER = ('0', '-1', '1.5e+3', 'true', 'false', 'null', '12345678901')
+
+
+def json_token(rng):
+    return token_of('"', IN_JSON, some_parts(rng, IN_JSON))
 
 
 def json_list(rng, brackets, texts):
@@ -149,17 +139,14 @@ def json_list(rng, brackets, texts):
     return brackets[0] + (spaced or rng.choice(JSON_SPACE)) + brackets[1]
 
 
-def json_array(rng, items):
-    return Made(json_list(rng, '[]', [item.text for item in items]), total(item.counts for item in items))
-
-
 def json_object(rng, keys, values):
     """An object with these values. Of members with one key the last one counts."""
-    members = [(*rng.choice(keys), value) for value in values]
-    colon = [rng.choice(JSON_SPACE) + ':' + rng.choice(JSON_SPACE) for _ in members]
-    texts = [spelling.text + mid + value.text for (spelling, _, value), mid in zip(members, colon)]
-    last = {key: value.counts for _, key, value in members}
-    return Made(json_list(rng, '{}', texts), total(last.values()))
+    picked = [rng.choice(keys) for _ in values]
+    last = {key: at for at, (_, key) in enumerate(picked)}
+    return json_list(rng, '{}', [
+        spelling + rng.choice(JSON_SPACE) + ':' + rng.choice(JSON_SPACE)
+        + (value if last[key] == at else without_marks(value))
+        for at, ((spelling, key), value) in enumerate(zip(picked, values))])
 
 
 def json_value(rng, tokens, keys, depth):
@@ -167,82 +154,32 @@ def json_value(rng, tokens, keys, depth):
     if depth == 0 or pick < 0.5:
         return rng.choice(tokens) if pick < 0.4 or depth else rng.choice(JSON_OTHER)
     values = [json_value(rng, tokens, keys, depth - 1) for _ in range(rng.choice((0, 1, 1, 2, 2, 3)))]
-    return json_array(rng, values) if pick < 0.7 else json_object(rng, keys, values)
-
-
-def json_deep(rng, tokens, keys, depth):
-    """A value in as many arrays and objects."""
-    value = rng.choice(tokens)
-    for _ in range(depth):
-        values = [value, rng.choice(JSON_OTHER)][:rng.choice((1, 1, 2))]
-        value = json_array(rng, values) if rng.random() < 0.5 else json_object(rng, keys, values)
-    return value
+    return json_list(rng, '[]', values) if pick < 0.7 else json_object(rng, keys, values)
 
 
 def json_documents(rng, count):
-    spelled = [json_token(rng) for _ in range(TOKENS)]
-    tokens = [token for token, _ in spelled]
+    made = [json_token(rng) for _ in range(TOKENS)]
+    tokens = [token for token, _ in made]
     # Few keys, so that some come twice, and in another spelling.
-    keys = [(token, key) for token, key in spelled if len(key) == 1][:60] + spelled[:20]
+    keys = [(without_marks(token), key) for token, key in made]
+    keys = [it for it in keys if len(it[1]) == 1][:60] + keys[:20]
     for number in range(count):
         if number % 500 == 0:
-            made = json_array(rng, [json_value(rng, tokens, keys, 0) for _ in range(100)])
+            text = json_list(rng, '[]', [json_value(rng, tokens, keys, 0) for _ in range(100)])
         elif number % 500 == 1:
-            made = json_deep(rng, tokens, keys, 100)
+            text = 50 * '{"a":[' + rng.choice(tokens) + 50 * ']}'
         else:
             values = [json_value(rng, tokens, keys, 2) for _ in range(rng.randrange(1, 4))]
-            made = json_array(rng, values) if number % 3 else json_object(rng, keys, values)
-        yield made._replace(text=rng.choice(JSON_SPACE) + made.text + rng.choice(JSON_SPACE))
+            text = json_list(rng, '[]', values) if number % 3 else json_object(rng, keys, values)
+        yield rng.choice(JSON_SPACE) + text + rng.choice(JSON_SPACE)
 
 
 # TOML
 
-TOML_NEWLINES = (('\n', '\n'), ('\r\n', '\r\n'))
-TOML_ESCAPES = (('\\"', '"'), ('\\\\', '\\'), ('\\b', '\b'), ('\\f', '\f'), ('\\n', '\n'), ('\\r', '\r'), ('\\t', '\t'),
-                ('\\e', '\x1b'))
+NEWLINES = (('\n', '\n'), ('\r\n', '\r\n'))
 CONTINUED = tuple((text, '') for text in ('\\\n', '\\\r\n', '\\  \n\n  ', '\\\n \t', '\\\t\r\n\n '))
-TOML_PLAIN = PLAIN + (('\t', '\t'),)
-
-
-def toml_unicode(rng):
-    c = rng.choice(SPELLED_BY_NUMBER)
-    widths = [it for it in (('x', 2), ('u', 4), ('U', 8)) if ord(c) < 16 ** it[1]]
-    letter, width = rng.choice(widths)
-    return '\\' + letter + cased(rng, f'{ord(c):0{width}x}'), c
-
-
-def toml_pieces(rng, quote, is_multi_line):
-    """The pieces of a string between such quotes."""
-    other = '\'' if quote == '"' else '"'
-    pools = [TOML_PLAIN, TOML_PLAIN, MARKS, [(other, other)]]
-    if quote == '"':
-        pools += [TOML_ESCAPES, [toml_unicode(rng) for _ in range(3)]]
-    else:
-        pools += [[('\\', '\\')]]
-    if is_multi_line:
-        pools += [TOML_NEWLINES, [(quote, quote), (2 * quote, 2 * quote)]]
-        pools += [CONTINUED] if quote == '"' else []
-    return [some(rng, *pools) for _ in range(rng.choice((0, 1, 1, 2, 2, 3, 4)))]
-
-
-def toml_token(rng):
-    quote, is_multi_line = rng.choice('"\''), rng.random() < 0.5
-    spelled = []
-    for piece in toml_pieces(rng, quote, is_multi_line):
-        before = spelled[-1] if spelled else ('', '')
-        # Three quotes would end the string, what is blank after a backslash at the end of a line is left out, and so is
-        # the first newline.
-        is_blank = not before[1] and piece[0].strip(' \t\r\n') == ''
-        if is_multi_line and (is_blank or piece[0][0] == quote == before[0][:1]):
-            spelled.append(('n', 'n'))
-        spelled.append(piece)
-    if is_multi_line:
-        spelled.insert(0, (rng.choice(('', '', '\n', '\r\n')), ''))
-    return spelling_of(quote * (3 if is_multi_line else 1), spelled)
-
-
-TOML_OTHER = tuple(Made(text, NONE) for text in (
-    '0', '-1_000', '0xFF', '1.5e+3', '-inf', 'true', 'false', '1979-05-27', '1979-05-27T07:32:00.5-07:00', '07:32:00'))
+TOML_OTHER = ('0', '-1_000', '0xFF', '1.5e+3', '-inf', 'true', 'false', '1979-05-27', '1979-05-27T07:32:00.5-07:00',
+              '07:32:00')
 # White space in a line, at the end of one, and in an array.
 IN_LINE = ('', ' ', ' ', '  ', '\t')
 LINE_ENDS = ('\n', '\n', '\n', '\r\n', ' # "a" = \'b\'\n', '#\r\n', '\n\n', '\n# [a]\n\n', '\t\n')
@@ -250,12 +187,33 @@ IN_ARRAY = ('', '', ' ', ' ', '\n', '\r\n ', ' # "], }\n', '\n\n#\n\t')
 BARE = ('a', 'b', 'c', '1', 'a-b', '_', 'true', '07')
 
 
-def toml_keys(rng, spelled):
+def multi_line_parts(rng, quote, mark):
+    pools = [NEWLINES, [(quote, quote), (2 * quote, 2 * quote)], *([CONTINUED] if quote == '"' else [])]
+    parts = [(rng.choice(('', '', '\n', '\r\n')), '')]
+    for part in some_parts(rng, mark, *pools):
+        before = parts[-1]
+        # Three quotes would end the string, what is blank after a backslash at the end of a line is left out, and so is
+        # the first newline.
+        is_blank = not before[1] and part[0].strip(' \t\r\n') == ''
+        if is_blank or part[0][0] == quote == before[0][:1]:
+            parts.append(('n', 'n'))
+        parts.append(part)
+    return parts
+
+
+def toml_token(rng):
+    quote, mark = rng.choice((('"', IN_BASIC), ("'", IN_LITERAL)))
+    if rng.random() < 0.5:
+        return token_of(3 * quote, mark, multi_line_parts(rng, quote, mark))
+    return token_of(quote, mark, some_parts(rng, mark))
+
+
+def toml_keys(rng, made):
     """Keys, each with some spellings: bare ones, and those that are quoted in one line."""
     keys = {key: [key, f'"{key}"', f"'{key}'", f'"\\u{ord(key[0]):04x}{key[1:]}"'] for key in BARE}
-    for token, key in spelled:
-        if not token.text.startswith(('"""', "'''")):
-            keys.setdefault(key, []).append(token.text)
+    for token, key in made:
+        if not without_marks(token).startswith(('"""', "'''")):
+            keys.setdefault(key, []).append(without_marks(token))
     picked = rng.sample(list(keys), 40)
     return {key: keys[key] for key in dict.fromkeys([*BARE, *picked])}
 
@@ -264,10 +222,10 @@ class Toml:
     """A maker of TOML documents."""
 
     def __init__(self, rng):
-        spelled = [toml_token(rng) for _ in range(TOKENS)]
+        made = [toml_token(rng) for _ in range(TOKENS)]
         self.rng = rng
-        self.tokens = [token for token, _ in spelled]
-        self.keys = toml_keys(rng, spelled)
+        self.tokens = [token for token, _ in made]
+        self.keys = toml_keys(rng, made)
         self.names = list(self.keys)
 
     def dotted(self, path):
@@ -281,26 +239,28 @@ class Toml:
         pick = self.rng.random()
         if depth == 0 or pick < 0.7:
             return self.rng.choice(self.tokens if pick < 0.55 or depth else TOML_OTHER)
-        return self.array(depth) if pick < 0.85 else self.inline(depth)
+        return self.array(depth, self.rng.randrange(4)) if pick < 0.85 else self.inline(depth)
+
+    def space(self, brackets):
+        """White space and comments between brackets: between braces these are of TOML 1.1."""
+        text = self.rng.choice(IN_ARRAY)
+        return either(text, '') if brackets == '{}' else text
 
     def between(self, brackets, texts):
         """Texts between brackets, with commas, white space and comments."""
-        rng = self.rng
-        spaced = [rng.choice(IN_ARRAY) + text + rng.choice(IN_ARRAY) for text in texts]
-        end = ',' + rng.choice(IN_ARRAY) if texts and rng.random() < 0.3 else ''
-        return brackets[0] + (','.join(spaced) or rng.choice(IN_ARRAY)) + end + brackets[1]
+        spaced = [self.space(brackets) + text + self.space(brackets) for text in texts]
+        comma = (',' if brackets == '[]' else either(',', '')) if texts and self.rng.random() < 0.3 else ''
+        return brackets[0] + ','.join(spaced) + comma + self.space(brackets) + brackets[1]
 
-    def array(self, depth, count=None):
-        items = [self.value(depth - 1) for _ in range(self.rng.randrange(4) if count is None else count)]
-        return Made(self.between('[]', [item.text for item in items]), total(item.counts for item in items))
+    def array(self, depth, count):
+        return self.between('[]', [self.value(depth - 1) for _ in range(count)])
 
     def inline(self, depth):
-        pairs = self.pairs(self.rng.sample(self.names, self.rng.randrange(4)), depth - 1)
-        return Made(self.between('{}', [pair.text for pair in pairs]), total(pair.counts for pair in pairs))
+        return self.between('{}', self.pairs(self.rng.sample(self.names, self.rng.randrange(4)), depth - 1))
 
     def pair(self, path, depth):
-        rng, value = self.rng, self.value(depth)
-        return Made(self.dotted(path) + rng.choice(IN_LINE) + '=' + rng.choice(IN_LINE) + value.text, value.counts)
+        rng = self.rng
+        return self.dotted(path) + rng.choice(IN_LINE) + '=' + rng.choice(IN_LINE) + self.value(depth)
 
     def pairs(self, names, depth):
         """Pairs under these names, some of them with dots: of each such name one or two, in any order."""
@@ -313,10 +273,9 @@ class Toml:
 
     def section(self, header, names):
         """A header, with pairs under it."""
-        rng, pairs = self.rng, self.pairs(names, 2)
-        lines = [rng.choice(IN_LINE) + line + rng.choice(LINE_ENDS)
-                 for line in [*([header] if header else []), *(pair.text for pair in pairs)]]
-        return Made(''.join(lines), total(pair.counts for pair in pairs))
+        rng = self.rng
+        return ''.join(rng.choice(IN_LINE) + line + rng.choice(LINE_ENDS)
+                       for line in [*([header] if header else []), *self.pairs(names, 2)])
 
     def header(self, path, brackets):
         return brackets + self.rng.choice(IN_LINE) + self.dotted(path) + self.rng.choice(IN_LINE) + ']' * len(brackets)
@@ -349,27 +308,13 @@ class Toml:
             sections.append(self.rng.choice(left).pop())
         return sections
 
-    def deep(self, depth):
-        """A value in as many arrays and inline tables."""
-        rng, value = self.rng, self.rng.choice(self.tokens)
-        text = value.text
-        for _ in range(depth):
-            if rng.random() < 0.5:
-                text = self.between('[]', [text])
-            else:
-                text = self.between('{}', [f'{self.dotted([rng.choice(self.names)])} = {text}'])
-        return Made(f'a = {text}\n', value.counts)
-
     def document(self, number):
         if number % 500 == 0:
-            wide = self.array(1, 60)
-            return Made(f'a={wide.text}\n', wide.counts)
+            return f'a={self.array(1, 60)}\n'
         if number % 500 == 1:
-            return self.deep(70)
+            return f'a={35 * "[{a="}{self.rng.choice(self.tokens)}{35 * "}]"}\n'
         sections = self.table([], self.rng.choice((0, 1, 1, 2)))
-        text = ''.join(section.text for section in sections)
-        start = self.rng.choice(('', '', '', '\ufeff', '\n', '# "a"\r\n'))
-        return Made(start + text, total(section.counts for section in sections))
+        return self.rng.choice(('', '', '', '\ufeff', '\n', '# "a"\r\n')) + ''.join(sections)
 
 
 def toml_documents(rng, count):
@@ -377,122 +322,113 @@ def toml_documents(rng, count):
     return (maker.document(number) for number in range(count))
 
 
-# The stored run
+# Each kind of documents: how they are made, and a document that is told from all of them by what it gives.
+KINDS = {
+    'json': (json_documents, '"the end of a document"\n'),
+    'toml': (toml_documents, 'the = "end of a document"\n'),
+}
 
 
-def strings_in(tree):
-    """The strings of a tree."""
-    if isinstance(tree, str):
-        yield tree
-    elif isinstance(tree, (dict, list)):
-        for value in tree.values() if isinstance(tree, dict) else tree:
-            yield from strings_in(value)
+# Faults
 
 
-def read_counts(kind, text):
-    """The counts of a document, or `None` where Python's reader refuses it. That of TOML reads a newline of two
-    characters as one, which leaves the counts as they are."""
-    try:
-        tree = json.loads(text) if kind == 'json' else tomllib.loads(text.lstrip('\ufeff'))
-    except ValueError:
+def width(c):
+    """How many columns a character takes."""
+    return 0 if c in '\u200b\ufeff' else 2 if unicodedata.east_asian_width(c) in 'WF' else 1
+
+
+def place(before):
+    """The line and the column after a text."""
+    lines = re.split('\r\n|\r|\n', before)
+    return f'{len(lines)}:{1 + sum(map(width, lines[-1]))}'
+
+
+def with_fault(rng, text):
+    """A document with a fault in one of its strings, with the place and the text of that, or None where it has none."""
+    marks = list(MARK.finditer(text))
+    if not marks:
         return None
-    return total(counts_of([(c, c) for c in string]) for string in strings_in(tree))
-
-
-def stored():
-    """The documents of the stored run as bytes, by their kinds, each with its counts."""
-    for kind, text, *same in BY_HAND:
-        yield kind, text.encode(), read_counts(kind, *(same or [text]))
-    for kind in KINDS:
-        for line in (TOP / f'tests/data/{kind}.tsv').read_text().splitlines():
-            if not line.startswith('#'):
-                source = bytes.fromhex(line.split('\t')[0].strip('-'))
-                try:
-                    yield kind, source, read_counts(kind, source.decode())
-                except UnicodeDecodeError:
-                    yield kind, source, None
-
-
-def printed(counts):
-    """What the program prints of documents, of none that are wrong: a pair of a kind and its counts for each."""
-    lines = []
-    for kind in KINDS:
-        of_kind = [it for name, it in counts if name == kind]
-        read = [it for it in of_kind if it is not None]
-        lines.append('%s: %d documents, %d strings, %d places, %d faults, %d refused\n' % (
-            kind, len(read), *total(read), len(of_kind) - len(read)))
-    return ''.join(lines).encode()
-
-
-def line_of(kind, source):
-    return f'{kind} {source.hex()}\n'
-
-
-def stored_run():
-    """What the stored run has as input and output."""
-    documents = list(stored())
-    lines = [line_of(kind, source) for kind, source, _ in documents]
-    comments = ('# documents by hand\n', '# those of tests/data\n')
-    source = ''.join([comments[0], *lines[:len(BY_HAND)], comments[1], *lines[len(BY_HAND):]])
-    return {'stdin': source.encode(), 'stdout': printed([(kind, counts) for kind, _, counts in documents])}
-
-
-def stored_run_is_that_of_the_documents():
-    for name, wanted in stored_run().items():
-        if (CRATES / PROGRAM / name).read_bytes() != wanted:
-            raise Wrong(f'crates/{PROGRAM}/{name} is another: --write makes it anew')
+    mark, (fault, at, what) = rng.choice(marks), rng.choice(FAULTS)
+    parts = (text[:mark.start()] + spelled(rng, mark[0], fault[:at]),
+             spelled(rng, mark[0], fault[at:]) + text[mark.end():])
+    before, after = (without_marks(for_program(part)) for part in parts)
+    return before + after, place(before), what
 
 
 # Tests
 
 
-def expect_printed(seed, end, wanted):
-    """Fails the test unless the program printed these counts, and no document that is wrong."""
-    for line in end.output.decode().splitlines():
-        kind, _, rest = line.partition(' ')
-        if kind in KINDS:
-            source, _, wrong = rest.partition(': ')
-            raise Wrong(f'seed {seed}: {kind} {bytes.fromhex(source).decode()!r}: {wrong}')
+def write_files(folder, texts):
+    for number, text in enumerate(texts):
+        with open(os.path.join(folder, str(number)), 'w', encoding='utf-8', newline='') as file:
+            file.write(text)
+
+
+def subst(folder, kind, words):
+    """Runs the program on files of a folder."""
+    return run('subst_command', [f'--{kind}', '-s', f'a={VALUE}', *words], name='subst', cwd=folder)
+
+
+def check_filled(folder, kind, texts):
+    """Checks what documents give."""
+    end_of_document = KINDS[kind][1]
+    write_files(folder, [without_marks(for_program(text)) for text in texts])
+    with open(os.path.join(folder, 'end'), 'w', encoding='utf-8') as file:
+        file.write(end_of_document)
+    end = subst(folder, kind, [file for number in range(len(texts)) for file in (str(number), 'end')])
+    expect(end._replace(output=b''), 0)
+    outputs = end.output.decode().split(end_of_document)[:-1]
+    expect_that(len(outputs) == len(texts), f'{len(texts)} documents have {len(outputs)} outputs')
+    for text, output in zip(texts, outputs):
+        try:
+            wanted = rules.filled(read_document(kind, without_marks(for_python(text))), {b'a': VALUE.encode()})
+            is_wanted = text_of_tree(read_document(kind, output)) == text_of_tree(wanted)
+        except ValueError as error:
+            raise Wrong(f'{without_marks(text)!r} gives {output!r}: {error}') from error
+        if not is_wanted:
+            raise Wrong(f'{without_marks(text)!r} gives {output!r} and not {wanted!r}')
+
+
+def check_faults(folder, kind, documents):
+    """Checks the places that are told of the faults of documents."""
+    write_files(folder, [text for text, _, _ in documents])
+    end = subst(folder, kind, ['--check', *map(str, range(len(documents)))])
+    expect(end._replace(errors=b''), 1)
+    messages = [line for line in end.errors.decode().split('\n') if line and not line.startswith('  ')]
+    for number, (text, at, what) in enumerate(documents):
+        message = messages[number] if number < len(messages) else 'nothing'
+        if not (message.startswith(f'{number}:{at}: ') and message.endswith(what)):
+            raise Wrong(f'{text!r} has a fault at {at}, {what}, and what is told is {message}')
+    expect_that(len(messages) == len(documents), f'{len(documents)} faults are told as {len(messages)}')
+
+
+def check_chunk(seed, kind, number):
+    """Checks the documents of one run."""
+    rng, folder = random.Random(f'{seed} {kind} {number}'), f'{kind}_{number}'
+    texts = list(KINDS[kind][0](rng, CHUNK))
+    os.mkdir(folder)
     try:
-        expect(end, 0, wanted)
+        check_filled(folder, kind, texts)
+        check_faults(folder, kind, list(filter(None, (with_fault(rng, text) for text in texts))))
     except Wrong as wrong:
-        raise Wrong(f'seed {seed}: {wrong}') from wrong
+        raise Wrong(f'seed {seed}, {folder}: {wrong}') from wrong
 
 
-def check(seed, kind, make, chunks):
-    """Checks so many runs of documents of a kind."""
-    rng = random.Random(f'{seed} {kind}')
-    with ThreadPoolExecutor() as pool:
-        running = []
-        for _ in range(chunks):
-            made = list(make(rng, CHUNK))
-            source = ''.join(line_of(kind, it.text.encode()) for it in made).encode()
-            running.append((pool.submit(run, PROGRAM, [], source), printed([(kind, it.counts) for it in made])))
-        for end, wanted in running:
-            expect_printed(seed, end.result(), wanted)
-
-
-def tests(seed, count):
-    """The tests, each with its name."""
-    chunks = max(1, round(count / CHUNK / len(KINDS)))
-    makers = {'json': json_documents, 'toml': toml_documents}
-    stored = [('stored_run_is_that_of_the_documents', stored_run_is_that_of_the_documents)] if tomllib else []
-    return [*stored, *((f'{chunks * CHUNK}_documents_of_{kind}', functools.partial(check, seed, kind, make, chunks))
-                       for kind, make in makers.items())]
+def check(seed, kind, chunks):
+    """Checks the documents of so many runs."""
+    with ProcessPoolExecutor() as pool:
+        list(pool.map(functools.partial(check_chunk, seed, kind), range(chunks)))
 
 
 def main():
     parser = argparse.ArgumentParser(description=__doc__.partition('   ')[2].partition('\n')[0])
     parser.add_argument('--seed', default='1')
     parser.add_argument('--count', type=int, default=100000)
-    parser.add_argument('--write', action='store_true')
     given = parser.parse_args()
-    if given.write:
-        for name, made in stored_run().items():
-            (CRATES / PROGRAM / name).write_bytes(made)
-        return
     print(f'seed {given.seed}')
-    run_tests(tests(given.seed, given.count), [PROGRAM])
+    chunks = max(1, round(given.count / CHUNK / len(KINDS)))
+    run_tests([(f'{chunks * CHUNK}_documents_of_{kind}', functools.partial(check, given.seed, kind, chunks))
+               for kind in KINDS], ['subst_command'])
 
 
 if __name__ == '__main__':

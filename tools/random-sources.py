@@ -1,36 +1,38 @@
 #!/usr/bin/env python3
-"""random-sources.py [--seed SEED] [--count COUNT]   Compares answers to random sources: a million, unless COUNT says.
+"""random-sources.py [--seed SEED] [--count COUNT] [--unproved]   Compares answers to random sources: a million.
 
-Half of the sources are of the grammar, and half are damaged at one place. `subst_answers` answers each as bytes, and
-those of text once more as texts, and as the one string of a JSON document; it finds an answer in several ways, and
-prints `differs` where they disagree. All columns of the kinds have to be the same, and the output, or the fault and its
-place, have to be what the few lines of tools/rules.py say, which are written from the rules of the language. So have the
-lists of all variables and of those that are missing. Some sources are then given to `subst_filter`, which has to end as
-the answers say. The seed is fixed, unless SEED gives another; each failure names it with the record. Each test prints a
-line, and the last line is 'N passed, M failed'.
+Half of the sources are of the grammar, and half are damaged at one place. What the few lines of tools/rules.py say of
+each, which are written from the rules of the language, stands in rows as in crates/subst_vectors/data: the output, or
+the fault and its place, the lists of variables and of those that are missing, and of a text the answer to the JSON
+document of this one string. The program `subst_vectors` answers each row in every way, and the installed library each
+source from Python. Some sources are then given to `subst_filter` and `subst`. With --unproved `rt try` runs the first
+program over the rows of fewer sources, 6,000, and nothing is proved or built. The seed is fixed, unless SEED gives
+another; each failure names it. Each test prints a line, and the last line is 'N passed, M failed, K skipped'.
 """
 import argparse
 import functools
 import json
+import os
 import random
-import re
+import subprocess
 import sys
-from concurrent.futures import ThreadPoolExecutor
+from concurrent.futures import ProcessPoolExecutor
 
 sys.dont_write_bytecode = True
-import rules
-from running import PROGRAMS, Wrong, column, expect, run, run_tests
+import installed
+from running import CRATES, Wrong, as_told, expect, run, run_tests
+from vectors import decode, encode, pairs_column, ruled_answer, ruled_lists
 
-# How many sources are answered by one run of the program.
+# How many sources there are in one file of rows.
 CHUNK = 20000
-# How many sources the filter is given.
-FILTERED = 300
+# How many sources the programs that people run are given.
+RUN = 300
 # How many pieces there are to join sources from, two or three in each; as many again are short ones.
 PIECES = 1000
+# How many sources are answered by `rt try`, which takes some milliseconds for each, and the seconds that it may take.
+TRIED, TRY_SECONDS = 6000, 600
 
 NAMES = ('a', 'b', 'c', 'd', '9', '_', 'a1', 'none', 'none_2')
-# The kinds of records whose answers are compared with the rules.
-RULED = (b'bytes', b'variables', b'missing')
 # The variables that sources are filled in from: no value of a name that begins with `none`.
 VARIABLES = {'a': '1', 'b': '', 'c': '$a\\}', 'd': '${', '9': 'two\nlines', '_': '=', 'a1': ':'}
 TEXTS, BYTES = ('\u00e9', '\u2764', '\U0001f600', '\u200b'), ('\xe9', '\xff', '\xc3', '\x9f')
@@ -38,36 +40,6 @@ PLAIN = ('', ' ', 'a', 'Z', '0', '_', '-', '\n', ':', '?', '{', '}', '\0', '\r\n
 ESCAPES = ('\\\\', '\\$', '\\{', '\\}', '\\:')
 # What comes into a source where it is damaged; with nothing a character is taken out.
 DAMAGE = ('', '', '', '$', '$', '${', '${a:', '{', '{', '}', '}', '\\', '\\', ':', '?', '-', 'a', '\n')
-
-
-# What the rules say
-
-
-def answer_of(items, variables):
-    """The first columns of the answer of a template."""
-    try:
-        return b'ok\t' + column(b''.join(rules.values(items, variables)))
-    except rules.Refused as refused:
-        return fault_of(refused)
-
-
-def fault_of(refused):
-    return b'fault\t%b\t%d\t' % refused.args
-
-
-def answers_of(source, variables):
-    """The same of a source, by each kind whose answer isn't that of the kind `bytes`."""
-    try:
-        items = rules.template(source)
-    except rules.Refused as refused:
-        return {b'bytes': fault_of(refused)}
-    lists = rules.variable_entries(items), rules.missing_entries(items, variables)
-    return dict(zip(RULED, (answer_of(items, variables), *map(answer_of_list, lists))))
-
-
-def answer_of_list(entries):
-    """The answer that has these entries, one a line."""
-    return b'ok\t' + column(b''.join(entry + b'\n' for entry in entries))
 
 
 # Sources
@@ -87,128 +59,175 @@ def some_pieces(rng, characters):
     return pieces + short * (2 * PIECES // len(short))
 
 
-def sources_of_grammar(rng, characters):
-    """As many sources as one run answers."""
-    picked = iter(rng.choices(some_pieces(rng, characters), k=3 * CHUNK))
+def sources_of_grammar(rng, characters, count):
+    picked = iter(rng.choices(some_pieces(rng, characters), k=3 * count))
     return [first + second if len(second) > 9 else first + second + third
             for first, second, third in zip(picked, picked, picked)]
 
 
-def damaged_sources(rng, characters):
-    """As many sources as one run answers, each damaged at one place."""
+def damaged_sources(rng, characters, count):
+    """Such sources, each damaged at one place."""
     damage = DAMAGE + characters
 
     def damaged(source):
         at = int(rng.random() * (len(source) + 1))
         return source[:at] + rng.choice(damage) + source[at + (rng.random() < 0.6):]
 
-    return [damaged(source) for source in sources_of_grammar(rng, characters)]
+    return [damaged(source) for source in sources_of_grammar(rng, characters, count)]
 
 
-def pairs_of(variables):
-    return b','.join(column(name) + b'=' + column(value) for name, value in variables.items())
+# Each way to make sources, with their encoding and special characters, and how many of ten it makes.
+MAKES = {
+    'texts_of_the_grammar': (sources_of_grammar, 'utf-8', TEXTS, 4),
+    'damaged_texts': (damaged_sources, 'utf-8', TEXTS, 4),
+    'bytes_of_the_grammar': (sources_of_grammar, 'latin-1', BYTES, 1),
+    'damaged_bytes': (damaged_sources, 'latin-1', BYTES, 1),
+}
 
 
-def answers(kind, sources, pairs):
-    """The line of the answer of each source."""
-    records = b''.join(b'%b\t%b\t%b\n' % (kind, source.hex().encode() or b'-', pairs) for source in sources)
-    end = run('subst_answers', [], records)
-    if end.status != 0:
-        raise Wrong(f'the program ends with status {end.status}: {end.errors!r}')
-    lines = end.output.split(b'\n')
-    if len(lines) != len(sources) + 1:
-        raise Wrong(f'{len(sources)} records have {len(lines) - 1} answers')
-    return lines[:-1]
+def some_sources(seed, name, number, count=CHUNK):
+    """The sources of one file, and the variables that they are filled in from."""
+    make, encoding, characters, _ = MAKES[name]
+    variables = {key.encode(): value.encode(encoding) for key, value in VARIABLES.items()}
+    variables[b'd'] = characters[0].encode(encoding)
+    made = make(random.Random(f'{seed} {name} {number}'), characters, count)
+    return [source.encode(encoding) for source in made], variables
 
 
-def document(source):
+# Rows
+
+
+def json_column(text):
     """The JSON document of this one string."""
-    return json.dumps([source.decode()], ensure_ascii=False).encode()
+    return encode(json.dumps([text], ensure_ascii=False, separators=(',', ':')).encode())
 
 
-def document_answer(line):
-    """The answer to that document, where this is the one to its string: the place of a fault is told by its range."""
-    if not line.startswith(b'ok\t'):
-        return b'\t'.join([*line.split(b'\t')[:-2], b'.', b'.'])
-    output = bytes.fromhex(line[3:].decode().strip('-')).decode()
-    return b'ok\t' + json.dumps([output], ensure_ascii=False, separators=(',', ':')).encode().hex().encode()
+def answers_by_the_rules(source, variables):
+    """The columns of the answer, and of the lists, which only a template has."""
+    answer = ruled_answer(source, variables)
+    return answer, ruled_lists(source, variables) if answer[0] == 'ok' or answer[1] == 'NoSuchVariable' else None
+
+
+def rows_of(source, pairs, answer, listed, is_text):
+    """The rows of a source, as the rules say."""
+    column = encode(source)
+    yield 'bytes', column, pairs, *answer
+    if listed:
+        yield 'lists', column, pairs, *listed
+    if is_text:
+        of_document = ['ok', json_column(decode(answer[1]).decode())] if answer[0] == 'ok' else answer
+        yield 'json', json_column(source.decode()), pairs, *of_document
+
+
+def write_rows(file, sources, variables, answers):
+    """Writes the rows of sources to a file, and returns what `subst_vectors` prints where they hold."""
+    is_text = MAKES[file.partition('.')[0]][1] == 'utf-8'
+    pairs = pairs_column(variables)
+    rows = [row for source, answer in zip(sources, answers) for row in rows_of(source, pairs, *answer, is_text)]
+    with open(file, 'w', encoding='utf-8') as opened:
+        opened.writelines('\t'.join(row) + '\n' for row in rows)
+    return f'{file}: {len(rows)} rows hold\n'
 
 
 # Tests
 
 
-def expect_same(seed, kind, sources, pairs, lines, wanted):
-    """Fails the test unless each line is what is wanted, and names the first that isn't. Of a fault may be wanted no
-    more than how its line begins, up to a tab."""
-    for source, line, begin in zip(sources, lines, wanted):
-        if line != begin and not (begin.endswith(b'\t') and line.startswith(begin)):
-            record = b'%b\t%b\t%b' % (kind, column(source), pairs)
-            raise Wrong(f'seed {seed}, record {record.decode()}\n    is answered {line.decode()}\n'
-                        f'    and not      {begin.decode()}')
+def expect_same(seed, name, source, came, wanted):
+    if came[:max(2, len(wanted))] != wanted:
+        raise Wrong(f'seed {seed}, {name}, source {encode(source)}\n    is answered {came}\n    and not     {wanted}')
 
 
-def compare(seed, make, encoding, characters, chunks):
-    """Compares the answers of so many runs over sources that are made so."""
-    variables = {name.encode(): value.encode(encoding) for name, value in VARIABLES.items()}
-    variables[b'd'] = characters[0].encode(encoding)
-    pairs = pairs_of(variables)
-    rng = random.Random(f'{seed} {make.__name__} {encoding}')
-    with ThreadPoolExecutor() as pool:
-        for _ in range(chunks):
-            sources = [source.encode(encoding) for source in make(rng, characters)]
-            kinds = dict.fromkeys(RULED, sources)
-            if encoding == 'utf-8':
-                kinds |= {b'text': sources, b'json': [document(source) for source in sources]}
-            running = {kind: pool.submit(answers, kind, made, pairs) for kind, made in kinds.items()}
-            # The answers as bytes and of lists are compared with the rules, and the others with those as bytes.
-            ruled = [answers_of(source, variables) for source in sources]
-            of_bytes = running[b'bytes'].result()
-            wanted = {kind: [answer.get(kind, line) for answer, line in zip(ruled, of_bytes)] for kind in RULED}
-            wanted |= {b'text': of_bytes, b'json': map(document_answer, of_bytes)}
-            for kind, lines in running.items():
-                expect_same(seed, kind, kinds[kind], pairs, lines.result(), wanted[kind])
+def compare_file(seed, prefix, name, number):
+    """Compares the answers to the sources of one file, of the program and of the library, with the rules."""
+    sources, variables = some_sources(seed, name, number)
+    answers = [answers_by_the_rules(source, variables) for source in sources]
+    file = f'{name}.{number}.tsv'
+    hold = write_rows(file, sources, variables, answers)
+    end = run('subst_vectors', [file])
+    os.remove(file)
+    if (end.status, end.output.decode()) != (0, hold):
+        raise Wrong(f'seed {seed}: {end.output.decode()[:2000]}{end.errors.decode()}')
+    module = installed.module(prefix)
+    for source, (answer, listed) in zip(sources, answers):
+        expect_same(seed, name, source, installed.answer(module, source, variables), answer)
+        expect_same(seed, name, source, installed.lists(module, source, variables), listed or answer)
 
 
-def filter_ends_as_the_answers_say(seed):
-    """Runs the filter on some sources, half of them damaged, with each of its words."""
-    rng = random.Random(f'{seed} filter')
-    variables = {name.encode(): value.encode() for name, value in VARIABLES.items()}
-    made = sources_of_grammar(rng, TEXTS)[:FILTERED // 2] + damaged_sources(rng, TEXTS)[:FILTERED - FILTERED // 2]
-    sources = [source.encode() for source in made]
-    words = [name + b'=' + value for name, value in variables.items()]
-    for source, line in zip(sources, answers(b'bytes', sources, pairs_of(variables))):
-        columns = [bytes.fromhex(text) if re.fullmatch('([0-9a-f]{2})+', text) else b''
-                   for text in line.decode().split('\t')]
-        for word in (['bytes', *words], ['text', *words], ['env']):
-            wanted = (0, columns[1], b'')
-            if line.startswith(b'fault'):
-                wanted = (1, b'', b'subst: ' + columns[5] + b'\n' + (b'' if word[0] == 'bytes' else columns[8]))
+def compare(seed, prefix, name, files):
+    """Compares the answers to the sources of so many files."""
+    with ProcessPoolExecutor() as pool:
+        list(pool.map(functools.partial(compare_file, seed, prefix, name), range(files)))
+
+
+def try_unproved(seed, count):
+    """Has the rows of so many sources answered by the program as `rt try` runs it."""
+    holds, data = {}, []
+    for name, (*_, share) in MAKES.items():
+        sources, variables = some_sources(seed, name, 'try', count * share // 10)
+        file = f'{name}.tsv'
+        holds[file] = write_rows(file, sources, variables, [answers_by_the_rules(it, variables) for it in sources])
+        data += ['--data', f'{file}={os.path.abspath(file)}']
+    ran = subprocess.run(['rt', 'try', '--seconds', str(TRY_SECONDS), *data, '--', *holds], cwd=CRATES / 'subst_vectors',
+                         stdin=subprocess.DEVNULL, stdout=subprocess.PIPE, stderr=subprocess.STDOUT)
+    output = ran.stdout.decode(errors='replace')
+    if ran.returncode != 0 or not all(hold in output for hold in holds.values()):
+        raise Wrong(f'seed {seed}: {output[:5000]}')
+
+
+def programs_end_as_the_library_says(seed, prefix):
+    """Runs the filter, with each of its words, and `subst` on some texts, half of them damaged."""
+    module = installed.module(prefix)
+    for name in ('texts_of_the_grammar', 'damaged_texts'):
+        sources, variables = some_sources(seed, name, 'run', RUN // 2)
+        texts = {name.decode(): value.decode() for name, value in variables.items()}
+        for source in sources:
             try:
-                expect(run('subst_filter', word, source, env=variables), *wanted)
+                output, error = module.fill_in(source.decode(), texts).encode(), None
+            except module.SubstError as refused:
+                output, error = b'', refused
+            try:
+                expect_filter_ends(source, variables, output, error)
+                expect_subst_ends(source, variables, output, error)
             except Wrong as wrong:
-                raise Wrong(f'seed {seed}, {word[0]}, source {source!r}: {wrong}') from wrong
+                raise Wrong(f'seed {seed}, source {encode(source)}: {wrong}') from wrong
 
 
-def tests(seed, count):
-    """The tests, each with its name. Four of five sources are texts."""
-    chunks = max(1, round(count / CHUNK / 10))
-    rows = [
-        ('texts_of_the_grammar', sources_of_grammar, 'utf-8', TEXTS, 4 * chunks),
-        ('damaged_texts', damaged_sources, 'utf-8', TEXTS, 4 * chunks),
-        ('bytes_of_the_grammar', sources_of_grammar, 'latin-1', BYTES, chunks),
-        ('damaged_bytes', damaged_sources, 'latin-1', BYTES, chunks),
-    ]
-    made = [(f'{row[-1] * CHUNK}_{row[0]}', functools.partial(compare, seed, *row[1:])) for row in rows]
-    return [*made, (f'filter_on_{FILTERED}_texts', functools.partial(filter_ends_as_the_answers_say, seed))]
+def expect_filter_ends(source, variables, output, error):
+    words = [name + b'=' + value for name, value in variables.items()]
+    for word in (['bytes', *words], ['text', *words], ['env']):
+        errors = f'subst: {error}\n{"" if word[0] == "bytes" else error.highlighting}' if error else ''
+        expect(run('subst_filter', word, source, env=variables), 1 if error else 0, output, errors.encode())
+
+
+def expect_subst_ends(source, variables, output, error):
+    """Of the messages the first line is compared, which has the place and the text of the first fault."""
+    words = [word for name, value in variables.items() for word in (b'-s', name + b'=' + value)]
+    end = run('subst_command', words, source, name='subst')
+    first = f'<stdin>:{error.line}:{error.column}: {as_told(str(error))}\n'.encode() if error else b''
+    expect(end._replace(errors=end.errors[:len(first) or None]), 1 if error else 0, output, first)
+
+
+def tests(seed, count, prefix):
+    """The tests, each with its name."""
+    files = {name: max(1, round(count * share / 10 / CHUNK)) for name, (*_, share) in MAKES.items()}
+    compared = [(f'{many * CHUNK}_{name}', functools.partial(compare, seed, prefix, name, many))
+                for name, many in files.items()]
+    return [*compared, (f'programs_on_{RUN}_texts', functools.partial(programs_end_as_the_library_says, seed, prefix))]
 
 
 def main():
     parser = argparse.ArgumentParser(description=__doc__.partition('   ')[2].partition('\n')[0])
     parser.add_argument('--seed', default='1')
-    parser.add_argument('--count', type=int, default=1000000)
+    parser.add_argument('--count', type=int)
+    parser.add_argument('--unproved', action='store_true')
     given = parser.parse_args()
     print(f'seed {given.seed}')
-    run_tests(tests(given.seed, given.count), PROGRAMS)
+    if given.unproved:
+        count = given.count or TRIED
+        run_tests([(f'{count}_sources_by_rt_try', functools.partial(try_unproved, given.seed, count))], [])
+    programs = ['subst_filter', 'subst_command', 'subst_vectors']
+    with installed.installed() as prefix:
+        run_tests(tests(given.seed, given.count or 1000000, prefix), programs)
 
 
 main()

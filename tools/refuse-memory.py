@@ -9,8 +9,8 @@ that run alone. With --table the rows that docs/MEMORY.md has to have are printe
 
 Each such run has to print the stored output too, but for one thing: a call that is out of memory says so right after its
 end, and shows what it was lent, which has to be as before the call. The same call with memory then has to give its
-answer. A call that makes requests has to be out of memory in at least one run. Each test is a call, and the last line is
-'N passed, M failed'.
+answer. A call that makes requests has to be out of memory in at least one run. Each test is a call, and the last line
+is 'N passed, M failed, K skipped'.
 """
 import difflib
 import functools

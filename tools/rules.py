@@ -111,3 +111,12 @@ def missing_entries(items, variables):
                 entries.append(b'%d=%b' % (item.place, item.name))
             entries += missing_entries(item.default, variables)
     return entries
+
+
+def filled(tree, variables):
+    """The tree of a document with its strings filled in, arrays by index and keys in order."""
+    if isinstance(tree, str):
+        return b''.join(values(template(tree.encode()), variables)).decode()
+    if isinstance(tree, list):
+        return [filled(item, variables) for item in tree]
+    return {key: filled(tree[key], variables) for key in sorted(tree)} if isinstance(tree, dict) else tree

@@ -1,11 +1,13 @@
 """What the tests of the built programs share: building and running a program, what it has to end as, and the loop that
-runs tests. Each test prints a line, and the last line is 'N passed, M failed'.
+runs tests. Each test prints a line, and the last line is 'N passed, M failed, K skipped'.
 """
 import contextlib
 import functools
 import os
 import pathlib
+import re
 import resource
+import shutil
 import signal
 import subprocess
 import sys
@@ -15,10 +17,8 @@ from typing import NamedTuple
 
 TOP = pathlib.Path(__file__).resolve().parent.parent
 CRATES = TOP / 'crates'
-# The programs, each with words for which it does its work.
-PROGRAMS = {'subst_filter': ['bytes'], 'subst_answers': []}
-# The program that does the library's work in process, with such words.
-BENCH, BENCH_WORDS = 'subst_bench', ['none', '0']
+# Words for which a program does its work, where it needs some.
+WORDS = {'subst_filter': ['bytes'], 'subst_vectors': ['data/variables.tsv']}
 # How long a program may run. Each run takes less than a second on a machine that does nothing else.
 SECONDS = 30
 KIB = 1 << 10
@@ -35,6 +35,10 @@ class End(NamedTuple):
 
 class Wrong(Exception):
     """A program didn't do what was expected."""
+
+
+class Skipped(Exception):
+    """What a test needs isn't there."""
 
 
 @functools.lru_cache(None)
@@ -71,8 +75,7 @@ def build(program):
     if path.exists() and path.stat().st_mtime >= newest_source():
         return True
     print(f'{program}: proving and building the program', flush=True)
-    words = BENCH_WORDS if program == BENCH else PROGRAMS.get(program, [])
-    ran = subprocess.run(['rt', 'run', '--', *words], cwd=CRATES / program, stdin=subprocess.DEVNULL,
+    ran = subprocess.run(['rt', 'run', '--', *WORDS.get(program, [])], cwd=CRATES / program, stdin=subprocess.DEVNULL,
                          stdout=subprocess.PIPE, stderr=subprocess.STDOUT)
     if ran.returncode != 0:
         sys.stdout.write(ran.stdout.decode(errors='replace'))
@@ -144,6 +147,15 @@ def expect_that(fact, text):
         raise Wrong(text)
 
 
+# What stands by its number in a message of `subst`: what a terminal would obey, or what can't be seen.
+HIDDEN = re.compile('[\0-\x1f\x7f-\x9f\u061c\u200e\u200f\u2028-\u202e\u2066-\u2069\ufeff]')
+
+
+def as_told(text):
+    """A text as a message of `subst` has it."""
+    return HIDDEN.sub(lambda it: f'\\u{{{ord(it[0]):x}}}', text.replace('\t', ' '))
+
+
 # Pipes
 
 
@@ -185,29 +197,29 @@ def left_in(reader):
     return os.read(reader, MIB)
 
 
-# Bytes as they are written in records and answers
-
-
-def column(data):
-    """Bytes as they are written in a record and in an answer."""
-    return data.hex().encode() or b'-'
-
-
 # Tests
 
 
-def passes(name, test):
-    """Runs a test, and prints its line."""
-    begin, why = time.monotonic(), None
+def need(program):
+    """Skips the test unless a program is there."""
+    if shutil.which(program) is None:
+        raise Skipped(f'{program} is not installed')
+
+
+def outcome(name, test):
+    """Runs a test, prints its line, and returns the word that it is counted under."""
+    begin, why, word = time.monotonic(), '', 'passed'
     try:
         test()
+    except Skipped as reason:
+        why, word = str(reason), 'skipped'
     except (Wrong, OSError, subprocess.CalledProcessError) as failure:
-        why = str(failure)
+        why, word = str(failure), 'failed'
     except subprocess.TimeoutExpired:
-        why = f'no end in {SECONDS} s'
+        why, word = f'no end in {SECONDS} s', 'failed'
     took = time.monotonic() - begin
-    print(f'{name}: FAILED: {why}' if why else f'{name}: {took:.1f} s', flush=True)
-    return why is None
+    print(f'{name}: {took:.1f} s' if word == 'passed' else f'{name}: {word.upper()}: {why}', flush=True)
+    return word
 
 
 def stop(number, _frame):
@@ -215,18 +227,25 @@ def stop(number, _frame):
     sys.exit(128 + number)
 
 
-def run_tests(tests, programs):
-    """Builds the programs, runs tests, which are pairs of a name and a function, in a folder of their own, and ends."""
+def end(results):
+    """Prints how many of these words there are of each, and ends."""
+    counts = [results.count(word) for word in ('passed', 'failed', 'skipped')]
+    print('{} passed, {} failed, {} skipped'.format(*counts))
+    sys.exit(1 if 'failed' in results else 0)
+
+
+def run_tests(tests, programs, tools=()):
+    """Builds the programs, runs tests, which are pairs of a name and a function, in a folder of their own, and ends. Says
+    first which of the tools, programs of others that some tests need, aren't there."""
     for number in (signal.SIGHUP, signal.SIGTERM):
         signal.signal(number, stop)
     resource.setrlimit(resource.RLIMIT_CORE, (0, 0))
+    for tool in (tool for tool in tools if shutil.which(tool) is None):
+        print(f'{tool} is not installed: tests that need it are skipped', flush=True)
     if not all([build(program) for program in programs]):
-        print('0 passed, 1 failed')
-        sys.exit(1)
+        end(['failed'])
     with tempfile.TemporaryDirectory() as folder:
         os.chdir(folder)
-        results = [passes(name, test) for name, test in tests]
+        results = [outcome(name, test) for name, test in tests]
         os.chdir(TOP)
-    failed = results.count(False)
-    print(f'{len(results) - failed} passed, {failed} failed')
-    sys.exit(1 if failed else 0)
+    end(results)

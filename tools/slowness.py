@@ -4,16 +4,15 @@
 Each work takes less than 24 times as much processor time for 8n as for n: where the time grows with the square of n, it
 is 64 times as much. Contracts bound the reads and the turns of a loop, and nothing else here. Of some runs the least time
 counts, and where it is too much, of more runs. Less than 10 ms for 8n is never too much, since the square of 8n, which is
-40,000 or more, is more steps than that. Each test prints a line, and the last line is 'N passed, M failed'.
+40,000 or more, is more steps than that. The last line is 'N passed, M failed, K skipped'.
 """
 import functools
-import os
 import resource
 import sys
 from typing import NamedTuple
 
 sys.dont_write_bytecode = True
-from running import BENCH, KIB, MIB, PROGRAMS, expect_that, run, run_tests
+from running import KIB, MIB, expect_that, run, run_tests
 
 # How often each work is done at a time, how often at most, how many times as much is done, how many times as long that
 # may take, and the seconds that it may take at any rate.
@@ -27,16 +26,16 @@ class Run(NamedTuple):
     source: bytes
 
 
-def escape(count):
-    return Run(BENCH, ['escape', '1'], count * b'$')
+def check(source, *words):
+    return Run('subst_command', words, source)
 
 
 def fault_after_a_line(count):
-    return Run(BENCH, ['locate', '1'], count * b'a' + b'$')
+    return check(count * b'a' + b'$')
 
 
 def fault_after_lines(count):
-    return Run(BENCH, ['locate', '1'], count * b'a\n' + b'$')
+    return check(count * b'a\n' + b'$')
 
 
 def highlighting(count):
@@ -63,8 +62,8 @@ def variables_in_a_hash_map(count):
     return Run('subst_filter', ['bytes', *(f'{name}=1' for name in names(count))], 8 * source_of(count))
 
 
-def variables_in_a_tree(count):
-    return Run(BENCH, ['both', '8', *(f'{name}=1' for name in names(count))], source_of(count))
+def sets(count):
+    return Run('subst_command', [word for name in names(count) for word in ('-s', f'{name}=1')], 8 * source_of(count))
 
 
 def variables(count):
@@ -89,36 +88,35 @@ def unclosed_defaults(count):
 
 def fault_after_members_of_json(count):
     members = b''.join(b'"a%d":"$a",' % number for number in range(count))
-    return Run(BENCH, ['json', '1', 'a=1'], b'{' + members + b'"b":"$"}')
+    return check(b'{' + members + b'"b":"$"}', '--json', '-s', 'a=1')
 
 
 def faults_of_json(count):
-    return Run(BENCH, ['json', '1'], b'[' + count * b'"$",' + b'1]')
+    return check(b'[' + count * b'"$",' + b'1]', '--json')
 
 
 def fault_after_escapes_of_json(count):
-    return Run(BENCH, ['json', '1'], b'"' + count * b'\\u0061' + b'$"')
+    return check(b'"' + count * b'\\u0061' + b'$"', '--json')
 
 
 def fault_after_pairs_of_toml(count):
     pairs = b''.join(b'a%d = "$a"\n' % number for number in range(count))
-    return Run(BENCH, ['toml', '1', 'a=1'], pairs + b'b = "$"\n')
+    return check(pairs + b'b = "$"\n', '--toml', '-s', 'a=1')
 
 
 def faults_of_toml(count):
-    return Run(BENCH, ['toml', '1'], b'a = [' + count * b'"$",' + b']\n')
+    return check(b'a = [' + count * b'"$",' + b']\n', '--toml')
 
 
 def fault_after_escapes_of_toml(count):
-    return Run(BENCH, ['toml', '1'], b'a = "' + count * b'\\u0061' + b'$"\n')
+    return check(b'a = "' + count * b'\\u0061' + b'$"\n', '--toml')
 
 
 # Each work, with its n.
 WORKS = {
-    escape: 2 * MIB, fault_after_a_line: 4 * MIB, fault_after_lines: 4 * MIB, highlighting: 4 * MIB,
-    words: 10000, words_of_one_name: 10000, variables_in_a_hash_map: 5000, variables_in_a_tree: 5000,
-    variables: 256 * KIB, escapes: 256 * KIB, nested_defaults: 256 * KIB, braces_in_a_default: 2 * MIB,
-    unclosed_defaults: 512 * KIB,
+    fault_after_a_line: 4 * MIB, fault_after_lines: 4 * MIB, highlighting: 4 * MIB,
+    words: 10000, words_of_one_name: 10000, variables_in_a_hash_map: 5000, sets: 5000, variables: 256 * KIB,
+    escapes: 256 * KIB, nested_defaults: 256 * KIB, braces_in_a_default: 2 * MIB, unclosed_defaults: 512 * KIB,
     fault_after_members_of_json: 20000, faults_of_json: 20000, fault_after_escapes_of_json: 256 * KIB,
     fault_after_pairs_of_toml: 5000, faults_of_toml: 20000, fault_after_escapes_of_toml: 256 * KIB,
 }
@@ -154,7 +152,7 @@ def grows_little(work, count):
 def main():
     tests = [(work.__name__.replace('_', ' '), functools.partial(grows_little, work, count))
              for work, count in WORKS.items()]
-    run_tests(tests, [*PROGRAMS, BENCH])
+    run_tests(tests, ['subst_filter', 'subst_command'])
 
 
 main()

@@ -1,0 +1,132 @@
+#!/usr/bin/env python3
+"""completions.py bash|zsh|fish   Prints what completes the words of subst in a shell, from the options in its source,
+crates/subst_command_lib/src/options.rt. The options of its library, -h and -V, are named here.
+"""
+import re
+import sys
+from typing import NamedTuple
+
+sys.dont_write_bytecode = True
+from running import CRATES
+
+SOURCE = CRATES / 'subst_command_lib/src/options.rt'
+# A row of the table there, and its value.
+ROW = re.compile(r'^    Row \{\n(.*?)^    \},', re.MULTILINE | re.DOTALL)
+TAKES = re.compile(r'takes: Some\(\("([^"]+)", ArgAction::(\w+)\)\)')
+
+
+class Option(NamedTuple):
+    """An option: its letter and its value are empty where it has none."""
+    letter: str
+    name: str
+    value: str
+    text: str
+    conflicts: tuple = ()
+    repeats: bool = False
+
+
+# The options that the library answers.
+OF_LIBRARY = [Option('h', 'help', '', 'Print help'), Option('V', 'version', '', 'Print version')]
+
+
+def options():
+    """The options, in their order."""
+    found = []
+    for row in ROW.findall(SOURCE.read_text(encoding='utf-8')):
+        name, text = (re.search(rf'{field}: "([^"]*)"', row)[1] for field in ('long', 'help'))
+        letter = ''.join(re.findall(r"short: Some\('(\w)'\)", row))
+        value, action = TAKES.search(row).groups() if TAKES.search(row) else ('', '')
+        conflicts = tuple(re.findall(r'"([^"]+)"', re.search(r'conflicts: &\[(.*?)\]', row, re.DOTALL)[1]))
+        found.append(Option(letter, name, value, text, conflicts, action == 'Append'))
+    return found + OF_LIBRARY
+
+
+def words(some_options):
+    return [word for it in some_options for word in (f'-{it.letter}', f'--{it.name}') if word != '-']
+
+
+def excluded(option):
+    """The words that are not offered after an option, since only one of them can be given."""
+    return words(it for it in options() if it.name in option.conflicts or option.name in it.conflicts
+                 or it == option and not option.repeats)
+
+
+def quoted(text, quote=r"'\''"):
+    """A text in single quotes, with this in the place of those in it."""
+    return "'" + text.replace("'", quote) + "'"
+
+
+# The shells
+
+
+BASH = r'''# Completes the words of subst in bash: its options, nothing where a variable is named, and files, which
+# bash completes itself where nothing is offered here.
+
+_subst() {
+  local at=$COMP_CWORD before given word
+  COMPREPLY=()
+  # Each `=` and `:` parts a word of the command line into several.
+  while ((at > 1)) && [[ ${COMP_WORDS[at]} == [=:]* || ${COMP_WORDS[at - 1]} == *[=:] ]]; do
+    ((at--))
+  done
+  printf -v word %s "${COMP_WORDS[@]:at:COMP_CWORD - at + 1}"
+  before=${COMP_WORDS[at - 1]}
+  for given in "${COMP_WORDS[@]:1:at - 1}"; do
+    [[ $given == -- ]] && return
+  done
+  if [[ $before =~ ^(@LONG@|-[@FLAG_SHORT@]*[@SHORT@])$ || $word =~ ^((@LONG@)=|-[@FLAG_SHORT@]*[@SHORT@].) ]]; then
+    compopt +o bashdefault +o default
+  elif [[ $word == -* && ! $before =~ ^(@FILE_LONG@|-[@FLAG_SHORT@]*[@FILE_SHORT@])$ ]]; then
+    mapfile -t COMPREPLY < <(compgen -W '@WORDS@' -- "$word")
+  fi
+}
+
+complete -o bashdefault -o default -F _subst subst
+'''
+
+
+def bash():
+    kinds = {'FILE_': [it for it in options() if it.value == 'FILE'],
+             'FLAG_': [it for it in options() if not it.value and it not in OF_LIBRARY],
+             '': [it for it in options() if it.value not in ('', 'FILE')]}
+    meant = {'WORDS': ' '.join(words(options()))}
+    for kind, chosen in kinds.items():
+        meant[f'{kind}LONG'] = '|'.join(f'--{it.name}' for it in chosen)
+        meant[f'{kind}SHORT'] = ''.join(it.letter for it in chosen)
+    return re.sub('@([A-Z_]+)@', lambda match: meant[match[1]], BASH)
+
+
+def zsh_words(option):
+    """An option as zsh has it: what it can't be given with, its words, its help and what it takes."""
+    others = '- *' if option in OF_LIBRARY else ' '.join(excluded(option))
+    before = (f'({others})' if others else '') + '*' * option.repeats
+    takes = f":{option.value.lower()}:{'_files' if option.value == 'FILE' else ' '}" if option.value else ''
+    letter, name = option.letter + '+' * bool(takes), option.name + '=' * bool(takes)
+    after = f'[{option.text}]{takes}'
+    if not option.letter:
+        return quoted(f'{before}--{name}{after}')
+    return f'{quoted(before)}{{-{letter},--{name}}}{quoted(after)}'
+
+
+def zsh():
+    made = ''.join(f'  {zsh_words(option)} \\\n' for option in options())
+    return f"#compdef subst\n# Completes the words of subst in zsh.\n\n_arguments -s -S \\\n{made}  '*:file:_files'\n"
+
+
+def fish():
+    made = '# Completes the words of subst in fish.\n\n'
+    for option in options():
+        letter = f' -s {option.letter}' if option.letter else ''
+        takes = {'': '', 'FILE': ' -r -F'}.get(option.value, ' -x')
+        text = quoted(option.text, r"\'")
+        made += f'complete -c subst{letter} -l {option.name}{takes} -d {text}\n'
+    return made
+
+
+SHELLS = {'bash': bash, 'zsh': zsh, 'fish': fish}
+
+
+if __name__ == '__main__':
+    if sys.argv[1:] not in [[shell] for shell in SHELLS]:
+        sys.exit('usage: tools/completions.py bash|zsh|fish')
+    print(SHELLS[sys.argv[1]](), end='')

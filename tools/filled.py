@@ -1,0 +1,29 @@
+#!/usr/bin/env python3
+"""filled.py FILE   Prints a page or the header with what its words @NAME@ stand for: the version, its three numbers,
+and texts of faults, as pages write them.
+"""
+import pathlib
+import re
+import sys
+
+sys.dont_write_bytecode = True
+import faults
+from running import version
+
+# What pages write for these characters.
+ROFF = {'\\': r'\e', "'": r'\(aq', '^': r'\(ha', '-': r'\-'}
+
+
+def filled(path):
+    """The text of a file with these words filled in; one that isn't known is a KeyError."""
+    texts = {'MISSING_NAME': faults.missing_name(), 'MISSING_BRACE': faults.missing_brace(),
+             'NO_SUCH_VARIABLE': faults.no_such_variable(''), 'INVALID_ESCAPE': faults.invalid_escape(''),
+             'UNEXPECTED_CHARACTER': faults.texts()['UnexpectedCharacter'][0]}
+    words = {'VERSION': version(), **dict(zip(('MAJOR', 'MINOR', 'PATCH'), version().split('.')))}
+    words.update({word: text.translate(str.maketrans(ROFF)) for word, text in texts.items()})
+    text = pathlib.Path(path).read_text(encoding='utf-8')
+    return re.sub(r'@([A-Z_]+)@', lambda match: words[match[1]], text)
+
+
+if __name__ == '__main__':
+    sys.stdout.buffer.write(filled(sys.argv[1]).encode())
