@@ -9,7 +9,7 @@ use Rattle.subst_raw.specs.Expansion.{IsExpansion}
 use Rattle.subst_raw.specs.Output.{IfMissing, fault_of}
 use Rattle.subst_raw.specs.Parts.{IsTemplateOf}
 use Rattle.subst_raw.specs.Span.{IsSpan, span_bytes}
-use Rattle.subst_raw.specs.Ways.{Ways, ways_of}
+use Rattle.subst_raw.specs.Context.{Context, context_of}
 use Rattle.subst_raw.specs.Writer.{AtFirst, HoldsParts}
 use Rattle.subst_raw.specs.Writing.{HasWritten, NotStopped}
 use Rattle.subst_raw.specs.declared.expand.Stop.{Stop}
@@ -22,33 +22,29 @@ use Rattle.subst_raw.proofs.PartsLemmas.{closed_of_fit}
 use Rattle.subst_raw.proofs.WriterLemmas.{begun, named_stop, none_jumped, stopped_whole}
 
 -- what a writer has written, whose source and map are those at first
-pub written_since : {V Seen W First : Type 0} (read : V → List ℕ) (is_read : List ℕ → Type 0) (see : V → Seen)
-    (look_up : List ℕ → Option Seen) (holds : W → First → List ℕ → Type 0) (len room : W → ℕ) (s : List ℕ)
+pub written_since : {V Seen W First : Type 0} (context : Context V Seen W First) (s : List ℕ)
     (n : ℕ) (state : State) (now : W) (first : AtFirst Seen W) (parts : List Part)
-    → HoldsParts (ways_of read is_read see look_up holds len room) s n state now first parts
-    → HasWritten (ways_of read is_read see first.look_up holds len room) first.source state first.output now
-    parts
-written_since read is_read see look_up holds len room s n state now first parts held =
-    subst (λ f. HasWritten (ways_of read is_read see f holds len room) first.source state first.output now
-    parts)
+    → HoldsParts context s n state now first parts
+    → HasWritten (record context { look_up = first.look_up }) first.source state first.output now parts
+written_since context s n state now first parts held =
+    subst (λ f. HasWritten (record context { look_up = f }) first.source state first.output now parts)
     held.map
-    (subst (λ x. HasWritten (ways_of read is_read see look_up holds len room) x state first.output now parts)
-    held.source held.written)
+    (subst (λ x. HasWritten context x state first.output now parts) held.source held.written)
+
+-- how the map is asked, and a `Vec` is written to
+abbrev pub into_vec : {V Seen : Type 0} → (V → List ℕ) → (List ℕ → Type 0) → (V → Seen)
+    → (List ℕ → Option Seen) → Context V Seen (Vec ℕ Global) (Unit {0})
+into_vec read is_read see look_up =
+    context_of read is_read see look_up (λ output _ x. output.items ≡ x) vec_len vec_capacity
 
 -- a `Vec` begins with what it held at first, and its room only grew
 pub begun_since : {V Seen : Type 0} (read : V → List ℕ) (is_read : List ℕ → Type 0) (see : V → Seen)
     (look_up : List ℕ → Option Seen) (s : List ℕ) (n : ℕ) (state : State) (now : Vec ℕ Global)
     (first : AtFirst Seen (Vec ℕ Global)) (parts : List Part)
-    → HoldsParts {First = Unit {0}}
-    (ways_of read is_read see look_up (λ output _ x. output.items ≡ x) vec_len vec_capacity) s n state now
-    first
-    parts
+    → HoldsParts (into_vec read is_read see look_up) s n state now first parts
     → (x : List ℕ) × (now.items ≡ first.output.items ++ x) × (vec_capacity first.output ≤ vec_capacity now)
 begun_since read is_read see look_up s n state now first parts held =
-    let (begins, room) = begun
-    (ways_of read is_read see look_up (λ output _ x. output.items ≡ x) vec_len vec_capacity) s state
-    first.output
-    now parts held.written in
+    let (begins, room) = begun (into_vec read is_read see look_up) s state first.output now parts held.written in
     (begins.appended, begins.puts tt first.output.items refl, room)
 
 -- cut to its length at first, it is as it was
@@ -59,9 +55,8 @@ cut_back {items = items} x is written long = is ∙ rw (written, long) (take-app
 module _ {V Seen : Type 0} (read : V → List ℕ) (is_read : List ℕ → Type 0) (see : V → Seen)
     (look_up : List ℕ → Option Seen) (s : List ℕ) (before after : Vec ℕ Global) (parts : List Part)
     (template : IsTemplateOf s parts) where
-  -- how the map is asked, and a `Vec` is written to
-  abbrev of_vec : Ways V Seen (Vec ℕ Global) (Unit {0})
-  of_vec = ways_of read is_read see look_up (λ output _ x. output.items ≡ x) vec_len vec_capacity
+  abbrev of_vec : Context V Seen (Vec ℕ Global) (Unit {0})
+  of_vec = into_vec read is_read see look_up
 
   -- all was written
   pub expanded : (state : State) → NotStopped state → HasWritten of_vec s state before after parts

@@ -23,6 +23,6 @@ pub mod SubstituteLemmas
 pub mod TemplateOfLemmas
 pub mod TreeAtLemmas
 pub mod VariablesLemmas
-pub mod WayLemmas
+pub mod ContextLemmas
 pub mod WritingLemmas
 pub mod WriterLemmas

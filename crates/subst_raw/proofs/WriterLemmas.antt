@@ -5,7 +5,7 @@ use Rattle.subst_language.specs.Language.Name.{IsName}
 use Rattle.subst_raw.specs.Sink.{IsClosed, AllClosed}
 use Rattle.subst_raw.specs.Output.{Appended, IfMissing}
 use Rattle.subst_raw.specs.Span.{IsSpan, span_bytes}
-use Rattle.subst_raw.specs.Ways.{Ways}
+use Rattle.subst_raw.specs.Context.{Context}
 use Rattle.subst_raw.specs.Writer.{AtFirst, HoldsParts}
 use Rattle.subst_raw.specs.Writing.{IsSettled, AllSettled, WritesParts, StopsInParts, IsWriting, IsJumping, HasStopped, HasWritten, PartWritten, WritesOn}
 use Rattle.subst_raw.specs.declared.expand.Stop.{Stop}
@@ -88,20 +88,20 @@ settled_closed {Seen} look_up s end (Default name next ∷ rest) closed =
 count_last : (parts : List Part) (part : Part) → length (parts ++ part ∷ []) ≡ length parts + 1
 count_last parts part = length-append parts (part ∷ [])
 
-module _ {V Seen W First : Type 0} (ways : Ways V Seen W First) (s : List ℕ) where
+module _ {V Seen W First : Type 0} (context : Context V Seen W First) (s : List ℕ) where
   -- a part was written, passed over, or writing stopped at it
   pub took : (part : Part) (old : State) (first before : W) (found : Bool) (state : State) (now : W)
       (parts : List Part)
-      → HasWritten ways s old first before parts → WritesOn ways s part old before found state now
-      → (old ≡ Writing → state ≡ Writing → IsSettled ways.look_up s (length parts + 1) part)
-      → HasWritten ways s state first now (parts ++ part ∷ [])
+      → HasWritten context s old first before parts → WritesOn context s part old before found state now
+      → (old ≡ Writing → state ≡ Writing → IsSettled context.look_up s (length parts + 1) part)
+      → HasWritten context s state first now (parts ++ part ∷ [])
   took part Writing first before found Writing now parts writing written settles =
       let one = count_last parts part in
       record {
-        settled = subst (λ n. AllSettled ways.look_up s n (parts ++ part ∷ [])) (sym one)
-            (settled_append ways.look_up s (length parts) (length parts + 1) parts part (omega arith)
+        settled = subst (λ n. AllSettled context.look_up s n (parts ++ part ∷ [])) (sym one)
+            (settled_append context.look_up s (length parts) (length parts + 1) parts part (omega arith)
             writing.settled (settles refl refl));
-        written = writes_next ways s parts part first before now writing.settled writing.written written.0;
+        written = writes_next context s parts part first before now writing.settled writing.written written.0;
       }
   took part Writing first before found (Jumping index) now parts writing written settles = absurd written
   took part Writing first before found (Stopped stopped) now parts writing written settles = record {
@@ -110,11 +110,11 @@ module _ {V Seen W First : Type 0} (ways : Ways V Seen W First) (s : List ℕ) w
     rest = [];
     splits = refl;
     settled = writing.settled;
-    stops = stops_next ways s parts part first before now writing.settled writing.written stopped written.0;
+    stops = stops_next context s parts part first before now writing.settled writing.written stopped written.0;
   }
   took part (Jumping index) first before found state now parts jumping written settles =
-      subst (λ st. HasWritten ways s st first now (parts ++ part ∷ [])) (sym written.0)
-      (subst (λ w. IsJumping ways s index first w (parts ++ part ∷ [])) (sym written.1) (record {
+      subst (λ st. HasWritten context s st first now (parts ++ part ∷ [])) (sym written.0)
+      (subst (λ w. IsJumping context s index first w (parts ++ part ∷ [])) (sym written.1) (record {
         before = jumping.before;
         name = jumping.name;
         own = jumping.own ++ part ∷ [];
@@ -127,8 +127,8 @@ module _ {V Seen W First : Type 0} (ways : Ways V Seen W First) (s : List ℕ) w
         written = jumping.written;
       }))
   took part (Stopped stopped) first before found state now parts has_stopped written settles =
-      subst (λ st. HasWritten ways s st first now (parts ++ part ∷ [])) (sym written.0)
-      (subst (λ w. HasStopped ways s stopped first w (parts ++ part ∷ [])) (sym written.1) (record {
+      subst (λ st. HasWritten context s st first now (parts ++ part ∷ [])) (sym written.0)
+      (subst (λ w. HasStopped context s stopped first w (parts ++ part ∷ [])) (sym written.1) (record {
         done = has_stopped.done;
         part = has_stopped.part;
         rest = has_stopped.rest ++ part ∷ [];
@@ -140,14 +140,14 @@ module _ {V Seen W First : Type 0} (ways : Ways V Seen W First) (s : List ℕ) w
 
   -- a default opens whose name has a value: that was written
   pub jumped : (name : Span) (old : State) (first before : W) (state : State) (now : W) (parts : List Part)
-      → HasWritten ways s old first before parts
-      → WritesOn ways s (Default name 0) old before true state now
-      → IsJumping ways s (length parts) first now (parts ++ Default name 0 ∷ [])
+      → HasWritten context s old first before parts
+      → WritesOn context s (Default name 0) old before true state now
+      → IsJumping context s (length parts) first now (parts ++ Default name 0 ∷ [])
   jumped name Writing first before Writing now parts writing written =
-      of (ways.look_up (span_bytes name s)) refl
+      of (context.look_up (span_bytes name s)) refl
     where
-      of : (found : Option Seen) → ways.look_up (span_bytes name s) ≡ found
-          → IsJumping ways s (length parts) first now (parts ++ Default name 0 ∷ [])
+      of : (found : Option Seen) → context.look_up (span_bytes name s) ≡ found
+          → IsJumping context s (length parts) first now (parts ++ Default name 0 ∷ [])
       of (Some v) is = record {
         before = parts;
         name = name;
@@ -158,7 +158,7 @@ module _ {V Seen W First : Type 0} (ways : Ways V Seen W First) (s : List ℕ) w
         value = v;
         found = is;
         written =
-            writes_next ways s parts (Default name 0) first before now writing.settled writing.written
+            writes_next context s parts (Default name 0) first before now writing.settled writing.written
             written.0;
       }
       of None is =
@@ -174,9 +174,9 @@ module _ {V Seen W First : Type 0} (ways : Ways V Seen W First) (s : List ℕ) w
 
   -- a default whose name has no value is settled before it has its jump
   pub open_settled : (name : Span) (end : ℕ) (before now : W) (found : Bool) → found ≡ false
-      → PartWritten ways s (Default name 0) before found Writing now
-      → IsSettled ways.look_up s end (Default name 0)
-  open_settled name end before now found is written = of (ways.look_up (span_bytes name s)) written.1
+      → PartWritten context s (Default name 0) before found Writing now
+      → IsSettled context.look_up s end (Default name 0)
+  open_settled name end before now found is written = of (context.look_up (span_bytes name s)) written.1
     where
       of : (o : Option Seen) → MatchOption o (found ≡ false) (λ _. found ≡ true)
           → IfSome o (λ _. (0 < 0) × (0 ≤ end))
@@ -185,24 +185,24 @@ module _ {V Seen W First : Type 0} (ways : Ways V Seen W First) (s : List ℕ) w
 
   -- the innermost default closes, while the writer writes: its name has no value
   pub closed_writing : (first now : W) (before own : List Part) (name : Span) (next : ℕ)
-      → IsWriting ways s first now (before ++ Default name 0 ∷ own)
-      → IsWriting ways s first now (before ++ Default name next ∷ own)
+      → IsWriting context s first now (before ++ Default name 0 ∷ own)
+      → IsWriting context s first now (before ++ Default name next ∷ own)
   closed_writing first now before own name next writing =
       let parts = before ++ Default name 0 ∷ own in
       let others = before ++ Default name next ∷ own in
-      let none = open_lacks ways.look_up s before own name (length parts) writing.settled in
+      let none = open_lacks context.look_up s before own name (length parts) writing.settled in
       record {
-        settled = subst (λ n. AllSettled ways.look_up s n others) (same_length before own name 0 next)
-            (settled_changed ways.look_up s before own name (length parts) next none writing.settled);
-        written = writes_same ways s parts others (changed_parts ways.look_up s before own name 0 next none)
+        settled = subst (λ n. AllSettled context.look_up s n others) (same_length before own name 0 next)
+            (settled_changed context.look_up s before own name (length parts) next none writing.settled);
+        written = writes_same context s parts others (changed_parts context.look_up s before own name 0 next none)
             first now writing.written;
       }
 
   -- while it is inside it, as its name has a value: it writes again
   pub closed_jump : (index : ℕ) (first now : W) (before own : List Part) (name : Span) → index ≡ length before
       → AllClosed (length (before ++ Default name 0 ∷ own)) own
-      → IsJumping ways s index first now (before ++ Default name 0 ∷ own)
-      → IsWriting ways s first now
+      → IsJumping context s index first now (before ++ Default name 0 ∷ own)
+      → IsWriting context s first now
       (before ++ Default name (length (before ++ Default name 0 ∷ own)) ∷ own)
   closed_jump index first now before own name is closed jumping =
       let next = length (before ++ Default name 0 ∷ own) in
@@ -220,30 +220,30 @@ module _ {V Seen W First : Type 0} (ways : Ways V Seen W First) (s : List ℕ) w
     where
       of : (between : List Part) → jumping.before ≡ before ++ between
           → Default name 0 ∷ own ≡ between ++ Default jumping.name 0 ∷ jumping.own
-          → IsWriting ways s first now
+          → IsWriting context s first now
           (before ++ Default name (length (before ++ Default name 0 ∷ own)) ∷ own)
       of [] front back =
           let next = length (before ++ Default name 0 ∷ own) in
           let others = before ++ Default name next ∷ own in
           let same : jumping.before ≡ before = front ∙ append-nil before in
           let named : jumping.name ≡ name = cc in
-          let settled = subst (λ (ps : List Part). AllSettled ways.look_up s (length ps) ps) same
+          let settled = subst (λ (ps : List Part). AllSettled context.look_up s (length ps) ps) same
           jumping.settled in
-          let found = subst (λ (n : Span). ways.look_up (span_bytes n s) ≡ Some jumping.value) named
+          let found = subst (λ (n : Span). context.look_up (span_bytes n s) ≡ Some jumping.value) named
           jumping.found in
           let count : next ≡ length before + 1 + length own =
           omega (arith, length-append before (Default name 0 ∷ own)) in
           record {
-            settled = subst (λ n. AllSettled ways.look_up s n others) (same_length before own name 0 next)
-                (settled_jump ways.look_up s before own name next jumping.value settled
+            settled = subst (λ n. AllSettled context.look_up s n others) (same_length before own name 0 next)
+                (settled_jump context.look_up s before own name next jumping.value settled
                 (omega (arith, count)) (omega (arith, count))
-                (settled_closed ways.look_up s next own closed));
-            written = writes_same ways s (before ++ Default name 0 ∷ []) others
-                (jumped_parts ways.look_up s before own name next jumping.value settled found
+                (settled_closed context.look_up s next own closed));
+            written = writes_same context s (before ++ Default name 0 ∷ []) others
+                (jumped_parts context.look_up s before own name next jumping.value settled found
                 (omega (arith, count)))
                 first now
-                (subst (λ (ps : List Part). WritesParts ways s (ps ++ Default name 0 ∷ []) first now) same
-                (subst (λ (n : Span). WritesParts ways s (jumping.before ++ Default n 0 ∷ []) first now) named
+                (subst (λ (ps : List Part). WritesParts context s (ps ++ Default name 0 ∷ []) first now) same
+                (subst (λ (n : Span). WritesParts context s (jumping.before ++ Default n 0 ∷ []) first now) named
                 jumping.written));
           }
       of (part ∷ rest) front back =
@@ -252,8 +252,8 @@ module _ {V Seen W First : Type 0} (ways : Ways V Seen W First) (s : List ℕ) w
   -- while it is inside another one: it stays there
   pub closed_inside : (index : ℕ) (first now : W) (before own : List Part) (name : Span) (next : ℕ)
       → ¬ (index ≡ length before) → AllClosed (length (before ++ Default name 0 ∷ own)) own
-      → IsJumping ways s index first now (before ++ Default name 0 ∷ own)
-      → IsJumping ways s index first now (before ++ Default name next ∷ own)
+      → IsJumping context s index first now (before ++ Default name 0 ∷ own)
+      → IsJumping context s index first now (before ++ Default name next ∷ own)
   closed_inside index first now before own name next other closed jumping =
       elim (where_is jumping.before (Default jumping.name 0 ∷ jumping.own) before (Default name 0) own
       (sym jumping.splits)) [
@@ -269,7 +269,7 @@ module _ {V Seen W First : Type 0} (ways : Ways V Seen W First) (s : List ℕ) w
 
       of : (between : List Part) → before ≡ jumping.before ++ between
           → Default jumping.name 0 ∷ jumping.own ≡ between ++ Default name 0 ∷ own
-          → IsJumping ways s index first now (before ++ Default name next ∷ own)
+          → IsJumping context s index first now (before ++ Default name next ∷ own)
       of [] front back =
           absurd (other (jumping.is ∙ ap length (sym (append-nil jumping.before)) ∙ ap length (sym front)))
       of (part ∷ rest) front back = record {
@@ -289,8 +289,8 @@ module _ {V Seen W First : Type 0} (ways : Ways V Seen W First) (s : List ℕ) w
 
   -- after writing stopped
   pub closed_stopped : (stopped : Stop) (first now : W) (before own : List Part) (name : Span) (next : ℕ)
-      → HasStopped ways s stopped first now (before ++ Default name 0 ∷ own)
-      → HasStopped ways s stopped first now (before ++ Default name next ∷ own)
+      → HasStopped context s stopped first now (before ++ Default name 0 ∷ own)
+      → HasStopped context s stopped first now (before ++ Default name next ∷ own)
   closed_stopped stopped first now before own name next stops =
       elim (where_is stops.done (stops.part ∷ stops.rest) before (Default name 0) own (sym stops.splits)) [
         | inl found ↦ in_front found.own found.front found.after
@@ -299,13 +299,13 @@ module _ {V Seen W First : Type 0} (ways : Ways V Seen W First) (s : List ℕ) w
     where
       in_front : (us : List Part) → stops.done ≡ before ++ Default name 0 ∷ us
           → own ≡ us ++ stops.part ∷ stops.rest
-          → HasStopped ways s stopped first now (before ++ Default name next ∷ own)
+          → HasStopped context s stopped first now (before ++ Default name next ∷ own)
       in_front us front after =
           let old = before ++ Default name 0 ∷ us in
           let new = before ++ Default name next ∷ us in
-          let settled = subst (λ (ps : List Part). AllSettled ways.look_up s (length ps) ps) front
+          let settled = subst (λ (ps : List Part). AllSettled context.look_up s (length ps) ps) front
           stops.settled in
-          let none = open_lacks ways.look_up s before us name (length old) settled in
+          let none = open_lacks context.look_up s before us name (length old) settled in
           let last = us ++ stops.part ∷ [] in
           record {
             done = new;
@@ -314,23 +314,23 @@ module _ {V Seen W First : Type 0} (ways : Ways V Seen W First) (s : List ℕ) w
             splits =
                 ap (λ (ps : List Part). before ++ Default name next ∷ ps) after
                 ∙ sym (append_assoc before (Default name next ∷ us) (stops.part ∷ stops.rest));
-            settled = subst (λ n. AllSettled ways.look_up s n new) (same_length before us name 0 next)
-                (settled_changed ways.look_up s before us name (length old) next none settled);
+            settled = subst (λ n. AllSettled context.look_up s n new) (same_length before us name 0 next)
+                (settled_changed context.look_up s before us name (length old) next none settled);
             stops =
-                subst (λ (ps : List Part). StopsInParts ways s stopped ps first now)
+                subst (λ (ps : List Part). StopsInParts context s stopped ps first now)
                 (sym (append_assoc before (Default name next ∷ us) (stops.part ∷ [])))
-                (stops_same ways s (before ++ Default name 0 ∷ last) (before ++ Default name next ∷ last)
-                (changed_parts ways.look_up s before last name 0 next none) first now stopped
-                (subst (λ (ps : List Part). StopsInParts ways s stopped ps first now)
+                (stops_same context s (before ++ Default name 0 ∷ last) (before ++ Default name next ∷ last)
+                (changed_parts context.look_up s before last name 0 next none) first now stopped
+                (subst (λ (ps : List Part). StopsInParts context s stopped ps first now)
                 (append_assoc before (Default name 0 ∷ us) (stops.part ∷ []))
-                (subst (λ (ps : List Part). StopsInParts ways s stopped (ps ++ stops.part ∷ []) first now)
+                (subst (λ (ps : List Part). StopsInParts context s stopped (ps ++ stops.part ∷ []) first now)
                 front
                 stops.stops)));
           }
 
       in_back : (between : List Part) → before ≡ stops.done ++ between
           → stops.part ∷ stops.rest ≡ between ++ Default name 0 ∷ own
-          → HasStopped ways s stopped first now (before ++ Default name next ∷ own)
+          → HasStopped context s stopped first now (before ++ Default name next ∷ own)
       in_back [] front back =
           let same : before ≡ stops.done = front ∙ append-nil stops.done in
           let is : stops.part ≡ Default name 0 = cc in
@@ -341,9 +341,9 @@ module _ {V Seen W First : Type 0} (ways : Ways V Seen W First) (s : List ℕ) w
             splits = ap (λ (ps : List Part). ps ++ Default name next ∷ own) same;
             settled = stops.settled;
             stops =
-                stops_same ways s (stops.done ++ Default name 0 ∷ []) (stops.done ++ Default name next ∷ [])
-                (last_changed ways.look_up s stops.done name 0 next stops.settled) first now stopped
-                (subst (λ (p : Part). StopsInParts ways s stopped (stops.done ++ p ∷ []) first now) is
+                stops_same context s (stops.done ++ Default name 0 ∷ []) (stops.done ++ Default name next ∷ [])
+                (last_changed context.look_up s stops.done name 0 next stops.settled) first now stopped
+                (subst (λ (p : Part). StopsInParts context s stopped (stops.done ++ p ∷ []) first now) is
                 stops.stops);
           }
       in_back (part ∷ rest) front back =
@@ -361,7 +361,7 @@ module _ {V Seen W First : Type 0} (ways : Ways V Seen W First) (s : List ℕ) w
           }
 
   -- before the first part nothing was written
-  pub started : (output : W) → IsWriting ways s output output []
+  pub started : (output : W) → IsWriting context s output output []
   started output = record {
     settled = tt;
     written = record {
@@ -374,70 +374,70 @@ module _ {V Seen W First : Type 0} (ways : Ways V Seen W First) (s : List ℕ) w
 
   -- at the end writing stopped in the parts of the whole source
   pub stopped_whole : (stopped : Stop) (first now : W) (parts : List Part)
-      → HasStopped ways s stopped first now parts → StopsInParts ways s stopped parts first now
+      → HasStopped context s stopped first now parts → StopsInParts context s stopped parts first now
   stopped_whole stopped first now parts stops =
-      subst (λ (ps : List Part). StopsInParts ways s stopped ps first now) (sym stops.splits)
-      (stops_more ways s stops.done stops.part stops.rest first now stops.settled stopped stops.stops)
+      subst (λ (ps : List Part). StopsInParts context s stopped ps first now) (sym stops.splits)
+      (stops_more context s stops.done stops.part stops.rest first now stops.settled stopped stops.stops)
 
   -- and no default is open
   pub none_jumped : (index : ℕ) (first now : W) (parts : List Part) (end : ℕ) → AllClosed end parts
-      → IsJumping ways s index first now parts → ⊥
+      → IsJumping context s index first now parts → ⊥
   none_jumped index first now parts end closed jumping =
       none_open end jumping.before jumping.name jumping.own (subst (AllClosed end) jumping.splits closed)
 
   -- a part was taken
   pub holds_took : (part : Part) (old : State) (before : W) (found : Bool) (state : State) (now : W)
       (len next : ℕ) (first : AtFirst Seen W) (parts : List Part) (n : ℕ) → IsClosed (n + 1) part → len ≡ n
-      → HoldsParts ways s len old before first parts → WritesOn ways s part old before found state now
+      → HoldsParts context s len old before first parts → WritesOn context s part old before found state now
       → next ≡ len + 1
-      → HoldsParts ways s next state now first (parts ++ part ∷ [])
+      → HoldsParts context s next state now first (parts ++ part ∷ [])
   holds_took part old before found state now len next first parts n closed counts held written one = record {
     source = held.source;
     map = held.map;
     count = omega (arith, one, held.count, count_last parts part);
     written = took part old first.output before found state now parts held.written written
-        (λ was is. (settled_closed ways.look_up s (length parts + 1) (part ∷ [])
+        (λ was is. (settled_closed context.look_up s (length parts + 1) (part ∷ [])
         (subst (λ k. IsClosed k part) (omega (arith, counts, held.count)) closed, tt)).0);
   }
 
   -- a default opens whose name has no value, or that is passed over
   pub holds_opened : (name : Span) (old : State) (before : W) (found : Bool) (state : State) (now : W)
       (len next : ℕ) (first : AtFirst Seen W) (parts : List Part)
-      → HoldsParts ways s len old before first parts
-      → WritesOn ways s (Default name 0) old before found state now → found ≡ false → next ≡ len + 1
-      → HoldsParts ways s next state now first (parts ++ Default name 0 ∷ [])
+      → HoldsParts context s len old before first parts
+      → WritesOn context s (Default name 0) old before found state now → found ≡ false → next ≡ len + 1
+      → HoldsParts context s next state now first (parts ++ Default name 0 ∷ [])
   holds_opened name old before found state now len next first parts held written none one = record {
     source = held.source;
     map = held.map;
     count = omega (arith, one, held.count, count_last parts (Default name 0));
     written = took (Default name 0) old first.output before found state now parts held.written written
         (λ was is. open_settled name (length parts + 1) before now found none
-        (subst (λ st. PartWritten ways s (Default name 0) before found st now) is
-        (subst (λ st. WritesOn ways s (Default name 0) st before found state now) was written)));
+        (subst (λ st. PartWritten context s (Default name 0) before found st now) is
+        (subst (λ st. WritesOn context s (Default name 0) st before found state now) was written)));
   }
 
   -- or whose name has one
   pub holds_jumped : (name : Span) (old : State) (before : W) (found : Bool) (state : State) (now : W)
       (len next : ℕ) (first : AtFirst Seen W) (parts : List Part)
-      → HoldsParts ways s len old before first parts
-      → WritesOn ways s (Default name 0) old before found state now → found ≡ true → next ≡ len + 1
-      → HoldsParts ways s next (Jumping len) now first (parts ++ Default name 0 ∷ [])
+      → HoldsParts context s len old before first parts
+      → WritesOn context s (Default name 0) old before found state now → found ≡ true → next ≡ len + 1
+      → HoldsParts context s next (Jumping len) now first (parts ++ Default name 0 ∷ [])
   holds_jumped name old before found state now len next first parts held written some one = record {
     source = held.source;
     map = held.map;
     count = omega (arith, one, held.count, count_last parts (Default name 0));
     written =
-        subst (λ n. IsJumping ways s n first.output now (parts ++ Default name 0 ∷ [])) (sym held.count)
+        subst (λ n. IsJumping context s n first.output now (parts ++ Default name 0 ∷ [])) (sym held.count)
         (jumped name old first.output before state now parts held.written
-        (subst (λ b. WritesOn ways s (Default name 0) old before b state now) some written));
+        (subst (λ b. WritesOn context s (Default name 0) old before b state now) some written));
   }
 
   -- the default closes that the writer is inside
   pub holds_resumed : (index len : ℕ) (now : W) (first : AtFirst Seen W) (before own : List Part)
       (name : Span)
       → index ≡ length before → AllClosed (length (before ++ Default name 0 ∷ own)) own
-      → HoldsParts ways s len (Jumping index) now first (before ++ Default name 0 ∷ own)
-      → HoldsParts ways s len Writing now first
+      → HoldsParts context s len (Jumping index) now first (before ++ Default name 0 ∷ own)
+      → HoldsParts context s len Writing now first
       (before ++ Default name (length (before ++ Default name 0 ∷ own)) ∷ own)
   holds_resumed index len now first before own name is closed held = record {
     source = held.source;
@@ -450,8 +450,8 @@ module _ {V Seen W First : Type 0} (ways : Ways V Seen W First) (s : List ℕ) w
   pub holds_closed : (state : State) (len : ℕ) (now : W) (first : AtFirst Seen W) (before own : List Part)
       (name : Span) → ¬ (state ≡ Jumping (length before))
       → AllClosed (length (before ++ Default name 0 ∷ own)) own
-      → HoldsParts ways s len state now first (before ++ Default name 0 ∷ own)
-      → HoldsParts ways s len state now first
+      → HoldsParts context s len state now first (before ++ Default name 0 ∷ own)
+      → HoldsParts context s len state now first
       (before ++ Default name (length (before ++ Default name 0 ∷ own)) ∷ own)
   holds_closed state len now first before own name other closed held = record {
     source = held.source;
@@ -461,8 +461,8 @@ module _ {V Seen W First : Type 0} (ways : Ways V Seen W First) (s : List ℕ) w
   }
     where
       of : (state : State) → ¬ (state ≡ Jumping (length before))
-          → HasWritten ways s state first.output now (before ++ Default name 0 ∷ own)
-          → HasWritten ways s state first.output now
+          → HasWritten context s state first.output now (before ++ Default name 0 ∷ own)
+          → HasWritten context s state first.output now
           (before ++ Default name (length (before ++ Default name 0 ∷ own)) ∷ own)
       of Writing other writing = closed_writing first.output now before own name _ writing
       of (Jumping index) other jumping =
@@ -472,8 +472,8 @@ module _ {V Seen W First : Type 0} (ways : Ways V Seen W First) (s : List ℕ) w
 
   -- before the first part
   pub holds_start : (len : ℕ) (state : State) (now : W) (first : AtFirst Seen W) → s ≡ first.source
-      → ways.look_up ≡ first.look_up → len ≡ 0 → state ≡ Writing → now ≡ first.output
-      → HoldsParts ways s len state now first []
+      → context.look_up ≡ first.look_up → len ≡ 0 → state ≡ Writing → now ≡ first.output
+      → HoldsParts context s len state now first []
   holds_start len state now first source map none writing same = record {
     source = source;
     map = map;
@@ -482,8 +482,8 @@ module _ {V Seen W First : Type 0} (ways : Ways V Seen W First) (s : List ℕ) w
   }
 
   -- whatever came of it, the output begins with what it held, and its room only grew
-  pub begun : (state : State) (first now : W) (parts : List Part) → HasWritten ways s state first now parts
-      → Appended ways.holds (λ _. Unit {0}) first now × (ways.room first ≤ ways.room now)
+  pub begun : (state : State) (first now : W) (parts : List Part) → HasWritten context s state first now parts
+      → Appended context.holds (λ _. Unit {0}) first now × (context.room first ≤ context.room now)
   begun Writing first now parts writing =
       (same_appended writing.written.filled (λ x fills. tt), writing.written.room)
   begun (Jumping index) first now parts jumping =
@@ -492,7 +492,7 @@ module _ {V Seen W First : Type 0} (ways : Ways V Seen W First) (s : List ℕ) w
 
   -- where a variable is missing, its name is one in the source
   pub named_stop : (stopped : Stop) (first now : W) (parts : List Part)
-      → HasStopped ways s stopped first now parts
+      → HasStopped context s stopped first now parts
       → IfMissing (Err stopped) (λ name. IsSpan s name × IsName (span_bytes name s))
   named_stop (Full e) first now parts stops = tt
   named_stop (stop.Missing name) first now parts stops = (stops.stops.at.2, stops.stops.at.3)

@@ -12,7 +12,7 @@ use Rattle.subst_raw.specs.Filled.{mark, FillsMarks}
 use Rattle.subst_raw.specs.Output.{Appended}
 use Rattle.subst_raw.specs.Parts.{part_value, if_found, resume_index, visited_parts, joined_value, joined_written, parts_value, parts_written}
 use Rattle.subst_raw.specs.Span.{span_bytes}
-use Rattle.subst_raw.specs.Ways.{Ways, StopsAt, WritesPart, StopsAtPart}
+use Rattle.subst_raw.specs.Context.{Context, StopsAt, WritesPart, StopsAtPart}
 use Rattle.subst_raw.specs.Writing.{IsSettled, AllSettled, WritesParts, StopsInParts}
 use Rattle.subst_raw.specs.declared.expand.Stop.{Stop}
 use Rattle.subst_raw.specs.declared.expand.Stop.TheVariants.{Full}
@@ -167,25 +167,25 @@ fills_joined some more = record {
   filled = filled_append some.filled more.filled;
 }
 
-module _ {V Seen W First : Type 0} (ways : Ways V Seen W First) (s : List ℕ) (parts : List Part) (part : Part)
-    (first before after : W) (settled : AllSettled ways.look_up s (length parts) parts)
-    (so_far : WritesParts ways s parts first before) where
+module _ {V Seen W First : Type 0} (context : Context V Seen W First) (s : List ℕ) (parts : List Part) (part : Part)
+    (first before after : W) (settled : AllSettled context.look_up s (length parts) parts)
+    (so_far : WritesParts context s parts first before) where
   -- one part more is written
-  pub writes_next : WritesPart ways s part before after → WritesParts ways s (parts ++ part ∷ []) first after
+  pub writes_next : WritesPart context s part before after → WritesParts context s (parts ++ part ∷ []) first after
   writes_next next = record {
     given = λ bytes reads.
         let some = so_far.given bytes reads in
         let more = next.given bytes reads in
         more_appended more.appended some more.puts
-        (λ x gives. value_last ways.look_up bytes s parts part settled ∙ rw (gives, more.given) refl);
+        (λ x gives. value_last context.look_up bytes s parts part settled ∙ rw (gives, more.given) refl);
     filled =
         more_appended next.filled.appended so_far.filled next.filled.puts
-        (λ x fills. subst (λ v. FillsMarks ways.is_read v (x ++ next.filled.appended))
-        (sym (value_last ways.look_up (λ _. mark ∷ []) s parts part settled))
+        (λ x fills. subst (λ v. FillsMarks context.is_read v (x ++ next.filled.appended))
+        (sym (value_last context.look_up (λ _. mark ∷ []) s parts part settled))
         (fills_joined fills next.filled.given));
     long = λ bytes reads.
-        let look = look_up_of bytes ways.look_up in
-        let writes = written_last ways.look_up bytes s parts part _ settled
+        let look = look_up_of bytes context.look_up in
+        let writes = written_last context.look_up bytes s parts part _ settled
         (so_far.given bytes reads).given in
         omega (
           arith,
@@ -198,8 +198,8 @@ module _ {V Seen W First : Type 0} (ways : Ways V Seen W First) (s : List ℕ) (
   }
 
   -- or writing stops at it
-  pub stops_next : (stopped : Stop) → StopsAtPart ways s part stopped before after
-      → StopsInParts ways s stopped (parts ++ part ∷ []) first after
+  pub stops_next : (stopped : Stop) → StopsAtPart context s part stopped before after
+      → StopsInParts context s stopped (parts ++ part ∷ []) first after
   stops_next stopped next = record {
     begins =
         more_appended next.begins.appended so_far.filled next.begins.puts (λ x fills. tt);
@@ -207,13 +207,13 @@ module _ {V Seen W First : Type 0} (ways : Ways V Seen W First) (s : List ℕ) (
     room = omega (arith, so_far.room, next.room);
   }
     where
-      of : (stopped : Stop) → StopsAt ways s stopped (part_value part s)
+      of : (stopped : Stop) → StopsAt context s stopped (part_value part s)
           (λ look. bytes_in (part_value part s look)) before
-          → StopsAt ways s stopped (λ look. parts_value (parts ++ part ∷ []) s look)
+          → StopsAt context s stopped (λ look. parts_value (parts ++ part ∷ []) s look)
           (λ look. parts_written (parts ++ part ∷ []) s look) first
       of (Full e) full = λ bytes reads.
-          let look = look_up_of bytes ways.look_up in
-          let writes = written_last ways.look_up bytes s parts part _ settled
+          let look = look_up_of bytes context.look_up in
+          let writes = written_last context.look_up bytes s parts part _ settled
           (so_far.given bytes reads).given in
           omega (
             arith,
@@ -224,9 +224,9 @@ module _ {V Seen W First : Type 0} (ways : Ways V Seen W First) (s : List ℕ) (
             length-append (parts_written parts s look) (bytes_in (part_value part s look)),
           )
       of (stop.Missing name) missing = (
-        λ bytes reads. value_last ways.look_up bytes s parts part settled
+        λ bytes reads. value_last context.look_up bytes s parts part settled
             ∙ rw ((so_far.given bytes reads).given, missing.0 bytes reads) refl,
-        value_last ways.look_up (λ _. mark ∷ []) s parts part settled
+        value_last context.look_up (λ _. mark ∷ []) s parts part settled
             ∙ rw (so_far.filled.given.given, missing.1) refl,
         missing.2,
         missing.3,
@@ -290,33 +290,33 @@ module _ (s : List ℕ) (look : LookUp) where
             (same_after part (changed before own name next other (i + 1) (resume_index part s look) none))
       ]
 
-module _ {V Seen W First : Type 0} (ways : Ways V Seen W First) (s : List ℕ) (parts others : List Part)
-    (same : (bytes : Seen → List ℕ) → GivesSame s (look_up_of bytes ways.look_up)
-    (visited_parts parts 0 0 s (look_up_of bytes ways.look_up))
-    (visited_parts others 0 0 s (look_up_of bytes ways.look_up))) (first now : W) where
+module _ {V Seen W First : Type 0} (context : Context V Seen W First) (s : List ℕ) (parts others : List Part)
+    (same : (bytes : Seen → List ℕ) → GivesSame s (look_up_of bytes context.look_up)
+    (visited_parts parts 0 0 s (look_up_of bytes context.look_up))
+    (visited_parts others 0 0 s (look_up_of bytes context.look_up))) (first now : W) where
   -- what was written for parts was written for others that give the same
-  pub writes_same : WritesParts ways s parts first now → WritesParts ways s others first now
+  pub writes_same : WritesParts context s parts first now → WritesParts context s others first now
   writes_same written = record {
     given = λ bytes reads. same_appended (written.given bytes reads)
         (λ x gives. sym (same bytes).value ∙ gives);
-    filled = subst (λ v. Appended ways.holds (FillsMarks ways.is_read v) first now)
+    filled = subst (λ v. Appended context.holds (FillsMarks context.is_read v) first now)
         (same (λ _. mark ∷ [])).value written.filled;
     long = λ bytes reads. written.long bytes reads
-        ∙ ap (λ (x : List ℕ). ways.len first + length x) (same bytes).written;
+        ∙ ap (λ (x : List ℕ). context.len first + length x) (same bytes).written;
     room = written.room;
   }
 
   -- and where writing stopped
-  pub stops_same : (stopped : Stop) → StopsInParts ways s stopped parts first now
-      → StopsInParts ways s stopped others first now
+  pub stops_same : (stopped : Stop) → StopsInParts context s stopped parts first now
+      → StopsInParts context s stopped others first now
   stops_same stopped stops = record { begins = stops.begins; at = of stopped stops.at; room = stops.room }
     where
-      of : (stopped : Stop) → StopsAt ways s stopped (λ look. parts_value parts s look)
+      of : (stopped : Stop) → StopsAt context s stopped (λ look. parts_value parts s look)
           (λ look. parts_written parts s look) first
-          → StopsAt ways s stopped (λ look. parts_value others s look)
+          → StopsAt context s stopped (λ look. parts_value others s look)
           (λ look. parts_written others s look) first
       of (Full e) full = λ bytes reads.
-          subst (λ (x : List ℕ). ways.room first < ways.len first + length x) (same bytes).written
+          subst (λ (x : List ℕ). context.room first < context.len first + length x) (same bytes).written
           (full bytes reads)
       of (stop.Missing name) missing = (
         λ bytes reads. sym (same bytes).value ∙ missing.0 bytes reads,
@@ -421,11 +421,11 @@ settled_jump {Seen} look_up s before own name next v settled le some after = at 
         (settled_later look_up s (length before) next part le settled.0, at xs settled.1)
 
 -- where writing stopped at a part, it stopped in the parts with more after it
-pub stops_more : {V Seen W First : Type 0} (ways : Ways V Seen W First) (s : List ℕ) (parts : List Part)
-    (part : Part) (rest : List Part) (first now : W) → AllSettled ways.look_up s (length parts) parts
-    → (stopped : Stop) → StopsInParts ways s stopped (parts ++ part ∷ []) first now
-    → StopsInParts ways s stopped (parts ++ part ∷ rest) first now
-stops_more {Seen = Seen} ways s parts part rest first now settled stopped stops = record {
+pub stops_more : {V Seen W First : Type 0} (context : Context V Seen W First) (s : List ℕ) (parts : List Part)
+    (part : Part) (rest : List Part) (first now : W) → AllSettled context.look_up s (length parts) parts
+    → (stopped : Stop) → StopsInParts context s stopped (parts ++ part ∷ []) first now
+    → StopsInParts context s stopped (parts ++ part ∷ rest) first now
+stops_more {Seen = Seen} context s parts part rest first now settled stopped stops = record {
   begins = stops.begins;
   at = of stopped stops.at;
   room = stops.room;
@@ -450,23 +450,23 @@ stops_more {Seen = Seen} ways s parts part rest first now settled stopped stops 
     missing_on v w u is = sym (joined_assoc v w u) ∙ ap (λ (m : Value). joined m u) is
 
     still_missing : (bytes : Seen → List ℕ) (position : ℕ) (name : List ℕ)
-        → parts_value (parts ++ part ∷ []) s (look_up_of bytes ways.look_up) ≡ Missing position name
-        → parts_value (parts ++ part ∷ rest) s (look_up_of bytes ways.look_up) ≡ Missing position name
+        → parts_value (parts ++ part ∷ []) s (look_up_of bytes context.look_up) ≡ Missing position name
+        → parts_value (parts ++ part ∷ rest) s (look_up_of bytes context.look_up) ≡ Missing position name
     still_missing bytes position name is =
-        let more = value_more ways.look_up bytes s parts part rest settled in
-        more.1 ∙ missing_on _ _ more.0 (sym (value_last ways.look_up bytes s parts part settled) ∙ is)
+        let more = value_more context.look_up bytes s parts part rest settled in
+        more.1 ∙ missing_on _ _ more.0 (sym (value_last context.look_up bytes s parts part settled) ∙ is)
 
-    of : (stopped : Stop) → StopsAt ways s stopped (λ look. parts_value (parts ++ part ∷ []) s look)
+    of : (stopped : Stop) → StopsAt context s stopped (λ look. parts_value (parts ++ part ∷ []) s look)
         (λ look. parts_written (parts ++ part ∷ []) s look) first
-        → StopsAt ways s stopped (λ look. parts_value (parts ++ part ∷ rest) s look)
+        → StopsAt context s stopped (λ look. parts_value (parts ++ part ∷ rest) s look)
         (λ look. parts_written (parts ++ part ∷ rest) s look) first
     of (Full e) full = λ bytes reads.
-        let look = look_up_of bytes ways.look_up in
-        let more = written_more ways.look_up bytes s parts part rest settled in
+        let look = look_up_of bytes context.look_up in
+        let more = written_more context.look_up bytes s parts part rest settled in
         omega (
           arith,
           full bytes reads,
-          ap length (written_one ways.look_up bytes s parts part settled),
+          ap length (written_one context.look_up bytes s parts part settled),
           ap length more.1,
           longer (parts_value parts s look) (part_value part s look) (parts_written parts s look)
               (bytes_in (part_value part s look)) more.0,

@@ -17,6 +17,6 @@ pub mod Placeholder
 pub mod Sink
 pub mod SliceOutput
 pub mod Span
-pub mod Ways
+pub mod Context
 pub mod Writer
 pub mod Writing

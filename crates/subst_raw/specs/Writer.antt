@@ -1,6 +1,6 @@
 -- A writer as a sink.
 use Rattle.std.specs.Prelude.{◌≡◌, ℕ, List, length, Option}
-use Rattle.subst_raw.specs.Ways.{Ways}
+use Rattle.subst_raw.specs.Context.{Context}
 use Rattle.subst_raw.specs.Writing.{HasWritten}
 use Rattle.subst_raw.specs.declared.part.Part.{Part}
 use Rattle.subst_raw.specs.declared.writer.State.{State}
@@ -12,9 +12,9 @@ pub record AtFirst (Seen W : Type 0) : Type 0 where
   pub output : W
 
 -- the writer has counted the parts, and has written of them what its state says
-pub record HoldsParts {V Seen W First : Type 0} (ways : Ways V Seen W First) (s : List ℕ) (len : ℕ)
+pub record HoldsParts {V Seen W First : Type 0} (context : Context V Seen W First) (s : List ℕ) (len : ℕ)
     (state : State) (now : W) (first : AtFirst Seen W) (parts : List Part) : Type 0 where
   pub source : s ≡ first.source
-  pub map : ways.look_up ≡ first.look_up
+  pub map : context.look_up ≡ first.look_up
   pub count : len ≡ length parts
-  pub written : HasWritten ways s state first.output now parts
+  pub written : HasWritten context s state first.output now parts

@@ -2,7 +2,7 @@
 use Rattle.std.specs.Prelude.{◌≡◌, ℕ, ◌<◌, ◌≤◌, List, [], ◌∷◌, ◌++◌, length, Option, Some, IfSome, Bool, false}
 use Rattle.subst_raw.specs.Parts.{parts_value, parts_written}
 use Rattle.subst_raw.specs.Span.{span_bytes}
-use Rattle.subst_raw.specs.Ways.{Ways, Writes, Stops, WritesPart, StopsAtPart, TellsFound}
+use Rattle.subst_raw.specs.Context.{Context, Writes, Stops, WritesPart, StopsAtPart, TellsFound}
 use Rattle.subst_raw.specs.declared.expand.Stop.{Stop}
 use Rattle.subst_raw.specs.declared.part.Span.{Span}
 use Rattle.subst_raw.specs.declared.part.Part.{Part}
@@ -22,52 +22,52 @@ AllSettled look_up s end [] = Unit {0}
 AllSettled look_up s end (part ∷ rest) = IsSettled look_up s end part × AllSettled look_up s end rest
 
 -- what parts give was written, between two states of an output
-abbrev pub WritesParts : {V Seen W First : Type 0} → Ways V Seen W First → List ℕ → List Part → W → W → Type 0
-WritesParts ways s parts before after =
-    Writes ways (λ look. parts_value parts s look) (λ look. parts_written parts s look) before after
+abbrev pub WritesParts : {V Seen W First : Type 0} → Context V Seen W First → List ℕ → List Part → W → W → Type 0
+WritesParts context s parts before after =
+    Writes context (λ look. parts_value parts s look) (λ look. parts_written parts s look) before after
 
 -- or writing stopped within it
-abbrev pub StopsInParts : {V Seen W First : Type 0} → Ways V Seen W First → List ℕ → Stop → List Part → W → W
+abbrev pub StopsInParts : {V Seen W First : Type 0} → Context V Seen W First → List ℕ → Stop → List Part → W → W
     → Type 0
-StopsInParts ways s stopped parts before after =
-    Stops ways s stopped (λ look. parts_value parts s look) (λ look. parts_written parts s look) before after
+StopsInParts context s stopped parts before after =
+    Stops context s stopped (λ look. parts_value parts s look) (λ look. parts_written parts s look) before after
 
 -- all parts were written
-pub record IsWriting {V Seen W First : Type 0} (ways : Ways V Seen W First) (s : List ℕ) (first now : W)
+pub record IsWriting {V Seen W First : Type 0} (context : Context V Seen W First) (s : List ℕ) (first now : W)
     (parts : List Part) : Type 0 where
-  pub settled : AllSettled ways.look_up s (length parts) parts
-  pub written : WritesParts ways s parts first now
+  pub settled : AllSettled context.look_up s (length parts) parts
+  pub written : WritesParts context s parts first now
 
 -- The parts up to one that has this index were written: it is that of a default that is open, whose name has
 -- a value. Those after it are its own, and aren't written.
-pub record IsJumping {V Seen W First : Type 0} (ways : Ways V Seen W First) (s : List ℕ) (index : ℕ)
+pub record IsJumping {V Seen W First : Type 0} (context : Context V Seen W First) (s : List ℕ) (index : ℕ)
     (first now : W) (parts : List Part) : Type 0 where
   pub before : List Part
   pub name : Span
   pub own : List Part
   pub splits : parts ≡ before ++ Default name 0 ∷ own
   pub is : index ≡ length before
-  pub settled : AllSettled ways.look_up s (length before) before
+  pub settled : AllSettled context.look_up s (length before) before
   pub value : Seen
-  pub found : ways.look_up (span_bytes name s) ≡ Some value
-  pub written : WritesParts ways s (before ++ Default name 0 ∷ []) first now
+  pub found : context.look_up (span_bytes name s) ≡ Some value
+  pub written : WritesParts context s (before ++ Default name 0 ∷ []) first now
 
 -- writing stopped at a part
-pub record HasStopped {V Seen W First : Type 0} (ways : Ways V Seen W First) (s : List ℕ) (stopped : Stop)
+pub record HasStopped {V Seen W First : Type 0} (context : Context V Seen W First) (s : List ℕ) (stopped : Stop)
     (first now : W) (parts : List Part) : Type 0 where
   pub done : List Part
   pub part : Part
   pub rest : List Part
   pub splits : parts ≡ done ++ part ∷ rest
-  pub settled : AllSettled ways.look_up s (length done) done
-  pub stops : StopsInParts ways s stopped (done ++ part ∷ []) first now
+  pub settled : AllSettled context.look_up s (length done) done
+  pub stops : StopsInParts context s stopped (done ++ part ∷ []) first now
 
 -- what a writer in this state has written of these parts
-abbrev pub HasWritten : {V Seen W First : Type 0} → Ways V Seen W First → List ℕ → State → W → W → List Part
+abbrev pub HasWritten : {V Seen W First : Type 0} → Context V Seen W First → List ℕ → State → W → W → List Part
     → Type 0
-HasWritten ways s Writing first now parts = IsWriting ways s first now parts
-HasWritten ways s (Jumping index) first now parts = IsJumping ways s index first now parts
-HasWritten ways s (Stopped stopped) first now parts = HasStopped ways s stopped first now parts
+HasWritten context s Writing first now parts = IsWriting context s first now parts
+HasWritten context s (Jumping index) first now parts = IsJumping context s index first now parts
+HasWritten context s (Stopped stopped) first now parts = HasStopped context s stopped first now parts
 
 -- writing hasn't stopped
 abbrev pub NotStopped : State → Type 0
@@ -75,18 +75,18 @@ NotStopped (Stopped stopped) = ⊥
 NotStopped state = Unit {0}
 
 -- what came of writing a part, by the state after it
-abbrev pub PartWritten : {V Seen W First : Type 0} → Ways V Seen W First → List ℕ → Part → W → Bool → State
+abbrev pub PartWritten : {V Seen W First : Type 0} → Context V Seen W First → List ℕ → Part → W → Bool → State
     → W
     → Type 0
-PartWritten ways s part before found Writing now =
-    WritesPart ways s part before now × TellsFound ways.look_up s part found
-PartWritten ways s part before found (Jumping index) now = ⊥
-PartWritten ways s part before found (Stopped stopped) now =
-    StopsAtPart ways s part stopped before now × (found ≡ false)
+PartWritten context s part before found Writing now =
+    WritesPart context s part before now × TellsFound context.look_up s part found
+PartWritten context s part before found (Jumping index) now = ⊥
+PartWritten context s part before found (Stopped stopped) now =
+    StopsAtPart context s part stopped before now × (found ≡ false)
 
 -- a part was written, if the state before was that of writing
-abbrev pub WritesOn : {V Seen W First : Type 0} → Ways V Seen W First → List ℕ → Part → State → W → Bool
+abbrev pub WritesOn : {V Seen W First : Type 0} → Context V Seen W First → List ℕ → Part → State → W → Bool
     → State
     → W → Type 0
-WritesOn ways s part Writing before found state now = PartWritten ways s part before found state now
-WritesOn ways s part old before found state now = (state ≡ old) × (now ≡ before) × (found ≡ false)
+WritesOn context s part Writing before found state now = PartWritten context s part before found state now
+WritesOn context s part old before found state now = (state ≡ old) × (now ≡ before) × (found ≡ false)

@@ -2,7 +2,7 @@
 
 ghost use Rattle.std.specs.Prelude.{IfErr, IfOk};
 ghost use Rattle.subst_raw.specs.Parts.{IsInSource};
-ghost use Rattle.subst_raw.specs.Ways.{StopsAtPart, TellsFound, WritesPart, ways_of};
+ghost use Rattle.subst_raw.specs.Context.{StopsAtPart, TellsFound, WritesPart, context_of};
 
 use crate::expand::{Stop, bytes_at, name_at};
 use crate::output::Output;
@@ -26,12 +26,12 @@ pub(crate) fn append_part<'a, M: VariableMap<'a>, R: ReadValue<M::Value>, W: Out
 where
     M::Value: Drop,
     requires { IsInSource source.now part }
-    ensures written { let ways =
-        ways_of R.read R.is_read M.see (M.look_up variables.now) W.holds W.len W.room in
-        IfOk result (λ found. WritesPart ways source.now part output.old output.new) }
-    ensures stopped { let ways =
-        ways_of R.read R.is_read M.see (M.look_up variables.now) W.holds W.len W.room in
-        IfErr result (λ stop. StopsAtPart ways source.now part stop output.old output.new) }
+    ensures written { let context =
+        context_of R.read R.is_read M.see (M.look_up variables.now) W.holds W.len W.room in
+        IfOk result (λ found. WritesPart context source.now part output.old output.new) }
+    ensures stopped { let context =
+        context_of R.read R.is_read M.see (M.look_up variables.now) W.holds W.len W.room in
+        IfErr result (λ stop. StopsAtPart context source.now part stop output.old output.new) }
     ensures found { IfOk result (TellsFound (M.look_up variables.now) source.now part) }
 {
     match part {

@@ -57,7 +57,7 @@ where
     M::Value: Drop,
 {
     ghost use Rattle.subst_raw.specs.Writing.{NotStopped, WritesOn};
-    ghost use Rattle.subst_raw.specs.Ways.{ways_of};
+    ghost use Rattle.subst_raw.specs.Context.{context_of};
 
     /// Returns a writer that has written nothing yet.
     pub fn new(source: &'s [u8], variables: &'a M, output: W) -> Self
@@ -98,9 +98,9 @@ where
         ensures source { self.new.source ≡ self.old.source }
         ensures variables { self.new.variables ≡ self.old.variables }
         ensures len { self.new.len ≡ self.old.len }
-        ensures written { let ways = ways_of R.read R.is_read M.see
+        ensures written { let context = context_of R.read R.is_read M.see
             (M.look_up self.old.variables.now)
-            W.holds W.len W.room in WritesOn ways self.old.source.now part self.old.state
+            W.holds W.len W.room in WritesOn context self.old.source.now part self.old.state
             self.old.output
             result self.new.state self.new.output }
     {
@@ -122,13 +122,13 @@ where
     M::Value: Drop,
 {
     ghost use Rattle.std.specs.Prelude.{◌≡◌};
-    ghost use Rattle.subst_raw.specs.Ways.{ways_of};
+    ghost use Rattle.subst_raw.specs.Context.{context_of};
     ghost use Rattle.subst_raw.specs.Writer.{AtFirst, HoldsParts};
 
     ghost First = { AtFirst M.Seen W };
 
     ghost holds = { λ writer first parts.
-        HoldsParts (ways_of R.read R.is_read M.see (M.look_up writer.variables.now) W.holds W.len
+        HoldsParts (context_of R.read R.is_read M.see (M.look_up writer.variables.now) W.holds W.len
         W.room)
         writer.source.now writer.len writer.state writer.output first parts };
 

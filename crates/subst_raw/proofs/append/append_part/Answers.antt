@@ -3,7 +3,7 @@ use Rattle.std.proofs.Common.{[], ◌∷◌, ap, refl, sym}
 use Rattle.subst_language.specs.Language.Value.{Bytes}
 use Rattle.subst_raw.proofs.ExpandLemmas.{has_value, has_none}
 use Rattle.subst_raw.proofs.FilledLemmas.{has_mark, has_no_mark}
-use Rattle.subst_raw.proofs.WayLemmas.{writes_own, writes_value, writes_nothing}
+use Rattle.subst_raw.proofs.ContextLemmas.{writes_own, writes_value, writes_nothing}
 use Rattle.subst_raw.proofs.append.append_part.Goals as goal
 
 pub returns-in_ok-append_bytes-in-Literal-clause-written :

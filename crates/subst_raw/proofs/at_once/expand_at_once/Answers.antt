@@ -64,7 +64,7 @@ error_of-requires g c =
     c.new-writer.ensures.len c.new-writer.ensures.state
     (c.new-writer.ensures.output ∙ c.replace-taken.ensures.value) in
     let done = (rw c.in_default.is at c.parse_into-writer.ensures.ok) first start in
-    let written = written_since _ _ _ _ _ _ _ _ _ _ _ first done.parts done.held in
+    let written = written_since _ _ _ _ _ first done.parts done.held in
     let stopped = rw c.in-Err-outcome.is at c.finish-written.ensures.stopped in
     named_in _ _ _ _ c.args.source.now c.args.output.now _ done.parts done.template _ c.in-Err-outcome.stop
     stopped written
@@ -102,7 +102,7 @@ returns-in-Err-outcome-clause-expanded g c =
     c.new-writer.ensures.len c.new-writer.ensures.state
     (c.new-writer.ensures.output ∙ c.replace-taken.ensures.value) in
     let done = (rw c.in_default.is at c.parse_into-writer.ensures.ok) first start in
-    let written = written_since _ _ _ _ _ _ _ _ _ _ _ first done.parts done.held in
+    let written = written_since _ _ _ _ _ first done.parts done.held in
     let stopped = rw c.in-Err-outcome.is at c.finish-written.ensures.stopped in
     let (x, begins, room) = begun_since _ _ _ _ _ _ _ _ first done.parts done.held in
     expanded_in _ _ _ _ _ c.args.output.now _ done.parts done.template _ c.in-Err-outcome.stop stopped
@@ -138,7 +138,7 @@ returns-clause-expanded g c =
     c.new-writer.ensures.len c.new-writer.ensures.state
     (c.new-writer.ensures.output ∙ c.replace-taken.ensures.value) in
     let done = (rw c.in_default.is at c.parse_into-writer.ensures.ok) first start in
-    let written = written_since _ _ _ _ _ _ _ _ _ _ _ first done.parts done.held in
+    let written = written_since _ _ _ _ _ first done.parts done.held in
     let going = rw c.in_default-outcome.is at c.finish-written.ensures.unstopped in
     subst (λ (output : Vec ℕ Global). IsExpansion g.R.ReadValue.read g.R.ReadValue.is_read g.M.VariableMap.see
     (g.M.VariableMap.look_up c.args.variables.now) c.args.source.now c.args.output.now.items output.items

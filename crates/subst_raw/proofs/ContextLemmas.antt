@@ -7,7 +7,7 @@ use Rattle.subst_raw.specs.Filled.{mark, marks_of, IsFilled, FillsMarks}
 use Rattle.subst_raw.specs.Filled.IsFilled.{empty, filled}
 use Rattle.subst_raw.specs.Output.{Puts}
 use Rattle.subst_raw.specs.Parts.{part_value}
-use Rattle.subst_raw.specs.Ways.{Ways, ByWays, WritesPart}
+use Rattle.subst_raw.specs.Context.{Context, ByContext, WritesPart}
 use Rattle.subst_raw.specs.declared.part.Part.{Part}
 use Rattle.subst_raw.proofs.FilledLemmas.{all_kept}
 
@@ -15,40 +15,40 @@ use Rattle.subst_raw.proofs.FilledLemmas.{all_kept}
 fills_one : {Passes : List ℕ → Type 0} (x : List ℕ) → Passes x → IsFilled Passes (mark ∷ []) x
 fills_one {Passes} x passes = subst (IsFilled Passes (mark ∷ [])) (append-nil x) (filled x passes empty)
 
-module _ {V Seen W First : Type 0} (ways : Ways V Seen W First) (s : List ℕ) (part : Part) (x : List ℕ)
-    (before after : W) (puts : Puts ways.holds before x after)
-    (long : ways.len after ≡ ways.len before + length x) (room : ways.room before ≤ ways.room after) where
+module _ {V Seen W First : Type 0} (context : Context V Seen W First) (s : List ℕ) (part : Part) (x : List ℕ)
+    (before after : W) (puts : Puts context.holds before x after)
+    (long : context.len after ≡ context.len before + length x) (room : context.room before ≤ context.room after) where
   -- a part that gives these bytes, whatever the map, writes them
-  writes_bytes : ByWays ways (λ look. part_value part s look ≡ Bytes x)
-      → FillsMarks ways.is_read (part_value part s (marks_of ways.look_up)) x
-      → WritesPart ways s part before after
+  writes_bytes : ByContext context (λ look. part_value part s look ≡ Bytes x)
+      → FillsMarks context.is_read (part_value part s (marks_of context.look_up)) x
+      → WritesPart context s part before after
   writes_bytes gives fills = record {
     given = λ bytes reads. record { appended = x; puts = puts; given = gives bytes reads };
     filled = record { appended = x; puts = puts; given = fills };
     long = λ bytes reads. long
-        ∙ ap (λ (v : Value). ways.len before + length (bytes_in v)) (sym (gives bytes reads));
+        ∙ ap (λ (v : Value). context.len before + length (bytes_in v)) (sym (gives bytes reads));
     room = room;
   }
 
   -- bytes of the source, or an escaped byte
-  pub writes_own : ((look : LookUp) → part_value part s look ≡ Bytes x) → WritesPart ways s part before after
+  pub writes_own : ((look : LookUp) → part_value part s look ≡ Bytes x) → WritesPart context s part before after
   writes_own gives = writes_bytes (λ bytes reads. gives _)
-      record { marked = x; given = gives (marks_of ways.look_up); filled = all_kept x }
+      record { marked = x; given = gives (marks_of context.look_up); filled = all_kept x }
 
   -- a value that was found
-  pub writes_value : ByWays ways (λ look. part_value part s look ≡ Bytes x)
-      → part_value part s (marks_of ways.look_up) ≡ Bytes (mark ∷ []) → ways.is_read x
-      → WritesPart ways s part before after
+  pub writes_value : ByContext context (λ look. part_value part s look ≡ Bytes x)
+      → part_value part s (marks_of context.look_up) ≡ Bytes (mark ∷ []) → context.is_read x
+      → WritesPart context s part before after
   writes_value gives marked passes = writes_bytes gives
       record { marked = mark ∷ []; given = marked; filled = fills_one x passes }
 
 -- a part that gives nothing writes nothing
-pub writes_nothing : {V Seen W First : Type 0} (ways : Ways V Seen W First) (s : List ℕ) (part : Part)
+pub writes_nothing : {V Seen W First : Type 0} (context : Context V Seen W First) (s : List ℕ) (part : Part)
     (output : W)
-    → ByWays ways (λ look. part_value part s look ≡ Bytes [])
-    → part_value part s (marks_of ways.look_up) ≡ Bytes [] → WritesPart ways s part output output
-writes_nothing ways s part output gives marked =
-    writes_bytes ways s part [] output output
-    (λ first x before. subst (ways.holds output first) (sym (append-nil x)) before) (omega arith)
+    → ByContext context (λ look. part_value part s look ≡ Bytes [])
+    → part_value part s (marks_of context.look_up) ≡ Bytes [] → WritesPart context s part output output
+writes_nothing context s part output gives marked =
+    writes_bytes context s part [] output output
+    (λ first x before. subst (context.holds output first) (sym (append-nil x)) before) (omega arith)
     (omega arith)
     gives record { marked = []; given = marked; filled = empty }

@@ -17,7 +17,7 @@ use Rattle.subst_raw.specs.declared.part.Part.TheVariants.{Default}
 
 -- how a map is asked and its values are read, and what an output holds, how long that is, and for how much
 -- there is room
-pub record Ways (V Seen W First : Type 0) : Type 1 where
+pub record Context (V Seen W First : Type 0) : Type 1 where
   pub read : V → List ℕ
   pub is_read : List ℕ → Type 0
   pub see : V → Seen
@@ -26,9 +26,9 @@ pub record Ways (V Seen W First : Type 0) : Type 1 where
   pub len : W → ℕ
   pub room : W → ℕ
 
-abbrev pub ways_of : {V Seen W First : Type 0} → (V → List ℕ) → (List ℕ → Type 0) → (V → Seen)
-    → (List ℕ → Option Seen) → (W → First → List ℕ → Type 0) → (W → ℕ) → (W → ℕ) → Ways V Seen W First
-ways_of read is_read see look_up holds len room = record {
+abbrev pub context_of : {V Seen W First : Type 0} → (V → List ℕ) → (List ℕ → Type 0) → (V → Seen)
+    → (List ℕ → Option Seen) → (W → First → List ℕ → Type 0) → (W → ℕ) → (W → ℕ) → Context V Seen W First
+context_of read is_read see look_up holds len room = record {
   read = read;
   is_read = is_read;
   see = see;
@@ -39,44 +39,44 @@ ways_of read is_read see look_up holds len room = record {
 }
 
 -- P holds of the map's look-up of bytes
-abbrev pub ByWays : {V Seen W First : Type 0} → Ways V Seen W First → (LookUp → Type 0) → Type 0
-ByWays ways P = ByLookUp ways.read ways.see ways.look_up P
+abbrev pub ByContext : {V Seen W First : Type 0} → Context V Seen W First → (LookUp → Type 0) → Type 0
+ByContext context P = ByLookUp context.read context.see context.look_up P
 
 -- what a value is was written, between two states of an output
-pub record Writes {V Seen W First : Type 0} (ways : Ways V Seen W First) (value : LookUp → Value)
+pub record Writes {V Seen W First : Type 0} (context : Context V Seen W First) (value : LookUp → Value)
     (written : LookUp → List ℕ) (before after : W) : Type 0 where
-  pub given : ByWays ways (λ look. Appended ways.holds (λ x. value look ≡ Bytes x) before after)
-  pub filled : Appended ways.holds (FillsMarks ways.is_read (value (marks_of ways.look_up))) before after
-  pub long : ByWays ways (λ look. ways.len after ≡ ways.len before + length (written look))
-  pub room : ways.room before ≤ ways.room after
+  pub given : ByContext context (λ look. Appended context.holds (λ x. value look ≡ Bytes x) before after)
+  pub filled : Appended context.holds (FillsMarks context.is_read (value (marks_of context.look_up))) before after
+  pub long : ByContext context (λ look. context.len after ≡ context.len before + length (written look))
+  pub room : context.room before ≤ context.room after
 
 -- the same, where writing stopped: the output had no room for what was to be written, or the value is the
 -- variable that is missing
-abbrev pub StopsAt : {V Seen W First : Type 0} → Ways V Seen W First → List ℕ → Stop → (LookUp → Value)
+abbrev pub StopsAt : {V Seen W First : Type 0} → Context V Seen W First → List ℕ → Stop → (LookUp → Value)
     → (LookUp → List ℕ) → W → Type 0
-StopsAt ways s (Full e) value written before =
-    ByWays ways (λ look. ways.room before < ways.len before + length (written look))
-StopsAt ways s (stop.Missing name) value written before =
-    ByWays ways (λ look. value look ≡ Missing name.start (span_bytes name s))
-    × (value (marks_of ways.look_up) ≡ Missing name.start (span_bytes name s))
+StopsAt context s (Full e) value written before =
+    ByContext context (λ look. context.room before < context.len before + length (written look))
+StopsAt context s (stop.Missing name) value written before =
+    ByContext context (λ look. value look ≡ Missing name.start (span_bytes name s))
+    × (value (marks_of context.look_up) ≡ Missing name.start (span_bytes name s))
     × IsSpan s name × IsName (span_bytes name s)
 
-pub record Stops {V Seen W First : Type 0} (ways : Ways V Seen W First) (s : List ℕ) (stopped : Stop)
+pub record Stops {V Seen W First : Type 0} (context : Context V Seen W First) (s : List ℕ) (stopped : Stop)
     (value : LookUp → Value) (written : LookUp → List ℕ) (before after : W) : Type 0 where
-  pub begins : Appended ways.holds (λ _. Unit {0}) before after
-  pub at : StopsAt ways s stopped value written before
-  pub room : ways.room before ≤ ways.room after
+  pub begins : Appended context.holds (λ _. Unit {0}) before after
+  pub at : StopsAt context s stopped value written before
+  pub room : context.room before ≤ context.room after
 
 -- the part's own value was written
-abbrev pub WritesPart : {V Seen W First : Type 0} → Ways V Seen W First → List ℕ → Part → W → W → Type 0
-WritesPart ways s part before after =
-    Writes ways (part_value part s) (λ look. bytes_in (part_value part s look)) before after
+abbrev pub WritesPart : {V Seen W First : Type 0} → Context V Seen W First → List ℕ → Part → W → W → Type 0
+WritesPart context s part before after =
+    Writes context (part_value part s) (λ look. bytes_in (part_value part s look)) before after
 
 -- or writing stopped at it
-abbrev pub StopsAtPart : {V Seen W First : Type 0} → Ways V Seen W First → List ℕ → Part → Stop → W → W
+abbrev pub StopsAtPart : {V Seen W First : Type 0} → Context V Seen W First → List ℕ → Part → Stop → W → W
     → Type 0
-StopsAtPart ways s part stopped before after =
-    Stops ways s stopped (part_value part s) (λ look. bytes_in (part_value part s look)) before after
+StopsAtPart context s part stopped before after =
+    Stops context s stopped (part_value part s) (λ look. bytes_in (part_value part s look)) before after
 
 -- whether a part is that of a default whose name has a value
 abbrev pub TellsFound : {Seen : Type 0} → (List ℕ → Option Seen) → List ℕ → Part → Bool → Type 0
