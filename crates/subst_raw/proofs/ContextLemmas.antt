@@ -17,7 +17,8 @@ fills_one {Passes} x passes = subst (IsFilled Passes (mark ∷ [])) (append-nil 
 
 module _ {V Seen W First : Type 0} (context : Context V Seen W First) (s : List ℕ) (part : Part) (x : List ℕ)
     (before after : W) (puts : Puts context.holds before x after)
-    (long : context.len after ≡ context.len before + length x) (room : context.room before ≤ context.room after) where
+    (long : context.len after ≡ context.len before + length x)
+    (room : context.room before ≤ context.room after) where
   -- a part that gives these bytes, whatever the map, writes them
   writes_bytes : ByContext context (λ look. part_value part s look ≡ Bytes x)
       → FillsMarks context.is_read (part_value part s (marks_of context.look_up)) x
@@ -31,7 +32,8 @@ module _ {V Seen W First : Type 0} (context : Context V Seen W First) (s : List 
   }
 
   -- bytes of the source, or an escaped byte
-  pub writes_own : ((look : LookUp) → part_value part s look ≡ Bytes x) → WritesPart context s part before after
+  pub writes_own : ((look : LookUp) → part_value part s look ≡ Bytes x)
+      → WritesPart context s part before after
   writes_own gives = writes_bytes (λ bytes reads. gives _)
       record { marked = x; given = gives (marks_of context.look_up); filled = all_kept x }
 

@@ -1,18 +1,17 @@
--- How far an expansion has come, and how many turns it has made.
-use Rattle.std.proofs.Common.{◌≡◌, ℕ, ◌+◌, ◌-◌, ◌<◌, ◌≤◌, zero, suc, Option, Some, None, List, [], ◌∷◌, ◌++◌, length, drop, take, append-nil, refl, sym, ap, ◌∙◌, subst, arith}
-use Rattle.std.proofs.lemmas.List.{drop_all, drop-drop, length-take-le}
+-- Which parts an expansion visits, and where it goes on.
+use Rattle.std.proofs.Common.{◌≡◌, ℕ, ◌+◌, ◌-◌, ◌<◌, ◌≤◌, zero, suc, Option, Some, None, List, [], ◌∷◌, length, drop, take, unwrap_or, refl, sym, ap, ◌∙◌, subst, arith}
+use Rattle.std.proofs.lemmas.List.{drop-drop, length-take-le}
 use Rattle.std.specs.List.{slice_get}
 use Rattle.std.specs.Option.{option_map}
 use Rattle.subst_language.specs.Language.LookUp.{LookUp}
-use Rattle.subst_language.specs.Language.Value.{Value, Bytes, Missing, joined, found_or}
 use Rattle.subst_language.specs.Calls.VariableMap.{ReadsAs, look_up_of}
 use Rattle.subst_raw.specs.Span.{span_bytes}
-use Rattle.subst_raw.specs.Parts.{FitsAt, AllFit, part_value, if_found, resume_index, visited_parts, joined_value, parts_value}
+use Rattle.subst_raw.specs.Context.{jump_of}
+use Rattle.subst_raw.specs.Parts.{FitsAt, AllFit, IsInSource, if_found, resume_index, visited_parts, next_if_found, next_index}
 use Rattle.subst_raw.specs.declared.part.Span.{Span}
 use Rattle.subst_raw.specs.declared.part.Part.{Part}
 use Rattle.subst_raw.specs.declared.part.Part.TheVariants.{Literal, Escaped, Variable, Default}
 use Rattle.subst_raw.proofs.PartsLemmas.{fit_at, visited_parts-before, visited_parts-from, visited_parts-anywhere}
-use Rattle.subst_language.proofs.Language.ValueLemmas.{joined_assoc, joined-left, joined-right}
 use Rattle.subst_language.proofs.Language.ListLemmas.{IsElementAt, element_at, around}
 
 -- a part of a list that fits, fits at its index
@@ -22,6 +21,13 @@ fits_there end s {parts = parts} {at = at} {part = part} fit here =
     subst (λ n. FitsAt n end s part) (omega (arith, length-take-le at parts (omega (arith, here.below))))
     (fit_at 0 end s (take at parts) part (drop (at + 1) parts)
     (subst (AllFit 0 end s) (sym (around here)) fit))
+
+-- a part that fits is in the source
+pub in_source : (i end : ℕ) (s : List ℕ) (part : Part) → FitsAt i end s part → IsInSource s part
+in_source i end s (Literal span) fits = fits
+in_source i end s (Escaped b) fits = tt
+in_source i end s (Variable name) fits = fits
+in_source i end s (Default name next) fits = (fits.0, fits.1)
 
 -- a part that was read from the list is there
 pub part_here : {read parts : List Part} {at : ℕ} {found part : Part} → slice_get read at ≡ Some found
@@ -63,7 +69,7 @@ pub record GoesOn (parts : List Part) (s : List ℕ) (look : LookUp) (at : ℕ) 
       ≡ part ∷ visited_parts (drop next parts) next 0 s look
 
 -- a part that is at an index is visited there, and the rest from where the part says
-visited_parts-here : (parts : List Part) (at : ℕ) (part : Part) (s : List ℕ) (look : LookUp)
+pub visited_parts-here : (parts : List Part) (at : ℕ) (part : Part) (s : List ℕ) (look : LookUp)
     → IsElementAt parts at part
     → visited_parts (drop at parts) at 0 s look
     ≡ part ∷ visited_parts (drop (at + 1) parts) (at + 1) (resume_index part s look) s look
@@ -104,109 +110,67 @@ pub goes_on_inside : {parts : List Part} {s : List ℕ} {look : LookUp} {at next
     → GoesOn parts s look at (Default name next) (at + 1)
 goes_on_inside {look = look} here named missing = goes_on_after here (rw (sym named, missing) refl)
 
--- the output, concatenated with what the parts from the index `at` on give, is what all parts give
-pub record GivesSoFar (parts : List Part) (s : List ℕ) (look : LookUp) (output : List ℕ) (at : ℕ)
-    : Type 0 where
-  pub together : joined (Bytes output) (joined_value (visited_parts (drop at parts) at 0 s look) s look)
-      ≡ parts_value parts s look
+-- where an expansion goes on after a part with a default that is at an index
+goes_on_default : (parts : List Part) (s : List ℕ) (look : LookUp) (at : ℕ) (name : Span) (next : ℕ)
+    (found : Option (List ℕ)) → IsElementAt parts at (Default name next) → at < next
+    → look (span_bytes name s) ≡ found
+    → GoesOn parts s look at (Default name next) (next_if_found found next (at + 1))
+goes_on_default parts s look at name next (Some x) here forward is = goes_on_there here forward refl is
+goes_on_default parts s look at name next None here forward is = goes_on_inside here refl is
 
--- before the first part there is no output
-pub starts : (parts : List Part) (s : List ℕ) (look : LookUp) (output : List ℕ) → output ≡ []
-    → GivesSoFar parts s look output 0
-starts parts s look output is = record { together = rw is (joined-left (parts_value parts s look)) }
+-- where it goes on after any part
+pub goes_on : {parts : List Part} {s : List ℕ} {look : LookUp} {at : ℕ} (end : ℕ) (part : Part)
+    → IsElementAt parts at part → FitsAt at end s part
+    → GoesOn parts s look at part (next_index part s look (at + 1))
+goes_on end (Literal span) here fits = goes_on_after here refl
+goes_on end (Escaped b) here fits = goes_on_after here refl
+goes_on end (Variable name) here fits = goes_on_after here refl
+goes_on {parts = parts} {s = s} {look = look} {at = at} end (Default name next) here fits =
+    goes_on_default parts s look at name next (look (span_bytes name s)) here fits.2 refl
 
--- after the last part the output is what the parts give
-pub ends : {parts : List Part} {s : List ℕ} {look : LookUp} {output : List ℕ} {at : ℕ}
-    → GivesSoFar parts s look output at → length parts ≤ at
-    → parts_value parts s look ≡ Bytes output
-ends {parts = parts} {s = s} {look = look} {output = output} {at = at} so_far above =
-    sym so_far.together
-    ∙ ap (λ (rest : List Part). joined (Bytes output) (joined_value (visited_parts rest at 0 s look) s look))
-    (drop_all at parts above)
-    ∙ joined-right (Bytes output)
+-- what was found or not, the next index is after that of a part with a default, and within the list
+found_within : (at next end : ℕ) (found : Option (List ℕ)) → at < next → next ≤ end → at < end
+    → (at < next_if_found found next (at + 1)) × (next_if_found found next (at + 1) ≤ end)
+found_within at next end (Some x) forward inside below = (forward, inside)
+found_within at next end None forward inside below = (omega arith, omega (arith, below))
 
--- the output, what a part gives, and what is visited from where the expansion goes on, concatenated, are what
--- all parts give
-step_value : {parts : List Part} {s : List ℕ} {look : LookUp} {output : List ℕ} {at : ℕ} {part : Part}
-    {next : ℕ} {v : Value}
-    → GivesSoFar parts s look output at → GoesOn parts s look at part next → part_value part s look ≡ v
-    → parts_value parts s look
-    ≡ joined (Bytes output) (joined v (joined_value (visited_parts (drop next parts) next 0 s look) s look))
-step_value {parts = parts} {s = s} {look = look} {output = output} {next = next} so_far goes_on gives =
-    sym so_far.together
-    ∙ ap (λ (visited : List Part). joined (Bytes output) (joined_value visited s look)) goes_on.visits
-    ∙ ap (λ (u : Value). joined (Bytes output)
-    (joined u (joined_value (visited_parts (drop next parts) next 0 s look) s look))) gives
+-- so is it after any part
+pub next_within : {at end : ℕ} (s : List ℕ) (look : LookUp) (part : Part) → FitsAt at end s part → at < end
+    → (at < next_index part s look (at + 1)) × (next_index part s look (at + 1) ≤ end)
+next_within s look (Literal span) fits below = (omega arith, omega (arith, below))
+next_within s look (Escaped b) fits below = (omega arith, omega (arith, below))
+next_within s look (Variable name) fits below = (omega arith, omega (arith, below))
+next_within {at = at} {end = end} s look (Default name next) fits below =
+    found_within at next end (look (span_bytes name s)) fits.2 fits.3 below
 
--- the output grows by the bytes that a part gives
-grows : {parts : List Part} {s : List ℕ} {look : LookUp} {output : List ℕ} {at : ℕ} {part : Part} {next : ℕ}
-    {x grown : List ℕ}
-    → GivesSoFar parts s look output at → GoesOn parts s look at part next → part_value part s look ≡ Bytes x
-    → grown ≡ output ++ x
-    → GivesSoFar parts s look grown next
-grows {parts = parts} {s = s} {look = look} {output = output} {next = next} {x = x} so_far goes_on gives is =
-    record {
-      together =
-          ap (λ (bytes : List ℕ). joined (Bytes bytes)
-          (joined_value (visited_parts (drop next parts) next 0 s look) s look)) is
-          ∙ joined_assoc (Bytes output) (Bytes x)
-          (joined_value (visited_parts (drop next parts) next 0 s look) s look)
-          ∙ sym (step_value so_far goes_on gives);
-    }
+-- the index after a part, or that where its jump ends, is the one that an expansion goes on at
+after_jump : {Seen : Type 0} (look_up : List ℕ → Option Seen) (bytes : Seen → List ℕ) (s : List ℕ)
+    (part : Part) (after : ℕ)
+    → unwrap_or (jump_of look_up s part) after ≡ next_index part s (look_up_of bytes look_up) after
+after_jump look_up bytes s (Literal span) after = refl
+after_jump look_up bytes s (Escaped b) after = refl
+after_jump look_up bytes s (Variable name) after = refl
+after_jump {Seen} look_up bytes s (Default name next) after = of (look_up (span_bytes name s))
+  where
+    of : (found : Option Seen)
+        → unwrap_or (option_map (λ _. next) found) after ≡ next_if_found (option_map bytes found) next after
+    of (Some v) = refl
+    of None = refl
 
--- after a literal
-pub after_literal : {parts : List Part} {s : List ℕ} {look : LookUp} {output : List ℕ} {at : ℕ} {span : Span}
-    {x grown : List ℕ}
-    → GivesSoFar parts s look output at → IsElementAt parts at (Literal span) → x ≡ span_bytes span s
-    → grown ≡ output ++ x
-    → GivesSoFar parts s look grown (at + 1)
-after_literal so_far here reads is = grows so_far (goes_on_after here refl) (ap Bytes (sym reads)) is
+pub goes_to : {Seen : Type 0} (look_up : List ℕ → Option Seen) (s : List ℕ) (part : Part) (after : ℕ)
+    {jump : Option ℕ} {next : ℕ}
+    → jump ≡ jump_of look_up s part → next ≡ unwrap_or jump after → (bytes : Seen → List ℕ)
+    → next ≡ next_index part s (look_up_of bytes look_up) after
+goes_to look_up s part after jumps is bytes =
+    is ∙ ap (λ (o : Option ℕ). unwrap_or o after) jumps ∙ after_jump look_up bytes s part after
 
--- after an escaped byte
-pub after_escaped : {parts : List Part} {s : List ℕ} {look : LookUp} {output : List ℕ} {at b : ℕ}
-    {grown : List ℕ}
-    → GivesSoFar parts s look output at → IsElementAt parts at (Escaped b) → grown ≡ output ++ b ∷ []
-    → GivesSoFar parts s look grown (at + 1)
-after_escaped so_far here is = grows so_far (goes_on_after here refl) refl is
-
--- after a variable that has a value
-pub after_variable : {parts : List Part} {s : List ℕ} {look : LookUp} {output : List ℕ} {at : ℕ} {name : Span}
-    {key x grown : List ℕ}
-    → GivesSoFar parts s look output at → IsElementAt parts at (Variable name) → key ≡ span_bytes name s
-    → look key ≡ Some x → grown ≡ output ++ x
-    → GivesSoFar parts s look grown (at + 1)
-after_variable {look = look} so_far here named found is =
-    grows so_far (goes_on_after here refl) (rw (sym named, found) refl) is
-
--- after the jump of a default whose name has a value
-pub after_value : {parts : List Part} {s : List ℕ} {look : LookUp} {output : List ℕ} {at next : ℕ}
-    {name : Span} {key x grown : List ℕ}
-    → GivesSoFar parts s look output at → IsElementAt parts at (Default name next) → at < next
-    → key ≡ span_bytes name s → look key ≡ Some x
-    → grown ≡ output ++ x → GivesSoFar parts s look grown next
-after_value {look = look} so_far here forward named found is =
-    grows so_far (goes_on_there here forward named found) (rw (sym named, found) refl) is
-
--- at the first part of a default whose name has none
-pub after_none : {parts : List Part} {s : List ℕ} {look : LookUp} {output : List ℕ} {at next : ℕ}
-    {name : Span} {key : List ℕ}
-    → GivesSoFar parts s look output at → IsElementAt parts at (Default name next) → key ≡ span_bytes name s
-    → look key ≡ None
-    → GivesSoFar parts s look output (at + 1)
-after_none {look = look} {output = output} {next = next} so_far here named missing =
-    grows so_far (goes_on_inside here named missing) (rw (sym named, missing) refl) (sym (append-nil output))
-
--- at a variable that has no value: it is the one that is missing
-pub missing_variable : {parts : List Part} {s : List ℕ} {look : LookUp} {output : List ℕ} {at : ℕ}
-    {name : Span}
-    {key : List ℕ}
-    → GivesSoFar parts s look output at → IsElementAt parts at (Variable name) → key ≡ span_bytes name s
-    → look key ≡ None
-    → parts_value parts s look ≡ Missing name.start (span_bytes name s)
-missing_variable {s = s} {look = look} {name = name} so_far here named missing =
-    step_value {v = Missing name.start (span_bytes name s)} so_far (goes_on_after here refl)
-    (ap (λ (o : Option (List ℕ)). found_or o (Missing name.start (span_bytes name s)))
-    (ap look (sym named) ∙ missing))
+-- it is after that of the part, and within the list
+pub goes_within : {Seen : Type 0} (look_up : List ℕ → Option Seen) (s : List ℕ) {at end : ℕ} (part : Part)
+    {jump : Option ℕ} {next : ℕ} → FitsAt at end s part → at < end → jump ≡ jump_of look_up s part
+    → next ≡ unwrap_or jump (at + 1) → (at < next) × (next ≤ end)
+goes_within look_up s {at} {end} part fits below jumps is =
+    subst (λ n. (at < n) × (n ≤ end)) (sym (goes_to look_up s part (at + 1) jumps is (λ _. [])))
+    (next_within s (look_up_of (λ _. []) look_up) part fits below)
 
 -- where the map has a value for a name, the look-up has the bytes that the value gives
 pub has_value : {V Seen : Type 0} (items : V → List ℕ) (see : V → Seen) (bytes : Seen → List ℕ)
@@ -221,36 +185,3 @@ pub has_none : {Seen : Type 0} (bytes : Seen → List ℕ) (look_up : List ℕ �
     → None ≡ look_up key
     → look_up_of bytes look_up key ≡ None
 has_none bytes look_up has = ap (option_map bytes) (sym has)
-
--- the turns so far, and the parts that are visited from the index `at` on, are as many as the parts that are
--- visited
-pub record CountsSoFar (parts : List Part) (s : List ℕ) (look : LookUp) (before turns at : ℕ) : Type 0 where
-  pub together : turns + length (visited_parts (drop at parts) at 0 s look)
-      ≡ before + length (visited_parts parts 0 0 s look)
-
--- each part is a turn
-pub one_turn : {parts : List Part} {s : List ℕ} {look : LookUp} {before turns at : ℕ} {part : Part}
-    {next after : ℕ}
-    → CountsSoFar parts s look before turns at → GoesOn parts s look at part next → after ≡ turns + 1
-    → CountsSoFar parts s look before after next
-one_turn so_far goes_on is =
-    record { together = omega (arith, so_far.together, ap length goes_on.visits, is) }
-
--- with the turn of the part at the index there are no more turns than parts that are visited
-pub turns_within : {parts : List Part} {s : List ℕ} {look : LookUp} {before turns at : ℕ} {part : Part}
-    {after : ℕ}
-    → CountsSoFar parts s look before turns at → IsElementAt parts at part → after ≡ turns + 1
-    → after ≤ before + length (visited_parts parts 0 0 s look)
-turns_within {parts = parts} {s = s} {look = look} {at = at} {part = part} so_far here is =
-    omega (arith, so_far.together, ap length (visited_parts-here parts at part s look here), is)
-
--- after the last part the turns are the parts that are visited
-pub all_turns : {parts : List Part} {s : List ℕ} {look : LookUp} {before turns at : ℕ}
-    → CountsSoFar parts s look before turns at → length parts ≤ at
-    → turns ≡ before + length (visited_parts parts 0 0 s look)
-all_turns {parts = parts} {s = s} {look = look} {at = at} so_far above =
-    omega (
-      arith,
-      so_far.together,
-      ap (λ (rest : List Part). length (visited_parts rest at 0 s look)) (drop_all at parts above),
-    )

@@ -10,6 +10,7 @@ pub mod InnerLemmas
 pub mod LaneLemmas
 pub mod LiftLemmas
 pub mod ListedLemmas
+pub mod LoopLemmas
 pub mod OutputLemmas
 pub mod ParsedLemmas
 pub mod ParserLemmas

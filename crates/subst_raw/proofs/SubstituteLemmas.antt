@@ -35,7 +35,7 @@ module _ {V Seen : Type 0} (read : V → List ℕ) (is_read : List ℕ → Type 
           (λ look. (x : List ℕ) × Answers s look (Gives x) × (after ≡ before ++ x))
       of done bytes reads =
           let template = done.template in
-          let (x, gives, appended) = done.value bytes reads in
+          let (x, gives, appended) = done.expands.value bytes reads in
           let look = look_up_of bytes look_up in
           (x, (template.tree, template.spells, sym (template.mean.same_value look) ∙ gives), appended)
 
@@ -52,7 +52,7 @@ module _ {V Seen : Type 0} (read : V → List ℕ) (is_read : List ℕ → Type 
         let look = look_up_of bytes look_up in
         refused_into {T = Unit {0}} expand_into_fault s look (Err e) (template.tree, template.spells)
         (λ t spells. subst (λ v. IfSome (expand_into_fault e) (IsMissing v))
-        (template_value s failed.parts t look template spells) (failed.value bytes reads))
+        (template_value s failed.parts t look template spells) (failed.expands.value bytes reads))
 
     -- the same whatever the values are
     pub refuses_by_names : ByNames look_up
@@ -61,7 +61,7 @@ module _ {V Seen : Type 0} (read : V → List ℕ) (is_read : List ℕ → Type 
         let template = failed.template in
         refused_into {T = Unit {0}} expand_into_fault s look (Err e) (template.tree, template.spells)
         (λ t spells. errors_missing {T = Unit {0}} expand_into_fault s failed.parts t look_up (Err e) template
-        spells failed.missing look names)
+        spells failed.expands.missing look names)
 
     -- out of memory only with cause
     pub short_room : ByLookUp read see look_up
@@ -69,13 +69,13 @@ module _ {V Seen : Type 0} (read : V → List ℕ) (is_read : List ℕ → Type 
     short_room bytes reads t spells =
         subst (λ (x : List ℕ). IfNone (expand_into_fault e) (room < len + length x))
         (template_written s failed.parts t (look_up_of bytes look_up) failed.template spells)
-        (failed.full bytes reads)
+        (failed.expands.full bytes reads)
 
     -- the range of the error
     pub range_within : (range_of (expand_into_fault e)).end ≤ length s
     range_within =
         errors_range {T = Unit {0}} expand_into_fault s failed.parts look_up (Err e) failed.template
-        failed.missing
+        failed.expands.missing
 
 -- an error with a name of its own states the same refusal, or that memory ran out
 pub owned_refuses : (s : List ℕ) (look : LookUp) (lent owned : Option Fault)

@@ -1,17 +1,15 @@
 -- How far a pass over the parts has come that lists their variables, or what is missing.
-use Rattle.std.proofs.Common.{arith, ◌≡◌, ℕ, ◌+◌, ◌<◌, ◌≤◌, Option, Some, None, List, [], ◌∷◌, ◌++◌, map, drop, append_assoc, refl, sym, ap, ◌∙◌}
+use Rattle.std.proofs.Common.{◌≡◌, ℕ, ◌+◌, List, [], ◌∷◌, ◌++◌, map, drop, append_assoc, sym, ap, ◌∙◌}
 use Rattle.std.proofs.lemmas.List.{map-append}
 use Rattle.subst_error.specs.declared.NoSuchVariable as errors
 use Rattle.subst_language.specs.Language.LookUp.{LookUp}
 use Rattle.subst_language.specs.Calls.Variables.{variable_of, missing_fault}
 use Rattle.subst_language.specs.declared.variable.Variable as declared
 use Rattle.subst_language.proofs.Language.ListLemmas.{IsElementAt}
-use Rattle.subst_raw.specs.Parts.{FitsAt, NamesFit, part_variables, variables_in, part_missing, missing_in, parts_missing, visited_parts, next_index, next_if_found}
+use Rattle.subst_raw.specs.Parts.{FitsAt, NamesFit, part_variables, variables_in, part_missing, missing_in, parts_missing, visited_parts, next_index}
 use Rattle.subst_raw.specs.declared.part.Part.{Part}
 use Rattle.subst_raw.specs.declared.part.Part.TheVariants.{Literal, Escaped, Variable, Default}
-use Rattle.subst_raw.specs.Span.{span_bytes}
-use Rattle.subst_raw.specs.declared.part.Span.{Span}
-use Rattle.subst_raw.proofs.ExpandLemmas.{GoesOn, goes_on_after, goes_on_there, goes_on_inside}
+use Rattle.subst_raw.proofs.ExpandLemmas.{goes_on}
 
 -- a part that fits has a name that does
 pub names_fit : (i end : ℕ) (s : List ℕ) (part : Part) → FitsAt i end s part → NamesFit s part
@@ -58,24 +56,6 @@ pub record ListsSoFar (parts : List Part) (s : List ℕ) (look : LookUp) (list :
   pub together : map missing_fault list ++ missing_in (visited_parts (drop at parts) at 0 s look) s look
       ≡ parts_missing parts s look
 
--- where an expansion goes on after a part with a default that is at an index
-goes_on_default : (parts : List Part) (s : List ℕ) (look : LookUp) (at : ℕ) (name : Span) (next : ℕ)
-    (found : Option (List ℕ)) → IsElementAt parts at (Default name next) → at < next
-    → look (span_bytes name s) ≡ found
-    → GoesOn parts s look at (Default name next) (next_if_found found next (at + 1))
-goes_on_default parts s look at name next (Some x) here forward is = goes_on_there here forward refl is
-goes_on_default parts s look at name next None here forward is = goes_on_inside here refl is
-
--- where it goes on after any part
-goes_on : {parts : List Part} {s : List ℕ} {look : LookUp} {at : ℕ} (end : ℕ) (part : Part)
-    → IsElementAt parts at part → FitsAt at end s part
-    → GoesOn parts s look at part (next_index part s look (at + 1))
-goes_on end (Literal span) here fits = goes_on_after here refl
-goes_on end (Escaped b) here fits = goes_on_after here refl
-goes_on end (Variable name) here fits = goes_on_after here refl
-goes_on {parts = parts} {s = s} {look = look} {at = at} end (Default name next) here fits =
-    goes_on_default parts s look at name next (look (span_bytes name s)) here fits.2 refl
-
 -- after a part, with what it is missing put at the end of the list
 pub lists_next : {parts : List Part} {s : List ℕ} {look : LookUp} {list grown : List errors.NoSuchVariable}
     {at next : ℕ} (end : ℕ) (part : Part) (these : List errors.NoSuchVariable)
@@ -95,18 +75,3 @@ lists_next {parts = parts} {s = s} {look = look} {list = list} {at = at} {next =
           ∙ ap (λ visited. map missing_fault list ++ missing_in visited s look) (sym there.visits)
           ∙ so_far.together;
     }
-
--- what was found or not, the next index is after that of a part with a default, and within the list
-found_within : (at next end : ℕ) (found : Option (List ℕ)) → at < next → next ≤ end → at < end
-    → (at < next_if_found found next (at + 1)) × (next_if_found found next (at + 1) ≤ end)
-found_within at next end (Some x) forward inside below = (forward, inside)
-found_within at next end None forward inside below = (omega arith, omega (arith, below))
-
--- so is it after any part
-pub next_within : {at end : ℕ} (s : List ℕ) (look : LookUp) (part : Part) → FitsAt at end s part → at < end
-    → (at < next_index part s look (at + 1)) × (next_index part s look (at + 1) ≤ end)
-next_within s look (Literal span) fits below = (omega arith, omega (arith, below))
-next_within s look (Escaped b) fits below = (omega arith, omega (arith, below))
-next_within s look (Variable name) fits below = (omega arith, omega (arith, below))
-next_within {at = at} {end = end} s look (Default name next) fits below =
-    found_within at next end (look (span_bytes name s)) fits.2 fits.3 below

@@ -1,24 +1,22 @@
 -- A writer's states, from one to the next.
-use Rattle.std.proofs.Common.{◌≡◌, ◌≤◌, ◌<◌, ℕ, ◌+◌, ◌⊎◌, Bool, true, false, List, [], ◌∷◌, ◌++◌, length, Option, Some, None, IfSome, MatchOption, Err, inl, inr, append-nil, append_assoc, length-append, refl, sym, ap, ◌∙◌, subst, arith}
+use Rattle.std.proofs.Common.{◌≡◌, ◌≤◌, ◌<◌, ℕ, ◌+◌, ◌⊎◌, Bool, true, false, List, [], ◌∷◌, ◌++◌, length, Option, Some, None, IfSome, is_some, inl, inr, append-nil, append_assoc, length-append, refl, sym, ap, ◌∙◌, subst, arith}
 use Rattle.std.proofs.lemmas.Bool.{false≢true}
-use Rattle.subst_language.specs.Language.Name.{IsName}
+use Rattle.std.specs.Option.{option_map}
 use Rattle.subst_raw.specs.Sink.{IsClosed, AllClosed}
-use Rattle.subst_raw.specs.Output.{Appended, IfMissing}
-use Rattle.subst_raw.specs.Span.{IsSpan, span_bytes}
-use Rattle.subst_raw.specs.Context.{Context}
+use Rattle.subst_raw.specs.Output.{Appended}
+use Rattle.subst_raw.specs.Span.{span_bytes}
+use Rattle.subst_raw.specs.Parts.{resume_index, visited_parts}
+use Rattle.subst_raw.specs.Context.{Context, WritesPart, StopsAtPart}
 use Rattle.subst_raw.specs.Writer.{AtFirst, HoldsParts}
 use Rattle.subst_raw.specs.Writing.{IsSettled, AllSettled, WritesParts, StopsInParts, IsWriting, IsJumping, HasStopped, HasWritten, PartWritten, WritesOn}
 use Rattle.subst_raw.specs.declared.expand.Stop.{Stop}
-use Rattle.subst_raw.specs.declared.expand.Stop.TheVariants.{Full}
-use Rattle.subst_raw.specs.declared.expand.Stop.TheVariants as stop
 use Rattle.subst_raw.specs.declared.part.Span.{Span}
 use Rattle.subst_raw.specs.declared.part.Part.{Part}
 use Rattle.subst_raw.specs.declared.part.Part.TheVariants.{Literal, Escaped, Variable, Default}
 use Rattle.subst_raw.specs.declared.writer.State.{State}
 use Rattle.subst_raw.specs.declared.writer.State.TheVariants.{Writing, Jumping, Stopped}
-use Rattle.subst_raw.specs.Filled.IsFilled.{empty}
-use Rattle.subst_raw.proofs.OutputLemmas.{nothing_appended, same_appended}
-use Rattle.subst_raw.proofs.WritingLemmas.{settled_append, settled_changed, settled_jump, open_lacks, same_length, changed_parts, jumped_parts, last_changed, writes_next, stops_next, writes_same, stops_same, stops_more}
+use Rattle.subst_raw.proofs.OutputLemmas.{same_appended}
+use Rattle.subst_raw.proofs.WritingLemmas.{settled_append, settled_changed, settled_jump, visited_more, open_lacks, same_length, changed_parts, jumped_parts, writes_none, writes_next, stops_next, writes_same}
 
 -- where a part of two lists concatenated is: in the first one
 record IsInFront (xs ys zs : List Part) (z : Part) (ws : List Part) : Type 0 where
@@ -89,6 +87,15 @@ count_last : (parts : List Part) (part : Part) → length (parts ++ part ∷ [])
 count_last parts part = length-append parts (part ∷ [])
 
 module _ {V Seen W First : Type 0} (context : Context V Seen W First) (s : List ℕ) where
+  -- one part more is written
+  writes_part : (parts : List Part) (part : Part) (first before now : W)
+      → IsWriting context s first before parts → WritesPart context s part before now
+      → WritesParts context s (parts ++ part ∷ []) first now
+  writes_part parts part first before now writing next =
+      writes_next context s (λ look. visited_parts parts 0 0 s look)
+      (λ look. visited_parts (parts ++ part ∷ []) 0 0 s look) part first before now writing.written
+      (λ bytes. visited_more context.look_up bytes s parts part [] writing.settled) next
+
   -- a part was written, passed over, or writing stopped at it
   pub took : (part : Part) (old : State) (first before : W) (found : Bool) (state : State) (now : W)
       (parts : List Part)
@@ -101,7 +108,7 @@ module _ {V Seen W First : Type 0} (context : Context V Seen W First) (s : List 
         settled = subst (λ n. AllSettled context.look_up s n (parts ++ part ∷ [])) (sym one)
             (settled_append context.look_up s (length parts) (length parts + 1) parts part (omega arith)
             writing.settled (settles refl refl));
-        written = writes_next context s parts part first before now writing.settled writing.written written.0;
+        written = writes_part parts part first before now writing written.0;
       }
   took part Writing first before found (Jumping index) now parts writing written settles = absurd written
   took part Writing first before found (Stopped stopped) now parts writing written settles = record {
@@ -110,7 +117,9 @@ module _ {V Seen W First : Type 0} (context : Context V Seen W First) (s : List 
     rest = [];
     splits = refl;
     settled = writing.settled;
-    stops = stops_next context s parts part first before now writing.settled writing.written stopped written.0;
+    before = before;
+    written = writing.written;
+    stops = written.0;
   }
   took part (Jumping index) first before found state now parts jumping written settles =
       subst (λ st. HasWritten context s st first now (parts ++ part ∷ [])) (sym written.0)
@@ -135,6 +144,8 @@ module _ {V Seen W First : Type 0} (context : Context V Seen W First) (s : List 
         splits = ap (λ (ps : List Part). ps ++ part ∷ []) has_stopped.splits
             ∙ append_assoc has_stopped.done (has_stopped.part ∷ has_stopped.rest) (part ∷ []);
         settled = has_stopped.settled;
+        before = has_stopped.before;
+        written = has_stopped.written;
         stops = has_stopped.stops;
       }))
 
@@ -158,12 +169,11 @@ module _ {V Seen W First : Type 0} (context : Context V Seen W First) (s : List 
         value = v;
         found = is;
         written =
-            writes_next context s parts (Default name 0) first before now writing.settled writing.written
-            written.0;
+            writes_part parts (Default name 0) first before now writing written.0;
       }
       of None is =
-          absurd (false≢true (sym (subst (λ (found : Option Seen). MatchOption found (true ≡ false)
-          (λ _. true ≡ true)) is written.1)))
+          absurd (false≢true (sym (subst (λ (found : Option Seen). true
+          ≡ is_some {T = ℕ} (option_map (λ _. 0) found)) is written.1)))
   jumped name Writing first before (Jumping index) now parts writing written = absurd written
   jumped name Writing first before (Stopped stopped) now parts writing written =
       absurd (false≢true (sym written.1))
@@ -178,7 +188,7 @@ module _ {V Seen W First : Type 0} (context : Context V Seen W First) (s : List 
       → IsSettled context.look_up s end (Default name 0)
   open_settled name end before now found is written = of (context.look_up (span_bytes name s)) written.1
     where
-      of : (o : Option Seen) → MatchOption o (found ≡ false) (λ _. found ≡ true)
+      of : (o : Option Seen) → found ≡ is_some {T = ℕ} (option_map (λ _. 0) o)
           → IfSome o (λ _. (0 < 0) × (0 ≤ end))
       of (Some v) told = absurd (false≢true (sym is ∙ told))
       of None told = tt
@@ -194,8 +204,9 @@ module _ {V Seen W First : Type 0} (context : Context V Seen W First) (s : List 
       record {
         settled = subst (λ n. AllSettled context.look_up s n others) (same_length before own name 0 next)
             (settled_changed context.look_up s before own name (length parts) next none writing.settled);
-        written = writes_same context s parts others (changed_parts context.look_up s before own name 0 next none)
-            first now writing.written;
+        written = writes_same context s (λ look. visited_parts parts 0 0 s look)
+            (λ look. visited_parts others 0 0 s look)
+            (changed_parts context.look_up s before own name 0 next none) first now writing.written;
       }
 
   -- while it is inside it, as its name has a value: it writes again
@@ -238,13 +249,15 @@ module _ {V Seen W First : Type 0} (context : Context V Seen W First) (s : List 
                 (settled_jump context.look_up s before own name next jumping.value settled
                 (omega (arith, count)) (omega (arith, count))
                 (settled_closed context.look_up s next own closed));
-            written = writes_same context s (before ++ Default name 0 ∷ []) others
+            written = writes_same context s
+                (λ look. visited_parts (before ++ Default name 0 ∷ []) 0 0 s look)
+                (λ look. visited_parts others 0 0 s look)
                 (jumped_parts context.look_up s before own name next jumping.value settled found
                 (omega (arith, count)))
                 first now
                 (subst (λ (ps : List Part). WritesParts context s (ps ++ Default name 0 ∷ []) first now) same
-                (subst (λ (n : Span). WritesParts context s (jumping.before ++ Default n 0 ∷ []) first now) named
-                jumping.written));
+                (subst (λ (n : Span). WritesParts context s (jumping.before ++ Default n 0 ∷ []) first now)
+                named jumping.written));
           }
       of (part ∷ rest) front back =
           absurd (omega (arith, is, jumping.is, simp length-append at (ap length front)))
@@ -306,7 +319,6 @@ module _ {V Seen W First : Type 0} (context : Context V Seen W First) (s : List 
           let settled = subst (λ (ps : List Part). AllSettled context.look_up s (length ps) ps) front
           stops.settled in
           let none = open_lacks context.look_up s before us name (length old) settled in
-          let last = us ++ stops.part ∷ [] in
           record {
             done = new;
             part = stops.part;
@@ -316,16 +328,12 @@ module _ {V Seen W First : Type 0} (context : Context V Seen W First) (s : List 
                 ∙ sym (append_assoc before (Default name next ∷ us) (stops.part ∷ stops.rest));
             settled = subst (λ n. AllSettled context.look_up s n new) (same_length before us name 0 next)
                 (settled_changed context.look_up s before us name (length old) next none settled);
-            stops =
-                subst (λ (ps : List Part). StopsInParts context s stopped ps first now)
-                (sym (append_assoc before (Default name next ∷ us) (stops.part ∷ [])))
-                (stops_same context s (before ++ Default name 0 ∷ last) (before ++ Default name next ∷ last)
-                (changed_parts context.look_up s before last name 0 next none) first now stopped
-                (subst (λ (ps : List Part). StopsInParts context s stopped ps first now)
-                (append_assoc before (Default name 0 ∷ us) (stops.part ∷ []))
-                (subst (λ (ps : List Part). StopsInParts context s stopped (ps ++ stops.part ∷ []) first now)
-                front
-                stops.stops)));
+            before = stops.before;
+            written = writes_same context s (λ look. visited_parts old 0 0 s look)
+                (λ look. visited_parts new 0 0 s look)
+                (changed_parts context.look_up s before us name 0 next none) first stops.before
+                (subst (λ (ps : List Part). WritesParts context s ps first stops.before) front stops.written);
+            stops = stops.stops;
           }
 
       in_back : (between : List Part) → before ≡ stops.done ++ between
@@ -340,11 +348,9 @@ module _ {V Seen W First : Type 0} (context : Context V Seen W First) (s : List 
             rest = own;
             splits = ap (λ (ps : List Part). ps ++ Default name next ∷ own) same;
             settled = stops.settled;
-            stops =
-                stops_same context s (stops.done ++ Default name 0 ∷ []) (stops.done ++ Default name next ∷ [])
-                (last_changed context.look_up s stops.done name 0 next stops.settled) first now stopped
-                (subst (λ (p : Part). StopsInParts context s stopped (stops.done ++ p ∷ []) first now) is
-                stops.stops);
+            before = stops.before;
+            written = stops.written;
+            stops = subst (λ (p : Part). StopsAtPart context s p stopped stops.before now) is stops.stops;
           }
       in_back (part ∷ rest) front back =
           let is : part ≡ stops.part = cc in
@@ -357,27 +363,26 @@ module _ {V Seen W First : Type 0} (context : Context V Seen W First) (s : List 
                 ∙ append_assoc stops.done (part ∷ rest) (Default name next ∷ own)
                 ∙ ap (λ (p : Part). stops.done ++ p ∷ (rest ++ Default name next ∷ own)) is;
             settled = stops.settled;
+            before = stops.before;
+            written = stops.written;
             stops = stops.stops;
           }
 
   -- before the first part nothing was written
   pub started : (output : W) → IsWriting context s output output []
-  started output = record {
-    settled = tt;
-    written = record {
-      given = λ bytes reads. nothing_appended _ output refl;
-      filled = nothing_appended _ output record { marked = []; given = refl; filled = empty };
-      long = λ bytes reads. omega arith;
-      room = omega arith;
-    };
-  }
+  started output = record { settled = tt; written = writes_none context s output }
 
   -- at the end writing stopped in the parts of the whole source
   pub stopped_whole : (stopped : Stop) (first now : W) (parts : List Part)
       → HasStopped context s stopped first now parts → StopsInParts context s stopped parts first now
   stopped_whole stopped first now parts stops =
       subst (λ (ps : List Part). StopsInParts context s stopped ps first now) (sym stops.splits)
-      (stops_more context s stops.done stops.part stops.rest first now stops.settled stopped stops.stops)
+      (stops_next context s (λ look. visited_parts stops.done 0 0 s look)
+      (λ look. visited_parts (stops.done ++ stops.part ∷ stops.rest) 0 0 s look) stops.part first stops.before
+      now stops.written
+      (λ look. visited_parts stops.rest (length stops.done + 1) (resume_index stops.part s look) s look)
+      (λ bytes. visited_more context.look_up bytes s stops.done stops.part stops.rest stops.settled) stopped
+      stops.stops)
 
   -- and no default is open
   pub none_jumped : (index : ℕ) (first now : W) (parts : List Part) (end : ℕ) → AllClosed end parts
@@ -470,17 +475,6 @@ module _ {V Seen W First : Type 0} (context : Context V Seen W First) (s : List 
           (λ is. other (ap Jumping is)) closed jumping
       of (Stopped stopped) other stops = closed_stopped stopped first.output now before own name _ stops
 
-  -- before the first part
-  pub holds_start : (len : ℕ) (state : State) (now : W) (first : AtFirst Seen W) → s ≡ first.source
-      → context.look_up ≡ first.look_up → len ≡ 0 → state ≡ Writing → now ≡ first.output
-      → HoldsParts context s len state now first []
-  holds_start len state now first source map none writing same = record {
-    source = source;
-    map = map;
-    count = none;
-    written = rw (writing, same) (started first.output);
-  }
-
   -- whatever came of it, the output begins with what it held, and its room only grew
   pub begun : (state : State) (first now : W) (parts : List Part) → HasWritten context s state first now parts
       → Appended context.holds (λ _. Unit {0}) first now × (context.room first ≤ context.room now)
@@ -488,11 +482,6 @@ module _ {V Seen W First : Type 0} (context : Context V Seen W First) (s : List 
       (same_appended writing.written.filled (λ x fills. tt), writing.written.room)
   begun (Jumping index) first now parts jumping =
       (same_appended jumping.written.filled (λ x fills. tt), jumping.written.room)
-  begun (Stopped stopped) first now parts stops = (stops.stops.begins, stops.stops.room)
-
-  -- where a variable is missing, its name is one in the source
-  pub named_stop : (stopped : Stop) (first now : W) (parts : List Part)
-      → HasStopped context s stopped first now parts
-      → IfMissing (Err stopped) (λ name. IsSpan s name × IsName (span_bytes name s))
-  named_stop (Full e) first now parts stops = tt
-  named_stop (stop.Missing name) first now parts stops = (stops.stops.at.2, stops.stops.at.3)
+  begun (Stopped stopped) first now parts stops =
+      let whole = stopped_whole stopped first now parts stops in
+      (whole.begins, whole.room)

@@ -1,19 +1,20 @@
 -- What is written of parts that come one after the other.
-use Rattle.std.proofs.Common.{◌≡◌, ◌≤◌, ◌<◌, ℕ, ◌+◌, List, [], ◌∷◌, ◌++◌, length, Option, Some, None, IfSome, inl, inr, append-nil, length-append, refl, sym, ap, ◌∙◌, subst, arith}
+use Rattle.std.proofs.Common.{◌≡◌, ◌≤◌, ◌<◌, ℕ, ◌+◌, List, [], ◌∷◌, ◌++◌, length, Option, Some, None, IfSome, inl, inr, length-append, refl, sym, ap, ◌∙◌, subst, arith}
 use Rattle.std.proofs.lemmas.Bool.{cases_lt}
 use Rattle.std.specs.Option.{option_map}
 use Rattle.subst_language.specs.Language.LookUp.{LookUp}
-use Rattle.subst_language.specs.Language.Value.{Value, Bytes, Missing, joined}
+use Rattle.subst_language.specs.Language.Value.{Value, Bytes, joined}
 use Rattle.subst_language.specs.Language.Written.{bytes_in, unless_missing}
 use Rattle.subst_language.specs.Calls.VariableMap.{look_up_of}
-use Rattle.subst_language.proofs.Language.ValueLemmas.{joined_assoc, joined-right}
+use Rattle.subst_language.proofs.Language.ValueLemmas.{joined-right}
 use Rattle.subst_language.proofs.Language.WrittenLemmas.{unless_missing-nothing}
 use Rattle.subst_raw.specs.Filled.{mark, FillsMarks}
+use Rattle.subst_raw.specs.Filled.IsFilled.{empty}
 use Rattle.subst_raw.specs.Output.{Appended}
-use Rattle.subst_raw.specs.Parts.{part_value, if_found, resume_index, visited_parts, joined_value, joined_written, parts_value, parts_written}
+use Rattle.subst_raw.specs.Parts.{part_value, if_found, resume_index, visited_parts, joined_value, joined_written}
 use Rattle.subst_raw.specs.Span.{span_bytes}
-use Rattle.subst_raw.specs.Context.{Context, StopsAt, WritesPart, StopsAtPart}
-use Rattle.subst_raw.specs.Writing.{IsSettled, AllSettled, WritesParts, StopsInParts}
+use Rattle.subst_raw.specs.Context.{Context, StopsAt, Stops, WritesPart, StopsAtPart}
+use Rattle.subst_raw.specs.Writing.{IsSettled, AllSettled, WritesVisited}
 use Rattle.subst_raw.specs.declared.expand.Stop.{Stop}
 use Rattle.subst_raw.specs.declared.expand.Stop.TheVariants.{Full}
 use Rattle.subst_raw.specs.declared.expand.Stop.TheVariants as stop
@@ -21,7 +22,7 @@ use Rattle.subst_raw.specs.declared.part.Span.{Span}
 use Rattle.subst_raw.specs.declared.part.Part.{Part}
 use Rattle.subst_raw.specs.declared.part.Part.TheVariants.{Literal, Escaped, Variable, Default}
 use Rattle.subst_raw.proofs.FilledLemmas.{filled_append}
-use Rattle.subst_raw.proofs.OutputLemmas.{more_appended, same_appended}
+use Rattle.subst_raw.proofs.OutputLemmas.{nothing_appended, more_appended, same_appended}
 use Rattle.subst_raw.proofs.PartsLemmas.{Lands, visited_parts-before, visited_parts-from, visited_parts-lands, visited_parts-jumped, joined_value-append, joined_written-append}
 
 -- a part that is settled goes on no later than its end
@@ -74,7 +75,7 @@ settled_append look_up s end later (first ∷ rest) part le settled last = (
 
 module _ {Seen : Type 0} (look_up : List ℕ → Option Seen) (bytes : Seen → List ℕ) (s : List ℕ) where
   -- what is visited of settled parts, a part, and more parts
-  visited_more : (parts : List Part) (part : Part) (rest : List Part)
+  pub visited_more : (parts : List Part) (part : Part) (rest : List Part)
       → AllSettled look_up s (length parts) parts
       → visited_parts (parts ++ part ∷ rest) 0 0 s (look_up_of bytes look_up)
       ≡ visited_parts parts 0 0 s (look_up_of bytes look_up)
@@ -88,76 +89,6 @@ module _ {Seen : Type 0} (look_up : List ℕ → Option Seen) (bytes : Seen → 
       (ap (λ n. visited_parts (part ∷ rest) n 0 s look) (omega arith)
       ∙ visited_parts-from part rest (length parts) 0 s look (omega arith))
 
-  -- what they give
-  pub value_more : (parts : List Part) (part : Part) (rest : List Part)
-      → AllSettled look_up s (length parts) parts
-      → (v : Value) × (parts_value (parts ++ part ∷ rest) s (look_up_of bytes look_up)
-      ≡ joined (parts_value parts s (look_up_of bytes look_up))
-      (joined (part_value part s (look_up_of bytes look_up)) v))
-  value_more parts part rest settled =
-      let look = look_up_of bytes look_up in
-      let more = visited_parts rest (length parts + 1) (resume_index part s look) s look in (
-        joined_value more s look,
-        ap (λ (visited : List Part). joined_value visited s look) (visited_more parts part rest settled)
-            ∙ joined_value-append (visited_parts parts 0 0 s look) (part ∷ more) s look,
-      )
-
-  -- and what is written for them
-  pub written_more : (parts : List Part) (part : Part) (rest : List Part)
-      → AllSettled look_up s (length parts) parts
-      → (x : List ℕ) × (parts_written (parts ++ part ∷ rest) s (look_up_of bytes look_up)
-      ≡ parts_written parts s (look_up_of bytes look_up)
-      ++ unless_missing (parts_value parts s (look_up_of bytes look_up))
-      (bytes_in (part_value part s (look_up_of bytes look_up))
-      ++ unless_missing (part_value part s (look_up_of bytes look_up)) x))
-  written_more parts part rest settled =
-      let look = look_up_of bytes look_up in
-      let more = visited_parts rest (length parts + 1) (resume_index part s look) s look in (
-        joined_written more s look,
-        ap (λ (visited : List Part). joined_written visited s look) (visited_more parts part rest settled)
-            ∙ joined_written-append (visited_parts parts 0 0 s look) (part ∷ more) s look,
-      )
-
-  -- what one part more gives
-  pub value_last : (parts : List Part) (part : Part) → AllSettled look_up s (length parts) parts
-      → parts_value (parts ++ part ∷ []) s (look_up_of bytes look_up)
-      ≡ joined (parts_value parts s (look_up_of bytes look_up))
-      (part_value part s (look_up_of bytes look_up))
-  value_last parts part settled =
-      let look = look_up_of bytes look_up in
-      ap (λ (visited : List Part). joined_value visited s look) (visited_more parts part [] settled)
-      ∙ joined_value-append (visited_parts parts 0 0 s look) (part ∷ []) s look
-      ∙ ap (λ (v : Value). joined (parts_value parts s look) v) (joined-right (part_value part s look))
-
-  -- and what is written for it
-  pub written_one : (parts : List Part) (part : Part) → AllSettled look_up s (length parts) parts
-      → parts_written (parts ++ part ∷ []) s (look_up_of bytes look_up)
-      ≡ parts_written parts s (look_up_of bytes look_up)
-      ++ unless_missing (parts_value parts s (look_up_of bytes look_up))
-      (bytes_in (part_value part s (look_up_of bytes look_up))
-      ++ unless_missing (part_value part s (look_up_of bytes look_up)) [])
-  written_one parts part settled =
-      let look = look_up_of bytes look_up in
-      ap (λ (visited : List Part). joined_written visited s look) (visited_more parts part [] settled)
-      ∙ joined_written-append (visited_parts parts 0 0 s look) (part ∷ []) s look
-
-  -- the same after parts that give bytes
-  pub written_last : (parts : List Part) (part : Part) (x : List ℕ)
-      → AllSettled look_up s (length parts) parts
-      → parts_value parts s (look_up_of bytes look_up) ≡ Bytes x
-      → parts_written (parts ++ part ∷ []) s (look_up_of bytes look_up)
-      ≡ parts_written parts s (look_up_of bytes look_up)
-      ++ bytes_in (part_value part s (look_up_of bytes look_up))
-  written_last parts part x settled gives =
-      let look = look_up_of bytes look_up in
-      let own = bytes_in (part_value part s look) in
-      written_one parts part settled
-      ∙ ap (λ (v : Value). parts_written parts s look
-      ++ unless_missing v (own ++ unless_missing (part_value part s look) [])) gives
-      ∙ ap (λ (y : List ℕ). parts_written parts s look ++ (own ++ y))
-      (unless_missing-nothing (part_value part s look))
-      ∙ ap (λ (y : List ℕ). parts_written parts s look ++ y) (append-nil own)
-
 -- two values whose marks are filled in, joined
 fills_joined : {Passes : List ℕ → Type 0} {v w : Value} {x y : List ℕ} → FillsMarks Passes v x
     → FillsMarks Passes w y → FillsMarks Passes (joined v w) (x ++ y)
@@ -167,67 +98,108 @@ fills_joined some more = record {
   filled = filled_append some.filled more.filled;
 }
 
-module _ {V Seen W First : Type 0} (context : Context V Seen W First) (s : List ℕ) (parts : List Part) (part : Part)
-    (first before after : W) (settled : AllSettled context.look_up s (length parts) parts)
-    (so_far : WritesParts context s parts first before) where
+module _ (s : List ℕ) (look : LookUp) (xs ys : List Part) (part : Part) (rest : List Part)
+    (more : ys ≡ xs ++ part ∷ rest) where
+  -- what parts give, a part after them, and the rest
+  value_more : joined_value ys s look
+      ≡ joined (joined_value xs s look) (joined (part_value part s look) (joined_value rest s look))
+  value_more =
+      ap (λ (visited : List Part). joined_value visited s look) more
+      ∙ joined_value-append xs (part ∷ rest) s look
+
+  -- how long what is written for them is, where the first ones give bytes
+  length_more : (x : List ℕ) → joined_value xs s look ≡ Bytes x
+      → length (joined_written ys s look)
+      ≡ length (joined_written xs s look) + (length (bytes_in (part_value part s look))
+      + length (unless_missing (part_value part s look) (joined_written rest s look)))
+  length_more x gives =
+      let own = bytes_in (part_value part s look) in
+      let after = unless_missing (part_value part s look) (joined_written rest s look) in
+      ap length (ap (λ (visited : List Part). joined_written visited s look) more
+      ∙ joined_written-append xs (part ∷ rest) s look
+      ∙ ap (λ (v : Value). joined_written xs s look ++ unless_missing v (own ++ after)) gives)
+      ∙ length-append (joined_written xs s look) (own ++ after)
+      ∙ ap (λ n. length (joined_written xs s look) + n) (length-append own after)
+
+-- before the first part nothing was written
+pub writes_none : {V Seen W First : Type 0} (context : Context V Seen W First) (s : List ℕ) (output : W)
+    → WritesVisited context s (λ _. []) output output
+writes_none context s output = record {
+  given = λ bytes reads. nothing_appended _ output refl;
+  filled = nothing_appended _ output record { marked = []; given = refl; filled = empty };
+  long = λ bytes reads. omega arith;
+  room = omega arith;
+}
+
+module _ {V Seen W First : Type 0} (context : Context V Seen W First) (s : List ℕ)
+    (xs ys : LookUp → List Part) (part : Part) (first before after : W)
+    (so_far : WritesVisited context s xs first before) where
   -- one part more is written
-  pub writes_next : WritesPart context s part before after → WritesParts context s (parts ++ part ∷ []) first after
-  writes_next next = record {
+  pub writes_next : ((bytes : Seen → List ℕ) → ys (look_up_of bytes context.look_up)
+      ≡ xs (look_up_of bytes context.look_up) ++ part ∷ [])
+      → WritesPart context s part before after → WritesVisited context s ys first after
+  writes_next more next = record {
     given = λ bytes reads.
-        let some = so_far.given bytes reads in
-        let more = next.given bytes reads in
-        more_appended more.appended some more.puts
-        (λ x gives. value_last context.look_up bytes s parts part settled ∙ rw (gives, more.given) refl);
+        let one = next.given bytes reads in
+        more_appended one.appended (so_far.given bytes reads) one.puts
+        (λ x gives. value_next bytes ∙ rw (gives, one.given) refl);
     filled =
         more_appended next.filled.appended so_far.filled next.filled.puts
         (λ x fills. subst (λ v. FillsMarks context.is_read v (x ++ next.filled.appended))
-        (sym (value_last context.look_up (λ _. mark ∷ []) s parts part settled))
-        (fills_joined fills next.filled.given));
+        (sym (value_next (λ _. mark ∷ []))) (fills_joined fills next.filled.given));
     long = λ bytes reads.
         let look = look_up_of bytes context.look_up in
-        let writes = written_last context.look_up bytes s parts part _ settled
-        (so_far.given bytes reads).given in
         omega (
           arith,
           so_far.long bytes reads,
           next.long bytes reads,
-          ap length writes,
-          length-append (parts_written parts s look) (bytes_in (part_value part s look)),
+          length_more s look (xs look) (ys look) part [] (more bytes) _ (so_far.given bytes reads).given,
+          ap length (unless_missing-nothing (part_value part s look)),
         );
     room = omega (arith, so_far.room, next.room);
   }
+    where
+      value_next : (bytes : Seen → List ℕ)
+          → joined_value (ys (look_up_of bytes context.look_up)) s (look_up_of bytes context.look_up)
+          ≡ joined (joined_value (xs (look_up_of bytes context.look_up)) s (look_up_of bytes context.look_up))
+          (part_value part s (look_up_of bytes context.look_up))
+      value_next bytes =
+          let look = look_up_of bytes context.look_up in
+          value_more s look (xs look) (ys look) part [] (more bytes)
+          ∙ ap (λ (v : Value). joined (joined_value (xs look) s look) v)
+          (joined-right (part_value part s look))
 
-  -- or writing stops at it
-  pub stops_next : (stopped : Stop) → StopsAtPart context s part stopped before after
-      → StopsInParts context s stopped (parts ++ part ∷ []) first after
-  stops_next stopped next = record {
-    begins =
-        more_appended next.begins.appended so_far.filled next.begins.puts (λ x fills. tt);
+  -- or writing stops at it, whatever comes after it
+  pub stops_next : (rest : LookUp → List Part)
+      → ((bytes : Seen → List ℕ) → ys (look_up_of bytes context.look_up)
+      ≡ xs (look_up_of bytes context.look_up) ++ part ∷ rest (look_up_of bytes context.look_up))
+      → (stopped : Stop) → StopsAtPart context s part stopped before after
+      → Stops context s stopped (λ look. joined_value (ys look) s look)
+      (λ look. joined_written (ys look) s look) first after
+  stops_next rest more stopped next = record {
+    begins = more_appended next.begins.appended so_far.filled next.begins.puts (λ x fills. tt);
     at = of stopped next.at;
     room = omega (arith, so_far.room, next.room);
   }
     where
       of : (stopped : Stop) → StopsAt context s stopped (part_value part s)
           (λ look. bytes_in (part_value part s look)) before
-          → StopsAt context s stopped (λ look. parts_value (parts ++ part ∷ []) s look)
-          (λ look. parts_written (parts ++ part ∷ []) s look) first
+          → StopsAt context s stopped (λ look. joined_value (ys look) s look)
+          (λ look. joined_written (ys look) s look) first
       of (Full e) full = λ bytes reads.
           let look = look_up_of bytes context.look_up in
-          let writes = written_last context.look_up bytes s parts part _ settled
-          (so_far.given bytes reads).given in
           omega (
             arith,
             so_far.room,
             full bytes reads,
             so_far.long bytes reads,
-            ap length writes,
-            length-append (parts_written parts s look) (bytes_in (part_value part s look)),
+            length_more s look (xs look) (ys look) part (rest look) (more bytes) _
+                (so_far.given bytes reads).given,
           )
       of (stop.Missing name) missing = (
-        λ bytes reads. value_last context.look_up bytes s parts part settled
+        λ bytes reads. value_more s _ _ _ part _ (more bytes)
             ∙ rw ((so_far.given bytes reads).given, missing.0 bytes reads) refl,
-        value_last context.look_up (λ _. mark ∷ []) s parts part settled
-            ∙ rw (so_far.filled.given.given, missing.1) refl,
+        value_more s _ _ _ part _ (more (λ _. mark ∷ [])) ∙ rw (so_far.filled.given.given, missing.1) refl,
         missing.2,
         missing.3,
       )
@@ -290,40 +262,21 @@ module _ (s : List ℕ) (look : LookUp) where
             (same_after part (changed before own name next other (i + 1) (resume_index part s look) none))
       ]
 
-module _ {V Seen W First : Type 0} (context : Context V Seen W First) (s : List ℕ) (parts others : List Part)
-    (same : (bytes : Seen → List ℕ) → GivesSame s (look_up_of bytes context.look_up)
-    (visited_parts parts 0 0 s (look_up_of bytes context.look_up))
-    (visited_parts others 0 0 s (look_up_of bytes context.look_up))) (first now : W) where
-  -- what was written for parts was written for others that give the same
-  pub writes_same : WritesParts context s parts first now → WritesParts context s others first now
-  writes_same written = record {
-    given = λ bytes reads. same_appended (written.given bytes reads)
-        (λ x gives. sym (same bytes).value ∙ gives);
-    filled = subst (λ v. Appended context.holds (FillsMarks context.is_read v) first now)
-        (same (λ _. mark ∷ [])).value written.filled;
-    long = λ bytes reads. written.long bytes reads
-        ∙ ap (λ (x : List ℕ). context.len first + length x) (same bytes).written;
-    room = written.room;
-  }
-
-  -- and where writing stopped
-  pub stops_same : (stopped : Stop) → StopsInParts context s stopped parts first now
-      → StopsInParts context s stopped others first now
-  stops_same stopped stops = record { begins = stops.begins; at = of stopped stops.at; room = stops.room }
-    where
-      of : (stopped : Stop) → StopsAt context s stopped (λ look. parts_value parts s look)
-          (λ look. parts_written parts s look) first
-          → StopsAt context s stopped (λ look. parts_value others s look)
-          (λ look. parts_written others s look) first
-      of (Full e) full = λ bytes reads.
-          subst (λ (x : List ℕ). context.room first < context.len first + length x) (same bytes).written
-          (full bytes reads)
-      of (stop.Missing name) missing = (
-        λ bytes reads. sym (same bytes).value ∙ missing.0 bytes reads,
-        sym (same (λ _. mark ∷ [])).value ∙ missing.1,
-        missing.2,
-        missing.3,
-      )
+-- what was written for visited parts was written for others that give the same
+pub writes_same : {V Seen W First : Type 0} (context : Context V Seen W First) (s : List ℕ)
+    (xs ys : LookUp → List Part)
+    → ((bytes : Seen → List ℕ) → GivesSame s (look_up_of bytes context.look_up)
+    (xs (look_up_of bytes context.look_up)) (ys (look_up_of bytes context.look_up)))
+    → (first now : W) → WritesVisited context s xs first now → WritesVisited context s ys first now
+writes_same context s xs ys same first now written = record {
+  given = λ bytes reads. same_appended (written.given bytes reads)
+      (λ x gives. sym (same bytes).value ∙ gives);
+  filled = subst (λ v. Appended context.holds (FillsMarks context.is_read v) first now)
+      (same (λ _. mark ∷ [])).value written.filled;
+  long = λ bytes reads. written.long bytes reads
+      ∙ ap (λ (x : List ℕ). context.len first + length x) (same bytes).written;
+  room = written.room;
+}
 
 module _ {Seen : Type 0} (look_up : List ℕ → Option Seen) (s : List ℕ) (before own : List Part) (name : Span)
   where
@@ -385,18 +338,6 @@ module _ {Seen : Type 0} (look_up : List ℕ → Option Seen) (s : List ℕ) (be
         ∙ ap (λ (more : List Part). front ++ Default name next ∷ more) jump)
         (same_front s look front record { value = refl; written = refl })
 
--- a part that is written after settled ones gives the same with another jump
-pub last_changed : {Seen : Type 0} (look_up : List ℕ → Option Seen) (s : List ℕ) (parts : List Part)
-    (name : Span) (next other : ℕ) → AllSettled look_up s (length parts) parts → (bytes : Seen → List ℕ)
-    → GivesSame s (look_up_of bytes look_up)
-    (visited_parts (parts ++ Default name next ∷ []) 0 0 s (look_up_of bytes look_up))
-    (visited_parts (parts ++ Default name other ∷ []) 0 0 s (look_up_of bytes look_up))
-last_changed look_up s parts name next other settled bytes =
-    let look = look_up_of bytes look_up in
-    same_by s look (visited_more look_up bytes s parts (Default name next) [] settled)
-    (visited_more look_up bytes s parts (Default name other) [] settled)
-    (same_front s look (visited_parts parts 0 0 s look) record { value = refl; written = refl })
-
 -- a jump changes no length
 pub same_length : (before own : List Part) (name : Span) (next other : ℕ)
     → length (before ++ Default name next ∷ own) ≡ length (before ++ Default name other ∷ own)
@@ -419,61 +360,3 @@ settled_jump {Seen} look_up s before own name next v settled le some after = at 
     at [] settled = (of (look_up (span_bytes name s)), after)
     at (part ∷ xs) settled =
         (settled_later look_up s (length before) next part le settled.0, at xs settled.1)
-
--- where writing stopped at a part, it stopped in the parts with more after it
-pub stops_more : {V Seen W First : Type 0} (context : Context V Seen W First) (s : List ℕ) (parts : List Part)
-    (part : Part) (rest : List Part) (first now : W) → AllSettled context.look_up s (length parts) parts
-    → (stopped : Stop) → StopsInParts context s stopped (parts ++ part ∷ []) first now
-    → StopsInParts context s stopped (parts ++ part ∷ rest) first now
-stops_more {Seen = Seen} context s parts part rest first now settled stopped stops = record {
-  begins = stops.begins;
-  at = of stopped stops.at;
-  room = stops.room;
-}
-  where
-    longer : (v w : Value) (x own more : List ℕ)
-        → length (x ++ unless_missing v (own ++ unless_missing w []))
-        ≤ length (x ++ unless_missing v (own ++ unless_missing w more))
-    longer (Bytes y) (Bytes z) x own more =
-        omega (
-          arith,
-          length-append x (own ++ []),
-          length-append own [],
-          length-append x (own ++ more),
-          length-append own more,
-        )
-    longer (Bytes y) (Missing position name) x own more = omega arith
-    longer (Missing position name) w x own more = omega arith
-
-    missing_on : (v w u : Value) {position : ℕ} {name : List ℕ} → joined v w ≡ Missing position name
-        → joined v (joined w u) ≡ Missing position name
-    missing_on v w u is = sym (joined_assoc v w u) ∙ ap (λ (m : Value). joined m u) is
-
-    still_missing : (bytes : Seen → List ℕ) (position : ℕ) (name : List ℕ)
-        → parts_value (parts ++ part ∷ []) s (look_up_of bytes context.look_up) ≡ Missing position name
-        → parts_value (parts ++ part ∷ rest) s (look_up_of bytes context.look_up) ≡ Missing position name
-    still_missing bytes position name is =
-        let more = value_more context.look_up bytes s parts part rest settled in
-        more.1 ∙ missing_on _ _ more.0 (sym (value_last context.look_up bytes s parts part settled) ∙ is)
-
-    of : (stopped : Stop) → StopsAt context s stopped (λ look. parts_value (parts ++ part ∷ []) s look)
-        (λ look. parts_written (parts ++ part ∷ []) s look) first
-        → StopsAt context s stopped (λ look. parts_value (parts ++ part ∷ rest) s look)
-        (λ look. parts_written (parts ++ part ∷ rest) s look) first
-    of (Full e) full = λ bytes reads.
-        let look = look_up_of bytes context.look_up in
-        let more = written_more context.look_up bytes s parts part rest settled in
-        omega (
-          arith,
-          full bytes reads,
-          ap length (written_one context.look_up bytes s parts part settled),
-          ap length more.1,
-          longer (parts_value parts s look) (part_value part s look) (parts_written parts s look)
-              (bytes_in (part_value part s look)) more.0,
-        )
-    of (stop.Missing name) missing = (
-      λ bytes reads. still_missing bytes _ _ (missing.0 bytes reads),
-      still_missing (λ _. mark ∷ []) _ _ missing.1,
-      missing.2,
-      missing.3,
-    )

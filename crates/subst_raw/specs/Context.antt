@@ -1,5 +1,6 @@
 -- What a part gives by itself is appended to an output.
-use Rattle.std.specs.Prelude.{◌≡◌, ℕ, ◌+◌, ◌<◌, ◌≤◌, List, length, Bool, true, false, Option, MatchOption}
+use Rattle.std.specs.Prelude.{◌≡◌, ℕ, ◌+◌, ◌<◌, ◌≤◌, List, length, Option, None}
+use Rattle.std.specs.Option.{option_map}
 use Rattle.subst_language.specs.Language.LookUp.{LookUp}
 use Rattle.subst_language.specs.Language.Name.{IsName}
 use Rattle.subst_language.specs.Language.Value.{Value, Bytes, Missing}
@@ -46,7 +47,8 @@ ByContext context P = ByLookUp context.read context.see context.look_up P
 pub record Writes {V Seen W First : Type 0} (context : Context V Seen W First) (value : LookUp → Value)
     (written : LookUp → List ℕ) (before after : W) : Type 0 where
   pub given : ByContext context (λ look. Appended context.holds (λ x. value look ≡ Bytes x) before after)
-  pub filled : Appended context.holds (FillsMarks context.is_read (value (marks_of context.look_up))) before after
+  pub filled : Appended context.holds (FillsMarks context.is_read (value (marks_of context.look_up))) before
+      after
   pub long : ByContext context (λ look. context.len after ≡ context.len before + length (written look))
   pub room : context.room before ≤ context.room after
 
@@ -78,8 +80,7 @@ abbrev pub StopsAtPart : {V Seen W First : Type 0} → Context V Seen W First �
 StopsAtPart context s part stopped before after =
     Stops context s stopped (part_value part s) (λ look. bytes_in (part_value part s look)) before after
 
--- whether a part is that of a default whose name has a value
-abbrev pub TellsFound : {Seen : Type 0} → (List ℕ → Option Seen) → List ℕ → Part → Bool → Type 0
-TellsFound look_up s (Default name next) found =
-    MatchOption (look_up (span_bytes name s)) (found ≡ false) (λ _. found ≡ true)
-TellsFound look_up s part found = found ≡ false
+-- the jump that an expansion takes after a part: that of a default whose name has a value
+abbrev pub jump_of : {Seen : Type 0} → (List ℕ → Option Seen) → List ℕ → Part → Option ℕ
+jump_of look_up s (Default name next) = option_map (λ _. next) (look_up (span_bytes name s))
+jump_of look_up s part = None

@@ -10,13 +10,11 @@ use Rattle.subst_raw.specs.Output.{AppendsFilled}
 use Rattle.subst_raw.specs.Parts.{IsTemplateOf, parts_value, parts_written}
 use Rattle.subst_raw.specs.declared.part.Part.{Part}
 
--- The source has a template. What its parts give was appended to the items of an output, whose room and
--- length were these, or the error says why not.
-pub record IsExpansion {V Seen : Type 0} (read : V → List ℕ) (is_read : List ℕ → Type 0) (see : V → Seen)
-    (look_up : List ℕ → Option Seen) (s before after : List ℕ) (room len : ℕ)
+-- What the parts of a source give was appended to the items of an output, whose room and length were these,
+-- or the error says why not.
+pub record ExpandsParts {V Seen : Type 0} (read : V → List ℕ) (is_read : List ℕ → Type 0) (see : V → Seen)
+    (look_up : List ℕ → Option Seen) (s : List ℕ) (parts : List Part) (before after : List ℕ) (room len : ℕ)
     (outcome : Result (Unit {0}) ExpandIntoError) : Type 0 where
-  pub parts : List Part
-  pub template : IsTemplateOf s parts
   pub value : ByLookUp read see look_up (λ look. ExpandsInto before outcome after (parts_value parts s look))
   pub kept : OnErr outcome (after ≡ before)
   pub full : ByLookUp read see look_up (λ look. OnOutOfMemory expand_into_fault outcome
@@ -24,6 +22,14 @@ pub record IsExpansion {V Seen : Type 0} (read : V → List ℕ) (is_read : List
   pub filled : OnOk outcome (AppendsFilled is_read (parts_value parts s (marks_of look_up)) before after)
   pub missing : IfErr outcome (λ e. IfSome (expand_into_fault e)
       (IsMissing (parts_value parts s (marks_of look_up))))
+
+-- the same of the parts of the source's template
+pub record IsExpansion {V Seen : Type 0} (read : V → List ℕ) (is_read : List ℕ → Type 0) (see : V → Seen)
+    (look_up : List ℕ → Option Seen) (s before after : List ℕ) (room len : ℕ)
+    (outcome : Result (Unit {0}) ExpandIntoError) : Type 0 where
+  pub parts : List Part
+  pub template : IsTemplateOf s parts
+  pub expands : ExpandsParts read is_read see look_up s parts before after room len outcome
 
 -- what the parts of the source's template give was appended, with values in the place of marks
 abbrev pub AppendsTemplate : {Seen : Type 0} → (List ℕ → Type 0) → (List ℕ → Option Seen)

@@ -1,7 +1,7 @@
 -- What an expansion appends to an output.
-use Rattle.std.specs.Prelude.{◌≡◌, ℕ, List, ◌++◌, Option, Some, None, Result, Ok, Err}
+use Rattle.std.specs.Prelude.{◌≡◌, ℕ, List, ◌++◌, Option, Some, None, Result, Err}
 use Rattle.subst_error.specs.Fault.{Fault, NoSuchVariable}
-use Rattle.subst_language.specs.Language.Value.{Value, Bytes, Missing}
+use Rattle.subst_language.specs.Language.Value.{Value}
 use Rattle.subst_raw.specs.Filled.{FillsMarks}
 use Rattle.subst_raw.specs.Span.{span_bytes}
 use Rattle.subst_raw.specs.declared.expand.Stop.{Stop}
@@ -21,22 +21,10 @@ pub record Appended {W First : Type 0} (holds : W → First → List ℕ → Typ
   pub puts : Puts holds before appended after
   pub given : P appended
 
--- P holds where the output was full
-abbrev pub OnFull : Result (Unit {0}) Stop → Type 0 → Type 0
-OnFull (Err (Full e)) P = P
-OnFull result P = Unit {0}
-
 -- P holds of the range of the name that is missing, where one is
 abbrev pub IfMissing : Result (Unit {0}) Stop → (Span → Type 0) → Type 0
 IfMissing (Err (stop.Missing name)) P = P name
 IfMissing result P = Unit {0}
-
--- the value's bytes were appended, unless the output was full; or the value is the variable that is missing
-abbrev pub AppendsValue : {W First : Type 0} → (W → First → List ℕ → Type 0) → Result (Unit {0}) Stop
-    → List ℕ → Value → W → W → Type 0
-AppendsValue holds (Ok done) s v before after = Appended holds (λ x. v ≡ Bytes x) before after
-AppendsValue holds (Err (Full e)) s v before after = Unit {0}
-AppendsValue holds (Err (stop.Missing name)) s v before after = v ≡ Missing name.start (span_bytes name s)
 
 -- the value's bytes were appended, with marks filled in
 abbrev pub AppendsFilled : (List ℕ → Type 0) → Value → (before after : List ℕ) → Type 0

@@ -1,8 +1,9 @@
 -- What a writer has written of the parts that it was given.
-use Rattle.std.specs.Prelude.{◌≡◌, ℕ, ◌<◌, ◌≤◌, List, [], ◌∷◌, ◌++◌, length, Option, Some, IfSome, Bool, false}
-use Rattle.subst_raw.specs.Parts.{parts_value, parts_written}
+use Rattle.std.specs.Prelude.{◌≡◌, ℕ, ◌+◌, ◌<◌, ◌≤◌, List, [], ◌∷◌, ◌++◌, length, Option, Some, IfSome, is_some, Bool, false, Result, IfErr, IfOk, OnOk}
+use Rattle.subst_language.specs.Language.LookUp.{LookUp}
+use Rattle.subst_raw.specs.Parts.{visited_parts, joined_value, joined_written, parts_value, parts_written}
 use Rattle.subst_raw.specs.Span.{span_bytes}
-use Rattle.subst_raw.specs.Context.{Context, Writes, Stops, WritesPart, StopsAtPart, TellsFound}
+use Rattle.subst_raw.specs.Context.{Context, ByContext, Writes, Stops, WritesPart, StopsAtPart, jump_of}
 use Rattle.subst_raw.specs.declared.expand.Stop.{Stop}
 use Rattle.subst_raw.specs.declared.part.Span.{Span}
 use Rattle.subst_raw.specs.declared.part.Part.{Part}
@@ -21,16 +22,39 @@ abbrev pub AllSettled : {Seen : Type 0} → (List ℕ → Option Seen) → List 
 AllSettled look_up s end [] = Unit {0}
 AllSettled look_up s end (part ∷ rest) = IsSettled look_up s end part × AllSettled look_up s end rest
 
--- what parts give was written, between two states of an output
-abbrev pub WritesParts : {V Seen W First : Type 0} → Context V Seen W First → List ℕ → List Part → W → W → Type 0
+-- what these parts give, each by itself, was written between two states of an output: those that an expansion
+-- visits
+abbrev pub WritesVisited : {V Seen W First : Type 0} → Context V Seen W First → List ℕ → (LookUp → List Part)
+    → W → W → Type 0
+WritesVisited context s visited before after =
+    Writes context (λ look. joined_value (visited look) s look) (λ look. joined_written (visited look) s look)
+    before after
+
+-- what parts give was written
+abbrev pub WritesParts : {V Seen W First : Type 0} → Context V Seen W First → List ℕ → List Part → W → W
+    → Type 0
 WritesParts context s parts before after =
-    Writes context (λ look. parts_value parts s look) (λ look. parts_written parts s look) before after
+    WritesVisited context s (λ look. visited_parts parts 0 0 s look) before after
 
 -- or writing stopped within it
-abbrev pub StopsInParts : {V Seen W First : Type 0} → Context V Seen W First → List ℕ → Stop → List Part → W → W
-    → Type 0
+abbrev pub StopsInParts : {V Seen W First : Type 0} → Context V Seen W First → List ℕ → Stop → List Part → W
+    → W → Type 0
 StopsInParts context s stopped parts before after =
-    Stops context s stopped (λ look. parts_value parts s look) (λ look. parts_written parts s look) before after
+    Stops context s stopped (λ look. parts_value parts s look) (λ look. parts_written parts s look) before
+    after
+
+-- What came of appending what parts give: all was written, or writing stopped within it. Each part that was
+-- visited was a turn.
+pub record AppendsParts {V Seen W First : Type 0} (context : Context V Seen W First) (s : List ℕ)
+    (parts : List Part) (result : Result (Unit {0}) Stop) (before after : W) (turns_before turns_after : ℕ)
+    : Type 0 where
+  pub written : IfOk result (λ _. WritesParts context s parts before after)
+  pub stopped : IfErr result (λ stop. StopsInParts context s stop parts before after)
+  pub counted : ByContext context (λ look. OnOk result
+      (turns_after ≡ turns_before + length (visited_parts parts 0 0 s look)))
+  pub at_most : ByContext context (λ look.
+      turns_after ≤ turns_before + length (visited_parts parts 0 0 s look))
+  pub grown : turns_before ≤ turns_after
 
 -- all parts were written
 pub record IsWriting {V Seen W First : Type 0} (context : Context V Seen W First) (s : List ℕ) (first now : W)
@@ -53,18 +77,20 @@ pub record IsJumping {V Seen W First : Type 0} (context : Context V Seen W First
   pub written : WritesParts context s (before ++ Default name 0 ∷ []) first now
 
 -- writing stopped at a part
-pub record HasStopped {V Seen W First : Type 0} (context : Context V Seen W First) (s : List ℕ) (stopped : Stop)
-    (first now : W) (parts : List Part) : Type 0 where
+pub record HasStopped {V Seen W First : Type 0} (context : Context V Seen W First) (s : List ℕ)
+    (stopped : Stop) (first now : W) (parts : List Part) : Type 0 where
   pub done : List Part
   pub part : Part
   pub rest : List Part
   pub splits : parts ≡ done ++ part ∷ rest
   pub settled : AllSettled context.look_up s (length done) done
-  pub stops : StopsInParts context s stopped (done ++ part ∷ []) first now
+  pub before : W
+  pub written : WritesParts context s done first before
+  pub stops : StopsAtPart context s part stopped before now
 
 -- what a writer in this state has written of these parts
-abbrev pub HasWritten : {V Seen W First : Type 0} → Context V Seen W First → List ℕ → State → W → W → List Part
-    → Type 0
+abbrev pub HasWritten : {V Seen W First : Type 0} → Context V Seen W First → List ℕ → State → W → W
+    → List Part → Type 0
 HasWritten context s Writing first now parts = IsWriting context s first now parts
 HasWritten context s (Jumping index) first now parts = IsJumping context s index first now parts
 HasWritten context s (Stopped stopped) first now parts = HasStopped context s stopped first now parts
@@ -79,7 +105,7 @@ abbrev pub PartWritten : {V Seen W First : Type 0} → Context V Seen W First �
     → W
     → Type 0
 PartWritten context s part before found Writing now =
-    WritesPart context s part before now × TellsFound context.look_up s part found
+    WritesPart context s part before now × (found ≡ is_some (jump_of context.look_up s part))
 PartWritten context s part before found (Jumping index) now = ⊥
 PartWritten context s part before found (Stopped stopped) now =
     StopsAtPart context s part stopped before now × (found ≡ false)

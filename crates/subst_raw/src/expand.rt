@@ -10,16 +10,19 @@ ghost use Rattle.subst_language.specs.Language.Name.{IsName};
 ghost use Rattle.subst_language.specs.Language.Value.{Bytes, Missing};
 ghost use Rattle.subst_language.specs.Calls.VariableMap.{ByLookUp};
 ghost use Rattle.subst_language.specs.Calls.Outcome.{Expands, ExpandsInto, ExpandsIntoSlice, OnOutOfMemory};
-ghost use Rattle.subst_raw.specs.Output.{AppendsFilled, AppendsValue, Appended, IfMissing, OnFull, fault_of};
+ghost use Rattle.subst_raw.specs.Context.{context_of};
+ghost use Rattle.subst_raw.specs.Output.{AppendsFilled, IfMissing, fault_of};
 ghost use Rattle.subst_raw.specs.Span.{IsSpan, span_bytes};
 ghost use Rattle.subst_raw.specs.Packed.{unpacked_parts};
 ghost use Rattle.subst_raw.specs.Parts.{AllFit, parts_value, parts_written, visited_parts};
 ghost use Rattle.subst_raw.specs.Filled.{FillsMarks, marks_of};
+ghost use Rattle.subst_raw.specs.Writing.{AppendsParts};
 ghost use Rattle.subst_raw.specs.declared.expand.Stop.TheVariants as stops;
 
+use crate::append::append_part;
 use crate::output::{Output, SliceOutput};
 use crate::packed_part::{Offset, PackedPart};
-use crate::part::{Part, Span};
+use crate::part::Span;
 use crate::part_list::PartList;
 use crate::part_vec::{CowParts, PartSlice};
 use crate::read_value::ReadValue;
@@ -190,28 +193,10 @@ fn append<'a, M: VariableMap<'a>, R: ReadValue<M::Value>, W: Output>(
 where
     M::Value: Drop,
     requires { AllFit 0 (length parts.now) source.now parts.now }
-    ensures value { ByLookUp R.read M.see (M.look_up variables.now)
-        (λ look. AppendsValue W.holds result source.now (parts_value parts.now source.now look)
-        output.old output.new) }
-    ensures full { ByLookUp R.read M.see (M.look_up variables.now)
-        (λ look. OnFull result (W.room output.old
-        < W.len output.old + length (parts_written parts.now source.now look))) }
-    ensures begins { Appended W.holds (λ _. Unit {0}) output.old output.new }
-    ensures room { W.room output.old ≤ W.room output.new }
-    ensures counted { ByLookUp R.read M.see (M.look_up variables.now)
-        (λ look. OnOk result
-        (turns.new ≡ turns.old + length (visited_parts parts.now 0 0 source.now look))) }
-    ensures at_most { ByLookUp R.read M.see (M.look_up variables.now)
-        (λ look. turns.new ≤ turns.old + length (visited_parts parts.now 0 0 source.now look)) }
-    ensures grown { turns.old ≤ turns.new }
-    ensures filled { OnOk result (Appended W.holds (FillsMarks R.is_read
-        (parts_value parts.now source.now (marks_of (M.look_up variables.now))))
-        output.old output.new) }
-    ensures missing { IfMissing result (λ name.
-        parts_value parts.now source.now (marks_of (M.look_up variables.now))
-        ≡ Missing name.start (span_bytes name source.now)) }
-    ensures named { IfMissing result (λ name.
-        IsSpan source.now name × IsName (span_bytes name source.now)) }
+    ensures { let context =
+        context_of R.read R.is_read M.see (M.look_up variables.now) W.holds W.len W.room in
+        AppendsParts context source.now parts.now result output.old output.new turns.old
+        turns.new }
 {
     match parts.as_slice() {
         PartSlice::Narrow(packed) => {
@@ -236,29 +221,10 @@ where
     M::Value: Drop,
     requires { let parts = unpacked_parts O.value packed.now in
         AllFit 0 (length parts) source.now parts }
-    ensures value { ByLookUp R.read M.see (M.look_up variables.now)
-        (λ look. AppendsValue W.holds result source.now
-        (parts_value (unpacked_parts O.value packed.now) source.now look) output.old output.new) }
-    ensures full { ByLookUp R.read M.see (M.look_up variables.now)
-        (λ look. OnFull result (W.room output.old < W.len output.old
-        + length (parts_written (unpacked_parts O.value packed.now) source.now look))) }
-    ensures begins { Appended W.holds (λ _. Unit {0}) output.old output.new }
-    ensures room { W.room output.old ≤ W.room output.new }
-    ensures counted { ByLookUp R.read M.see (M.look_up variables.now)
-        (λ look. OnOk result (turns.new ≡ turns.old
-        + length (visited_parts (unpacked_parts O.value packed.now) 0 0 source.now look))) }
-    ensures at_most { ByLookUp R.read M.see (M.look_up variables.now)
-        (λ look. turns.new ≤ turns.old
-        + length (visited_parts (unpacked_parts O.value packed.now) 0 0 source.now look)) }
-    ensures grown { turns.old ≤ turns.new }
-    ensures filled { OnOk result (Appended W.holds (FillsMarks R.is_read
-        (parts_value (unpacked_parts O.value packed.now) source.now
-        (marks_of (M.look_up variables.now)))) output.old output.new) }
-    ensures missing { IfMissing result (λ name.
-        parts_value (unpacked_parts O.value packed.now) source.now
-        (marks_of (M.look_up variables.now)) ≡ Missing name.start (span_bytes name source.now)) }
-    ensures named { IfMissing result (λ name.
-        IsSpan source.now name × IsName (span_bytes name source.now)) }
+    ensures { let context =
+        context_of R.read R.is_read M.see (M.look_up variables.now) W.holds W.len W.room in
+        AppendsParts context source.now (unpacked_parts O.value packed.now) result output.old
+        output.new turns.old turns.new }
 {
     let mut list = PartList::new(packed, mem::replace(turns, Turns::new()));
     let outcome = append_list::<M, R, O, W>(source, &mut list, variables, output);
@@ -277,57 +243,15 @@ fn append_list<'a, M: VariableMap<'a>, R: ReadValue<M::Value>, O: Offset, W: Out
 where
     M::Value: Drop,
     requires { AllFit 0 (length list.old.parts) source.now list.old.parts }
-    ensures value { ByLookUp R.read M.see (M.look_up variables.now)
-        (λ look. AppendsValue W.holds result source.now
-        (parts_value list.old.parts source.now look) output.old output.new) }
-    ensures full { ByLookUp R.read M.see (M.look_up variables.now)
-        (λ look. OnFull result (W.room output.old
-        < W.len output.old + length (parts_written list.old.parts source.now look))) }
-    ensures begins { Appended W.holds (λ _. Unit {0}) output.old output.new }
-    ensures room { W.room output.old ≤ W.room output.new }
-    ensures counted { ByLookUp R.read M.see (M.look_up variables.now)
-        (λ look. OnOk result (list.new.turns
-        ≡ list.old.turns + length (visited_parts list.old.parts 0 0 source.now look))) }
-    ensures at_most { ByLookUp R.read M.see (M.look_up variables.now)
-        (λ look. list.new.turns
-        ≤ list.old.turns + length (visited_parts list.old.parts 0 0 source.now look)) }
-    ensures grown { list.old.turns ≤ list.new.turns }
-    ensures filled { OnOk result (Appended W.holds (FillsMarks R.is_read
-        (parts_value list.old.parts source.now (marks_of (M.look_up variables.now))))
-        output.old output.new) }
-    ensures missing { IfMissing result (λ name.
-        parts_value list.old.parts source.now (marks_of (M.look_up variables.now))
-        ≡ Missing name.start (span_bytes name source.now)) }
-    ensures named { IfMissing result (λ name.
-        IsSpan source.now name × IsName (span_bytes name source.now)) }
-    ensures same { list.new.parts ≡ list.old.parts }
+    ensures { let context =
+        context_of R.read R.is_read M.see (M.look_up variables.now) W.holds W.len W.room in
+        AppendsParts context source.now list.old.parts result output.old output.new list.old.turns
+        list.new.turns }
 {
     let mut at = 0;
     while let Some(part) = list.part_at(at) {
-        match part {
-            Part::Literal(span) => {
-                output.append_bytes(bytes_at(source, span))?;
-                at += 1;
-            }
-            Part::Escaped(byte) => {
-                output.append_byte(byte)?;
-                at += 1;
-            }
-            Part::Variable(name) => {
-                let Some(value) = variables.get(name_at(source, name)) else {
-                    return Err(Stop::Missing(name));
-                };
-                output.append_bytes(R::bytes_of(&value))?;
-                at += 1;
-            }
-            Part::Default { name, next } => match variables.get(name_at(source, name)) {
-                Some(value) => {
-                    output.append_bytes(R::bytes_of(&value))?;
-                    at = next;
-                }
-                None => at += 1,
-            },
-        }
+        let jump = append_part::<M, R, W>(source, part, variables, output)?;
+        at = jump.unwrap_or(at + 1);
     }
     Ok(())
 }

@@ -1,6 +1,6 @@
 //! A sink that keeps no parts: it writes what they give at once.
 
-ghost use Rattle.std.specs.Prelude.{◌≡◌, ◌+◌, ◌^◌, ℕ, List, IfErr, OnOk};
+ghost use Rattle.std.specs.Prelude.{◌≡◌, ◌+◌, ◌^◌, ℕ, List, [], IfErr, OnOk};
 ghost use Rattle.subst_raw.specs.Parts.{IsInSource};
 ghost use Rattle.subst_raw.specs.declared.writer.State.TheVariants as states;
 
@@ -58,14 +58,18 @@ where
 {
     ghost use Rattle.subst_raw.specs.Writing.{NotStopped, WritesOn};
     ghost use Rattle.subst_raw.specs.Context.{context_of};
+    ghost use Rattle.subst_raw.specs.Writer.{AtFirst, HoldsParts};
 
     /// Returns a writer that has written nothing yet.
     pub fn new(source: &'s [u8], variables: &'a M, output: W) -> Self
-        ensures source { result.source ≡ source.entry }
-        ensures variables { result.variables ≡ variables.entry }
-        ensures output { result.output ≡ output }
-        ensures len { result.len ≡ 0 }
-        ensures state { result.state ≡ states.Writing }
+        ensures { let context = context_of R.read R.is_read M.see (M.look_up result.variables.now)
+            W.holds W.len W.room in
+            let first : AtFirst M.Seen W = record {
+              source = source.now;
+              look_up = M.look_up variables.now;
+              output = output;
+            } in
+            HoldsParts context result.source.now result.len result.state result.output first [] }
     {
         Writer {
             source,
@@ -108,7 +112,7 @@ where
             return false;
         };
         match append_part::<M, R, W>(self.source, part, self.variables, &mut self.output) {
-            Ok(found) => found,
+            Ok(jump) => jump.is_some(),
             Err(stop) => {
                 self.state = State::Stopped(stop);
                 false

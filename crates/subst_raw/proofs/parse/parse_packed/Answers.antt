@@ -1,7 +1,6 @@
 use Rattle.std.proofs.Common.{List, sym, subst}
 use Rattle.subst_raw.specs.Parts.{IsTemplateOf}
 use Rattle.subst_raw.specs.declared.part.Part.{Part}
-use Rattle.subst_language.specs.Language.Bytes.{IsPlain}
 use Rattle.subst_raw.proofs.parse.parse_packed.Goals as goal
 
 pub returns-in-Ok-clause-ok : goal.returns-in-Ok-clause-ok

@@ -3,10 +3,10 @@ use Rattle.std.proofs.Common.{◌≡◌, ◌++◌, append-nil, option_to_list, r
 use Rattle.std.proofs.lemmas.List.{length-map}
 use Rattle.subst_raw.specs.Packed.{unpacked}
 use Rattle.subst_raw.specs.Filled.{marks_of}
-use Rattle.subst_raw.proofs.ExpandLemmas.{fits_there}
+use Rattle.subst_raw.proofs.ExpandLemmas.{fits_there, next_within}
 use Rattle.subst_raw.proofs.PackedLemmas.{unpacked_read}
 use Rattle.subst_raw.proofs.ListedLemmas.{marks_by_names}
-use Rattle.subst_raw.proofs.VariablesLemmas.{lists_next, names_fit, next_within}
+use Rattle.subst_raw.proofs.VariablesLemmas.{lists_next, names_fit}
 use Rattle.subst_raw.proofs.variables.missing_of.Goals.{in-Some-2+in_ok-push, in_default-2}
 use Rattle.subst_raw.proofs.variables.missing_of.Goals as goal
 
