@@ -54,6 +54,10 @@ slice_of_run {P} {s} {from} {to} r =
 pub run_nothing : (P : ℕ → Type 0) (s : List ℕ) (at : ℕ) → IsRun P s at at
 run_nothing P s at = record { run = []; each = tt; spelled = refl; ends = omega arith }
 
+-- a run from the front on ends within the source
+pub run_within : {P : ℕ → Type 0} {s : List ℕ} {to : ℕ} → IsRun P s 0 to → to ≤ length s
+run_within {s = s} {to = to} r = omega (arith, r.ends, ap length r.spelled, length-append r.run (drop to s))
+
 -- one byte of the kind is a run
 pub run_one : {P : ℕ → Type 0} {s : List ℕ} {at b : ℕ} → P b → drop at s ≡ b ∷ drop (at + 1) s
     → IsRun P s at (at + 1)

@@ -43,8 +43,7 @@ pub fn substitute_into<'s, 'a, M: VariableMap<'a>, R: ReadValue<M::Value>>(
 ) -> Result<(), SubstituteIntoError<'s>>
 where
     M::Value: Drop,
-    requires plain { IsRun IsPlain source.now 0 plain }
-    requires within { plain ≤ length source.now }
+    requires { IsRun IsPlain source.now 0 plain }
     ensures answer { ByLookUp R.read M.see (M.look_up variables.now)
         (λ look. SubstitutesInto source.now output.old.items result output.new.items look) }
     ensures kept { OnErr result (output.new.items ≡ output.old.items) }
@@ -86,8 +85,7 @@ pub fn substitute<'a, M: VariableMap<'a>, R: ReadValue<M::Value>>(
 ) -> Result<Vec<u8>, Error>
 where
     M::Value: Drop,
-    requires plain { IsRun IsPlain source.now 0 plain }
-    requires within { plain ≤ length source.now }
+    requires { IsRun IsPlain source.now 0 plain }
     ensures answer { ByLookUp R.read M.see (M.look_up variables.now)
         (λ look. IfSome (answer_of (λ output. output.items) result) (Answers source.now look)) }
     ensures sentence { IfOk result (λ output. IsSentence source.now) }
@@ -118,8 +116,7 @@ pub fn substitute_text_into<'s, 'a, M: VariableMap<'a>>(
 ) -> Result<(), SubstituteIntoError<'s>>
 where
     M::Value: AsStr + Drop,
-    requires plain { IsRun IsPlain source.now 0 plain }
-    requires within { plain ≤ length source.now }
+    requires { IsRun IsPlain source.now 0 plain }
     ensures answer { ByLookUp M.Value.text M.see (M.look_up variables.now)
         (λ look. SubstitutesInto source.now (string_bytes output.old) result
         (string_bytes output.new) look) }
@@ -158,8 +155,7 @@ pub fn substitute_text<'a, M: VariableMap<'a>>(
 ) -> Result<String, Error>
 where
     M::Value: AsStr + Drop,
-    requires plain { IsRun IsPlain source.now 0 plain }
-    requires within { plain ≤ length source.now }
+    requires { IsRun IsPlain source.now 0 plain }
     ensures answer { ByLookUp M.Value.text M.see (M.look_up variables.now)
         (λ look. IfSome (answer_of (λ output. string_bytes output) result)
         (Answers source.now look)) }
@@ -189,8 +185,7 @@ fn expand_at_once<'s, 'a, M: VariableMap<'a>, R: ReadValue<M::Value>>(
 ) -> Result<Result<(), ExpandIntoError<'s>>, ParseError>
 where
     M::Value: Drop,
-    requires plain { IsRun IsPlain source.now 0 plain }
-    requires within { plain ≤ length source.now }
+    requires { IsRun IsPlain source.now 0 plain }
     ensures refused { OnFault parse_fault result (HasFault 0 source.now) }
     ensures kept { OnErr result (output.new.items ≡ output.old.items) }
     ensures capacity { vec_capacity output.old ≤ vec_capacity output.new }
@@ -201,7 +196,7 @@ where
     let len = output.len();
     let taken = mem::replace(output, Vec::new(alloc));
     let writer = Writer::<M, R, Vec<u8>>::new(source, variables, taken);
-    let (writer, parsed) = parse_into(alloc, source, plain, writer, &mut Reads::new());
+    let (writer, _, parsed) = parse_into(alloc, source, plain, writer, Reads::new());
     let (written, outcome) = writer.finish();
     *output = written;
     if let Err(halt) = parsed {

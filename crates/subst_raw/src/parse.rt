@@ -97,44 +97,42 @@ fn parse_packed<O: Offset>(
     ensures refused { IfErr result (λ e. reads.old + 1 ≤ reads.new) }
 {
     let list = empty_list::<O>(alloc, !source.is_empty());
-    let (parts, outcome) = parse_into(alloc, source, 0, list, reads);
+    let counter = mem::replace(reads, Reads::new());
+    let (parts, counter, outcome) = parse_into(alloc, source, 0, list, counter);
+    *reads = counter;
     match outcome {
         Ok(()) => Ok(parts),
         Err(halt) => Err(halt.into()),
     }
 }
 
-/// Gives the parts of a source to a sink, up to its end or its first bad item, and counts the reads. Those of
-/// its first `plain` bytes, which have no dollar and no backslash, were made by the caller.
+/// Gives the parts of a source to a sink, up to its end or its first bad item, and counts the reads. Its
+/// first `plain` bytes, which have no dollar and no backslash, aren't read.
 #[inline(always)]
 pub(crate) fn parse_into<S: Sink>(
     alloc: Global,
     source: &[u8],
     plain: usize,
     sink: S,
-    reads: &mut Reads,
-) -> (S, Result<(), Halt>)
+    reads: Reads,
+) -> (S, Reads, Result<(), Halt>)
     requires plain { IsRun IsPlain source.now 0 plain }
-    requires within { plain ≤ length source.now }
     requires fits { length source.now < S.limit }
     requires empty { (first : S.First) × S.source first source.now × S.holds sink first [] }
-    ensures ok { OnOk result.1 ((first : S.First) → S.holds sink first []
+    ensures ok { OnOk result.2 ((first : S.First) → S.holds sink first []
         → HoldsTemplate (since S.holds first) source.now result.0) }
-    ensures err { OnFault halt_fault result.1 (HasFault 0 source.now) }
-    ensures held { OnErr result.1 ((first : S.First) → S.holds sink first []
+    ensures err { OnFault halt_fault result.2 (HasFault 0 source.now) }
+    ensures held { OnErr result.2 ((first : S.First) → S.holds sink first []
         → (parts : List Part) × S.holds result.0 first parts) }
-    ensures bound { reads.new ≤ reads.old + 3 * length source.now + 8 }
-    ensures grows { reads.old ≤ reads.new }
-    ensures whole { OnOk result.1 (reads.old + length source.now ≤ reads.new) }
-    ensures refused { IfErr result.1 (λ e. reads.old + 1 ≤ reads.new) }
+    ensures bound { result.1 + 3 * plain ≤ reads + 3 * length source.now + 8 }
+    ensures grows { reads ≤ result.1 }
+    ensures whole { OnOk result.2 (reads + length source.now ≤ result.1 + plain) }
+    ensures refused { IfErr result.2 (λ e. reads + 1 ≤ result.1 + plain) }
 {
-    reads.add(plain);
-    let counter = mem::replace(reads, Reads::new());
-    let mut parser = Parser::new(alloc, Tape::new(source, counter), plain, sink);
+    let mut parser = Parser::new(alloc, Tape::new(source, reads), plain, sink);
     let outcome = parser.read_to_end();
     let Parser { tape, sink, .. } = parser;
-    *reads = tape.into_reads();
-    (sink, outcome)
+    (sink, tape.into_reads(), outcome)
 }
 
 impl<'s, S: Sink> Parser<'s, S> {
@@ -143,7 +141,6 @@ impl<'s, S: Sink> Parser<'s, S> {
     /// Returns a parser that begins at an offset, where the bytes before have no dollar and no backslash.
     fn new(alloc: Global, tape: Tape<'s>, at: usize, sink: S) -> Self
         requires plain { IsRun IsPlain tape.source.now 0 at }
-        requires within { at ≤ length tape.source.now }
         requires fits { length tape.source.now < S.limit }
         requires empty { (first : S.First) × S.source first tape.source.now
             × S.holds sink first [] }

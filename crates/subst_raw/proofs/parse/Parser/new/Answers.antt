@@ -1,4 +1,5 @@
 use Rattle.std.proofs.Common.{[], arith}
+use Rattle.subst_raw.proofs.ByteRunLemmas.{run_within}
 use Rattle.subst_raw.proofs.StackHoldsLemmas.{holds_start}
 use Rattle.subst_raw.proofs.parse.Parser.new.Goals as goal
 
@@ -9,7 +10,7 @@ returns-clause-reading g c first empty = record {
   fits = c.requires.fits;
   few = omega arith;
   small = omega arith;
-  within = omega arith;
+  within = run_within c.requires.plain;
   shallow = omega arith;
   nested = rw c.new.ensures.items (holds_start c.args.tape.source.now c.args.at c.requires.plain);
 }
