@@ -7,7 +7,7 @@ use Rattle.subst_language.specs.Language.LookUp.{LookUp}
 use Rattle.subst_language.specs.Calls.VariableMap.{ReadsAs, look_up_of}
 use Rattle.subst_raw.specs.Span.{span_bytes}
 use Rattle.subst_raw.specs.Context.{jump_of}
-use Rattle.subst_raw.specs.Parts.{FitsAt, AllFit, IsInSource, if_found, resume_index, visited_parts, next_if_found, next_index}
+use Rattle.subst_raw.specs.Parts.{FitsAt, AllFit, JumpsWithin, if_found, resume_index, visited_parts, next_if_found, next_index}
 use Rattle.subst_raw.specs.declared.part.Span.{Span}
 use Rattle.subst_raw.specs.declared.part.Part.{Part}
 use Rattle.subst_raw.specs.declared.part.Part.TheVariants.{Literal, Escaped, Variable, Default}
@@ -21,13 +21,6 @@ fits_there end s {parts = parts} {at = at} {part = part} fit here =
     subst (λ n. FitsAt n end s part) (omega (arith, length-take-le at parts (omega (arith, here.below))))
     (fit_at 0 end s (take at parts) part (drop (at + 1) parts)
     (subst (AllFit 0 end s) (sym (around here)) fit))
-
--- a part that fits is in the source
-pub in_source : (i end : ℕ) (s : List ℕ) (part : Part) → FitsAt i end s part → IsInSource s part
-in_source i end s (Literal span) fits = fits
-in_source i end s (Escaped b) fits = tt
-in_source i end s (Variable name) fits = fits
-in_source i end s (Default name next) fits = (fits.0, fits.1)
 
 -- a part that was read from the list is there
 pub part_here : {read parts : List Part} {at : ℕ} {found part : Part} → slice_get read at ≡ Some found
@@ -120,13 +113,13 @@ goes_on_default parts s look at name next None here forward is = goes_on_inside 
 
 -- where it goes on after any part
 pub goes_on : {parts : List Part} {s : List ℕ} {look : LookUp} {at : ℕ} (end : ℕ) (part : Part)
-    → IsElementAt parts at part → FitsAt at end s part
+    → IsElementAt parts at part → JumpsWithin at end part
     → GoesOn parts s look at part (next_index part s look (at + 1))
-goes_on end (Literal span) here fits = goes_on_after here refl
-goes_on end (Escaped b) here fits = goes_on_after here refl
-goes_on end (Variable name) here fits = goes_on_after here refl
-goes_on {parts = parts} {s = s} {look = look} {at = at} end (Default name next) here fits =
-    goes_on_default parts s look at name next (look (span_bytes name s)) here fits.2 refl
+goes_on end (Literal span) here jumps = goes_on_after here refl
+goes_on end (Escaped b) here jumps = goes_on_after here refl
+goes_on end (Variable name) here jumps = goes_on_after here refl
+goes_on {parts = parts} {s = s} {look = look} {at = at} end (Default name next) here jumps =
+    goes_on_default parts s look at name next (look (span_bytes name s)) here jumps.0 refl
 
 -- what was found or not, the next index is after that of a part with a default, and within the list
 found_within : (at next end : ℕ) (found : Option (List ℕ)) → at < next → next ≤ end → at < end
@@ -135,13 +128,13 @@ found_within at next end (Some x) forward inside below = (forward, inside)
 found_within at next end None forward inside below = (omega arith, omega (arith, below))
 
 -- so is it after any part
-pub next_within : {at end : ℕ} (s : List ℕ) (look : LookUp) (part : Part) → FitsAt at end s part → at < end
+pub next_within : {at end : ℕ} (s : List ℕ) (look : LookUp) (part : Part) → JumpsWithin at end part → at < end
     → (at < next_index part s look (at + 1)) × (next_index part s look (at + 1) ≤ end)
-next_within s look (Literal span) fits below = (omega arith, omega (arith, below))
-next_within s look (Escaped b) fits below = (omega arith, omega (arith, below))
-next_within s look (Variable name) fits below = (omega arith, omega (arith, below))
-next_within {at = at} {end = end} s look (Default name next) fits below =
-    found_within at next end (look (span_bytes name s)) fits.2 fits.3 below
+next_within s look (Literal span) jumps below = (omega arith, omega (arith, below))
+next_within s look (Escaped b) jumps below = (omega arith, omega (arith, below))
+next_within s look (Variable name) jumps below = (omega arith, omega (arith, below))
+next_within {at = at} {end = end} s look (Default name next) jumps below =
+    found_within at next end (look (span_bytes name s)) jumps.0 jumps.1 below
 
 -- the index after a part, or that where its jump ends, is the one that an expansion goes on at
 after_jump : {Seen : Type 0} (look_up : List ℕ → Option Seen) (bytes : Seen → List ℕ) (s : List ℕ)
@@ -166,11 +159,11 @@ goes_to look_up s part after jumps is bytes =
 
 -- it is after that of the part, and within the list
 pub goes_within : {Seen : Type 0} (look_up : List ℕ → Option Seen) (s : List ℕ) {at end : ℕ} (part : Part)
-    {jump : Option ℕ} {next : ℕ} → FitsAt at end s part → at < end → jump ≡ jump_of look_up s part
+    {jump : Option ℕ} {next : ℕ} → JumpsWithin at end part → at < end → jump ≡ jump_of look_up s part
     → next ≡ unwrap_or jump (at + 1) → (at < next) × (next ≤ end)
-goes_within look_up s {at} {end} part fits below jumps is =
+goes_within look_up s {at} {end} part inside below jumps is =
     subst (λ n. (at < n) × (n ≤ end)) (sym (goes_to look_up s part (at + 1) jumps is (λ _. [])))
-    (next_within s (look_up_of (λ _. []) look_up) part fits below)
+    (next_within s (look_up_of (λ _. []) look_up) part inside below)
 
 -- where the map has a value for a name, the look-up has the bytes that the value gives
 pub has_value : {V Seen : Type 0} (items : V → List ℕ) (see : V → Seen) (bytes : Seen → List ℕ)

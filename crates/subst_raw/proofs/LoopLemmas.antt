@@ -42,7 +42,7 @@ module _ {V Seen W First : Type 0} (context : Context V Seen W First) (s : List 
       done = so_far.done ++ part ∷ [];
       visits = λ bytes.
           let look = look_up_of bytes context.look_up in
-          let there = goes_on (length parts) part here fits in
+          let there = goes_on (length parts) part here fits.1 in
           let rest = λ (i : ℕ). visited_parts (drop i parts) i 0 s look in
           so_far.visits bytes
           ∙ ap (λ (visited : List Part). so_far.done ++ visited) there.visits

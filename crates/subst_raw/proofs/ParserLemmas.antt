@@ -12,17 +12,16 @@ use Rattle.subst_language.specs.Language.Tree.{text}
 use Rattle.subst_language.specs.Lemmas.Closing.{ClosesAll}
 use Rattle.subst_error.specs.Fault.{Fault, MissingClosingBrace}
 use Rattle.subst_language.specs.Language.BadItem.{HasFault}
-use Rattle.subst_raw.specs.Sink.{HoldsFrom, since, CanClose, CanOpen, CanTake, CanTakeOptional, AllClosed}
+use Rattle.subst_raw.specs.Sink.{HoldsFrom, HoldsSome, since, CanClose, CanTake, AllClosed}
 use Rattle.subst_raw.specs.Halt.{halt_fault}
 use Rattle.subst_raw.specs.Packed.{FitsBelow}
-use Rattle.subst_raw.specs.Parts.{FitsAt, IsInSource}
 use Rattle.subst_raw.specs.declared.halt.Halt.{Halt}
 use Rattle.std.specs.Option.{IfSome, IsSomeAnd}
 use Rattle.subst_raw.specs.Placeholder.{IsInBraces, IsNameAt, IsOptional, IsBadWhenCut}
-use Rattle.subst_raw.specs.Parsing.{StackHolds, StackHoldsFlushed, IsReading, ReadsOn, Finishes, StillHolds, StepsOrFails, IsFlushed, IsPart, HoldsTemplate}
+use Rattle.subst_raw.specs.Parsing.{StackHolds, StackHoldsFlushed, IsReading, FromReading, ReadsOn, StepsOrFails, IsFlushed, IsPart, HoldsTemplate}
 use Rattle.subst_raw.specs.declared.part.Span.{Span}
 use Rattle.subst_raw.specs.declared.part.Part.{Part}
-use Rattle.subst_raw.specs.declared.part.Part.TheVariants.{Literal, Escaped, Variable, Default}
+use Rattle.subst_raw.specs.declared.part.Part.TheVariants.{Literal, Default}
 use Rattle.subst_raw.specs.declared.parse.OpenDefault.{OpenDefault}
 use Rattle.subst_raw.specs.declared.parse.Parser.{Parser}
 use Rattle.subst_raw.specs.declared.tape.Tape.{Tape}
@@ -153,15 +152,19 @@ steps_after old mid (Err e) new reads same forward fails = (
 -- what the sink still holds after a step that failed, after what was read before
 pub still_after : {S First : Type 0} {holds : HoldsFrom S First} {limit : ℕ} (old mid : Parser S)
     (result : Result (Unit {0}) Halt) (new : Parser S) → ReadsOn holds limit old mid
-    → OnErr result (StillHolds holds limit mid new) → OnErr result (StillHolds holds limit old new)
+    → OnErr result (FromReading holds limit mid (HoldsSome holds new.sink))
+    → OnErr result (FromReading holds limit old (HoldsSome holds new.sink))
 still_after old mid (Ok done) new reads still = tt
 still_after old mid (Err e) new reads still = λ first reading. still first (reads first reading)
 
 -- the end of the source after what was read before
 pub finishes_after : {S First : Type 0} {holds : HoldsFrom S First} {limit : ℕ} (old mid : Parser S)
     (result : Result (Unit {0}) Halt) (new : Parser S) → ReadsOn holds limit old mid
-    → mid.tape.source ≡ old.tape.source → OnOk result (Finishes holds limit mid new)
-    → OnOk result (Finishes holds limit old new)
+    → mid.tape.source ≡ old.tape.source
+    → OnOk result (FromReading holds limit mid
+    (λ first. HoldsTemplate (since holds first) mid.tape.source.now new.sink))
+    → OnOk result (FromReading holds limit old
+    (λ first. HoldsTemplate (since holds first) old.tape.source.now new.sink))
 finishes_after {holds = holds} old mid (Ok done) new reads same finishes = λ first reading.
     subst (λ (source : Bor (List ℕ)). HoldsTemplate (since holds first) source.now new.sink) same
     (finishes first (reads first reading))
@@ -171,7 +174,8 @@ finishes_after old mid (Err e) new reads same finishes = tt
 pub finishes_from : {S First : Type 0} {holds : HoldsFrom S First} {limit : ℕ} (s : List ℕ) (p : Parser S)
     (result : Result (Unit {0}) Halt) (new : Parser S) (Starts : First → Type 0)
     → ((first : First) → Starts first → IsReading (since holds first) limit p) → p.tape.source.now ≡ s
-    → OnOk result (Finishes holds limit p new)
+    → OnOk result (FromReading holds limit p
+    (λ first. HoldsTemplate (since holds first) p.tape.source.now new.sink))
     → OnOk result ((first : First) → Starts first → HoldsTemplate (since holds first) s new.sink)
 finishes_from {holds = holds} s p (Ok done) new Starts reads same finishes = λ first starts.
     subst (λ x. HoldsTemplate (since holds first) x new.sink) same (finishes first (reads first starts))
@@ -604,7 +608,7 @@ pub optional_fits : {S First : Type 0} {holds : HoldsFrom S First} {source : Fir
     → IsReading (since holds first) limit old
     → (given : IsFlushed (since holds first) old mid)
     → IsOptional old.tape.source.now old.at name
-    → CanTakeOptional holds source limit mid.sink name
+    → CanTake holds source limit mid.sink (λ index. Default name (index + 1))
 optional_fits old mid name first known reading given is = record {
   first = first;
   s = old.tape.source.now;
@@ -630,19 +634,12 @@ optional_fits old mid name first known reading given is = record {
   );
 }
 
--- a part that fits has its range in the source
-inside_of_fit : (i end : ℕ) (s : List ℕ) (part : Part) → FitsAt i end s part → IsInSource s part
-inside_of_fit i end s (Literal span) fits = fits
-inside_of_fit i end s (Escaped b) fits = tt
-inside_of_fit i end s (Variable name) fits = fits
-inside_of_fit i end s (Default name next) fits = (fits.0, fits.1)
-
 -- the plain bytes are a part that a sink can take
 pub literal_fits : {S First : Type 0} {holds : HoldsFrom S First} {source : First → List ℕ → Type 0}
     {limit : ℕ}
     (p : Parser S) (first : First) → source first p.tape.source.now → IsReading (since holds first) limit p
     → p.literal_start < p.at
-    → CanTake holds source limit p.sink (Literal (record { start = p.literal_start; end = p.at }))
+    → CanTake holds source limit p.sink (λ _. Literal (record { start = p.literal_start; end = p.at }))
 literal_fits p first known reading some = record {
   first = first;
   s = p.tape.source.now;
@@ -651,7 +648,6 @@ literal_fits p first known reading some = record {
   known = known;
   fits = (omega (arith, reading.fits, reading.within, some), omega (arith, reading.fits, reading.within));
   inside = record { ordered = omega (arith, some); within = reading.within };
-  closed = tt;
   few = omega (arith, reading.few, reading.small, reading.within, some);
 }
 
@@ -662,7 +658,7 @@ pub part_fits : {S First : Type 0} {holds : HoldsFrom S First} {source : First �
     → FitsBelow limit part
     → IsPart old.tape.source.now old.at end (length given.parts) part
     → end ≤ length old.tape.source.now → old.at < end
-    → CanTake holds source limit mid.sink part
+    → CanTake holds source limit mid.sink (λ _. part)
 part_fits old mid part end first known reading given fits is within forward = record {
   first = first;
   s = old.tape.source.now;
@@ -670,8 +666,7 @@ part_fits old mid part end first known reading given fits is within forward = re
   held = given.held;
   known = known;
   fits = fits;
-  inside = inside_of_fit _ _ old.tape.source.now part is.mean.fit.0;
-  closed = (closed_of_fit _ _ old.tape.source.now (part ∷ []) is.mean.fit).0;
+  inside = is.mean.fit.0.0;
   few = omega (arith, given.few, reading.small, within, forward);
 }
 
@@ -680,7 +675,7 @@ pub open_fits : {S First : Type 0} {holds : HoldsFrom S First} {source : First �
     (old mid : Parser S) (name : Span) (first : First) → source first old.tape.source.now
     → IsReading (since holds first) limit old → (given : IsFlushed (since holds first) old mid)
     → IsInBraces old.tape.source.now old.at name colon
-    → CanOpen holds source limit mid.sink name
+    → CanTake holds source limit mid.sink (λ _. Default name 0)
 open_fits old mid name first known reading given head =
     let inside = head_inside old.tape.source.now old.at name colon head reading.within in
     let fits = name_fits head.named reading.fits in

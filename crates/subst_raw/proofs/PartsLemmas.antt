@@ -12,7 +12,7 @@ use Rattle.subst_error.specs.Fault.{NoSuchVariable}
 use Rattle.subst_language.specs.Language.Variables.{Required, OrNothing, OrDefault, item_variables, unless_found, item_missing, all_missing}
 use Rattle.subst_language.specs.Language.Counts.{if_missing, visited_count_after, visited_count}
 use Rattle.subst_raw.specs.Span.{IsSpan, span_bytes}
-use Rattle.subst_raw.specs.Parts.{FitsAt, AllFit, part_value, if_found, resume_index, visited_parts, joined_value, joined_written, kind_before, part_variables, variables_in, part_missing, missing_in, PartsMean}
+use Rattle.subst_raw.specs.Parts.{FitsAt, JumpsWithin, AllFit, part_value, if_found, resume_index, visited_parts, joined_value, joined_written, kind_before, part_variables, variables_in, part_missing, missing_in, PartsMean}
 use Rattle.subst_raw.specs.Sink.{AllClosed}
 use Rattle.subst_raw.specs.declared.part.Span.{Span}
 use Rattle.subst_raw.specs.declared.part.Part.{Part}
@@ -57,20 +57,24 @@ missing_in-append : (xs ys : List Part) (s : List ℕ) (look : LookUp)
 missing_in-append [] ys s look = refl
 missing_in-append (part ∷ xs) ys s look = rw (missing_in-append xs ys s look, append_assoc) refl
 
--- a part that fits up to an end fits up to a later one
-pub fits_wider : (i end wider : ℕ) (s : List ℕ) (part : Part) → end ≤ wider → FitsAt i end s part
-    → FitsAt i wider s part
-fits_wider i end wider s (Literal span) le fits = fits
-fits_wider i end wider s (Escaped b) le fits = fits
-fits_wider i end wider s (Variable name) le fits = fits
-fits_wider i end wider s (Default name next) le fits = (fits.0, fits.1, fits.2, omega (arith, fits.3))
+-- a part that jumps within a list at its index does so at an earlier one, and within a longer list
+pub jumps_wider : (j i end wider : ℕ) (part : Part) → j ≤ i → end ≤ wider → JumpsWithin i end part
+    → JumpsWithin j wider part
+jumps_wider j i end wider (Literal span) from to jumps = tt
+jumps_wider j i end wider (Escaped b) from to jumps = tt
+jumps_wider j i end wider (Variable name) from to jumps = tt
+jumps_wider j i end wider (Default name next) from to jumps =
+    (omega (arith, jumps.0), omega (arith, jumps.1))
 
 -- parts that fit up to an end fit up to a later one
 pub fit_widen : (i end wider : ℕ) (s : List ℕ) (parts : List Part) → end ≤ wider → AllFit i end s parts
     → AllFit i wider s parts
 fit_widen i end wider s [] le fit = tt
-fit_widen i end wider s (part ∷ rest) le fit =
-    (fits_wider i end wider s part le fit.0, fit_widen (i + 1) end wider s rest le fit.1)
+fit_widen i end wider s (part ∷ rest) le fit = (
+  (fit.0.0, jumps_wider i i end wider part (omega arith) le fit.0.1),
+  fit_widen (i + 1) end wider s rest le
+      fit.1,
+)
 
 -- two lists of parts concatenated fit where each of them does
 pub fit_append : (i end : ℕ) (s : List ℕ) (xs ys : List Part) → AllFit i end s xs
@@ -96,11 +100,8 @@ fit_at i end s xs part ys fit = (fit_split i end s xs (part ∷ ys) fit).1.0
 -- parts that fit have their jumps
 pub closed_of_fit : (i end : ℕ) (s : List ℕ) (parts : List Part) → AllFit i end s parts → AllClosed end parts
 closed_of_fit i end s [] fit = tt
-closed_of_fit i end s (Literal span ∷ rest) fit = (tt, closed_of_fit (i + 1) end s rest fit.1)
-closed_of_fit i end s (Escaped b ∷ rest) fit = (tt, closed_of_fit (i + 1) end s rest fit.1)
-closed_of_fit i end s (Variable name ∷ rest) fit = (tt, closed_of_fit (i + 1) end s rest fit.1)
-closed_of_fit i end s (Default name next ∷ rest) fit =
-    ((omega (arith, fit.0.2), fit.0.3), closed_of_fit (i + 1) end s rest fit.1)
+closed_of_fit i end s (part ∷ rest) fit =
+    (jumps_wider 0 i end end part (omega arith) (omega arith) fit.0.1, closed_of_fit (i + 1) end s rest fit.1)
 
 -- a part before the index where an expansion goes on is jumped over
 pub visited_parts-before : (part : Part) (rest : List Part) (i from : ℕ) (s : List ℕ) (look : LookUp)
@@ -149,15 +150,15 @@ visited_parts-anywhere (part ∷ rest) i from s look above =
     ∙ sym (visited_parts-from part rest i 0 s look (omega arith))
 
 -- a part goes on no later than its end, where it fits
-pub goes_on_within : (i end : ℕ) (s : List ℕ) (part : Part) (look : LookUp) → FitsAt i end s part
+pub goes_on_within : (i end : ℕ) (s : List ℕ) (part : Part) (look : LookUp) → JumpsWithin i end part
     → resume_index part s look ≤ end
-goes_on_within i end s (Literal span) look fits = omega arith
-goes_on_within i end s (Escaped b) look fits = omega arith
-goes_on_within i end s (Variable name) look fits = omega arith
-goes_on_within i end s (Default name next) look fits = of (look (span_bytes name s))
+goes_on_within i end s (Literal span) look jumps = omega arith
+goes_on_within i end s (Escaped b) look jumps = omega arith
+goes_on_within i end s (Variable name) look jumps = omega arith
+goes_on_within i end s (Default name next) look jumps = of (look (span_bytes name s))
   where
     of : (found : Option (List ℕ)) → if_found found next ≤ end
-    of (Some x) = fits.3
+    of (Some x) = jumps.1
     of None = omega arith
 
 -- each part goes on no later than an end
@@ -170,7 +171,7 @@ lands_fitting : (i end : ℕ) (s : List ℕ) (xs : List Part) (look : LookUp) �
     → Lands end s look xs
 lands_fitting i end s [] look fit = tt
 lands_fitting i end s (part ∷ rest) look fit =
-    (goes_on_within i end s part look fit.0, lands_fitting (i + 1) end s rest look fit.1)
+    (goes_on_within i end s part look fit.0.1, lands_fitting (i + 1) end s rest look fit.1)
 
 -- of two lists concatenated, where the jumps of the first end no later than the second begins, an expansion
 -- visits what it visits of the first, and then what it visits of the second by itself
@@ -299,7 +300,7 @@ pub mean_literal : (s : List ℕ) (i : ℕ) (span : Span) (p : ℕ) (x : List �
     → span_bytes span s ≡ x
     → PartsMean s i (Literal span ∷ []) p (plains x)
 mean_literal s i span p x some inside reads = record {
-  fit = (inside, tt);
+  fit = ((inside, tt), tt);
   same_value = λ look.
       joined_value-first (Literal span) [] i 0 s look (omega arith)
       ∙ joined-right (Bytes (span_bytes span s))
@@ -320,15 +321,15 @@ mean_literal s i span p x some inside reads = record {
 -- an escaped byte means its escape
 pub mean_escaped : (s : List ℕ) (i b p : ℕ) → b < 256
     → PartsMean s i (Escaped b ∷ []) p (Then (tree.Escaped b) Empty)
-mean_escaped s i b p fits = mean_one s i (Escaped b) p (tree.Escaped b) fits (λ look. refl) (λ look. refl)
-    (λ look. refl) refl (λ look. refl)
+mean_escaped s i b p fits = mean_one s i (Escaped b) p (tree.Escaped b) (fits, tt) (λ look. refl)
+    (λ look. refl) (λ look. refl) refl (λ look. refl)
 
 -- a variable whose name is after a dollar means the name without braces
 pub mean_short : (s : List ℕ) (i : ℕ) (name : Span) (p : ℕ) → IsSpan s name → IsName (span_bytes name s)
     → name.start ≡ p + 1
     → PartsMean s i (Variable name ∷ []) p (Then (Short (span_bytes name s)) Empty)
 mean_short s i name p inside named starts =
-    mean_one s i (Variable name) p (Short (span_bytes name s)) (inside, named)
+    mean_one s i (Variable name) p (Short (span_bytes name s)) ((inside, named), tt)
     (λ look. ap (λ position. found_or (look (span_bytes name s)) (Missing position (span_bytes name s)))
     starts) (λ look. refl)
     (λ look. ap (λ position. unless_found (look (span_bytes name s))
@@ -341,7 +342,7 @@ pub mean_braced : (s : List ℕ) (i : ℕ) (name : Span) (p : ℕ) → IsSpan s 
     → name.start ≡ p + 2
     → PartsMean s i (Variable name ∷ []) p (Then (Braced (span_bytes name s)) Empty)
 mean_braced s i name p inside named starts =
-    mean_one s i (Variable name) p (Braced (span_bytes name s)) (inside, named)
+    mean_one s i (Variable name) p (Braced (span_bytes name s)) ((inside, named), tt)
     (λ look. ap (λ position. found_or (look (span_bytes name s)) (Missing position (span_bytes name s)))
     starts) (λ look. refl)
     (λ look. ap (λ position. unless_found (look (span_bytes name s))
@@ -355,7 +356,7 @@ pub mean_optional : (s : List ℕ) (i : ℕ) (name : Span) (p : ℕ) → IsSpan 
     → PartsMean s i (Default name (i + 1) ∷ []) p (Then (Optional (span_bytes name s)) Empty)
 mean_optional s i name p inside named starts kind =
     mean_one s i (Default name (i + 1)) p (Optional (span_bytes name s))
-    (inside, named, omega arith, omega arith)
+    ((inside, named), (omega arith, omega arith))
     (λ look. refl) (λ look. refl) (λ look. refl)
     (rw (starts, kind) refl) (λ look. refl)
 
@@ -409,7 +410,7 @@ pub mean_default : (s : List ℕ) (i : ℕ) (name : Span) (parts : List Part) (p
     (Then (tree.Default (span_bytes name s) t) Empty)
 mean_default s i name parts p t inside named starts kind mean = record {
   fit = (
-    (inside, named, omega arith, omega arith),
+    ((inside, named), (omega arith, omega arith)),
     fit_widen (i + 1) (i + 1 + length parts) (i + suc (length parts)) s parts (omega arith) mean.fit,
   );
   same_value = λ look.

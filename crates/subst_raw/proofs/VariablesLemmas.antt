@@ -6,17 +6,9 @@ use Rattle.subst_language.specs.Language.LookUp.{LookUp}
 use Rattle.subst_language.specs.Calls.Variables.{variable_of, missing_fault}
 use Rattle.subst_language.specs.declared.variable.Variable as declared
 use Rattle.subst_language.proofs.Language.ListLemmas.{IsElementAt}
-use Rattle.subst_raw.specs.Parts.{FitsAt, NamesFit, part_variables, variables_in, part_missing, missing_in, parts_missing, visited_parts, next_index}
+use Rattle.subst_raw.specs.Parts.{FitsAt, part_variables, variables_in, part_missing, missing_in, parts_missing, visited_parts, next_index}
 use Rattle.subst_raw.specs.declared.part.Part.{Part}
-use Rattle.subst_raw.specs.declared.part.Part.TheVariants.{Literal, Escaped, Variable, Default}
 use Rattle.subst_raw.proofs.ExpandLemmas.{goes_on}
-
--- a part that fits has a name that does
-pub names_fit : (i end : ℕ) (s : List ℕ) (part : Part) → FitsAt i end s part → NamesFit s part
-names_fit i end s (Literal span) fits = tt
-names_fit i end s (Escaped b) fits = tt
-names_fit i end s (Variable name) fits = fits
-names_fit i end s (Default name next) fits = (fits.0, fits.1)
 
 -- the variables that are listed, and those of the parts from the index `at` on, are all
 pub record TellsSoFar (parts : List Part) (s : List ℕ) (list : List declared.Variable) (at : ℕ) : Type 0 where
@@ -65,7 +57,7 @@ pub lists_next : {parts : List Part} {s : List ℕ} {look : LookUp} {list grown 
 lists_next {parts = parts} {s = s} {look = look} {list = list} {at = at} {next = next} end part these
     so_far here fits this is goes =
     let rest = λ (i : ℕ). missing_in (visited_parts (drop i parts) i 0 s look) s look in
-    let there = goes_on end part here fits in
+    let there = goes_on end part here fits.1 in
     record {
       together =
           ap (λ faults. faults ++ rest next) (ap (map missing_fault) is ∙ map-append missing_fault list these)

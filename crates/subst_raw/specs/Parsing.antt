@@ -10,7 +10,7 @@ use Rattle.subst_raw.specs.ByteRun.{IsRun}
 use Rattle.subst_language.specs.Lemmas.Closing.{ChangesDepth}
 use Rattle.subst_raw.specs.Halt.{halt_fault}
 use Rattle.subst_raw.specs.Placeholder.{IsInBraces}
-use Rattle.subst_raw.specs.Sink.{HoldsFrom, since}
+use Rattle.subst_raw.specs.Sink.{HoldsFrom, HoldsSome, since}
 use Rattle.subst_language.specs.Lemmas.PlainEnds.{ends_plain, HasNoPlainEnds}
 use Rattle.subst_raw.specs.Parts.{PartsMean, IsTemplateOf}
 use Rattle.subst_raw.specs.declared.part.Part.{Part}
@@ -118,25 +118,14 @@ abbrev pub IsReadingSince : {S First : Type 0} → HoldsFrom S First → (First 
 IsReadingSince {First = First} holds source limit parser =
     (first : First) × source first parser.tape.source.now × IsReading (since holds first) limit parser
 
--- it goes on reading, from whatever its sink was at first
+-- Q holds of whatever its sink was at first, from which the parser was reading
+abbrev pub FromReading : {S First : Type 0} → HoldsFrom S First → ℕ → Parser S → (First → Type 0) → Type 0
+FromReading {First = First} holds limit old Q =
+    (first : First) → IsReading (since holds first) limit old → Q first
+
+-- the parser goes on reading
 abbrev pub ReadsOn : {S First : Type 0} → HoldsFrom S First → ℕ → Parser S → Parser S → Type 0
-ReadsOn {First = First} holds limit old new =
-    (first : First) → IsReading (since holds first) limit old → IsReading (since holds first) limit new
-
--- it has given all plain bytes to its sink
-abbrev pub Flushes : {S First : Type 0} → HoldsFrom S First → ℕ → Parser S → Parser S → Type 0
-Flushes {First = First} holds limit old new =
-    (first : First) → IsReading (since holds first) limit old → IsFlushed (since holds first) old new
-
--- it has given all parts of the source's template to its sink
-abbrev pub Finishes : {S First : Type 0} → HoldsFrom S First → ℕ → Parser S → Parser S → Type 0
-Finishes {First = First} holds limit old new = (first : First) → IsReading (since holds first) limit old
-    → HoldsTemplate (since holds first) old.tape.source.now new.sink
-
--- its sink still holds some list of parts
-abbrev pub StillHolds : {S First : Type 0} → HoldsFrom S First → ℕ → Parser S → Parser S → Type 0
-StillHolds {First = First} holds limit old new = (first : First) → IsReading (since holds first) limit old
-    → (parts : List Part) × holds new.sink first parts
+ReadsOn holds limit old new = FromReading holds limit old (λ first. IsReading (since holds first) limit new)
 
 -- one step of the parser: it goes on, or returns the fault of the source, or memory ran out
 abbrev pub StepsOrFails : {S First : Type 0} → HoldsFrom S First → ℕ → Parser S → Result (Unit {0}) Halt
@@ -144,4 +133,5 @@ abbrev pub StepsOrFails : {S First : Type 0} → HoldsFrom S First → ℕ → P
 StepsOrFails holds limit old (Ok _) new =
     ReadsOn holds limit old new × (new.tape.source ≡ old.tape.source) × (old.at < new.at)
 StepsOrFails holds limit old (Err e) new =
-    IfSome (halt_fault e) (HasFault 0 old.tape.source.now) × StillHolds holds limit old new
+    IfSome (halt_fault e) (HasFault 0 old.tape.source.now)
+    × FromReading holds limit old (HoldsSome holds new.sink)

@@ -15,20 +15,21 @@ use Rattle.subst_raw.specs.Span.{IsSpan, span_bytes}
 use Rattle.subst_raw.specs.declared.part.Part.{Part}
 use Rattle.subst_raw.specs.declared.part.Part.TheVariants.{Literal, Escaped, Variable, Default}
 
--- a part at index i of a list: its range lies in the source, its name is one, and its jump goes forward, to
--- end at most
-abbrev pub FitsAt : ℕ → ℕ → List ℕ → Part → Type 0
-FitsAt i end s (Literal span) = IsSpan s span
-FitsAt i end s (Escaped b) = b < 256
-FitsAt i end s (Variable name) = IsSpan s name × IsName (span_bytes name s)
-FitsAt i end s (Default name next) = IsSpan s name × IsName (span_bytes name s) × (i < next) × (next ≤ end)
-
--- a part whose range is in the source, and whose name is one
+-- a part whose range is in the source, and whose name or byte is one
 abbrev pub IsInSource : List ℕ → Part → Type 0
 IsInSource s (Literal span) = IsSpan s span
-IsInSource s (Escaped b) = Unit {0}
+IsInSource s (Escaped b) = b < 256
 IsInSource s (Variable name) = IsSpan s name × IsName (span_bytes name s)
 IsInSource s (Default name next) = IsSpan s name × IsName (span_bytes name s)
+
+-- a part at index i of a list whose jump, if it has one, goes forward, to end at most
+abbrev pub JumpsWithin : ℕ → ℕ → Part → Type 0
+JumpsWithin i end (Default name next) = (i < next) × (next ≤ end)
+JumpsWithin i end part = Unit {0}
+
+-- a part at index i of a list that is in the source, and whose jump is in the list
+abbrev pub FitsAt : ℕ → ℕ → List ℕ → Part → Type 0
+FitsAt i end s part = IsInSource s part × JumpsWithin i end part
 
 -- each part fits, where the first has index i
 abbrev pub AllFit : ℕ → ℕ → List ℕ → List Part → Type 0
@@ -138,9 +139,3 @@ pub record IsTemplateOf (s : List ℕ) (parts : List Part) : Type 0 where
   pub tree : Tree
   pub spells : Spells tree s
   pub mean : PartsMean s 0 parts 0 tree
-
--- the name of a part, if it has one, is a name in the source
-abbrev pub NamesFit : List ℕ → Part → Type 0
-NamesFit s (Variable name) = IsSpan s name × IsName (span_bytes name s)
-NamesFit s (Default name next) = IsSpan s name × IsName (span_bytes name s)
-NamesFit s part = Unit {0}

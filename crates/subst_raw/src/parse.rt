@@ -15,7 +15,7 @@ ghost use Rattle.subst_raw.specs.Packed.{FitsBelow};
 ghost use Rattle.subst_raw.specs.Parsing.{HoldsTemplate};
 ghost use Rattle.subst_raw.specs.Parts.{IsTemplateOf};
 ghost use Rattle.subst_raw.specs.Placeholder.{IsInBraces, IsOptional, StatesBadItem};
-ghost use Rattle.subst_raw.specs.Sink.{since};
+ghost use Rattle.subst_raw.specs.Sink.{HoldsSome, since};
 
 use crate::halt::Halt;
 use crate::item::{Placeholder, escape_at, placeholder_at};
@@ -123,7 +123,7 @@ pub(crate) fn parse_into<S: Sink>(
         → HoldsTemplate (since S.holds first) source.now result.0) }
     ensures err { OnFault halt_fault result.2 (HasFault 0 source.now) }
     ensures held { OnErr result.2 ((first : S.First) → S.holds sink first []
-        → (parts : List Part) × S.holds result.0 first parts) }
+        → HoldsSome S.holds result.0 first) }
     ensures bound { result.1 + 3 * plain ≤ reads + 3 * length source.now + 8 }
     ensures grows { reads ≤ result.1 }
     ensures whole { OnOk result.2 (reads + length source.now ≤ result.1 + plain) }
@@ -136,7 +136,7 @@ pub(crate) fn parse_into<S: Sink>(
 }
 
 impl<'s, S: Sink> Parser<'s, S> {
-    ghost use Rattle.subst_raw.specs.Parsing.{Finishes, Flushes, IsPart, IsReading, IsReadingSince, StepsOrFails, StillHolds};
+    ghost use Rattle.subst_raw.specs.Parsing.{FromReading, IsFlushed, IsPart, IsReading, IsReadingSince, StepsOrFails};
 
     /// Returns a parser that begins at an offset, where the bytes before have no dollar and no backslash.
     fn new(alloc: Global, tape: Tape<'s>, at: usize, sink: S) -> Self
@@ -162,8 +162,10 @@ impl<'s, S: Sink> Parser<'s, S> {
     /// Reads the source to its end, or to its first bad item.
     fn read_to_end(&mut self) -> Result<(), Halt>
         requires reading { IsReadingSince S.holds S.source S.limit self.old }
-        ensures ok { OnOk result (Finishes S.holds S.limit self.old self.new) }
-        ensures held { OnErr result (StillHolds S.holds S.limit self.old self.new) }
+        ensures ok { OnOk result (FromReading S.holds S.limit self.old (λ first.
+            HoldsTemplate (since S.holds first) self.old.tape.source.now self.new.sink)) }
+        ensures held { OnErr result
+            (FromReading S.holds S.limit self.old (HoldsSome S.holds self.new.sink)) }
         ensures err { OnFault halt_fault result (HasFault 0 self.old.tape.source.now) }
         ensures bound { self.new.tape.reads + 3 * self.old.at
             ≤ self.old.tape.reads + 3 * length self.old.tape.source.now + 8 }
@@ -281,8 +283,10 @@ impl<'s, S: Sink> Parser<'s, S> {
         requires { IsReadingSince S.holds S.source S.limit self.old }
         ensures kept { OnOk result
             (self.new ≡ record self.old { sink = self.new.sink; literal_start = self.old.at }) }
-        ensures flushed { OnOk result (Flushes S.holds S.limit self.old self.new) }
-        ensures held { OnErr result (StillHolds S.holds S.limit self.old self.new) }
+        ensures flushed { OnOk result (FromReading S.holds S.limit self.old (λ first.
+            IsFlushed (since S.holds first) self.old self.new)) }
+        ensures held { OnErr result
+            (FromReading S.holds S.limit self.old (HoldsSome S.holds self.new.sink)) }
         ensures same { self.new.tape ≡ self.old.tape }
         ensures some { IfErr result (λ e. 0 < self.old.at) }
     {
@@ -420,8 +424,10 @@ impl<'s, S: Sink> Parser<'s, S> {
     fn finish(&mut self) -> Result<(), Halt>
         requires reading { IsReadingSince S.holds S.source S.limit self.old }
         requires end { length self.old.tape.source.now ≤ self.old.at }
-        ensures ok { OnOk result (Finishes S.holds S.limit self.old self.new) }
-        ensures held { OnErr result (StillHolds S.holds S.limit self.old self.new) }
+        ensures ok { OnOk result (FromReading S.holds S.limit self.old (λ first.
+            HoldsTemplate (since S.holds first) self.old.tape.source.now self.new.sink)) }
+        ensures held { OnErr result
+            (FromReading S.holds S.limit self.old (HoldsSome S.holds self.new.sink)) }
         ensures err { OnFault halt_fault result (HasFault 0 self.old.tape.source.now) }
         ensures same { self.new.tape ≡ self.old.tape }
         ensures some { IfErr result (λ e. 0 < self.old.at) }

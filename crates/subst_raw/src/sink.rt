@@ -1,8 +1,9 @@
 //! What the parser gives the parts of a source to.
 
-ghost use Rattle.std.specs.Prelude.{List, ℕ, IfOk, OnErr, OnOk};
-ghost use Rattle.subst_raw.specs.Sink.{CanClose, CanOpen, CanTake, CanTakeOptional, ClosesDefault, Keeps, Opens, Takes, TakesOptional};
+ghost use Rattle.std.specs.Prelude.{◌+◌, List, ℕ, IfOk, OnErr, OnOk};
+ghost use Rattle.subst_raw.specs.Sink.{Adds, CanClose, CanTake, ClosesDefault, HasLength, IsClosed, Keeps};
 ghost use Rattle.subst_raw.specs.declared.part.Part.{Part};
+ghost use Rattle.subst_raw.specs.declared.part.Part.TheVariants as parts;
 
 use crate::part::{Part, Span};
 use std::alloc::AllocError;
@@ -27,8 +28,9 @@ pub(crate) trait Sink {
     ///
     /// Out of memory. The sink is then as before.
     fn take(&mut self, part: Part) -> Result<(), AllocError>
-        requires { CanTake holds source limit self.old part }
-        ensures taken { OnOk result (Takes holds self.old part self.new) }
+        requires fits { CanTake holds source limit self.old (λ _. part) }
+        requires closed { (index : ℕ) → IsClosed (index + 1) part }
+        ensures taken { OnOk result (Adds holds self.old (λ _. part) self.new) }
         ensures kept { OnErr result (Keeps holds self.old self.new) };
 
     /// Takes the part of an optional variable: a default without parts, whose jump leads to the part right
@@ -38,8 +40,9 @@ pub(crate) trait Sink {
     ///
     /// Out of memory. The sink is then as before.
     fn take_optional(&mut self, name: Span) -> Result<(), AllocError>
-        requires { CanTakeOptional holds source limit self.old name }
-        ensures taken { OnOk result (TakesOptional holds self.old name self.new) }
+        requires { CanTake holds source limit self.old (λ index. parts.Default name (index + 1)) }
+        ensures taken { OnOk result
+            (Adds holds self.old (λ index. parts.Default name (index + 1)) self.new) }
         ensures kept { OnErr result (Keeps holds self.old self.new) };
 
     /// Takes the part of a default that opens, and returns its index.
@@ -48,8 +51,9 @@ pub(crate) trait Sink {
     ///
     /// Out of memory. The sink is then as before.
     fn open(&mut self, name: Span) -> Result<usize, AllocError>
-        requires { CanOpen holds source limit self.old name }
-        ensures opened { IfOk result (λ index. Opens holds self.old name index self.new) }
+        requires { CanTake holds source limit self.old (λ _. parts.Default name 0) }
+        ensures taken { OnOk result (Adds holds self.old (λ _. parts.Default name 0) self.new) }
+        ensures index { IfOk result (λ index. HasLength holds self.old index) }
         ensures kept { OnErr result (Keeps holds self.old self.new) };
 
     /// Closes the innermost default that is open, whose part has this index and this name: its parts end

@@ -12,7 +12,7 @@ ghost use Rattle.subst_language.specs.Calls.VariableMap.{ByNames};
 ghost use Rattle.subst_language.specs.Calls.Variables.{kind_of, missing_fault, missing_range, variable_of};
 ghost use Rattle.subst_language.specs.Calls.Variables.{variable_range};
 ghost use Rattle.subst_raw.specs.Packed.{unpacked_parts};
-ghost use Rattle.subst_raw.specs.Parts.{AllFit, IsTemplateOf, NamesFit};
+ghost use Rattle.subst_raw.specs.Parts.{AllFit, IsInSource, IsTemplateOf};
 ghost use Rattle.subst_raw.specs.Parts.{part_missing, part_variables, parts_missing, variables_in};
 ghost use Rattle.subst_raw.specs.Parts as parts;
 
@@ -71,7 +71,7 @@ fn variables_of<'s, O: Offset>(
 
 /// Returns the variable of a part, if it has one.
 fn variable_at(source: &[u8], part: Part) -> Option<Variable<'_>>
-    requires { NamesFit source.now part }
+    requires { IsInSource source.now part }
     ensures { MatchOption result (part_variables part source.now ≡ [])
         (λ variable. part_variables part source.now ≡ variable_of variable ∷ []) }
 {
@@ -165,7 +165,7 @@ fn missing_at<'a, M: VariableMap<'a>>(
 ) -> Result<Option<NoSuchVariable>, AllocError>
 where
     M::Value: Drop,
-    requires { NamesFit source.now part }
+    requires { IsInSource source.now part }
     ensures { ByNames (M.look_up variables.now) (λ look. IfOk result (λ missing.
         map missing_fault (option_to_list missing) ≡ part_missing part source.now look)) }
 {
@@ -189,7 +189,7 @@ fn next_index<'a, M: VariableMap<'a>>(
 ) -> usize
 where
     M::Value: Drop,
-    requires { NamesFit source.now part }
+    requires { IsInSource source.now part }
     ensures { ByNames (M.look_up variables.now)
         (λ look. result ≡ parts.next_index part source.now look after) }
 {

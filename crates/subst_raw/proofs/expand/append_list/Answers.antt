@@ -1,7 +1,7 @@
 -- Each part is read at its index, and what it gives is appended.
 use Rattle.std.proofs.Common.{arith, refl, ◌∙◌}
 use Rattle.std.proofs.lemmas.Result.{err_from_is_err_and}
-use Rattle.subst_raw.proofs.ExpandLemmas.{part_here, none_here, fits_there, in_source, goes_within}
+use Rattle.subst_raw.proofs.ExpandLemmas.{part_here, none_here, fits_there, goes_within}
 use Rattle.subst_raw.proofs.LoopLemmas.{visits_none, visits_next, visits_all, visits_until}
 use Rattle.subst_raw.proofs.expand.append_list.Goals as goal
 
@@ -11,14 +11,14 @@ loop-part-init g c = record { same = refl; within = omega arith; visited = visit
 pub append_part-requires : goal.append_part-requires
 append_part-requires g c =
     let here = part_here c.in-Some.ensures.part c.loop-part.invariant.same refl in
-    λ κs. ((refl, tt), in_source _ _ _ c.in-Some.part (fits_there _ _ c.requires here))
+    λ κs. ((refl, tt), (fits_there _ _ c.requires here).0)
 
 pub loop-part-preserved : goal.loop-part-preserved
 loop-part-preserved g c =
     let here = part_here c.in-Some.ensures.part c.loop-part.invariant.same refl in
     let fits = fits_there _ _ c.requires here in
     let jumps = c.in_ok-jump.ensures.jump in
-    let next = goes_within (g.M.VariableMap.look_up c.args.variables.now) _ c.in-Some.part fits here.below
+    let next = goes_within (g.M.VariableMap.look_up c.args.variables.now) _ c.in-Some.part fits.1 here.below
     jumps c.unwrap_or-at.ensures in
     record {
       same = c.in-Some.ensures.same ∙ c.loop-part.invariant.same;
@@ -33,7 +33,7 @@ loop-part-smaller g c =
     let here = part_here c.in-Some.ensures.part c.loop-part.invariant.same refl in
     let fits = fits_there _ _ c.requires here in
     let jumps = c.in_ok-jump.ensures.jump in
-    let next = goes_within (g.M.VariableMap.look_up c.args.variables.now) _ c.in-Some.part fits here.below
+    let next = goes_within (g.M.VariableMap.look_up c.args.variables.now) _ c.in-Some.part fits.1 here.below
     jumps c.unwrap_or-at.ensures in
     omega (arith, next.0, here.below)
 

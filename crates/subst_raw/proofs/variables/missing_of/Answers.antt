@@ -6,7 +6,7 @@ use Rattle.subst_raw.specs.Filled.{marks_of}
 use Rattle.subst_raw.proofs.ExpandLemmas.{fits_there, next_within}
 use Rattle.subst_raw.proofs.PackedLemmas.{unpacked_read}
 use Rattle.subst_raw.proofs.ListedLemmas.{marks_by_names}
-use Rattle.subst_raw.proofs.VariablesLemmas.{lists_next, names_fit}
+use Rattle.subst_raw.proofs.VariablesLemmas.{lists_next}
 use Rattle.subst_raw.proofs.variables.missing_of.Goals.{in-Some-2+in_ok-push, in_default-2}
 use Rattle.subst_raw.proofs.variables.missing_of.Goals as goal
 
@@ -14,13 +14,13 @@ pub missing_at-requires : goal.missing_at-requires
 missing_at-requires g c κs =
     let here = unpacked_read g.O.Offset.value c.args.packed.now c.in-Some.part.now
     c.in-Some.ensures.lookup.0 c.in-Some.ensures.lookup.1 c.unpack-part.ensures refl in
-    ((refl, tt), names_fit _ _ _ c.unpack-part.result (fits_there _ _ c.requires here))
+    ((refl, tt), (fits_there _ _ c.requires here).0)
 
 pub next_index-at-requires : goal.next_index-at-requires
 next_index-at-requires g c κs =
     let here = unpacked_read g.O.Offset.value c.args.packed.now c.in-Some.part.now
     c.in-Some.ensures.lookup.0 c.in-Some.ensures.lookup.1 c.unpack-part.ensures refl in
-    ((refl, tt), names_fit _ _ _ c.unpack-part.result (fits_there _ _ c.requires here))
+    ((refl, tt), (fits_there _ _ c.requires here).0)
 
 pub loop-part-smaller : goal.loop-part-smaller
 loop-part-smaller g c =
@@ -29,7 +29,7 @@ loop-part-smaller g c =
     let here = unpacked_read g.O.Offset.value c.args.packed.now c.in-Some.part.now
     c.in-Some.ensures.lookup.0 c.in-Some.ensures.lookup.1 c.unpack-part.ensures refl in
     let fits = fits_there _ _ c.requires here in
-    let next = next_within c.args.source.now look c.unpack-part.result fits here.below in
+    let next = next_within c.args.source.now look c.unpack-part.result fits.1 here.below in
     let is = c.next_index-at.ensures look (marks_by_names look_up) in
     let long = length-map c.args.packed.now (unpacked g.O.Offset.value) in
     omega (arith, next.0, is, here.below, long)
@@ -41,7 +41,7 @@ loop-part-preserved g c =
     let here = unpacked_read g.O.Offset.value c.args.packed.now c.in-Some.part.now
     c.in-Some.ensures.lookup.0 c.in-Some.ensures.lookup.1 c.unpack-part.ensures refl in
     let fits = fits_there _ _ c.requires here in
-    let next = next_within c.args.source.now (marks_of look_up) part fits here.below in
+    let next = next_within c.args.source.now (marks_of look_up) part fits.1 here.below in
     let is = c.next_index-at.ensures (marks_of look_up) (marks_by_names look_up) in
     let these = option_to_list c.in_ok-missing.field-0 in
     let grown : c.match-branch-2.list.items ≡ c.loop-part.list.items ++ these =

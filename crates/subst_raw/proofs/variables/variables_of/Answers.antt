@@ -1,7 +1,7 @@
 -- Each part is read at its index, and its variable is listed.
 use Rattle.subst_raw.proofs.ExpandLemmas.{fits_there}
 use Rattle.subst_raw.proofs.PackedLemmas.{unpacked_at}
-use Rattle.subst_raw.proofs.VariablesLemmas.{names_fit, tells_on, tells_more}
+use Rattle.subst_raw.proofs.VariablesLemmas.{tells_on, tells_more}
 use Rattle.subst_raw.proofs.variables.variables_of.Goals.{in-Some+in_ok-push, in_default}
 use Rattle.subst_raw.proofs.variables.variables_of.Goals as goal
 
@@ -9,7 +9,7 @@ pub variable_at-requires : goal.variable_at-requires
 variable_at-requires g c =
     let here = unpacked_at g.O.Offset.value c.args.packed.now c.part-item.result c.loop-part-test.true
     c.part-item.is c.unpack.ensures in
-    names_fit _ _ _ c.unpack.result (fits_there _ _ c.requires here)
+    (fits_there _ _ c.requires here).0
 
 pub loop-part-preserved : goal.loop-part-preserved
 loop-part-preserved g c =

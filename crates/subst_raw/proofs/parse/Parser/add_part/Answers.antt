@@ -1,14 +1,19 @@
-use Rattle.std.proofs.Common.{length}
+use Rattle.std.proofs.Common.{[], ◌∷◌, length}
 use Rattle.std.proofs.lemmas.Result.{err_from_is_err_and}
+use Rattle.subst_raw.proofs.PartsLemmas.{closed_of_fit}
 use Rattle.subst_raw.proofs.ParserLemmas.{part_fits, reading_added, stepped}
 use Rattle.subst_raw.proofs.parse.Parser.add_part.Goals as goal
 
-pub take-requires : goal.take-requires
-take-requires g c =
+pub take-requires-clause-fits : goal.take-requires-clause-fits
+take-requires-clause-fits g c =
     let (first, known, reading) = c.requires.reading in
     let given = c.in_ok-flush_literal.ensures.flushed first reading in
     part_fits c.args.self.now c.flush_literal.new.self c.args.part c.args.end first known reading given
     c.requires.fits (c.requires.part (length given.parts)) c.requires.within c.requires.forward
+
+pub take-requires-clause-closed : goal.take-requires-clause-closed
+take-requires-clause-closed g c index =
+    (closed_of_fit _ _ c.args.self.now.tape.source.now (c.args.part ∷ []) (c.requires.part index).mean.fit).0
 
 pub returns-clause-answer : goal.returns-clause-answer
 returns-clause-answer g c = stepped _ _ c.requires.reading.0 c.requires.reading.2 (λ first reading.

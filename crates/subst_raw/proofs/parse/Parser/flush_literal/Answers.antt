@@ -2,8 +2,8 @@ use Rattle.subst_raw.proofs.ParserLemmas.{flushed_some, flushed_none, literal_fi
 use Rattle.subst_raw.proofs.parse.Parser.flush_literal.Goals as goal
 use Rattle.subst_raw.proofs.parse.Parser.flush_literal.Goals.{then-self+in_ok-take, else-self}
 
-pub take-requires : goal.take-requires
-take-requires g c =
+pub take-requires-clause-fits : goal.take-requires-clause-fits
+take-requires-clause-fits g c =
     let (first, known, reading) = c.requires in
     literal_fits c.args.self.now first known reading c.if-self.true
 

@@ -14,9 +14,9 @@ open-requires g c =
 pub returns-clause-answer : goal.returns-clause-answer
 returns-clause-answer g c = stepped _ _ c.requires.reading.0 c.requires.reading.2 (λ first reading.
     let given = c.in_ok-flush_literal.ensures.flushed first reading in
-    let opens = c.in_ok-part.ensures.opened first given.parts given.held in
     reading_opened c.args.self.now c.flush_literal.new.self _ c.push.new.self c.args.name
-    c.in_ok-part.part reading given c.requires.head opens.0 opens.1 c.in_ok-push.ensures.items)
+    c.in_ok-part.part reading given c.requires.head (c.in_ok-part.ensures.index first given.parts given.held)
+    (c.in_ok-part.ensures.taken first given.parts given.held) c.in_ok-push.ensures.items)
 
 pub overflow_add-self : goal.overflow_add-self
 overflow_add-self g c =
@@ -62,6 +62,5 @@ returns-in_err-push-clause-answer g c =
       tt,
       λ first reading.
           let given = c.in_ok-flush_literal.ensures.flushed first reading in
-          let opens = c.in_ok-part.ensures.opened first given.parts given.held in
-          (_, opens.1),
+          (_, c.in_ok-part.ensures.taken first given.parts given.held),
     )
