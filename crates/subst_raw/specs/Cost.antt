@@ -1,13 +1,25 @@
 -- What reading adds to the count of reads.
-use Rattle.std.specs.Prelude.{ℕ, ◌+◌, ◌-◌, ◌*◌, ◌≤◌, length, Result, Ok, Err}
+use Rattle.std.specs.Prelude.{◌≡◌, ℕ, ◌+◌, ◌-◌, ◌*◌, ◌≤◌, length, drop, min, Result, Ok, Err}
+use Rattle.subst_language.specs.Language.Name.{BeginsWithNo}
+use Rattle.subst_raw.specs.ByteRun.{IsRun}
 use Rattle.subst_raw.specs.declared.halt.Halt.{Halt}
 use Rattle.subst_raw.specs.declared.item.Placeholder.{Placeholder}
 use Rattle.subst_raw.specs.declared.item.Placeholder.TheVariants.{Short, Braced, Optional, Default}
 use Rattle.subst_raw.specs.declared.parse.Parser.{Parser}
+use Rattle.subst_raw.specs.declared.tape.Tape.{Tape}
 
 -- a count goes from old to new, by at least low and at most high
 abbrev pub GrowsBetween : (low high old new : ℕ) → Type 0
 GrowsBetween low high old new = (old + low ≤ new) × (new ≤ old + high)
+
+-- The run of such bytes from one position on ends at another one. It was read up to there, and the byte there
+-- too, if there is one.
+pub record FindsEnd (P : ℕ → Type 0) (before : Tape) (from to : ℕ) (after : Tape) : Type 0 where
+  pub run : IsRun P before.source.now from to
+  pub end : BeginsWithNo P (drop to before.source.now)
+  pub within : to ≤ length before.source.now
+  pub same : after.source ≡ before.source
+  pub cost : after.reads + from ≡ before.reads + min (to + 1) (length before.source.now)
 
 -- where the name in a placeholder ends, with its question mark
 abbrev pub end_of_name : Placeholder → ℕ

@@ -2,16 +2,16 @@
 //! appends the value of the parts under the map's look-up, or stops at a missing variable or a full output,
 //! and counts its turns. Of any map, contracts say what is around the values, and which variable is missing.
 
-ghost use Rattle.std.specs.Prelude.{◌≡◌, ◌≤◌, ◌<◌, ◌+◌, ◌^◌, ◌++◌, length, Err, IfErr, IfOk, IfSome, OnErr, OnOk};
+ghost use Rattle.std.specs.Prelude.{◌≡◌, ◌≤◌, ◌<◌, ◌+◌, ◌^◌, ◌++◌, length, Err, IfErr, IfOk, IfSome, OnOk};
 ghost use Rattle.std.specs.Prelude.{vec_capacity, vec_len};
 ghost use Rattle.subst_error.specs.ErrorFault.{expand_fault, expand_into_fault};
 ghost use Rattle.subst_language.specs.Language.Answer.{IsMissing};
 ghost use Rattle.subst_language.specs.Language.Name.{IsName};
-ghost use Rattle.subst_language.specs.Language.Value.{Bytes, Missing};
 ghost use Rattle.subst_language.specs.Calls.VariableMap.{ByLookUp};
-ghost use Rattle.subst_language.specs.Calls.Outcome.{Expands, ExpandsInto, ExpandsIntoSlice, OnOutOfMemory};
+ghost use Rattle.subst_language.specs.Calls.Outcome.{Expands, ExpandsIntoSlice, OnOutOfMemory};
 ghost use Rattle.subst_raw.specs.Context.{context_of};
-ghost use Rattle.subst_raw.specs.Output.{AppendsFilled, IfMissing, fault_of};
+ghost use Rattle.subst_raw.specs.Expansion.{ExpandsParts};
+ghost use Rattle.subst_raw.specs.Output.{IfMissing, fault_of};
 ghost use Rattle.subst_raw.specs.Span.{IsSpan, span_bytes};
 ghost use Rattle.subst_raw.specs.Packed.{unpacked_parts};
 ghost use Rattle.subst_raw.specs.Parts.{AllFit, parts_value, parts_written, visited_parts};
@@ -110,15 +110,9 @@ pub fn expand_into<'s, 'a, M: VariableMap<'a>, R: ReadValue<M::Value>>(
 where
     M::Value: Drop,
     requires { AllFit 0 (length parts.now) source.now parts.now }
-    ensures value { ByLookUp R.read M.see (M.look_up variables.now)
-        (λ look. ExpandsInto output.old.items result output.new.items
-        (parts_value parts.now source.now look)) }
-    ensures kept { OnErr result (output.new.items ≡ output.old.items) }
-
-    // Out of memory only with cause: the room is shorter than what is written.
-    ensures full { ByLookUp R.read M.see (M.look_up variables.now)
-        (λ look. OnOutOfMemory expand_into_fault result (vec_capacity output.old
-        < vec_len output.old + length (parts_written parts.now source.now look))) }
+    ensures expands { let before = output.old in ExpandsParts R.read R.is_read M.see
+        (M.look_up variables.now) source.now parts.now before.items output.new.items
+        (vec_capacity before) (vec_len before) result }
     ensures capacity { vec_capacity output.old ≤ vec_capacity output.new }
     ensures counted { ByLookUp R.read M.see (M.look_up variables.now)
         (λ look. OnOk result
@@ -126,11 +120,6 @@ where
     ensures at_most { ByLookUp R.read M.see (M.look_up variables.now)
         (λ look. turns.new ≤ turns.old + length (visited_parts parts.now 0 0 source.now look)) }
     ensures grown { turns.old ≤ turns.new }
-    ensures filled { OnOk result (AppendsFilled R.is_read
-        (parts_value parts.now source.now (marks_of (M.look_up variables.now)))
-        output.old.items output.new.items) }
-    ensures missing { IfErr result (λ e. IfSome (expand_into_fault e)
-        (IsMissing (parts_value parts.now source.now (marks_of (M.look_up variables.now))))) }
 {
     let len = output.len();
     match append::<M, R, Vec<u8>>(source, parts, variables, turns, output) {

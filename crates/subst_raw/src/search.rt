@@ -4,8 +4,7 @@ ghost use Rattle.std.specs.Prelude.{◌≡◌, ◌≢◌, ◌+◌, ◌<◌, ◌�
 ghost use Rattle.std.specs.Int.{bit_at};
 ghost use Rattle.std.specs.List.{All};
 ghost use Rattle.subst_language.specs.Language.Bytes.{IsPlain};
-ghost use Rattle.subst_language.specs.Language.Name.{BeginsWithNo};
-ghost use Rattle.subst_raw.specs.ByteRun.{IsRun};
+ghost use Rattle.subst_raw.specs.ByteRun.{EndsRun, EndsRunBefore, IsRun};
 ghost use Rattle.subst_raw.specs.Inner.{IsInner};
 ghost use Rattle.subst_raw.specs.Lanes.{HasBytes, HasTest, MarksOutside};
 
@@ -27,9 +26,7 @@ pub(crate) trait SearchedClass: ByteClass {
     /// Returns the first offset from `from` on of a byte that isn't in the class, or the end of the source.
     fn end_from(source: &[u8], from: usize) -> usize
         requires { from ≤ length source.now }
-        ensures run { IsRun Self.is_in source.now from result }
-        ensures end { BeginsWithNo Self.is_in (drop result source.now) }
-        ensures within { result ≤ length source.now };
+        ensures { EndsRun Self.is_in source.now from result };
 }
 
 impl SearchedClass for PlainBytes {
@@ -63,9 +60,7 @@ pub fn plain_len(source: &[u8]) -> usize
 #[inline(always)]
 fn end_of_plain(source: &[u8], from: usize) -> usize
     requires { from ≤ length source.now }
-    ensures run { IsRun IsPlain source.now from result }
-    ensures end { BeginsWithNo IsPlain (drop result source.now) }
-    ensures within { result ≤ length source.now }
+    ensures { EndsRun IsPlain source.now from result }
 {
     let near = source.len().min(from + NEAR);
     let end = end_of_run::<PlainBytes>(source, from, near);
@@ -79,9 +74,7 @@ fn end_of_plain(source: &[u8], from: usize) -> usize
 #[inline(never)]
 fn end_of_far(source: &[u8], from: usize) -> usize
     requires { from ≤ length source.now }
-    ensures run { IsRun IsPlain source.now from result }
-    ensures end { BeginsWithNo IsPlain (drop result source.now) }
-    ensures within { result ≤ length source.now }
+    ensures { EndsRun IsPlain source.now from result }
 {
     match memchr2(b'$', b'\\', rest(source, from)) {
         Some(found) => from + found,
@@ -93,9 +86,7 @@ fn end_of_far(source: &[u8], from: usize) -> usize
 #[inline(always)]
 fn end_of_inner(source: &[u8], from: usize) -> usize
     requires { from ≤ length source.now }
-    ensures run { IsRun IsInner source.now from result }
-    ensures end { BeginsWithNo IsInner (drop result source.now) }
-    ensures within { result ≤ length source.now }
+    ensures { EndsRun IsInner source.now from result }
 {
     let few = source.len().min(from + FEW);
     let end = end_of_few::<InnerBytes>(source, from, few);
@@ -110,9 +101,7 @@ fn end_of_inner(source: &[u8], from: usize) -> usize
 fn end_of_run<C: VectorClass>(source: &[u8], from: usize, to: usize) -> usize
     requires ordered { from ≤ to }
     requires within { to ≤ length source.now }
-    ensures run { IsRun C.is_in source.now from result }
-    ensures end { result < to → BeginsWithNo C.is_in (drop result source.now) }
-    ensures before { result ≤ to }
+    ensures { EndsRunBefore C.is_in source.now from to result }
 {
     let mut at = from;
     while WIDTH <= to - at {
@@ -132,9 +121,7 @@ fn end_of_last<C: VectorClass>(source: &[u8], from: usize, to: usize) -> usize
     requires ordered { from ≤ to }
     requires few { to < from + 32 }
     requires within { to ≤ length source.now }
-    ensures run { IsRun C.is_in source.now from result }
-    ensures end { result < to → BeginsWithNo C.is_in (drop result source.now) }
-    ensures before { result ≤ to }
+    ensures { EndsRunBefore C.is_in source.now from to result }
 {
     if to < WIDTH {
         return end_of_few::<C>(source, from, to);
@@ -152,9 +139,7 @@ fn end_of_last<C: VectorClass>(source: &[u8], from: usize, to: usize) -> usize
 fn end_of_few<C: ByteClass>(source: &[u8], from: usize, to: usize) -> usize
     requires ordered { from ≤ to }
     requires within { to ≤ length source.now }
-    ensures run { IsRun C.is_in source.now from result }
-    ensures end { result < to → BeginsWithNo C.is_in (drop result source.now) }
-    ensures before { result ≤ to }
+    ensures { EndsRunBefore C.is_in source.now from to result }
 {
     let mut at = from;
     while at < to && C::has(source[at]) {

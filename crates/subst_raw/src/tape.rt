@@ -7,6 +7,7 @@ ghost use Rattle.subst_language.specs.Language.Bytes.{IsPlain};
 ghost use Rattle.subst_language.specs.Language.Name.{IsNameByte, BeginsWithNo};
 ghost use Rattle.subst_language.specs.Language.Character.{IsFrontCharacter};
 ghost use Rattle.subst_raw.specs.ByteRun.{IsRun};
+ghost use Rattle.subst_raw.specs.Cost.{FindsEnd};
 ghost use Rattle.subst_raw.specs.Inner.{IsInner};
 
 use crate::byte_class::{ByteClass, InnerBytes, NameBytes, PlainBytes};
@@ -64,12 +65,7 @@ impl<'s> Tape<'s> {
     #[inline(always)]
     pub fn plain_end(&mut self, from: usize) -> usize
         requires { from < length self.old.source.now }
-        ensures run { IsRun IsPlain self.old.source.now from result }
-        ensures end { BeginsWithNo IsPlain (drop result self.old.source.now) }
-        ensures within { result ≤ length self.old.source.now }
-        ensures same { self.new.source ≡ self.old.source }
-        ensures cost { self.new.reads + from
-            ≡ self.old.reads + min (result + 1) (length self.old.source.now) }
+        ensures { FindsEnd IsPlain self.old from result self.new }
     {
         self.searched_end::<PlainBytes>(from)
     }
@@ -78,12 +74,7 @@ impl<'s> Tape<'s> {
     #[inline(always)]
     pub fn name_end(&mut self, from: usize) -> usize
         requires { from ≤ length self.old.source.now }
-        ensures run { IsRun IsNameByte self.old.source.now from result }
-        ensures end { BeginsWithNo IsNameByte (drop result self.old.source.now) }
-        ensures within { result ≤ length self.old.source.now }
-        ensures same { self.new.source ≡ self.old.source }
-        ensures cost { self.new.reads + from
-            ≡ self.old.reads + min (result + 1) (length self.old.source.now) }
+        ensures { FindsEnd IsNameByte self.old from result self.new }
     {
         self.end_of_run::<NameBytes>(from)
     }
@@ -92,12 +83,7 @@ impl<'s> Tape<'s> {
     #[inline(always)]
     pub fn inner_end(&mut self, from: usize) -> usize
         requires { from < length self.old.source.now }
-        ensures run { IsRun IsInner self.old.source.now from result }
-        ensures end { BeginsWithNo IsInner (drop result self.old.source.now) }
-        ensures within { result ≤ length self.old.source.now }
-        ensures same { self.new.source ≡ self.old.source }
-        ensures cost { self.new.reads + from
-            ≡ self.old.reads + min (result + 1) (length self.old.source.now) }
+        ensures { FindsEnd IsInner self.old from result self.new }
     {
         self.searched_end::<InnerBytes>(from)
     }
@@ -108,12 +94,7 @@ impl<'s> Tape<'s> {
     #[inline(always)]
     fn searched_end<C: SearchedClass>(&mut self, from: usize) -> usize
         requires { from < length self.old.source.now }
-        ensures run { IsRun C.is_in self.old.source.now from result }
-        ensures end { BeginsWithNo C.is_in (drop result self.old.source.now) }
-        ensures within { result ≤ length self.old.source.now }
-        ensures same { self.new.source ≡ self.old.source }
-        ensures cost { self.new.reads + from
-            ≡ self.old.reads + min (result + 1) (length self.old.source.now) }
+        ensures { FindsEnd C.is_in self.old from result self.new }
     {
         if !self.is_at::<C>(from) {
             return from;
@@ -129,12 +110,7 @@ impl<'s> Tape<'s> {
     #[inline(never)]
     fn search<C: SearchedClass>(&mut self, from: usize) -> usize
         requires { from ≤ length self.old.source.now }
-        ensures run { IsRun C.is_in self.old.source.now from result }
-        ensures end { BeginsWithNo C.is_in (drop result self.old.source.now) }
-        ensures within { result ≤ length self.old.source.now }
-        ensures same { self.new.source ≡ self.old.source }
-        ensures cost { self.new.reads + from
-            ≡ self.old.reads + min (result + 1) (length self.old.source.now) }
+        ensures { FindsEnd C.is_in self.old from result self.new }
     {
         let end = C::end_from(self.source, from);
         self.reads.add((end + 1).min(self.source.len()) - from);
@@ -146,12 +122,7 @@ impl<'s> Tape<'s> {
     #[inline(always)]
     fn end_of_run<C: ByteClass>(&mut self, from: usize) -> usize
         requires { from ≤ length self.old.source.now }
-        ensures run { IsRun C.is_in self.old.source.now from result }
-        ensures end { BeginsWithNo C.is_in (drop result self.old.source.now) }
-        ensures within { result ≤ length self.old.source.now }
-        ensures same { self.new.source ≡ self.old.source }
-        ensures cost { self.new.reads + from
-            ≡ self.old.reads + min (result + 1) (length self.old.source.now) }
+        ensures { FindsEnd C.is_in self.old from result self.new }
     {
         let mut at = from;
         while self.has(at + 1) {

@@ -21,7 +21,7 @@ text_of-requires g c =
     let is = subst IsUtf8 (sym c.as_bytes-source.ensures.value) c.utf8.source in
     text_after c.as_bytes-source.result.now c.args.parts.now look_up c.expand_into-outcome.result
     (rw c.as_bytes-source.ensures.value c.requires) is first
-    c.expand_into-outcome.ensures.kept c.expand_into-outcome.ensures.filled
+    c.expand_into-outcome.ensures.expands.kept c.expand_into-outcome.ensures.expands.filled
 
 pub returns-clause-value : goal.returns-clause-value
 returns-clause-value g c bytes reads t spells =
@@ -34,12 +34,12 @@ returns-clause-value g c bytes reads t spells =
       c.text_of.ensures.room,
       ← gives,
       ← same,
-    ) (c.expand_into-outcome.ensures.value bytes reads)
+    ) (c.expand_into-outcome.ensures.expands.value bytes reads)
 
 pub returns-clause-kept : goal.returns-clause-kept
 returns-clause-kept g c =
     rw (← c.replace.ensures.value, ← c.into_bytes-bytes.ensures.value, c.text_of.ensures.room)
-    c.expand_into-outcome.ensures.kept
+    c.expand_into-outcome.ensures.expands.kept
 
 pub returns-clause-full : goal.returns-clause-full
 returns-clause-full g c bytes reads t spells =
@@ -47,7 +47,7 @@ returns-clause-full g c bytes reads t spells =
     let same = ap (λ s. parts_written c.args.parts.now s look) c.as_bytes-source.ensures.value in
     let writes = template_written c.args.source.now c.args.parts.now t look c.requires spells in
     rw (← c.replace.ensures.value, ← c.into_bytes-bytes.ensures.value, ← writes, ← same)
-    (c.expand_into-outcome.ensures.full bytes reads)
+    (c.expand_into-outcome.ensures.expands.full bytes reads)
 
 pub returns-clause-missing : goal.returns-clause-missing
 returns-clause-missing g c =
@@ -55,7 +55,7 @@ returns-clause-missing g c =
     λ look names t spells.
     errors_missing expand_into_fault c.args.source.now c.args.parts.now t look_up
     c.expand_into-outcome.result c.requires spells
-    (rw (sym c.as_bytes-source.ensures.value) c.expand_into-outcome.ensures.missing) look names
+    (rw (sym c.as_bytes-source.ensures.value) c.expand_into-outcome.ensures.expands.missing) look names
 
 pub returns-clause-range : goal.returns-clause-range
 returns-clause-range g c =
@@ -66,4 +66,4 @@ returns-clause-range g c =
     c.utf8.source c.requires.spells
     (subst (λ v. IfSome (expand_into_fault e) (IsMissing v)) (same ∙ c.requires.mean.same_value look)
     missing))
-    c.expand_into-outcome.ensures.missing
+    c.expand_into-outcome.ensures.expands.missing

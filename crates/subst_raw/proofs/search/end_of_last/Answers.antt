@@ -2,9 +2,13 @@ use Rattle.std.proofs.Common.{arith}
 use Rattle.subst_raw.proofs.LaneLemmas.{run_to_lowest, run_unmarked}
 use Rattle.subst_raw.proofs.search.end_of_last.Goals as goal
 
-pub returns-then-marked-eq0-clause-run : goal.returns-then-marked-eq0-clause-run
-returns-then-marked-eq0-clause-run g c =
-    run_unmarked c.outside_before-marked.ensures c.requires.ordered c.requires.within c.if-marked-eq0.true
+pub returns-then-marked-eq0 : goal.returns-then-marked-eq0
+returns-then-marked-eq0 g c = record {
+  run =
+      run_unmarked c.outside_before-marked.ensures c.requires.ordered c.requires.within c.if-marked-eq0.true;
+  end = λ before. absurd (omega (arith, before));
+  before = omega arith;
+}
 
 pub returns-else-marked-eq0 : goal.returns-else-marked-eq0
 returns-else-marked-eq0 g c =

@@ -20,5 +20,7 @@ loop-at-preserved g c = record {
   before = omega arith;
 }
 
-pub returns-clause-run : goal.returns-clause-run
-returns-clause-run g c = run_append c.loop-at.invariant.run c.end_of_last.ensures.run
+pub returns : goal.returns
+returns g c =
+    let last = c.end_of_last.ensures in
+    record { run = run_append c.loop-at.invariant.run last.run; end = last.end; before = last.before }

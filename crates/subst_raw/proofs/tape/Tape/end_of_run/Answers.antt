@@ -1,12 +1,19 @@
-use Rattle.std.proofs.Common.{◌+◌, ◌<◌, length, ◌∙◌, subst, arith}
+use Rattle.std.proofs.Common.{rules, ◌+◌, ◌<◌, length, ◌∙◌, subst, arith}
+use Rattle.std.proofs.lemmas.Grind.{common_steps}
 use Rattle.subst_raw.specs.ByteRun.{IsRun}
 use Rattle.subst_raw.proofs.ByteRunLemmas.{run_append}
 use Rattle.subst_raw.proofs.tape.Tape.end_of_run.Goals as goal
 
-pub returns-then-not-is_at-2-clause-run : goal.returns-then-not-is_at-2-clause-run
-returns-then-not-is_at-2-clause-run g c =
+pub returns-then-not-is_at-2 : goal.returns-then-not-is_at-2
+returns-then-not-is_at-2 g c =
     let before = c.loop-self.invariant in
-    run_append before.run (rw before.same at (c.is_at.ensures.run c.if-not-is_at.false))
+    record {
+      run = run_append before.run (rw before.same at (c.is_at.ensures.run c.if-not-is_at.false));
+      end = grind (arith, common_steps);
+      within = grind (arith, common_steps);
+      same = search rules;
+      cost = grind (arith, common_steps);
+    }
 
 pub loop-self-preserved : goal.loop-self-preserved
 loop-self-preserved g c =
