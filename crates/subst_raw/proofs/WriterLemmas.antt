@@ -2,11 +2,12 @@
 use Rattle.std.proofs.Common.{◌≡◌, ◌≤◌, ◌<◌, ℕ, ◌+◌, ◌⊎◌, Bool, true, false, List, [], ◌∷◌, ◌++◌, length, Option, Some, None, IfSome, is_some, inl, inr, append-nil, append_assoc, length-append, refl, sym, ap, ◌∙◌, subst, arith}
 use Rattle.std.proofs.lemmas.Bool.{false≢true}
 use Rattle.std.specs.Option.{option_map}
+use Rattle.subst_language.proofs.Language.ListLemmas.{each_parts, each_weaker}
 use Rattle.subst_raw.specs.Sink.{IsClosed, AllClosed}
 use Rattle.subst_raw.specs.Output.{Appended}
 use Rattle.subst_raw.specs.Span.{span_bytes}
 use Rattle.subst_raw.specs.Parts.{resume_index, visited_parts}
-use Rattle.subst_raw.specs.Context.{Context, WritesPart, StopsAtPart}
+use Rattle.subst_raw.specs.Context.{Context, WritesPart, StopsAtPart, jump_of}
 use Rattle.subst_raw.specs.Writer.{AtFirst, HoldsParts}
 use Rattle.subst_raw.specs.Writing.{IsSettled, AllSettled, WritesParts, StopsInParts, IsWriting, IsJumping, HasStopped, HasWritten, PartWritten, WritesOn}
 use Rattle.subst_raw.specs.declared.expand.Stop.{Stop}
@@ -59,27 +60,23 @@ where_is (x ∷ xs) ys (y ∷ zs) z ws same =
 -- a part among closed ones is closed
 closed_at : (end : ℕ) (xs : List Part) (part : Part) (rest : List Part) → AllClosed end (xs ++ part ∷ rest)
     → IsClosed end part
-closed_at end [] part rest closed = closed.0
-closed_at end (x ∷ xs) part rest closed = closed_at end xs part rest closed.1
+closed_at end xs part rest closed = (each_parts (IsClosed end) xs (part ∷ rest) closed).1.0
 
 -- so an open default isn't among them
 none_open : (end : ℕ) (xs : List Part) (name : Span) (rest : List Part)
     → AllClosed end (xs ++ Default name 0 ∷ rest) → ⊥
 none_open end xs name rest closed = omega (arith, (closed_at end xs (Default name 0) rest closed).0)
 
--- closed parts are settled
-settled_closed : {Seen : Type 0} (look_up : List ℕ → Option Seen) (s : List ℕ) (end : ℕ) (parts : List Part)
-    → AllClosed end parts → AllSettled look_up s end parts
-settled_closed look_up s end [] closed = tt
-settled_closed look_up s end (Literal span ∷ rest) closed = (tt, settled_closed look_up s end rest closed.1)
-settled_closed look_up s end (Escaped b ∷ rest) closed = (tt, settled_closed look_up s end rest closed.1)
-settled_closed look_up s end (Variable name ∷ rest) closed =
-    (tt, settled_closed look_up s end rest closed.1)
-settled_closed {Seen} look_up s end (Default name next ∷ rest) closed =
-    (of (look_up (span_bytes name s)), settled_closed look_up s end rest closed.1)
+-- a closed part is settled
+settled_of : {Seen : Type 0} (look_up : List ℕ → Option Seen) (s : List ℕ) (end : ℕ) (part : Part)
+    → IsClosed end part → IsSettled look_up s end part
+settled_of look_up s end (Literal span) closed = tt
+settled_of look_up s end (Escaped b) closed = tt
+settled_of look_up s end (Variable name) closed = tt
+settled_of {Seen} look_up s end (Default name next) closed = of (look_up (span_bytes name s))
   where
-    of : (o : Option Seen) → IfSome o (λ _. (0 < next) × (next ≤ end))
-    of (Some v) = closed.0
+    of : (o : Option Seen) → IfSome (option_map (λ _. next) o) (λ n. (0 < n) × (n ≤ end))
+    of (Some v) = closed
     of None = tt
 
 -- the list of parts has one more
@@ -186,11 +183,11 @@ module _ {V Seen W First : Type 0} (context : Context V Seen W First) (s : List 
   pub open_settled : (name : Span) (end : ℕ) (before now : W) (found : Bool) → found ≡ false
       → PartWritten context s (Default name 0) before found Writing now
       → IsSettled context.look_up s end (Default name 0)
-  open_settled name end before now found is written = of (context.look_up (span_bytes name s)) written.1
+  open_settled name end before now found is written =
+      of (jump_of context.look_up s (Default name 0)) written.1
     where
-      of : (o : Option Seen) → found ≡ is_some {T = ℕ} (option_map (λ _. 0) o)
-          → IfSome o (λ _. (0 < 0) × (0 ≤ end))
-      of (Some v) told = absurd (false≢true (sym is ∙ told))
+      of : (jump : Option ℕ) → found ≡ is_some jump → IfSome jump (λ next. (0 < next) × (next ≤ end))
+      of (Some next) told = absurd (false≢true (sym is ∙ told))
       of None told = tt
 
   -- the innermost default closes, while the writer writes: its name has no value
@@ -248,7 +245,8 @@ module _ {V Seen W First : Type 0} (context : Context V Seen W First) (s : List 
             settled = subst (λ n. AllSettled context.look_up s n others) (same_length before own name 0 next)
                 (settled_jump context.look_up s before own name next jumping.value settled
                 (omega (arith, count)) (omega (arith, count))
-                (settled_closed context.look_up s next own closed));
+                (each_weaker (IsClosed next) (IsSettled context.look_up s next)
+                (settled_of context.look_up s next) own closed));
             written = writes_same context s
                 (λ look. visited_parts (before ++ Default name 0 ∷ []) 0 0 s look)
                 (λ look. visited_parts others 0 0 s look)
@@ -401,8 +399,8 @@ module _ {V Seen W First : Type 0} (context : Context V Seen W First) (s : List 
     map = held.map;
     count = omega (arith, one, held.count, count_last parts part);
     written = took part old first.output before found state now parts held.written written
-        (λ was is. (settled_closed context.look_up s (length parts + 1) (part ∷ [])
-        (subst (λ k. IsClosed k part) (omega (arith, counts, held.count)) closed, tt)).0);
+        (λ was is. settled_of context.look_up s (length parts + 1) part
+        (subst (λ k. IsClosed k part) (omega (arith, counts, held.count)) closed));
   }
 
   -- a default opens whose name has no value, or that is passed over

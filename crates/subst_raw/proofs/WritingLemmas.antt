@@ -6,6 +6,7 @@ use Rattle.subst_language.specs.Language.LookUp.{LookUp}
 use Rattle.subst_language.specs.Language.Value.{Value, Bytes, joined}
 use Rattle.subst_language.specs.Language.Written.{bytes_in, unless_missing}
 use Rattle.subst_language.specs.Calls.VariableMap.{look_up_of}
+use Rattle.subst_language.proofs.Language.ListLemmas.{each_append, each_parts, each_weaker}
 use Rattle.subst_language.proofs.Language.ValueLemmas.{joined-right}
 use Rattle.subst_language.proofs.Language.WrittenLemmas.{unless_missing-nothing}
 use Rattle.subst_raw.specs.Filled.{mark, FillsMarks}
@@ -13,7 +14,7 @@ use Rattle.subst_raw.specs.Filled.IsFilled.{empty}
 use Rattle.subst_raw.specs.Output.{Appended}
 use Rattle.subst_raw.specs.Parts.{part_value, if_found, resume_index, visited_parts, joined_value, joined_written}
 use Rattle.subst_raw.specs.Span.{span_bytes}
-use Rattle.subst_raw.specs.Context.{Context, StopsAt, Stops, WritesPart, StopsAtPart}
+use Rattle.subst_raw.specs.Context.{Context, StopsAt, Stops, WritesPart, StopsAtPart, jump_of}
 use Rattle.subst_raw.specs.Writing.{IsSettled, AllSettled, WritesVisited}
 use Rattle.subst_raw.specs.declared.expand.Stop.{Stop}
 use Rattle.subst_raw.specs.declared.expand.Stop.TheVariants.{Full}
@@ -35,7 +36,7 @@ lands_settled look_up bytes s end (Variable name) settled = omega arith
 lands_settled {Seen} look_up bytes s end (Default name next) settled =
     of (look_up (span_bytes name s)) settled
   where
-    of : (found : Option Seen) → IfSome found (λ _. (0 < next) × (next ≤ end))
+    of : (found : Option Seen) → IfSome (option_map (λ _. next) found) (λ n. (0 < n) × (n ≤ end))
         → if_found (option_map bytes found) next ≤ end
     of (Some v) settled = settled.1
     of None settled = omega arith
@@ -51,27 +52,28 @@ lands_all look_up bytes s end (part ∷ rest) settled =
 -- a part that is settled up to an end is settled up to a later one
 settled_later : {Seen : Type 0} (look_up : List ℕ → Option Seen) (s : List ℕ) (end later : ℕ) (part : Part)
     → end ≤ later → IsSettled look_up s end part → IsSettled look_up s later part
-settled_later look_up s end later (Literal span) le settled = tt
-settled_later look_up s end later (Escaped b) le settled = tt
-settled_later look_up s end later (Variable name) le settled = tt
-settled_later {Seen} look_up s end later (Default name next) le settled =
-    of (look_up (span_bytes name s)) settled
+settled_later look_up s end later part le settled = of (jump_of look_up s part) settled
   where
-    of : (found : Option Seen) → IfSome found (λ _. (0 < next) × (next ≤ end))
-        → IfSome found (λ _. (0 < next) × (next ≤ later))
-    of (Some v) settled = (settled.0, omega (arith, le, settled.1))
+    of : (jump : Option ℕ) → IfSome jump (λ next. (0 < next) × (next ≤ end))
+        → IfSome jump (λ next. (0 < next) × (next ≤ later))
+    of (Some next) settled = (settled.0, omega (arith, le, settled.1))
     of None settled = tt
+
+-- so are all
+settled_all : {Seen : Type 0} (look_up : List ℕ → Option Seen) (s : List ℕ) (end later : ℕ)
+    (parts : List Part) → end ≤ later → AllSettled look_up s end parts → AllSettled look_up s later parts
+settled_all look_up s end later parts le settled =
+    each_weaker (IsSettled look_up s end) (IsSettled look_up s later)
+    (λ part. settled_later look_up s end later part le) parts settled
 
 -- with one more part, all are settled up to the new end
 pub settled_append : {Seen : Type 0} (look_up : List ℕ → Option Seen) (s : List ℕ) (end later : ℕ)
     (parts : List Part) (part : Part) → end ≤ later → AllSettled look_up s end parts
     → IsSettled look_up s later part
     → AllSettled look_up s later (parts ++ part ∷ [])
-settled_append look_up s end later [] part le settled last = (last, tt)
-settled_append look_up s end later (first ∷ rest) part le settled last = (
-  settled_later look_up s end later first le settled.0,
-  settled_append look_up s end later rest part le settled.1 last,
-)
+settled_append look_up s end later parts part le settled last =
+    each_append (IsSettled look_up s later) parts (part ∷ [])
+    (settled_all look_up s end later parts le settled) (last, tt)
 
 module _ {Seen : Type 0} (look_up : List ℕ → Option Seen) (bytes : Seen → List ℕ) (s : List ℕ) where
   -- what is visited of settled parts, a part, and more parts
@@ -283,14 +285,12 @@ module _ {Seen : Type 0} (look_up : List ℕ → Option Seen) (s : List ℕ) (be
     -- the name of an open default that is settled has no value
     pub open_lacks : (end : ℕ) → AllSettled look_up s end (before ++ Default name 0 ∷ own)
         → look_up (span_bytes name s) ≡ None
-    open_lacks end settled = of (look_up (span_bytes name s)) refl (at before settled)
+    open_lacks end settled =
+        of (look_up (span_bytes name s)) refl
+        (each_parts (IsSettled look_up s end) before (Default name 0 ∷ own) settled).1.0
       where
-        at : (xs : List Part) → AllSettled look_up s end (xs ++ Default name 0 ∷ own)
-            → IsSettled look_up s end (Default name 0)
-        at [] settled = settled.0
-        at (part ∷ xs) settled = at xs settled.1
-
-        of : (o : Option Seen) → look_up (span_bytes name s) ≡ o → IfSome o (λ _. (0 < 0) × (0 ≤ end))
+        of : (o : Option Seen) → look_up (span_bytes name s) ≡ o
+            → IfSome (option_map {U = ℕ} (λ _. 0) o) (λ n. (0 < n) × (n ≤ end))
             → look_up (span_bytes name s) ≡ None
         of (Some v) is settled = absurd (omega (arith, settled.0))
         of None is settled = is
@@ -299,16 +299,10 @@ module _ {Seen : Type 0} (look_up : List ℕ → Option Seen) (s : List ℕ) (be
     pub settled_changed : (end next : ℕ) → look_up (span_bytes name s) ≡ None
         → AllSettled look_up s end (before ++ Default name 0 ∷ own)
         → AllSettled look_up s end (before ++ Default name next ∷ own)
-    settled_changed end next none settled = at before settled
-      where
-        of : (o : Option Seen) → o ≡ None → IfSome o (λ _. (0 < next) × (next ≤ end))
-        of (Some v) is = absurd cc
-        of None is = tt
-
-        at : (xs : List Part) → AllSettled look_up s end (xs ++ Default name 0 ∷ own)
-            → AllSettled look_up s end (xs ++ Default name next ∷ own)
-        at [] settled = (of (look_up (span_bytes name s)) none, settled.1)
-        at (part ∷ xs) settled = (settled.0, at xs settled.1)
+    settled_changed end next none settled =
+        let split = each_parts (IsSettled look_up s end) before (Default name 0 ∷ own) settled in
+        let here : IsSettled look_up s end (Default name next) = rw none tt in
+        each_append (IsSettled look_up s end) before (Default name next ∷ own) split.0 (here, split.1.1)
 
     -- it gives the same, whatever its jump is
     pub changed_parts : (next other : ℕ) → look_up (span_bytes name s) ≡ None → (bytes : Seen → List ℕ)
@@ -349,14 +343,10 @@ pub settled_jump : {Seen : Type 0} (look_up : List ℕ → Option Seen) (s : Lis
     (name : Span) (next : ℕ) (v : Seen) → AllSettled look_up s (length before) before
     → length before ≤ next → 0 < next → AllSettled look_up s next own
     → AllSettled look_up s next (before ++ Default name next ∷ own)
-settled_jump {Seen} look_up s before own name next v settled le some after = at before settled
+settled_jump {Seen} look_up s before own name next v settled le some after =
+    each_append (IsSettled look_up s next) before (Default name next ∷ own)
+    (settled_all look_up s (length before) next before le settled) (of (look_up (span_bytes name s)), after)
   where
-    of : (o : Option Seen) → IfSome o (λ _. (0 < next) × (next ≤ next))
+    of : (o : Option Seen) → IfSome (option_map (λ _. next) o) (λ n. (0 < n) × (n ≤ next))
     of (Some w) = (some, omega arith)
     of None = tt
-
-    at : (xs : List Part) → AllSettled look_up s (length before) xs
-        → AllSettled look_up s next (xs ++ Default name next ∷ own)
-    at [] settled = (of (look_up (span_bytes name s)), after)
-    at (part ∷ xs) settled =
-        (settled_later look_up s (length before) next part le settled.0, at xs settled.1)

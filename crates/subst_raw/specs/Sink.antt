@@ -1,5 +1,6 @@
 -- What a sink does with the parts that the parser gives it.
 use Rattle.std.specs.Prelude.{◌≡◌, ℕ, ◌+◌, ◌^◌, ◌<◌, List, [], ◌∷◌, ◌++◌, length}
+use Rattle.std.specs.List.{AllByRecursion}
 use Rattle.subst_raw.specs.Packed.{FitsBelow}
 use Rattle.subst_raw.specs.Parts.{IsInSource, JumpsWithin}
 use Rattle.subst_raw.specs.declared.part.Span.{Span}
@@ -24,8 +25,7 @@ IsClosed end part = JumpsWithin 0 end part
 
 -- the same of each part
 abbrev pub AllClosed : ℕ → List Part → Type 0
-AllClosed end [] = Unit {0}
-AllClosed end (part ∷ rest) = IsClosed end part × AllClosed end rest
+AllClosed end parts = AllByRecursion (IsClosed end) parts
 
 -- The sink can take a part, which is this one at the index that it gets: the ranges in it are in the source,
 -- and the numbers in it are below a limit. The source is that which was known at first.

@@ -1,5 +1,6 @@
--- What a writer has written of the parts that it was given.
+-- What was written of parts, by the loop over a list of them or by a writer that takes one after the other.
 use Rattle.std.specs.Prelude.{◌≡◌, ℕ, ◌+◌, ◌<◌, ◌≤◌, List, [], ◌∷◌, ◌++◌, length, Option, Some, IfSome, is_some, Bool, false, Result, IfErr, IfOk, OnOk}
+use Rattle.std.specs.List.{AllByRecursion}
 use Rattle.subst_language.specs.Language.LookUp.{LookUp}
 use Rattle.subst_raw.specs.Parts.{visited_parts, joined_value, joined_written, parts_value, parts_written}
 use Rattle.subst_raw.specs.Span.{span_bytes}
@@ -11,16 +12,13 @@ use Rattle.subst_raw.specs.declared.part.Part.TheVariants.{Default}
 use Rattle.subst_raw.specs.declared.writer.State.{State}
 use Rattle.subst_raw.specs.declared.writer.State.TheVariants.{Writing, Jumping, Stopped}
 
--- a part, which if it is that of a default whose name has a value, has its jump, to this index at most
+-- a part after which an expansion makes no jump, or one forward to this index at most
 abbrev pub IsSettled : {Seen : Type 0} → (List ℕ → Option Seen) → List ℕ → ℕ → Part → Type 0
-IsSettled look_up s end (Default name next) =
-    IfSome (look_up (span_bytes name s)) (λ _. (0 < next) × (next ≤ end))
-IsSettled look_up s end part = Unit {0}
+IsSettled look_up s end part = IfSome (jump_of look_up s part) (λ next. (0 < next) × (next ≤ end))
 
 -- the same of each part
 abbrev pub AllSettled : {Seen : Type 0} → (List ℕ → Option Seen) → List ℕ → ℕ → List Part → Type 0
-AllSettled look_up s end [] = Unit {0}
-AllSettled look_up s end (part ∷ rest) = IsSettled look_up s end part × AllSettled look_up s end rest
+AllSettled look_up s end parts = AllByRecursion (IsSettled look_up s end) parts
 
 -- what these parts give, each by itself, was written between two states of an output: those that an expansion
 -- visits
