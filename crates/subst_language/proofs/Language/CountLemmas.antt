@@ -2,7 +2,7 @@
 use Rattle.std.proofs.Common.{◌≡◌, ℕ, ◌+◌, ◌<◌, ◌≤◌, Bool, true, false, Option, Some, None, List, [], ◌∷◌, ◌++◌, length, refl, length-append, arith}
 use Rattle.subst_language.specs.Language.Tree.{Item, Plain, Escaped, Short, Braced, Optional, Default, Tree, Empty, Then, item_text, text}
 use Rattle.subst_language.specs.Language.LookUp.{LookUp}
-use Rattle.subst_language.specs.Language.Counts.{is_plain, if_missing, item_part_count, part_count_after, item_visited_count, visited_count_after, visited_count}
+use Rattle.subst_language.specs.Language.Counts.{is_plain, if_missing, item_visited_count, visited_count_after, visited_count}
 use Rattle.subst_language.specs.Lemmas.PlainEnds.{ends_plain, HasNoPlainEnds}
 use Rattle.subst_language.specs.Language.Bytes.{closing_brace, colon}
 use Rattle.subst_language.proofs.Language.PlainLemmas.{plains}
@@ -57,58 +57,41 @@ missing_at_most : (found : Option (List ℕ)) (n m : ℕ) → n ≤ m → if_mis
 missing_at_most (Some x) n m le = omega arith
 missing_at_most None n m le = le
 
-mutual
-  -- an expansion visits no more parts of an item than it has
-  item_visited_count_at_most : (after : Bool) (item : Item) (look : LookUp)
-      → item_visited_count after item look ≤ item_part_count after item
-  item_visited_count_at_most after (Plain b) look = omega arith
-  item_visited_count_at_most after (Escaped b) look = omega arith
-  item_visited_count_at_most after (Short n) look = omega arith
-  item_visited_count_at_most after (Braced n) look = omega arith
-  item_visited_count_at_most after (Optional n) look = omega arith
-  item_visited_count_at_most after (Default n t) look =
-      omega (
-        arith,
-        missing_at_most (look n) (visited_count_after false t look) (part_count_after false t)
-            (visited_count_after_at_most false t look),
-      )
+-- no more parts are visited than there are, and there are no more than bytes
+pub record AreFew (visited parts bytes : ℕ) : Type 0 where
+  pub visited_at_most : visited ≤ parts
+  pub parts_at_most : parts ≤ bytes
 
-  -- nor of a tree
-  pub visited_count_after_at_most : (after : Bool) (t : Tree) (look : LookUp)
-      → visited_count_after after t look ≤ part_count_after after t
-  visited_count_after_at_most after Empty look = omega arith
-  visited_count_after_at_most after (Then item rest) look =
-      omega (
-        arith,
-        item_visited_count_at_most after item look,
-        visited_count_after_at_most (is_plain item) rest look,
-      )
+module _ (look : LookUp) where
+  mutual
+    -- of an item
+    item_parts_few : (after : Bool) (item : Item) → AreFew (item_visited_count after item look)
+        (item_visited_count after item (λ name. None)) (length (item_text item))
+    item_parts_few true (Plain b) = record { visited_at_most = omega arith; parts_at_most = omega arith }
+    item_parts_few false (Plain b) = record { visited_at_most = omega arith; parts_at_most = omega arith }
+    item_parts_few after (Escaped b) = record { visited_at_most = omega arith; parts_at_most = omega arith }
+    item_parts_few after (Short n) = record { visited_at_most = omega arith; parts_at_most = omega arith }
+    item_parts_few after (Braced n) = record { visited_at_most = omega arith; parts_at_most = omega arith }
+    item_parts_few after (Optional n) = record { visited_at_most = omega arith; parts_at_most = omega arith }
+    item_parts_few after (Default n t) =
+        let inner = parts_few false t in
+        record {
+          visited_at_most = omega (arith, missing_at_most (look n) _ _ inner.visited_at_most);
+          parts_at_most =
+              omega (
+                arith,
+                inner.parts_at_most,
+                length-append n (colon ∷ text t ++ closing_brace ∷ []),
+                length-append (text t) (closing_brace ∷ []),
+              );
+        }
 
-mutual
-  -- an item has no more parts than bytes
-  item_part_count_at_most : (after : Bool) (item : Item)
-      → item_part_count after item ≤ length (item_text item)
-  item_part_count_at_most true (Plain b) = omega arith
-  item_part_count_at_most false (Plain b) = omega arith
-  item_part_count_at_most after (Escaped b) = omega arith
-  item_part_count_at_most after (Short n) = omega arith
-  item_part_count_at_most after (Braced n) = omega arith
-  item_part_count_at_most after (Optional n) = omega arith
-  item_part_count_at_most after (Default n t) =
-      omega (
-        arith,
-        part_count_after_at_most false t,
-        length-append n (colon ∷ text t ++ closing_brace ∷ []),
-        length-append (text t) (closing_brace ∷ []),
-      )
-
-  -- nor has a tree
-  pub part_count_after_at_most : (after : Bool) (t : Tree) → part_count_after after t ≤ length (text t)
-  part_count_after_at_most after Empty = omega arith
-  part_count_after_at_most after (Then item rest) =
-      omega (
-        arith,
-        item_part_count_at_most after item,
-        part_count_after_at_most (is_plain item) rest,
-        length-append (item_text item) (text rest),
-      )
+    -- of a tree
+    pub parts_few : (after : Bool) (t : Tree) → AreFew (visited_count_after after t look)
+        (visited_count_after after t (λ name. None)) (length (text t))
+    parts_few after Empty = record { visited_at_most = omega arith; parts_at_most = omega arith }
+    parts_few after (Then item rest) =
+        let first = item_parts_few after item in
+        let more = parts_few (is_plain item) rest in
+        let long = length-append (item_text item) (text rest) in
+        record { visited_at_most = omega arith; parts_at_most = omega arith }
