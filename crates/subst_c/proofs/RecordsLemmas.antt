@@ -1,32 +1,36 @@
 -- What is told by the records of a list that says what is so of the source's tree.
 use Rattle.std.proofs.Common.{◌≡◌, ◌≤◌, ◌<◌, ◌↔◌, ℕ, ◌+◌, List, [], ◌∷◌, ◌++◌, drop, length, map, take, refl, ap, ◌∙◌, subst, sym, arith}
-use Rattle.std.proofs.lemmas.List.{length-map}
+use Rattle.std.proofs.lemmas.List.{length-map, nil_from_length}
 use Rattle.std.proofs.lemmas.List.Elements.{All-map}
 use Rattle.std.proofs.lemmas.Simd.{map-map}
 use Rattle.std.proofs.Math.Seq.{take-append_seam}
 use Rattle.std.specs.List.{All}
 use Rattle.std.specs.declared.ops.Range.{Range}
-use Rattle.subst_error.specs.Fault.{Fault}
 use Rattle.subst_language.proofs.Language.VariablesLemmas.{none_missing}
 use Rattle.subst_language.specs.Language.Answer.{Answers, Gives}
 use Rattle.subst_language.specs.Language.LookUp.{LookUp}
 use Rattle.subst_language.specs.Language.Sentence.{ByTree, IsSentence}
 use Rattle.subst_language.specs.Language.Tree.{Tree}
-use Rattle.subst_language.specs.Language.Variables.{all_missing}
+use Rattle.subst_language.specs.Language.Variables.{Variable, all_missing}
 use Rattle.subst_c.proofs.RoomLemmas.{is_put, is_too_long}
-use Rattle.subst_c.specs.Records.{HasRecords}
+use Rattle.subst_c.specs.Records.{HasRecords, variable_record}
 use Rattle.subst_c.specs.Room.{IsPut, IsTooLong}
 use Rattle.subst_c.specs.declared.variables.VariableRecord.{VariableRecord}
 
 -- records of the items of a list that is the tree's, seen so, are those of the source's tree
-pub has_records : {A B : Type 0} (view : A → B) (f : B → VariableRecord) (of : Tree → List B)
+pub has_records : {A : Type 0} (view : A → Variable) (of : Tree → List Variable)
     (s template : List ℕ) (list items : List A) → template ≡ s → list ≡ items → IsSentence s
     → ByTree template (λ t. map view items ≡ of t)
-    → HasRecords s (λ t. map f (of t)) (map (λ x. f (view x)) list)
-has_records view f of s template list items same lent (t, spells) are =
+    → HasRecords s of (map (λ x. variable_record (view x)) list)
+has_records view of s template list items same lent (t, spells) are =
     let is : map view items ≡ of t =
     subst (λ (x : List ℕ). ByTree x (λ t. map view items ≡ of t)) same are t spells in
-    (t, spells, sym (map-map f view list) ∙ ap (λ l. map f (map view l)) lent ∙ ap (map f) is)
+    (
+      t,
+      spells,
+      sym (map-map variable_record view list) ∙ ap (λ l. map variable_record (map view l)) lent
+          ∙ ap (map variable_record) is,
+    )
 
 -- the records of a list at the front of the room
 pub records_put : {A : Type 0} (f : A → VariableRecord) (IsWanted : List VariableRecord → Type 0)
@@ -66,7 +70,7 @@ names_within f range bound needed list items old new ends lent within counted pu
     subst (All P) (sym front) (All-map P f list each)
 
 -- a list of nothing is that of a source that gives bytes, and of no other sentence
-pub none_where_it_gives : {A : Type 0} (view : A → Fault) (look : LookUp) (s template : List ℕ)
+pub none_where_it_gives : {A : Type 0} (view : A → Variable) (look : LookUp) (s template : List ℕ)
     (list items : List A) (needed : ℕ) → template ≡ s → list ≡ items → IsSentence s
     → ByTree template (λ t. map view items ≡ all_missing 0 t look) → needed ≡ length list
     → (needed ≡ 0 ↔ ((x : List ℕ) × Answers s look (Gives x)))
@@ -75,7 +79,7 @@ none_where_it_gives view look s template list items needed same lent (t, spells)
     subst (λ (x : List ℕ). ByTree x (λ t. map view items ≡ all_missing 0 t look)) same are in
     let count : needed ≡ length (map view items) = counted ∙ ap length lent ∙ sym (length-map items view) in (
       λ none.
-          let empty = empty_list (all_missing 0 t look)
+          let empty = nil_from_length (all_missing 0 t look)
           (sym (ap length (is t spells)) ∙ sym count ∙ none) in
           let bytes = (none_missing 0 t look).0 empty in
           (bytes.0, (t, spells, bytes.1)),
@@ -84,7 +88,3 @@ none_where_it_gives view look s template list items needed same lent (t, spells)
           let empty = (none_missing 0 u look).1 (gives.0, value_is) in
           count ∙ ap length (is u read ∙ empty),
     )
-  where
-    empty_list : (l : List Fault) → length l ≡ 0 → l ≡ []
-    empty_list [] e = refl
-    empty_list (f ∷ l) e = absurd (omega arith)

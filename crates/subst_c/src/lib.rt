@@ -13,10 +13,11 @@ ghost use Rattle.subst_error.specs.Position.{position_at};
 ghost use Rattle.subst_language.specs.Language.Answer.{Answers, Gives, Refuses};
 ghost use Rattle.subst_language.specs.Language.BadItem.{HasFault};
 ghost use Rattle.subst_language.specs.Language.Sentence.{IsSentence};
+ghost use Rattle.subst_language.specs.Language.Variables.{all_missing, variables_of};
 ghost use Rattle.subst_c.specs.Each.{AreOutputs, IsRefusedIn};
 ghost use Rattle.subst_c.specs.Fault.{IsToldOf};
 ghost use Rattle.subst_c.specs.Pairs.{first_value};
-ghost use Rattle.subst_c.specs.Records.{HasRecords, missing_records, variable_records};
+ghost use Rattle.subst_c.specs.Records.{HasRecords};
 ghost use Rattle.subst_c.specs.Room.{IsPut, IsTooLong};
 ghost use Rattle.subst_c.specs.Text.{IsHighlighting, SaysOf, are_texts};
 ghost use Rattle.subst_c.specs.declared.outcome.TheConstants.{DONE, REFUSED, OUT_OF_MEMORY, ROOM_TOO_SMALL, NOT_UTF8, NOT_A_BOUNDARY};
@@ -286,7 +287,7 @@ pub extern "C" fn subst_variables(
 ) -> u32
     // The room begins with the records of the variables of the source's tree.
     ensures done { result ≡ DONE
-        → IsPut (HasRecords source.now variable_records) needed.new room.old room.new }
+        → IsPut (HasRecords source.now (variables_of 0)) needed.new room.old room.new }
 
     // Each name lies in the source.
     ensures names_within { result ≡ DONE
@@ -299,7 +300,7 @@ pub extern "C" fn subst_variables(
 
     // The variables are more than the room has records.
     ensures too_small { result ≡ ROOM_TOO_SMALL
-        → IsTooLong (HasRecords source.now variable_records) needed.new room.old }
+        → IsTooLong (HasRecords source.now (variables_of 0)) needed.new room.old }
     ensures others { result ≢ DONE → result ≢ REFUSED → result ≢ ROOM_TOO_SMALL
         → result ≡ OUT_OF_MEMORY }
     ensures room_kept { result ≢ DONE → room.new ≡ room.old }
@@ -329,7 +330,7 @@ pub extern "C" fn subst_missing(
 ) -> u32
     // As `subst_variables`, of all that the source's tree is missing.
     ensures done { result ≡ DONE
-        → IsPut (HasRecords source.now (missing_records (first_value pairs.now)))
+        → IsPut (HasRecords source.now (λ t. all_missing 0 t (first_value pairs.now)))
         needed.new room.old room.new }
     ensures names_within { result ≡ DONE
         → All (λ r. r.position + r.length ≤ length source.now) (take needed.new room.new) }
@@ -341,7 +342,7 @@ pub extern "C" fn subst_missing(
     ensures within { result ≡ REFUSED
         → fault.new.position + fault.new.length ≤ length source.now }
     ensures too_small { result ≡ ROOM_TOO_SMALL
-        → IsTooLong (HasRecords source.now (missing_records (first_value pairs.now)))
+        → IsTooLong (HasRecords source.now (λ t. all_missing 0 t (first_value pairs.now)))
         needed.new room.old }
     ensures others { result ≢ DONE → result ≢ REFUSED → result ≢ ROOM_TOO_SMALL
         → result ≡ OUT_OF_MEMORY }

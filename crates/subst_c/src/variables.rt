@@ -75,10 +75,10 @@ impl Recorded for Variable<'_> {
 }
 
 impl Recorded for NoSuchVariable {
-    ghost use Rattle.subst_language.specs.Calls.Variables.{missing_fault};
-    ghost use Rattle.subst_c.specs.Records.{missing_record};
+    ghost use Rattle.subst_language.specs.Calls.Variables.{missing_variable};
+    ghost use Rattle.subst_c.specs.Records.{variable_record};
 
-    ghost recorded = { λ e. missing_record (missing_fault e) };
+    ghost recorded = { λ e. variable_record (missing_variable e) };
 
     fn record(&self) -> VariableRecord {
         VariableRecord::new(REQUIRED, self.position, &self.name)

@@ -30,7 +30,8 @@ use Rattle.subst_language.proofs.Language.AnswerLemmas.{answer_unique, refused_f
 use Rattle.subst_language.proofs.Language.RangeLemmas.{error_in_text}
 use Rattle.subst_language.proofs.Language.RangeWithinLemmas.{refusal_within}
 use Rattle.subst_language.proofs.Language.ValueLengthLemmas.{value_length_within}
-use Rattle.subst_language.proofs.Language.WrittenLemmas.{written_at_most, written_whole}
+use Rattle.subst_language.proofs.Language.StepsLemmas.{Tells, value_tells, written_at_most}
+use Rattle.subst_language.specs.Language.Steps.{steps_of}
 
 -- a tree that passes the test and whose text the source is, is the source's tree
 pub spells : (s : List ℕ) (t : Tree) → IsTrue (is_well_formed t) → s ≡ text t → Spells t s
@@ -127,7 +128,8 @@ given_in_room s x look before after len capacity (Err e) (t, spells, gives) room
     no_error : (o : Option Fault) → IfSome o (IsMissing (value 0 t look))
         → IfNone o (capacity < len + length (written 0 t look)) → ⊥
     no_error None missing short =
-        let whole = ap length (written_whole 0 t look x gives) in omega (arith, room, short, whole)
+        let tells = subst (Tells (steps_of 0 t look)) gives (value_tells 0 t look) in
+        omega (arith, room, short, ap length tells.0)
     no_error (Some f) (position, name, missing, is) short = absurd cc
 
 -- Where no value is longer than `longest`, an output with room for the source, and for `longest` for each
@@ -145,7 +147,7 @@ never_full s look longest len capacity (Err e) (t, spells) short room full =
     of : (o : Option Fault) → IfNone o (capacity < len + length (written 0 t look)) → IfNone o ⊥
     of None too_short =
         let bound = value_length_within s t look longest spells short in
-        let most = written_at_most look t 0 in
+        let most = written_at_most (steps_of 0 t look) in
         absurd (omega (arith, room, too_short, bound, most))
     of (Some f) too_short = tt
 

@@ -24,10 +24,10 @@ pub mod RangeWithinLemmas
 pub mod ReadingLemmas
 pub mod SettledLemmas
 pub mod SeveralLemmas
+pub mod StepsLemmas
 pub mod TreeLemmas
 pub mod UnsettledLemmas
 pub mod Utf8Lemmas
 pub mod ValueLemmas
 pub mod ValueLengthLemmas
 pub mod VariablesLemmas
-pub mod WrittenLemmas

@@ -16,6 +16,7 @@ pub mod Name
 pub mod NamesIn
 pub mod Sentence
 pub mod Several
+pub mod Steps
 pub mod Tree
 pub mod Value
 pub mod ValueLength

@@ -2,7 +2,7 @@
 
 ghost use Rattle.std.specs.Prelude.{◌≡◌, ◌↔◌, ◌≤◌, ◌+◌, ◌∷◌, ◌++◌, [], ℕ, List, Some, None, IsSome};
 ghost use Rattle.std.specs.Prelude.{length, map, sum_by};
-ghost use Rattle.std.specs.List.{All};
+ghost use Rattle.std.specs.List.{All, filter};
 ghost use Rattle.std.specs.Str.{IsUtf8};
 ghost use Rattle.subst_error.specs.Fault.{Fault, InvalidEscapeSequence, MissingClosingBrace, NoSuchVariable};
 ghost use Rattle.subst_error.specs.Range.{range_of, IsRangeIn};
@@ -12,7 +12,7 @@ ghost use Rattle.subst_language.specs.Language.Bytes.{dollar, colon, opening_bra
 ghost use Rattle.subst_language.specs.Language.Escaped.{escaped};
 ghost use Rattle.subst_language.specs.Language.Followed.{IsFollowed};
 ghost use Rattle.subst_language.specs.Language.Join.{join};
-ghost use Rattle.subst_language.specs.Language.Laws.{OneTreeOrOneFault, OpensAt, IsSettled};
+ghost use Rattle.subst_language.specs.Language.Laws.{IsSublist, OneTreeOrOneFault, OpensAt, IsSettled};
 ghost use Rattle.subst_language.specs.Language.Moved.{moved};
 ghost use Rattle.subst_language.specs.Language.Name.{IsName};
 ghost use Rattle.subst_language.specs.Language.NamesIn.{names_in};
@@ -21,7 +21,8 @@ ghost use Rattle.subst_language.specs.Language.Tree.{Tree, text};
 ghost use Rattle.subst_language.specs.Language.LookUp.{LookUp, GivesTexts};
 ghost use Rattle.subst_language.specs.Language.Sentence.{ByTree, Spells};
 ghost use Rattle.subst_language.specs.Language.Value.{Bytes, Missing, value};
-ghost use Rattle.subst_language.specs.Language.Variables.{all_missing, name_of, variables_of};
+ghost use Rattle.subst_language.specs.Language.Variables.{Variable, all_missing, is_required, name_of, required};
+ghost use Rattle.subst_language.specs.Language.Variables.{variables_of};
 ghost use Rattle.subst_language.specs.Language.ValueLength.{length_of, value_length, visited_length};
 ghost use Rattle.subst_language.specs.Language.Counts.{part_count, visited_count};
 
@@ -130,22 +131,24 @@ pub fn missing_variables_are_missing()
 {}
 
 /// The law of all that is missing. Nothing is missing exactly where the value is bytes; otherwise the first
-/// is the variable that the value is missing, which an expansion is refused for. Each is one that the look-up
-/// has nothing for. A look-up that has something for each, and for all that the first one has something for,
-/// gives bytes. And the names of a tree's variables are the names in the tree.
+/// is the variable that the value is missing, which an expansion is refused for. What is missing is the
+/// required variables of the tree, without some, in their order and at their positions. Each is one that the
+/// look-up has nothing for. A look-up that has something for each, and for all that the first one has
+/// something for, gives bytes. And the names of a tree's variables are the names in the tree.
 pub fn missing_lists_are_whole()
     ensures none { (p : ℕ) (t : Tree) (look : LookUp)
         → (all_missing p t look ≡ [] ↔ ((x : List ℕ) × (value p t look ≡ Bytes x))) }
     ensures first { (p position : ℕ) (t : Tree) (look : LookUp) (name : List ℕ)
         → value p t look ≡ Missing position name
-        → (more : List Fault) × (all_missing p t look ≡ NoSuchVariable position name ∷ more) }
+        → (more : List Variable) × (all_missing p t look ≡ required position name ∷ more) }
+    ensures required { (p : ℕ) (t : Tree) (look : LookUp)
+        → IsSublist (all_missing p t look) (filter (λ v. is_required v.kind) (variables_of p t)) }
     ensures lacked { (p : ℕ) (t : Tree) (look : LookUp)
-        → All (λ f. (position : ℕ) × (name : List ℕ) × (f ≡ NoSuchVariable position name)
-        × (look name ≡ None)) (all_missing p t look) }
+        → All (λ v. look v.name ≡ None) (all_missing p t look) }
     ensures supplied { (p : ℕ) (t : Tree) (a b : LookUp)
         → ((n : List ℕ) → IsSome (a n) → IsSome (b n))
-        → All (λ f. (position : ℕ) (name : List ℕ) → f ≡ NoSuchVariable position name
-        → IsSome (b name)) (all_missing p t a) → (x : List ℕ) × (value p t b ≡ Bytes x) }
+        → All (λ v. IsSome (b v.name)) (all_missing p t a)
+        → (x : List ℕ) × (value p t b ≡ Bytes x) }
     ensures names { (p : ℕ) (t : Tree) → map name_of (variables_of p t) ≡ names_in t }
 {}
 

@@ -1,12 +1,15 @@
 -- What parts write by themselves.
-use Rattle.std.proofs.Common.{◌≡◌, ◌≤◌, ℕ, ◌+◌, List, [], ◌∷◌, length, append-nil, sym, ap, ◌∙◌, subst, arith}
+use Rattle.std.proofs.Common.{◌≡◌, ◌≤◌, ℕ, ◌+◌, List, [], ◌∷◌, length, map, append-nil, refl, sym, ap, ◌∙◌, subst, arith}
 use Rattle.subst_language.specs.Language.LookUp.{LookUp}
-use Rattle.subst_language.specs.Language.Value.{Value, Bytes}
-use Rattle.subst_language.specs.Language.Written.{bytes_in}
+use Rattle.subst_language.specs.Language.Steps.{Own, Given, steps_value}
+use Rattle.subst_language.specs.Language.Value.{Bytes, joined}
+use Rattle.subst_language.specs.Language.Written.{steps_written}
+use Rattle.subst_language.specs.Calls.VariableMap.{look_up_of}
+use Rattle.subst_language.proofs.Language.StepsLemmas.{written_whole}
 use Rattle.subst_raw.specs.Filled.{mark, marks_of, IsFilled, FillsMarks}
 use Rattle.subst_raw.specs.Filled.IsFilled.{empty, filled}
 use Rattle.subst_raw.specs.Output.{Puts}
-use Rattle.subst_raw.specs.Parts.{part_value}
+use Rattle.subst_raw.specs.Parts.{part_steps}
 use Rattle.subst_raw.specs.Context.{Context, ByContext, WritesPart}
 use Rattle.subst_raw.specs.declared.part.Part.{Part}
 use Rattle.subst_raw.proofs.FilledLemmas.{all_kept}
@@ -15,42 +18,60 @@ use Rattle.subst_raw.proofs.FilledLemmas.{all_kept}
 fills_one : {Passes : List ℕ → Type 0} (x : List ℕ) → Passes x → IsFilled Passes (mark ∷ []) x
 fills_one {Passes} x passes = subst (IsFilled Passes (mark ∷ [])) (append-nil x) (filled x passes empty)
 
+-- bytes, each for itself, give these bytes
+own_value : (x : List ℕ) → steps_value (map Own x) ≡ Bytes x
+own_value [] = refl
+own_value (b ∷ x) = ap (joined (Bytes (b ∷ []))) (own_value x)
+
+-- and as many are written
+pub own_length : (x : List ℕ) → length (steps_written (map Own x)) ≡ length x
+own_length x = ap length (written_whole (map Own x) x (own_value x))
+
 module _ {V Seen W First : Type 0} (context : Context V Seen W First) (s : List ℕ) (part : Part) (x : List ℕ)
     (before after : W) (puts : Puts context.holds before x after)
     (long : context.len after ≡ context.len before + length x)
     (room : context.room before ≤ context.room after) where
   -- a part that gives these bytes, whatever the map, writes them
-  writes_bytes : ByContext context (λ look. part_value part s look ≡ Bytes x)
-      → FillsMarks context.is_read (part_value part s (marks_of context.look_up)) x
+  writes_bytes : ByContext context (λ look. steps_value (part_steps part s look) ≡ Bytes x)
+      → FillsMarks context.is_read (steps_value (part_steps part s (marks_of context.look_up))) x
       → WritesPart context s part before after
   writes_bytes gives fills = record {
     given = λ bytes reads. record { appended = x; puts = puts; given = gives bytes reads };
     filled = record { appended = x; puts = puts; given = fills };
-    long = λ bytes reads. long
-        ∙ ap (λ (v : Value). context.len before + length (bytes_in v)) (sym (gives bytes reads));
+    long = λ bytes reads.
+        let own = part_steps part s (look_up_of bytes context.look_up) in
+        omega (arith, long, ap length (written_whole own x (gives bytes reads)));
     room = room;
   }
 
   -- bytes of the source, or an escaped byte
-  pub writes_own : ((look : LookUp) → part_value part s look ≡ Bytes x)
+  pub writes_own : ((look : LookUp) → part_steps part s look ≡ map Own x)
       → WritesPart context s part before after
-  writes_own gives = writes_bytes (λ bytes reads. gives _)
-      record { marked = x; given = gives (marks_of context.look_up); filled = all_kept x }
+  writes_own owns = writes_bytes (λ bytes reads. ap steps_value (owns _) ∙ own_value x) record {
+    marked = x;
+    given = ap steps_value (owns (marks_of context.look_up)) ∙ own_value x;
+    filled = all_kept x;
+  }
 
   -- a value that was found
-  pub writes_value : ByContext context (λ look. part_value part s look ≡ Bytes x)
-      → part_value part s (marks_of context.look_up) ≡ Bytes (mark ∷ []) → context.is_read x
+  pub writes_value : ByContext context (λ look. part_steps part s look ≡ Given x ∷ [])
+      → part_steps part s (marks_of context.look_up) ≡ Given (mark ∷ []) ∷ [] → context.is_read x
       → WritesPart context s part before after
-  writes_value gives marked passes = writes_bytes gives
-      record { marked = mark ∷ []; given = marked; filled = fills_one x passes }
+  writes_value gives marked passes =
+      writes_bytes (λ bytes reads. ap steps_value (gives bytes reads) ∙ ap Bytes (append-nil x)) record {
+        marked = mark ∷ [];
+        given = ap steps_value marked;
+        filled = fills_one x passes;
+      }
 
--- a part that gives nothing writes nothing
+-- a part without steps writes nothing
 pub writes_nothing : {V Seen W First : Type 0} (context : Context V Seen W First) (s : List ℕ) (part : Part)
     (output : W)
-    → ByContext context (λ look. part_value part s look ≡ Bytes [])
-    → part_value part s (marks_of context.look_up) ≡ Bytes [] → WritesPart context s part output output
-writes_nothing context s part output gives marked =
+    → ByContext context (λ look. part_steps part s look ≡ [])
+    → part_steps part s (marks_of context.look_up) ≡ [] → WritesPart context s part output output
+writes_nothing context s part output none marked =
     writes_bytes context s part [] output output
     (λ first x before. subst (context.holds output first) (sym (append-nil x)) before) (omega arith)
     (omega arith)
-    gives record { marked = []; given = marked; filled = empty }
+    (λ bytes reads. ap steps_value (none bytes reads))
+    record { marked = []; given = ap steps_value marked; filled = empty }

@@ -11,6 +11,7 @@ use Rattle.subst_raw.specs.Filled.IsFilled.{empty, kept, filled}
 use Rattle.subst_raw.specs.Output.{AppendsFilled}
 use Rattle.subst_raw.specs.declared.part.Part.{Part}
 use Rattle.subst_language.proofs.Language.Utf8Lemmas.{cut_at, value_is_text, ascii_alone}
+use Rattle.subst_raw.proofs.PartsLemmas.{same_value}
 
 -- after the bytes u: where the text with marks is UTF-8, so is that with texts in their place
 marks_filled : (u : List ℕ) {x y : List ℕ} → IsFilled IsUtf8 x y → IsUtf8 (u ++ x) → IsUtf8 (u ++ y)
@@ -39,7 +40,7 @@ output_is_text s parts look_up output template is fills =
     let look = marks_of look_up in
     marks_filled [] fills.filled
     (value_is_text t 0 look fills.marked template.spells.well_formed (marks_are_texts look_up)
-    (subst IsUtf8 template.spells.spelled is) (sym (template.mean.same_value look) ∙ fills.given))
+    (subst IsUtf8 template.spells.spelled is) (sym (same_value template.mean look) ∙ fills.given))
 
 -- a text with what was written appended is a text, and so is one that is as before
 pub text_after : {Seen T E : Type 0} (s : List ℕ) (parts : List Part) (look_up : List ℕ → Option Seen)

@@ -1,19 +1,19 @@
 -- What the lists of variables, and of what is missing, say of the source's tree.
 use Rattle.std.proofs.Common.{is_some, ◌≡◌, ℕ, List, [], ◌∷◌, map, Option, Result, Vec, Global, IfOk, ap, ◌∙◌}
 use Rattle.std.proofs.lemmas.Result.{IfOk-weaker}
-use Rattle.std.specs.List.{All, AllByRecursion}
-use Rattle.subst_error.specs.Fault.{Fault}
+use Rattle.std.specs.List.{All, AllByRecursion, filter_map}
 use Rattle.subst_error.specs.declared.NoSuchVariable as errors
 use Rattle.subst_language.specs.Calls.VariableMap.{ByNames}
-use Rattle.subst_language.specs.Calls.Variables.{variable_of, missing_fault}
+use Rattle.subst_language.specs.Calls.Variables.{variable_of, missing_variable}
 use Rattle.subst_language.specs.Language.LookUp.{LookUp}
 use Rattle.subst_language.specs.Language.Sentence.{ByTree}
 use Rattle.subst_language.specs.Language.Tree.{Tree}
 use Rattle.subst_language.specs.Language.Variables as variables
-use Rattle.subst_language.specs.Language.Variables.{variables_of, all_missing}
+use Rattle.subst_language.specs.Language.Variables.{variables_of, lacked, all_missing}
 use Rattle.subst_language.specs.declared.variable.Variable as declared
 use Rattle.subst_language.proofs.Language.AlikeLemmas.{found_as_read}
 use Rattle.subst_language.proofs.Language.ListLemmas.{each_mapped}
+use Rattle.subst_language.proofs.Language.MissingLemmas.{missing_among}
 use Rattle.subst_language.proofs.Language.OneTreeLemmas.{tree_unique}
 use Rattle.subst_raw.specs.Filled.{mark, marks_of}
 use Rattle.subst_raw.specs.Parts.{IsTemplateOf, variables_in, parts_missing}
@@ -47,23 +47,25 @@ module _ {E : Type 0} (s : List ℕ) (own : List Part) {parts : List Part} (temp
   module _ {Seen : Type 0} (look_up : List ℕ → Option Seen)
       (result : Result (Vec errors.NoSuchVariable Global) E)
       (lists : ByNames look_up (λ look. IfOk result
-      (λ list. map missing_fault list.items ≡ parts_missing own s look))) where
+      (λ list. map missing_variable list.items ≡ parts_missing own s look))) where
     -- a list of what the parts are missing is one of what the source's tree is missing
     pub lists_missing : ByNames look_up (λ look. ByTree s (λ t. IfOk result
-        (λ list. map missing_fault list.items ≡ all_missing 0 t look)))
+        (λ list. map missing_variable list.items ≡ all_missing 0 t look)))
     lists_missing look names t spells =
         IfOk-weaker result _ _ (λ list is.
-        is ∙ ap (λ (xs : List Part). parts_missing xs s look) same ∙ template.mean.same_missing look
+        is ∙ ap (λ (xs : List Part). parts_missing xs s look) same
+        ∙ ap (filter_map lacked) (template.mean.same_steps look)
         ∙ ap (λ (u : Tree). all_missing 0 u look) (tree_unique s template.tree t template.spells spells))
         (lists look names)
 
-    -- what holds of each that the tree is missing holds of each that is listed
-    pub each_missing : (P : Fault → Type 0)
-        → ((look : LookUp) → AllByRecursion P (all_missing 0 template.tree look))
-        → IfOk result (λ list. All (λ e. P (missing_fault e)) list.items)
+    -- what holds of each variable of the tree holds of each that is listed
+    pub each_missing : (P : variables.Variable → Type 0)
+        → AllByRecursion P (variables_of 0 template.tree)
+        → IfOk result (λ list. All (λ e. P (missing_variable e)) list.items)
     each_missing P each =
         let look = marks_of look_up in
-        IfOk-weaker result _ _ (λ list is. each_mapped missing_fault P list.items
-        (is ∙ ap (λ (xs : List Part). parts_missing xs s look) same ∙ template.mean.same_missing look)
-        (each look))
+        IfOk-weaker result _ _ (λ list is. each_mapped missing_variable P list.items
+        (is ∙ ap (λ (xs : List Part). parts_missing xs s look) same
+        ∙ ap (filter_map lacked) (template.mean.same_steps look))
+        (missing_among P 0 template.tree look each))
         (lists look (marks_by_names look_up))

@@ -68,7 +68,7 @@ module _ {V Seen W First : Type 0} (context : Context V Seen W First) (s : List 
         record {
           written =
               writes_same context s (λ _. so_far.done) (λ look. visited_parts parts 0 0 s look)
-              (λ bytes. rw (all bytes) record { value = refl; written = refl }) first before so_far.written;
+              (λ bytes. rw (all bytes) record { steps = refl }) first before so_far.written;
           stopped = tt;
           counted = λ bytes reads. omega (arith, same, so_far.counted, ap length (all bytes));
           at_most = λ bytes reads. omega (arith, same, so_far.counted, ap length (all bytes));

@@ -1,49 +1,26 @@
 -- Lists of parts: where they fit, what an expansion visits of them, and what they give.
-use Rattle.std.proofs.Common.{◌≡◌, ℕ, ◌+◌, ◌<◌, ◌≤◌, suc, lt-ltb, le-ltb, false, Option, Some, None, inl, inr, List, [], ◌∷◌, ◌++◌, drop, length, length-append, append-nil, append_assoc, refl, sym, ap, ◌∙◌, subst, arith}
+use Rattle.std.proofs.Common.{◌≡◌, ℕ, ◌+◌, ◌<◌, ◌≤◌, suc, lt-ltb, le-ltb, false, Option, Some, None, inl, inr, List, [], ◌∷◌, ◌++◌, drop, length, map, length-append, append-nil, append_assoc, refl, sym, ap, ◌∙◌, subst, arith}
 use Rattle.std.proofs.lemmas.Bool.{cases_lt}
 use Rattle.subst_language.specs.Language.Name.{IsName}
 use Rattle.subst_language.specs.Language.Tree.{Item, Short, Braced, Optional, Tree, Empty, Then, text}
 use Rattle.subst_language.specs.Language.Tree as tree
 use Rattle.subst_language.specs.Language.LookUp.{LookUp}
-use Rattle.subst_language.specs.Language.Value.{Value, Bytes, Missing, joined, found_or, item_value, value}
+use Rattle.subst_language.specs.Language.Steps.{Own, Given, Lacks, steps_value, given_or, item_steps, steps_of}
+use Rattle.subst_language.specs.Language.Value.{value}
 use Rattle.subst_language.specs.Lemmas.PlainEnds.{ends_plain}
-use Rattle.subst_language.specs.Language.Written.{bytes_in, unless_missing, found_bytes, item_written, written}
-use Rattle.subst_error.specs.Fault.{NoSuchVariable}
-use Rattle.subst_language.specs.Language.Variables.{Required, OrNothing, OrDefault, item_variables, unless_found, item_missing, all_missing}
+use Rattle.subst_language.specs.Language.Variables.{OrNothing, OrDefault, required, item_variables}
 use Rattle.subst_language.specs.Language.Counts.{if_missing, visited_count_after, visited_count}
 use Rattle.subst_raw.specs.Span.{IsSpan, span_bytes}
-use Rattle.subst_raw.specs.Parts.{FitsAt, JumpsWithin, AllFit, part_value, if_found, resume_index, visited_parts, joined_value, joined_written, kind_before, part_variables, variables_in, part_missing, missing_in, PartsMean}
+use Rattle.subst_raw.specs.Parts.{FitsAt, JumpsWithin, AllFit, part_steps, steps_in, if_found, resume_index, visited_parts, kind_before, part_variables, variables_in, PartsMean}
 use Rattle.subst_raw.specs.Sink.{AllClosed}
 use Rattle.subst_raw.specs.declared.part.Span.{Span}
 use Rattle.subst_raw.specs.declared.part.Part.{Part}
 use Rattle.subst_raw.specs.declared.part.Part.TheVariants.{Literal, Escaped, Variable, Default}
-use Rattle.subst_language.proofs.Language.PlainLemmas.{plains, value-plains}
+use Rattle.subst_language.proofs.Language.PlainLemmas.{plains}
+use Rattle.subst_language.proofs.Language.StepsLemmas.{steps_of-join, steps_of-plains, value-steps}
 use Rattle.subst_language.specs.Language.Join.{join}
-use Rattle.subst_language.proofs.Language.TreeLemmas.{value-join}
 use Rattle.subst_language.proofs.Language.CountLemmas.{visited_count_after-join, visited_count-plains}
-use Rattle.subst_language.proofs.Language.ValueLemmas.{joined_assoc, joined-left, joined-right}
-use Rattle.subst_language.proofs.Language.VariablesLemmas.{variables_of-join, variables_of-plains, all_missing-join, all_missing-plains}
-use Rattle.subst_language.proofs.Language.WrittenLemmas.{unless_missing-nothing, unless_missing_assoc, written-join, written-plains}
-
--- two lists of parts concatenated give the values of both concatenated
-pub joined_value-append : (xs ys : List Part) (s : List ℕ) (look : LookUp)
-    → joined_value (xs ++ ys) s look ≡ joined (joined_value xs s look) (joined_value ys s look)
-joined_value-append [] ys s look = sym (joined-left (joined_value ys s look))
-joined_value-append (part ∷ xs) ys s look =
-    rw (joined_value-append xs ys s look)
-    (sym (joined_assoc (part_value part s look) (joined_value xs s look) (joined_value ys s look)))
-
--- for two lists of parts concatenated what is written for the first is written, and then for the second
-pub joined_written-append : (xs ys : List Part) (s : List ℕ) (look : LookUp)
-    → joined_written (xs ++ ys) s look
-    ≡ joined_written xs s look ++ unless_missing (joined_value xs s look) (joined_written ys s look)
-joined_written-append [] ys s look = refl
-joined_written-append (part ∷ xs) ys s look =
-    rw (
-      joined_written-append xs ys s look,
-      unless_missing_assoc (part_value part s look) (joined_value xs s look)
-          (bytes_in (part_value part s look)) (joined_written xs s look) (joined_written ys s look),
-    ) refl
+use Rattle.subst_language.proofs.Language.VariablesLemmas.{variables_of-join, variables_of-plains}
 
 -- two lists of parts concatenated have the variables of both
 variables_in-append : (xs ys : List Part) (s : List ℕ)
@@ -51,11 +28,11 @@ variables_in-append : (xs ys : List Part) (s : List ℕ)
 variables_in-append [] ys s = refl
 variables_in-append (part ∷ xs) ys s = rw (variables_in-append xs ys s, append_assoc) refl
 
--- and are missing what both are missing
-missing_in-append : (xs ys : List Part) (s : List ℕ) (look : LookUp)
-    → missing_in (xs ++ ys) s look ≡ missing_in xs s look ++ missing_in ys s look
-missing_in-append [] ys s look = refl
-missing_in-append (part ∷ xs) ys s look = rw (missing_in-append xs ys s look, append_assoc) refl
+-- and the steps of both
+pub steps_in-append : (xs ys : List Part) (s : List ℕ) (look : LookUp)
+    → steps_in (xs ++ ys) s look ≡ steps_in xs s look ++ steps_in ys s look
+steps_in-append [] ys s look = refl
+steps_in-append (part ∷ xs) ys s look = rw (steps_in-append xs ys s look, append_assoc) refl
 
 -- a part that jumps within a list at its index does so at an earlier one, and within a longer list
 pub jumps_wider : (j i end wider : ℕ) (part : Part) → j ≤ i → end ≤ wider → JumpsWithin i end part
@@ -115,31 +92,12 @@ pub visited_parts-from : (part : Part) (rest : List Part) (i from : ℕ) (s : Li
     ≡ part ∷ visited_parts rest (i + 1) (resume_index part s look) s look
 visited_parts-from part rest i from s look above = rw (le-ltb i from above) refl
 
--- an expansion that visits a list from its first part on gives that part, and then what is visited from where
--- it goes on
-pub joined_value-first : (part : Part) (rest : List Part) (i from : ℕ) (s : List ℕ) (look : LookUp) → from ≤ i
-    → joined_value (visited_parts (part ∷ rest) i from s look) s look
-    ≡ joined (part_value part s look)
-    (joined_value (visited_parts rest (i + 1) (resume_index part s look) s look) s look)
-joined_value-first part rest i from s look above =
-    ap (λ visited. joined_value visited s look) (visited_parts-from part rest i from s look above)
-
--- and what is written for it is what is written for that part, and then for what is visited
-pub joined_written-first : (part : Part) (rest : List Part) (i from : ℕ) (s : List ℕ) (look : LookUp)
-    → from ≤ i
-    → joined_written (visited_parts (part ∷ rest) i from s look) s look
-    ≡ bytes_in (part_value part s look) ++ unless_missing (part_value part s look)
-    (joined_written (visited_parts rest (i + 1) (resume_index part s look) s look) s look)
-joined_written-first part rest i from s look above =
-    ap (λ visited. joined_written visited s look) (visited_parts-from part rest i from s look above)
-
--- and is missing what that part is missing, and then what is visited is missing
-pub missing_in-first : (part : Part) (rest : List Part) (i from : ℕ) (s : List ℕ) (look : LookUp) → from ≤ i
-    → missing_in (visited_parts (part ∷ rest) i from s look) s look
-    ≡ part_missing part s look
-    ++ missing_in (visited_parts rest (i + 1) (resume_index part s look) s look) s look
-missing_in-first part rest i from s look above =
-    ap (λ visited. missing_in visited s look) (visited_parts-from part rest i from s look above)
+-- its steps are first, and then those of what is visited after it
+steps_in-first : (part : Part) (rest : List Part) (i from : ℕ) (s : List ℕ) (look : LookUp) → from ≤ i
+    → steps_in (visited_parts (part ∷ rest) i from s look) s look
+    ≡ part_steps part s look ++ steps_in (visited_parts rest (i + 1) (resume_index part s look) s look) s look
+steps_in-first part rest i from s look above =
+    ap (λ visited. steps_in visited s look) (visited_parts-from part rest i from s look above)
 
 -- an expansion that goes on no later than a list begins visits as much of it as one that goes on anywhere
 pub visited_parts-anywhere : (parts : List Part) (i from : ℕ) (s : List ℕ) (look : LookUp) → from ≤ i
@@ -222,9 +180,7 @@ visited_parts-jumped i from s (part ∷ xs) look above =
 pub mean_nothing : (s : List ℕ) (i p : ℕ) → PartsMean s i [] p Empty
 mean_nothing s i p = record {
   fit = tt;
-  same_value = λ look. refl;
-  same_written = λ look. refl;
-  same_missing = λ look. refl;
+  same_steps = λ look. refl;
   same_variables = refl;
   same_count = λ look. refl;
 }
@@ -241,22 +197,11 @@ mean_append s i xs ys p t u apart first second = record {
       first.fit)
       (fit_widen (i + length xs) (i + length xs + length ys) (i + length (xs ++ ys)) s ys
       (omega (arith, length-append xs ys)) second.fit);
-  same_value = λ look.
-      ap (λ visited. joined_value visited s look)
+  same_steps = λ look.
+      ap (λ visited. steps_in visited s look)
       (visited_parts-append i (i + length xs) 0 s xs ys look first.fit (omega arith) (omega arith))
-      ∙ joined_value-append (visited_parts xs i 0 s look) (visited_parts ys (i + length xs) 0 s look) s look
-      ∙ rw (first.same_value look, second.same_value look) (sym (value-join p t u look));
-  same_written = λ look.
-      ap (λ visited. joined_written visited s look)
-      (visited_parts-append i (i + length xs) 0 s xs ys look first.fit (omega arith) (omega arith))
-      ∙ joined_written-append (visited_parts xs i 0 s look) (visited_parts ys (i + length xs) 0 s look) s look
-      ∙ rw (first.same_value look, first.same_written look, second.same_written look)
-      (sym (written-join p t u look));
-  same_missing = λ look.
-      ap (λ visited. missing_in visited s look)
-      (visited_parts-append i (i + length xs) 0 s xs ys look first.fit (omega arith) (omega arith))
-      ∙ missing_in-append (visited_parts xs i 0 s look) (visited_parts ys (i + length xs) 0 s look) s look
-      ∙ rw (first.same_missing look, second.same_missing look) (sym (all_missing-join p t u look));
+      ∙ steps_in-append (visited_parts xs i 0 s look) (visited_parts ys (i + length xs) 0 s look) s look
+      ∙ rw (first.same_steps look, second.same_steps look) (sym (steps_of-join p t u look));
   same_variables =
       variables_in-append xs ys s
       ∙ rw (first.same_variables, second.same_variables) (sym (variables_of-join p t u));
@@ -273,24 +218,16 @@ mean_append s i xs ys p t u apart first second = record {
       );
 }
 
--- a part that goes on after itself, and gives what an item gives, means the item
+-- a part that goes on after itself, and has the steps of an item, means the item
 mean_one : (s : List ℕ) (i : ℕ) (part : Part) (p : ℕ) (item : Item) → FitsAt i (i + 1) s part
-    → ((look : LookUp) → part_value part s look ≡ item_value p item look)
-    → ((look : LookUp) → item_written p item look ≡ bytes_in (item_value p item look))
-    → ((look : LookUp) → part_missing part s look ≡ item_missing p item look)
+    → ((look : LookUp) → part_steps part s look ≡ item_steps p item look)
     → part_variables part s ≡ item_variables p item
     → ((look : LookUp) → visited_count (Then item Empty) look ≡ 1)
     → PartsMean s i (part ∷ []) p (Then item Empty)
-mean_one s i part p item fits same writes misses has one = record {
+mean_one s i part p item fits same has one = record {
   fit = (fits, tt);
-  same_value =
-      λ look. joined_value-first part [] i 0 s look (omega arith) ∙ ap (λ v. joined v (Bytes [])) (same look);
-  same_written = λ look.
-      joined_written-first part [] i 0 s look (omega arith)
-      ∙ ap (λ v. bytes_in v ++ unless_missing v []) (same look)
-      ∙ ap (λ x. x ++ unless_missing (item_value p item look) []) (sym (writes look));
-  same_missing = λ look.
-      missing_in-first part [] i 0 s look (omega arith) ∙ ap (λ faults. faults ++ []) (misses look);
+  same_steps =
+      λ look. steps_in-first part [] i 0 s look (omega arith) ∙ ap (λ steps. steps ++ []) (same look);
   same_variables = ap (λ found. found ++ []) has;
   same_count = λ look. ap length (visited_parts-from part [] i 0 s look (omega arith)) ∙ sym (one look);
 }
@@ -301,18 +238,11 @@ pub mean_literal : (s : List ℕ) (i : ℕ) (span : Span) (p : ℕ) (x : List �
     → PartsMean s i (Literal span ∷ []) p (plains x)
 mean_literal s i span p x some inside reads = record {
   fit = ((inside, tt), tt);
-  same_value = λ look.
-      joined_value-first (Literal span) [] i 0 s look (omega arith)
-      ∙ joined-right (Bytes (span_bytes span s))
-      ∙ ap Bytes reads
-      ∙ sym (value-plains p x look);
-  same_written = λ look.
-      joined_written-first (Literal span) [] i 0 s look (omega arith)
-      ∙ append-nil (span_bytes span s)
-      ∙ reads
-      ∙ sym (written-plains p x look);
-  same_missing = λ look.
-      missing_in-first (Literal span) [] i 0 s look (omega arith) ∙ sym (all_missing-plains p x look);
+  same_steps = λ look.
+      steps_in-first (Literal span) [] i 0 s look (omega arith)
+      ∙ append-nil (map Own (span_bytes span s))
+      ∙ ap (map Own) reads
+      ∙ sym (steps_of-plains p x look);
   same_variables = sym (variables_of-plains p x);
   same_count = λ look. ap length (visited_parts-from (Literal span) [] i 0 s look (omega arith))
       ∙ sym (visited_count-plains x look some);
@@ -321,8 +251,8 @@ mean_literal s i span p x some inside reads = record {
 -- an escaped byte means its escape
 pub mean_escaped : (s : List ℕ) (i b p : ℕ) → b < 256
     → PartsMean s i (Escaped b ∷ []) p (Then (tree.Escaped b) Empty)
-mean_escaped s i b p fits = mean_one s i (Escaped b) p (tree.Escaped b) (fits, tt) (λ look. refl)
-    (λ look. refl) (λ look. refl) refl (λ look. refl)
+mean_escaped s i b p fits =
+    mean_one s i (Escaped b) p (tree.Escaped b) (fits, tt) (λ look. refl) refl (λ look. refl)
 
 -- a variable whose name is after a dollar means the name without braces
 pub mean_short : (s : List ℕ) (i : ℕ) (name : Span) (p : ℕ) → IsSpan s name → IsName (span_bytes name s)
@@ -330,12 +260,9 @@ pub mean_short : (s : List ℕ) (i : ℕ) (name : Span) (p : ℕ) → IsSpan s n
     → PartsMean s i (Variable name ∷ []) p (Then (Short (span_bytes name s)) Empty)
 mean_short s i name p inside named starts =
     mean_one s i (Variable name) p (Short (span_bytes name s)) ((inside, named), tt)
-    (λ look. ap (λ position. found_or (look (span_bytes name s)) (Missing position (span_bytes name s)))
-    starts) (λ look. refl)
-    (λ look. ap (λ position. unless_found (look (span_bytes name s))
-    (NoSuchVariable position (span_bytes name s) ∷ [])) starts)
-    (ap (λ position. record { position = position; name = span_bytes name s; kind = Required } ∷ []) starts)
-    (λ look. refl)
+    (λ look. ap (λ position. given_or (look (span_bytes name s)) (Lacks position (span_bytes name s) ∷ []))
+    starts)
+    (ap (λ position. required position (span_bytes name s) ∷ []) starts) (λ look. refl)
 
 -- a variable whose name is after a dollar and a brace means the name in braces
 pub mean_braced : (s : List ℕ) (i : ℕ) (name : Span) (p : ℕ) → IsSpan s name → IsName (span_bytes name s)
@@ -343,12 +270,9 @@ pub mean_braced : (s : List ℕ) (i : ℕ) (name : Span) (p : ℕ) → IsSpan s 
     → PartsMean s i (Variable name ∷ []) p (Then (Braced (span_bytes name s)) Empty)
 mean_braced s i name p inside named starts =
     mean_one s i (Variable name) p (Braced (span_bytes name s)) ((inside, named), tt)
-    (λ look. ap (λ position. found_or (look (span_bytes name s)) (Missing position (span_bytes name s)))
-    starts) (λ look. refl)
-    (λ look. ap (λ position. unless_found (look (span_bytes name s))
-    (NoSuchVariable position (span_bytes name s) ∷ [])) starts)
-    (ap (λ position. record { position = position; name = span_bytes name s; kind = Required } ∷ []) starts)
-    (λ look. refl)
+    (λ look. ap (λ position. given_or (look (span_bytes name s)) (Lacks position (span_bytes name s) ∷ []))
+    starts)
+    (ap (λ position. required position (span_bytes name s) ∷ []) starts) (λ look. refl)
 
 -- a default's part that jumps over no parts means the name with a question mark
 pub mean_optional : (s : List ℕ) (i : ℕ) (name : Span) (p : ℕ) → IsSpan s name → IsName (span_bytes name s)
@@ -357,37 +281,16 @@ pub mean_optional : (s : List ℕ) (i : ℕ) (name : Span) (p : ℕ) → IsSpan 
 mean_optional s i name p inside named starts kind =
     mean_one s i (Default name (i + 1)) p (Optional (span_bytes name s))
     ((inside, named), (omega arith, omega arith))
-    (λ look. refl) (λ look. refl) (λ look. refl)
-    (rw (starts, kind) refl) (λ look. refl)
+    (λ look. refl) (rw (starts, kind) refl) (λ look. refl)
 
--- what a default's part and the parts after it give: what was found, or else what the parts give
-joined_value-default : (found : Option (List ℕ)) (parts : List Part) (i : ℕ) (s : List ℕ) (look : LookUp)
-    → joined (found_or found (Bytes []))
-    (joined_value (visited_parts parts i (if_found found (i + length parts)) s look) s look)
-    ≡ found_or found (joined_value (visited_parts parts i 0 s look) s look)
-joined_value-default (Some x) parts i s look =
-    ap (λ visited. joined (Bytes x) (joined_value visited s look))
-    (visited_parts-jumped i (i + length parts) s parts look (omega arith)) ∙ joined-right (Bytes x)
-joined_value-default None parts i s look = joined-left (joined_value (visited_parts parts i 0 s look) s look)
-
--- what is written for them: what was found, or else what is written for the parts
-joined_written-default : (found : Option (List ℕ)) (parts : List Part) (i : ℕ) (s : List ℕ) (look : LookUp)
-    → bytes_in (found_or found (Bytes [])) ++ unless_missing (found_or found (Bytes []))
-    (joined_written (visited_parts parts i (if_found found (i + length parts)) s look) s look)
-    ≡ found_bytes found (joined_written (visited_parts parts i 0 s look) s look)
-joined_written-default (Some x) parts i s look =
-    ap (λ visited. x ++ joined_written visited s look)
-    (visited_parts-jumped i (i + length parts) s parts look (omega arith)) ∙ append-nil x
-joined_written-default None parts i s look = refl
-
--- and is missing: nothing, or else what the parts are missing
-missing_in-default : (found : Option (List ℕ)) (parts : List Part) (i : ℕ) (s : List ℕ) (look : LookUp)
-    → missing_in (visited_parts parts i (if_found found (i + length parts)) s look) s look
-    ≡ unless_found found (missing_in (visited_parts parts i 0 s look) s look)
-missing_in-default (Some x) parts i s look =
-    ap (λ visited. missing_in visited s look)
+-- the steps of a default's part and of the parts after it: what was found, or else the steps of the parts
+steps_in-default : (found : Option (List ℕ)) (parts : List Part) (i : ℕ) (s : List ℕ) (look : LookUp)
+    → given_or found [] ++ steps_in (visited_parts parts i (if_found found (i + length parts)) s look) s look
+    ≡ given_or found (steps_in (visited_parts parts i 0 s look) s look)
+steps_in-default (Some x) parts i s look =
+    ap (λ visited. Given x ∷ steps_in visited s look)
     (visited_parts-jumped i (i + length parts) s parts look (omega arith))
-missing_in-default None parts i s look = refl
+steps_in-default None parts i s look = refl
 
 -- the parts of a default are visited where nothing was found
 default_count : (found : Option (List ℕ)) (parts : List Part) (i : ℕ) (s : List ℕ) (look : LookUp)
@@ -396,11 +299,6 @@ default_count : (found : Option (List ℕ)) (parts : List Part) (i : ℕ) (s : L
 default_count (Some x) parts i s look =
     ap length (visited_parts-jumped i (i + length parts) s parts look (omega arith))
 default_count None parts i s look = refl
-
--- nothing is written after what was found, or else after a value
-written_one : (found : Option (List ℕ)) (v : Value) (x : List ℕ)
-    → found_bytes found x ++ unless_missing (found_or found v) [] ≡ found_bytes found x
-written_one found v x = rw (unless_missing-nothing (found_or found v)) (append-nil (found_bytes found x))
 
 -- a default's part that jumps over the parts after it means the name with the tree that those mean
 pub mean_default : (s : List ℕ) (i : ℕ) (name : Span) (parts : List Part) (p : ℕ) (t : Tree) → IsSpan s name
@@ -413,24 +311,12 @@ mean_default s i name parts p t inside named starts kind mean = record {
     ((inside, named), (omega arith, omega arith)),
     fit_widen (i + 1) (i + 1 + length parts) (i + suc (length parts)) s parts (omega arith) mean.fit,
   );
-  same_value = λ look.
-      joined_value-first (Default name (i + 1 + length parts)) parts i 0 s look (omega arith)
-      ∙ joined_value-default (look (span_bytes name s)) parts (i + 1) s look
-      ∙ ap (found_or (look (span_bytes name s))) (mean.same_value look)
-      ∙ sym (joined-right
-      (found_or (look (span_bytes name s)) (value (p + 3 + length (span_bytes name s)) t look)));
-  same_written = λ look.
-      joined_written-first (Default name (i + 1 + length parts)) parts i 0 s look (omega arith)
-      ∙ joined_written-default (look (span_bytes name s)) parts (i + 1) s look
-      ∙ ap (found_bytes (look (span_bytes name s))) (mean.same_written look)
-      ∙ sym (written_one (look (span_bytes name s)) (value (p + 3 + length (span_bytes name s)) t look)
-      (written (p + 3 + length (span_bytes name s)) t look));
-  same_missing = λ look.
-      missing_in-first (Default name (i + 1 + length parts)) parts i 0 s look (omega arith)
-      ∙ missing_in-default (look (span_bytes name s)) parts (i + 1) s look
-      ∙ ap (unless_found (look (span_bytes name s))) (mean.same_missing look)
-      ∙ sym (append-nil (unless_found (look (span_bytes name s))
-      (all_missing (p + 3 + length (span_bytes name s)) t look)));
+  same_steps = λ look.
+      steps_in-first (Default name (i + 1 + length parts)) parts i 0 s look (omega arith)
+      ∙ steps_in-default (look (span_bytes name s)) parts (i + 1) s look
+      ∙ ap (given_or (look (span_bytes name s))) (mean.same_steps look)
+      ∙ sym (append-nil (given_or (look (span_bytes name s))
+      (steps_of (p + 3 + length (span_bytes name s)) t look)));
   same_variables =
       ap (λ position.
       record { position = position; name = span_bytes name s; kind = kind_before (drop name.end s) }
@@ -447,3 +333,9 @@ mean_default s i name parts p t inside named starts kind mean = record {
         ap (if_missing (look (span_bytes name s))) (mean.same_count look),
       );
 }
+
+module _ {s : List ℕ} {i : ℕ} {parts : List Part} {p : ℕ} {t : Tree} (mean : PartsMean s i parts p t)
+    (look : LookUp) where
+  -- parts give the value of the tree that they mean
+  pub same_value : steps_value (steps_in (visited_parts parts i 0 s look) s look) ≡ value p t look
+  same_value = ap steps_value (mean.same_steps look) ∙ sym (value-steps look t p)

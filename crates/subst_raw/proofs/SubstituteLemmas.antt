@@ -19,6 +19,7 @@ use Rattle.subst_raw.specs.Expansion.{AppendsTemplate, IsExpansion}
 use Rattle.subst_raw.specs.Filled.{mark, marks_of}
 use Rattle.subst_raw.proofs.FilledTextLemmas.{output_is_text}
 use Rattle.subst_raw.proofs.TemplateOfLemmas.{template_value, template_written, errors_missing, errors_range}
+use Rattle.subst_raw.proofs.PartsLemmas.{same_value}
 
 module _ {V Seen : Type 0} (read : V → List ℕ) (is_read : List ℕ → Type 0) (see : V → Seen)
     (look_up : List ℕ → Option Seen) (s before after : List ℕ) (room len : ℕ) where
@@ -37,7 +38,7 @@ module _ {V Seen : Type 0} (read : V → List ℕ) (is_read : List ℕ → Type 
           let template = done.template in
           let (x, gives, appended) = done.expands.value bytes reads in
           let look = look_up_of bytes look_up in
-          (x, (template.tree, template.spells, sym (template.mean.same_value look) ∙ gives), appended)
+          (x, (template.tree, template.spells, sym (same_value template.mean look) ∙ gives), appended)
 
   module _ (outcome : Result (Unit {0}) ExpandIntoError) (e : ExpandIntoError) (is : outcome ≡ Err e)
       (expansion : IsExpansion read is_read see look_up s before after room len outcome) where

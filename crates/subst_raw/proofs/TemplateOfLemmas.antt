@@ -9,20 +9,21 @@ use Rattle.subst_language.specs.Language.Sentence.{Spells}
 use Rattle.subst_language.specs.Language.LookUp.{LookUp}
 use Rattle.subst_language.specs.Language.Value.{value}
 use Rattle.subst_raw.specs.Filled.{mark, marks_of}
-use Rattle.subst_language.specs.Language.Written.{written}
+use Rattle.subst_language.specs.Language.Written.{steps_written, written}
 use Rattle.subst_raw.specs.Parts.{IsTemplateOf, visited_parts, parts_value, parts_written}
 use Rattle.subst_language.specs.Language.Counts.{visited_count}
 use Rattle.subst_raw.specs.declared.part.Part.{Part}
 use Rattle.subst_language.proofs.Language.AlikeLemmas.{missing_by_names}
 use Rattle.subst_language.proofs.Language.OneTreeLemmas.{tree_unique}
 use Rattle.subst_language.proofs.Language.RangeWithinLemmas.{expand_error_within}
+use Rattle.subst_raw.proofs.PartsLemmas.{same_value}
 
 -- the value of the source's tree, which is the only one
 pub template_value : (s : List ℕ) (parts : List Part) (t : Tree) (look : LookUp) → IsTemplateOf s parts
     → Spells t s
     → parts_value parts s look ≡ value 0 t look
 template_value s parts t look template spells =
-    template.mean.same_value look
+    same_value template.mean look
     ∙ ap (λ u. value 0 u look) (tree_unique s template.tree t template.spells spells)
 
 -- what is written for the source's tree is written for the parts
@@ -30,7 +31,7 @@ pub template_written : (s : List ℕ) (parts : List Part) (t : Tree) (look : Loo
     → Spells t s
     → parts_written parts s look ≡ written 0 t look
 template_written s parts t look template spells =
-    template.mean.same_written look
+    ap steps_written (template.mean.same_steps look)
     ∙ ap (λ u. written 0 u look) (tree_unique s template.tree t template.spells spells)
 
 -- the parts that an expansion visits are as many as it visits of the source's tree
@@ -59,7 +60,7 @@ pub template_range : {Seen : Type 0} (s : List ℕ) (parts : List Part) (look_up
 template_range s parts look_up stated template missing =
     let look = marks_of look_up in
     expand_error_within s template.tree look stated template.spells
-    (subst (λ v. IfSome stated (IsMissing v)) (template.mean.same_value look) missing)
+    (subst (λ v. IfSome stated (IsMissing v)) (same_value template.mean look) missing)
 
 -- the same of each error that a result may have, which states its fault
 pub errors_missing : {Seen T E : Type 0} (fault_of : E → Option Fault) (s : List ℕ) (parts : List Part)

@@ -1,13 +1,19 @@
 -- How far a pass over the parts has come that lists their variables, or what is missing.
-use Rattle.std.proofs.Common.{◌≡◌, ℕ, ◌+◌, List, [], ◌∷◌, ◌++◌, map, drop, append_assoc, sym, ap, ◌∙◌}
+use Rattle.std.proofs.Common.{◌≡◌, ℕ, ◌+◌, Option, Some, None, List, [], ◌∷◌, ◌++◌, map, drop, append_assoc, refl, sym, ap, ◌∙◌}
 use Rattle.std.proofs.lemmas.List.{map-append}
+use Rattle.std.proofs.lemmas.List.Elements.{filter_map-append}
+use Rattle.std.specs.List.{filter_map}
 use Rattle.subst_error.specs.declared.NoSuchVariable as errors
 use Rattle.subst_language.specs.Language.LookUp.{LookUp}
-use Rattle.subst_language.specs.Calls.Variables.{variable_of, missing_fault}
+use Rattle.subst_language.specs.Language.Steps.{Own, given_or}
+use Rattle.subst_language.specs.Language.Variables.{lacked}
+use Rattle.subst_language.specs.Calls.Variables.{variable_of, missing_variable}
 use Rattle.subst_language.specs.declared.variable.Variable as declared
 use Rattle.subst_language.proofs.Language.ListLemmas.{IsElementAt}
-use Rattle.subst_raw.specs.Parts.{FitsAt, part_variables, variables_in, part_missing, missing_in, parts_missing, visited_parts, next_index}
+use Rattle.subst_raw.specs.Parts.{FitsAt, part_variables, variables_in, part_missing, part_steps, steps_in, parts_missing, visited_parts, next_index}
 use Rattle.subst_raw.specs.declared.part.Part.{Part}
+use Rattle.subst_raw.specs.declared.part.Part.TheVariants.{Literal, Escaped, Variable, Default}
+use Rattle.subst_raw.specs.Span.{span_bytes}
 use Rattle.subst_raw.proofs.ExpandLemmas.{goes_on}
 
 -- the variables that are listed, and those of the parts from the index `at` on, are all
@@ -45,25 +51,55 @@ tells_more {parts = parts} {s = s} {list = list} {at = at} v so_far here this is
 pub record ListsSoFar (parts : List Part) (s : List ℕ) (look : LookUp) (list : List errors.NoSuchVariable)
     (at : ℕ)
     : Type 0 where
-  pub together : map missing_fault list ++ missing_in (visited_parts (drop at parts) at 0 s look) s look
+  pub together : map missing_variable list
+      ++ filter_map lacked (steps_in (visited_parts (drop at parts) at 0 s look) s look)
       ≡ parts_missing parts s look
+
+-- a part is missing what its steps lack
+part_lacks : (part : Part) (s : List ℕ) (look : LookUp)
+    → filter_map lacked (part_steps part s look) ≡ part_missing part s look
+part_lacks (Literal span) s look = own (span_bytes span s)
+  where
+    own : (x : List ℕ) → filter_map lacked (map Own x) ≡ []
+    own [] = refl
+    own (b ∷ x) = own x
+part_lacks (Escaped b) s look = refl
+part_lacks (Variable name) s look = refl
+part_lacks (Default name next) s look = of (look (span_bytes name s))
+  where
+    of : (found : Option (List ℕ)) → filter_map lacked (given_or found []) ≡ []
+    of (Some x) = refl
+    of None = refl
+
+-- and with others, first
+missing_first : (part : Part) (rest : List Part) (s : List ℕ) (look : LookUp)
+    → filter_map lacked (steps_in (part ∷ rest) s look)
+    ≡ part_missing part s look ++ filter_map lacked (steps_in rest s look)
+missing_first part rest s look =
+    filter_map-append lacked (part_steps part s look) (steps_in rest s look)
+    ∙ ap (λ missing. missing ++ filter_map lacked (steps_in rest s look)) (part_lacks part s look)
 
 -- after a part, with what it is missing put at the end of the list
 pub lists_next : {parts : List Part} {s : List ℕ} {look : LookUp} {list grown : List errors.NoSuchVariable}
     {at next : ℕ} (end : ℕ) (part : Part) (these : List errors.NoSuchVariable)
     → ListsSoFar parts s look list at → IsElementAt parts at part → FitsAt at end s part
-    → map missing_fault these ≡ part_missing part s look → grown ≡ list ++ these
+    → map missing_variable these ≡ part_missing part s look → grown ≡ list ++ these
     → next ≡ next_index part s look (at + 1) → ListsSoFar parts s look grown next
 lists_next {parts = parts} {s = s} {look = look} {list = list} {at = at} {next = next} end part these
     so_far here fits this is goes =
-    let rest = λ (i : ℕ). missing_in (visited_parts (drop i parts) i 0 s look) s look in
+    let rest = λ (i : ℕ). filter_map lacked (steps_in (visited_parts (drop i parts) i 0 s look) s look) in
+    let after = next_index part s look (at + 1) in
     let there = goes_on end part here fits.1 in
     record {
       together =
-          ap (λ faults. faults ++ rest next) (ap (map missing_fault) is ∙ map-append missing_fault list these)
-          ∙ append_assoc (map missing_fault list) (map missing_fault these) (rest next)
-          ∙ ap (λ faults. map missing_fault list ++ (faults ++ rest next)) this
-          ∙ ap (λ i. map missing_fault list ++ (part_missing part s look ++ rest i)) goes
-          ∙ ap (λ visited. map missing_fault list ++ missing_in visited s look) (sym there.visits)
+          ap (λ missing. missing ++ rest next)
+          (ap (map missing_variable) is ∙ map-append missing_variable list these)
+          ∙ append_assoc (map missing_variable list) (map missing_variable these) (rest next)
+          ∙ ap (λ missing. map missing_variable list ++ (missing ++ rest next)) this
+          ∙ ap (λ i. map missing_variable list ++ (part_missing part s look ++ rest i)) goes
+          ∙ ap (λ missing. map missing_variable list ++ missing)
+          (sym (missing_first part (visited_parts (drop after parts) after 0 s look) s look))
+          ∙ ap (λ visited. map missing_variable list ++ filter_map lacked (steps_in visited s look))
+          (sym there.visits)
           ∙ so_far.together;
     }

@@ -1,18 +1,18 @@
 -- What is written of parts that come one after the other.
-use Rattle.std.proofs.Common.{◌≡◌, ◌≤◌, ◌<◌, ℕ, ◌+◌, List, [], ◌∷◌, ◌++◌, length, Option, Some, None, IfSome, inl, inr, length-append, refl, sym, ap, ◌∙◌, subst, arith}
+use Rattle.std.proofs.Common.{◌≡◌, ◌≤◌, ◌<◌, ℕ, ◌+◌, List, [], ◌∷◌, ◌++◌, length, Option, Some, None, IfSome, inl, inr, append-nil, length-append, refl, sym, ap, ◌∙◌, subst, arith}
 use Rattle.std.proofs.lemmas.Bool.{cases_lt}
 use Rattle.std.specs.Option.{option_map}
 use Rattle.subst_language.specs.Language.LookUp.{LookUp}
-use Rattle.subst_language.specs.Language.Value.{Value, Bytes, joined}
-use Rattle.subst_language.specs.Language.Written.{bytes_in, unless_missing}
+use Rattle.subst_language.specs.Language.Steps.{Step, steps_value}
+use Rattle.subst_language.specs.Language.Value.{Value, joined}
+use Rattle.subst_language.specs.Language.Written.{steps_written}
 use Rattle.subst_language.specs.Calls.VariableMap.{look_up_of}
 use Rattle.subst_language.proofs.Language.ListLemmas.{each_append, each_parts, each_weaker}
-use Rattle.subst_language.proofs.Language.ValueLemmas.{joined-right}
-use Rattle.subst_language.proofs.Language.WrittenLemmas.{unless_missing-nothing}
+use Rattle.subst_language.proofs.Language.StepsLemmas.{steps_value-append, steps_written-append, written_front}
 use Rattle.subst_raw.specs.Filled.{mark, FillsMarks}
 use Rattle.subst_raw.specs.Filled.IsFilled.{empty}
 use Rattle.subst_raw.specs.Output.{Appended}
-use Rattle.subst_raw.specs.Parts.{part_value, if_found, resume_index, visited_parts, joined_value, joined_written}
+use Rattle.subst_raw.specs.Parts.{part_steps, steps_in, if_found, resume_index, visited_parts}
 use Rattle.subst_raw.specs.Span.{span_bytes}
 use Rattle.subst_raw.specs.Context.{Context, StopsAt, Stops, WritesPart, StopsAtPart, jump_of}
 use Rattle.subst_raw.specs.Writing.{IsSettled, AllSettled, WritesVisited}
@@ -24,7 +24,7 @@ use Rattle.subst_raw.specs.declared.part.Part.{Part}
 use Rattle.subst_raw.specs.declared.part.Part.TheVariants.{Literal, Escaped, Variable, Default}
 use Rattle.subst_raw.proofs.FilledLemmas.{filled_append}
 use Rattle.subst_raw.proofs.OutputLemmas.{nothing_appended, more_appended, same_appended}
-use Rattle.subst_raw.proofs.PartsLemmas.{Lands, visited_parts-before, visited_parts-from, visited_parts-lands, visited_parts-jumped, joined_value-append, joined_written-append}
+use Rattle.subst_raw.proofs.PartsLemmas.{Lands, visited_parts-before, visited_parts-from, visited_parts-lands, visited_parts-jumped, steps_in-append}
 
 -- a part that is settled goes on no later than its end
 lands_settled : {Seen : Type 0} (look_up : List ℕ → Option Seen) (bytes : Seen → List ℕ) (s : List ℕ)
@@ -100,28 +100,12 @@ fills_joined some more = record {
   filled = filled_append some.filled more.filled;
 }
 
-module _ (s : List ℕ) (look : LookUp) (xs ys : List Part) (part : Part) (rest : List Part)
-    (more : ys ≡ xs ++ part ∷ rest) where
-  -- what parts give, a part after them, and the rest
-  value_more : joined_value ys s look
-      ≡ joined (joined_value xs s look) (joined (part_value part s look) (joined_value rest s look))
-  value_more =
-      ap (λ (visited : List Part). joined_value visited s look) more
-      ∙ joined_value-append xs (part ∷ rest) s look
-
-  -- how long what is written for them is, where the first ones give bytes
-  length_more : (x : List ℕ) → joined_value xs s look ≡ Bytes x
-      → length (joined_written ys s look)
-      ≡ length (joined_written xs s look) + (length (bytes_in (part_value part s look))
-      + length (unless_missing (part_value part s look) (joined_written rest s look)))
-  length_more x gives =
-      let own = bytes_in (part_value part s look) in
-      let after = unless_missing (part_value part s look) (joined_written rest s look) in
-      ap length (ap (λ (visited : List Part). joined_written visited s look) more
-      ∙ joined_written-append xs (part ∷ rest) s look
-      ∙ ap (λ (v : Value). joined_written xs s look ++ unless_missing v (own ++ after)) gives)
-      ∙ length-append (joined_written xs s look) (own ++ after)
-      ∙ ap (λ n. length (joined_written xs s look) + n) (length-append own after)
+-- the steps of parts, a part after them, and the rest
+steps_more : (s : List ℕ) (look : LookUp) (xs : List Part) (part : Part) (rest : List Part) {ys : List Part}
+    → ys ≡ xs ++ part ∷ rest
+    → steps_in ys s look ≡ steps_in xs s look ++ (part_steps part s look ++ steps_in rest s look)
+steps_more s look xs part rest more =
+    ap (λ (visited : List Part). steps_in visited s look) more ∙ steps_in-append xs (part ∷ rest) s look
 
 -- before the first part nothing was written
 pub writes_none : {V Seen W First : Type 0} (context : Context V Seen W First) (s : List ℕ) (output : W)
@@ -136,6 +120,14 @@ writes_none context s output = record {
 module _ {V Seen W First : Type 0} (context : Context V Seen W First) (s : List ℕ)
     (xs ys : LookUp → List Part) (part : Part) (first before after : W)
     (so_far : WritesVisited context s xs first before) where
+  -- the steps of visited parts, as the map's values are read, and those of the part
+  abbrev seen : (LookUp → List Part) → (Seen → List ℕ) → List Step
+  seen visited bytes =
+      let look = look_up_of bytes context.look_up in steps_in (visited look) s look
+
+  abbrev own : (Seen → List ℕ) → List Step
+  own bytes = part_steps part s (look_up_of bytes context.look_up)
+
   -- one part more is written
   pub writes_next : ((bytes : Seen → List ℕ) → ys (look_up_of bytes context.look_up)
       ≡ xs (look_up_of bytes context.look_up) ++ part ∷ [])
@@ -150,66 +142,74 @@ module _ {V Seen W First : Type 0} (context : Context V Seen W First) (s : List 
         (λ x fills. subst (λ v. FillsMarks context.is_read v (x ++ next.filled.appended))
         (sym (value_next (λ _. mark ∷ []))) (fills_joined fills next.filled.given));
     long = λ bytes reads.
-        let look = look_up_of bytes context.look_up in
+        let all = steps_written-append (seen xs bytes) (own bytes) _ (so_far.given bytes reads).given in
         omega (
           arith,
           so_far.long bytes reads,
           next.long bytes reads,
-          length_more s look (xs look) (ys look) part [] (more bytes) _ (so_far.given bytes reads).given,
-          ap length (unless_missing-nothing (part_value part s look)),
+          ap length (ap steps_written (steps_next bytes) ∙ all),
+          length-append (steps_written (seen xs bytes)) (steps_written (own bytes)),
         );
     room = omega (arith, so_far.room, next.room);
   }
     where
+      steps_next : (bytes : Seen → List ℕ) → seen ys bytes ≡ seen xs bytes ++ own bytes
+      steps_next bytes =
+          steps_more s (look_up_of bytes context.look_up) _ part [] (more bytes)
+          ∙ ap (λ (steps : List Step). seen xs bytes ++ steps) (append-nil (own bytes))
+
       value_next : (bytes : Seen → List ℕ)
-          → joined_value (ys (look_up_of bytes context.look_up)) s (look_up_of bytes context.look_up)
-          ≡ joined (joined_value (xs (look_up_of bytes context.look_up)) s (look_up_of bytes context.look_up))
-          (part_value part s (look_up_of bytes context.look_up))
+          → steps_value (seen ys bytes) ≡ joined (steps_value (seen xs bytes)) (steps_value (own bytes))
       value_next bytes =
-          let look = look_up_of bytes context.look_up in
-          value_more s look (xs look) (ys look) part [] (more bytes)
-          ∙ ap (λ (v : Value). joined (joined_value (xs look) s look) v)
-          (joined-right (part_value part s look))
+          ap steps_value (steps_next bytes) ∙ steps_value-append (seen xs bytes) (own bytes)
 
   -- or writing stops at it, whatever comes after it
   pub stops_next : (rest : LookUp → List Part)
       → ((bytes : Seen → List ℕ) → ys (look_up_of bytes context.look_up)
       ≡ xs (look_up_of bytes context.look_up) ++ part ∷ rest (look_up_of bytes context.look_up))
       → (stopped : Stop) → StopsAtPart context s part stopped before after
-      → Stops context s stopped (λ look. joined_value (ys look) s look)
-      (λ look. joined_written (ys look) s look) first after
+      → Stops context s stopped (λ look. steps_in (ys look) s look) first after
   stops_next rest more stopped next = record {
     begins = more_appended next.begins.appended so_far.filled next.begins.puts (λ x fills. tt);
     at = of stopped next.at;
     room = omega (arith, so_far.room, next.room);
   }
     where
-      of : (stopped : Stop) → StopsAt context s stopped (part_value part s)
-          (λ look. bytes_in (part_value part s look)) before
-          → StopsAt context s stopped (λ look. joined_value (ys look) s look)
-          (λ look. joined_written (ys look) s look) first
+      steps_next : (bytes : Seen → List ℕ) → seen ys bytes ≡ seen xs bytes ++ (own bytes ++ seen rest bytes)
+      steps_next bytes = steps_more s (look_up_of bytes context.look_up) _ part _ (more bytes)
+
+      value_next : (bytes : Seen → List ℕ) → steps_value (seen ys bytes)
+          ≡ joined (steps_value (seen xs bytes))
+          (joined (steps_value (own bytes)) (steps_value (seen rest bytes)))
+      value_next bytes =
+          ap steps_value (steps_next bytes)
+          ∙ steps_value-append (seen xs bytes) (own bytes ++ seen rest bytes)
+          ∙ ap (joined (steps_value (seen xs bytes))) (steps_value-append (own bytes) (seen rest bytes))
+
+      of : (stopped : Stop) → StopsAt context s stopped (part_steps part s) before
+          → StopsAt context s stopped (λ look. steps_in (ys look) s look) first
       of (Full e) full = λ bytes reads.
-          let look = look_up_of bytes context.look_up in
+          let more = own bytes ++ seen rest bytes in
+          let all = steps_written-append (seen xs bytes) more _ (so_far.given bytes reads).given in
           omega (
             arith,
             so_far.room,
             full bytes reads,
             so_far.long bytes reads,
-            length_more s look (xs look) (ys look) part (rest look) (more bytes) _
-                (so_far.given bytes reads).given,
+            ap length (ap steps_written (steps_next bytes) ∙ all),
+            length-append (steps_written (seen xs bytes)) (steps_written more),
+            written_front (own bytes) (seen rest bytes),
           )
       of (stop.Missing name) missing = (
-        λ bytes reads. value_more s _ _ _ part _ (more bytes)
-            ∙ rw ((so_far.given bytes reads).given, missing.0 bytes reads) refl,
-        value_more s _ _ _ part _ (more (λ _. mark ∷ [])) ∙ rw (so_far.filled.given.given, missing.1) refl,
+        λ bytes reads. value_next bytes ∙ rw ((so_far.given bytes reads).given, missing.0 bytes reads) refl,
+        value_next (λ _. mark ∷ []) ∙ rw (so_far.filled.given.given, missing.1) refl,
         missing.2,
         missing.3,
       )
 
--- two lists of visited parts give the same, and the same is written for them
+-- two lists of visited parts have the same steps
 pub record GivesSame (s : List ℕ) (look : LookUp) (xs ys : List Part) : Type 0 where
-  pub value : joined_value xs s look ≡ joined_value ys s look
-  pub written : joined_written xs s look ≡ joined_written ys s look
+  pub steps : steps_in xs s look ≡ steps_in ys s look
 
 module _ (s : List ℕ) (look : LookUp) where
   -- as lists that are equal to such
@@ -220,10 +220,7 @@ module _ (s : List ℕ) (look : LookUp) where
   same_after : (part : Part) {xs ys : List Part} → GivesSame s look xs ys
       → GivesSame s look (part ∷ xs) (part ∷ ys)
   same_after part same = record {
-    value = ap (λ (v : Value). joined (part_value part s look) v) same.value;
-    written = ap (λ (x : List ℕ). bytes_in (part_value part s look)
-        ++ unless_missing (part_value part s look) x)
-        same.written;
+    steps = ap (λ (steps : List Step). part_steps part s look ++ steps) same.steps;
   }
 
   -- with more parts before
@@ -241,9 +238,9 @@ module _ (s : List ℕ) (look : LookUp) where
         | inl jumped ↦
             same_by (visited_parts-before (Default name next) own i from s look jumped)
             (visited_parts-before (Default name other) own i from s look jumped)
-            record { value = refl; written = refl }
+            record { steps = refl }
         | inr visited ↦
-            same_by (here next visited) (here other visited) record { value = refl; written = refl }
+            same_by (here next visited) (here other visited) record { steps = refl }
       ]
     where
       here : (k : ℕ) → from ≤ i → visited_parts (Default name k ∷ own) i from s look
@@ -272,11 +269,11 @@ pub writes_same : {V Seen W First : Type 0} (context : Context V Seen W First) (
     → (first now : W) → WritesVisited context s xs first now → WritesVisited context s ys first now
 writes_same context s xs ys same first now written = record {
   given = λ bytes reads. same_appended (written.given bytes reads)
-      (λ x gives. sym (same bytes).value ∙ gives);
-  filled = subst (λ v. Appended context.holds (FillsMarks context.is_read v) first now)
-      (same (λ _. mark ∷ [])).value written.filled;
+      (λ x gives. ap steps_value (sym (same bytes).steps) ∙ gives);
+  filled = subst (λ steps. Appended context.holds (FillsMarks context.is_read (steps_value steps)) first now)
+      (same (λ _. mark ∷ [])).steps written.filled;
   long = λ bytes reads. written.long bytes reads
-      ∙ ap (λ (x : List ℕ). context.len first + length x) (same bytes).written;
+      ∙ ap (λ (steps : List Step). context.len first + length (steps_written steps)) (same bytes).steps;
   room = written.room;
 }
 
@@ -330,7 +327,7 @@ module _ {Seen : Type 0} (look_up : List ℕ → Option Seen) (s : List ℕ) (be
         same_by s look (visited_more look_up bytes s before (Default name 0) [] settled)
         (visited_more look_up bytes s before (Default name next) own settled
         ∙ ap (λ (more : List Part). front ++ Default name next ∷ more) jump)
-        (same_front s look front record { value = refl; written = refl })
+        (same_front s look front record { steps = refl })
 
 -- a jump changes no length
 pub same_length : (before own : List Part) (name : Span) (next other : ℕ)

@@ -3,12 +3,13 @@ use Rattle.std.specs.Prelude.{◌≡◌, ℕ, ◌+◌, ◌<◌, ◌≤◌, List,
 use Rattle.std.specs.Option.{option_map}
 use Rattle.subst_language.specs.Language.LookUp.{LookUp}
 use Rattle.subst_language.specs.Language.Name.{IsName}
-use Rattle.subst_language.specs.Language.Value.{Value, Bytes, Missing}
-use Rattle.subst_language.specs.Language.Written.{bytes_in}
+use Rattle.subst_language.specs.Language.Steps.{Step, steps_value}
+use Rattle.subst_language.specs.Language.Value.{Bytes, Missing}
+use Rattle.subst_language.specs.Language.Written.{steps_written}
 use Rattle.subst_language.specs.Calls.VariableMap.{ByLookUp}
 use Rattle.subst_raw.specs.Filled.{FillsMarks, marks_of}
 use Rattle.subst_raw.specs.Output.{Appended}
-use Rattle.subst_raw.specs.Parts.{part_value}
+use Rattle.subst_raw.specs.Parts.{part_steps}
 use Rattle.subst_raw.specs.Span.{IsSpan, span_bytes}
 use Rattle.subst_raw.specs.declared.expand.Stop.{Stop}
 use Rattle.subst_raw.specs.declared.expand.Stop.TheVariants.{Full}
@@ -43,42 +44,42 @@ context_of read is_read see look_up holds len room = record {
 abbrev pub ByContext : {V Seen W First : Type 0} → Context V Seen W First → (LookUp → Type 0) → Type 0
 ByContext context P = ByLookUp context.read context.see context.look_up P
 
--- what a value is was written, between two states of an output
-pub record Writes {V Seen W First : Type 0} (context : Context V Seen W First) (value : LookUp → Value)
-    (written : LookUp → List ℕ) (before after : W) : Type 0 where
-  pub given : ByContext context (λ look. Appended context.holds (λ x. value look ≡ Bytes x) before after)
-  pub filled : Appended context.holds (FillsMarks context.is_read (value (marks_of context.look_up))) before
-      after
-  pub long : ByContext context (λ look. context.len after ≡ context.len before + length (written look))
+-- what these steps give was written, between two states of an output
+pub record Writes {V Seen W First : Type 0} (context : Context V Seen W First) (steps : LookUp → List Step)
+    (before after : W) : Type 0 where
+  pub given : ByContext context (λ look.
+      Appended context.holds (λ x. steps_value (steps look) ≡ Bytes x) before after)
+  pub filled : Appended context.holds
+      (FillsMarks context.is_read (steps_value (steps (marks_of context.look_up)))) before after
+  pub long : ByContext context (λ look.
+      context.len after ≡ context.len before + length (steps_written (steps look)))
   pub room : context.room before ≤ context.room after
 
 -- the same, where writing stopped: the output had no room for what was to be written, or the value is the
 -- variable that is missing
-abbrev pub StopsAt : {V Seen W First : Type 0} → Context V Seen W First → List ℕ → Stop → (LookUp → Value)
-    → (LookUp → List ℕ) → W → Type 0
-StopsAt context s (Full e) value written before =
-    ByContext context (λ look. context.room before < context.len before + length (written look))
-StopsAt context s (stop.Missing name) value written before =
-    ByContext context (λ look. value look ≡ Missing name.start (span_bytes name s))
-    × (value (marks_of context.look_up) ≡ Missing name.start (span_bytes name s))
+abbrev pub StopsAt : {V Seen W First : Type 0} → Context V Seen W First → List ℕ → Stop
+    → (LookUp → List Step) → W → Type 0
+StopsAt context s (Full e) steps before = ByContext context (λ look.
+    context.room before < context.len before + length (steps_written (steps look)))
+StopsAt context s (stop.Missing name) steps before =
+    ByContext context (λ look. steps_value (steps look) ≡ Missing name.start (span_bytes name s))
+    × (steps_value (steps (marks_of context.look_up)) ≡ Missing name.start (span_bytes name s))
     × IsSpan s name × IsName (span_bytes name s)
 
 pub record Stops {V Seen W First : Type 0} (context : Context V Seen W First) (s : List ℕ) (stopped : Stop)
-    (value : LookUp → Value) (written : LookUp → List ℕ) (before after : W) : Type 0 where
+    (steps : LookUp → List Step) (before after : W) : Type 0 where
   pub begins : Appended context.holds (λ _. Unit {0}) before after
-  pub at : StopsAt context s stopped value written before
+  pub at : StopsAt context s stopped steps before
   pub room : context.room before ≤ context.room after
 
--- the part's own value was written
+-- what the part gives by itself was written
 abbrev pub WritesPart : {V Seen W First : Type 0} → Context V Seen W First → List ℕ → Part → W → W → Type 0
-WritesPart context s part before after =
-    Writes context (part_value part s) (λ look. bytes_in (part_value part s look)) before after
+WritesPart context s part before after = Writes context (part_steps part s) before after
 
 -- or writing stopped at it
 abbrev pub StopsAtPart : {V Seen W First : Type 0} → Context V Seen W First → List ℕ → Part → Stop → W → W
     → Type 0
-StopsAtPart context s part stopped before after =
-    Stops context s stopped (part_value part s) (λ look. bytes_in (part_value part s look)) before after
+StopsAtPart context s part stopped before after = Stops context s stopped (part_steps part s) before after
 
 -- the jump that an expansion takes after a part: that of a default whose name has a value
 abbrev pub jump_of : {Seen : Type 0} → (List ℕ → Option Seen) → List ℕ → Part → Option ℕ

@@ -1,16 +1,17 @@
 -- What a list of parts means over a source.
-use Rattle.std.specs.Prelude.{◌≡◌, ℕ, ◌+◌, ◌<◌, ◌≤◌, List, [], ◌∷◌, ◌++◌, ◌==◌, drop, length, Option, Some, None, nat_lt, if◌then◌else◌}
+use Rattle.std.specs.Prelude.{◌≡◌, ℕ, ◌+◌, ◌<◌, ◌≤◌, List, [], ◌∷◌, ◌++◌, ◌==◌, drop, length, map, Option, Some, None, nat_lt, if◌then◌else◌}
+use Rattle.std.specs.List.{filter_map}
 use Rattle.subst_language.specs.Language.Name.{IsName}
 use Rattle.subst_language.specs.Language.Tree.{Tree}
 use Rattle.subst_language.specs.Language.Sentence.{Spells}
 use Rattle.subst_language.specs.Language.LookUp.{LookUp}
-use Rattle.subst_language.specs.Language.Value.{Value, Bytes, Missing, joined, found_or, value}
-use Rattle.subst_language.specs.Language.Written.{bytes_in, unless_missing, written}
+use Rattle.subst_language.specs.Language.Steps.{Step, Own, Lacks, steps_value, given_or, steps_of}
+use Rattle.subst_language.specs.Language.Value.{Value}
+use Rattle.subst_language.specs.Language.Written.{steps_written}
 use Rattle.subst_language.specs.Language.Counts.{visited_count}
 use Rattle.subst_language.specs.Language.Bytes.{question_mark}
 use Rattle.subst_language.specs.Language.Variables as variables
-use Rattle.subst_language.specs.Language.Variables.{Kind, variables_of, unless_found, all_missing}
-use Rattle.subst_error.specs.Fault.{Fault, NoSuchVariable}
+use Rattle.subst_language.specs.Language.Variables.{Kind, variables_of, lacked}
 use Rattle.subst_raw.specs.Span.{IsSpan, span_bytes}
 use Rattle.subst_raw.specs.declared.part.Part.{Part}
 use Rattle.subst_raw.specs.declared.part.Part.TheVariants.{Literal, Escaped, Variable, Default}
@@ -36,13 +37,18 @@ abbrev pub AllFit : ℕ → ℕ → List ℕ → List Part → Type 0
 AllFit i end s [] = Unit {0}
 AllFit i end s (part ∷ rest) = FitsAt i end s part × AllFit (i + 1) end s rest
 
--- what a part gives by itself
-abbrev pub part_value : Part → List ℕ → LookUp → Value
-part_value (Literal span) s look = Bytes (span_bytes span s)
-part_value (Escaped b) s look = Bytes (b ∷ [])
-part_value (Variable name) s look =
-    found_or (look (span_bytes name s)) (Missing name.start (span_bytes name s))
-part_value (Default name next) s look = found_or (look (span_bytes name s)) (Bytes [])
+-- the steps of a part by itself
+abbrev pub part_steps : Part → List ℕ → LookUp → List Step
+part_steps (Literal span) s look = map Own (span_bytes span s)
+part_steps (Escaped b) s look = Own b ∷ []
+part_steps (Variable name) s look =
+    given_or (look (span_bytes name s)) (Lacks name.start (span_bytes name s) ∷ [])
+part_steps (Default name next) s look = given_or (look (span_bytes name s)) []
+
+-- the steps of parts, each by itself
+abbrev pub steps_in : List Part → List ℕ → LookUp → List Step
+steps_in [] s look = []
+steps_in (part ∷ rest) s look = part_steps part s look ++ steps_in rest s look
 
 -- next where something was found, else 0
 abbrev pub if_found : Option (List ℕ) → ℕ → ℕ
@@ -61,24 +67,17 @@ visited_parts (part ∷ rest) i from s look =
     if nat_lt i from then visited_parts rest (i + 1) from s look
     else part ∷ visited_parts rest (i + 1) (resume_index part s look) s look
 
--- the values of parts, joined
-abbrev pub joined_value : List Part → List ℕ → LookUp → Value
-joined_value [] s look = Bytes []
-joined_value (part ∷ rest) s look = joined (part_value part s look) (joined_value rest s look)
+-- the steps of a list of parts: of those that an expansion visits
+abbrev pub parts_steps : List Part → List ℕ → LookUp → List Step
+parts_steps parts s look = steps_in (visited_parts parts 0 0 s look) s look
 
--- what a list of parts gives: the values of those that an expansion visits, joined
+-- what a list of parts gives
 abbrev pub parts_value : List Part → List ℕ → LookUp → Value
-parts_value parts s look = joined_value (visited_parts parts 0 0 s look) s look
+parts_value parts s look = steps_value (parts_steps parts s look)
 
--- what is written for parts, up to the first that is missing a variable
-abbrev pub joined_written : List Part → List ℕ → LookUp → List ℕ
-joined_written [] s look = []
-joined_written (part ∷ rest) s look =
-    bytes_in (part_value part s look) ++ unless_missing (part_value part s look) (joined_written rest s look)
-
--- what is written for a list of parts: for those that an expansion visits
+-- what is written for it, up to the first part that is missing a variable
 abbrev pub parts_written : List Part → List ℕ → LookUp → List ℕ
-parts_written parts s look = joined_written (visited_parts parts 0 0 s look) s look
+parts_written parts s look = steps_written (parts_steps parts s look)
 
 -- the kind of a variable whose name this text follows: a question mark first, or the colon of a default
 abbrev pub kind_before : List ℕ → Kind
@@ -87,8 +86,7 @@ kind_before (b ∷ rest) = if b == question_mark then variables.OrNothing else v
 
 -- the variable of a part, if it has one
 abbrev pub part_variables : Part → List ℕ → List variables.Variable
-part_variables (Variable name) s =
-    record { position = name.start; name = span_bytes name s; kind = variables.Required } ∷ []
+part_variables (Variable name) s = variables.required name.start (span_bytes name s) ∷ []
 part_variables (Default name next) s =
     record { position = name.start; name = span_bytes name s; kind = kind_before (drop name.end s) } ∷ []
 part_variables part s = []
@@ -99,9 +97,8 @@ variables_in [] s = []
 variables_in (part ∷ rest) s = part_variables part s ++ variables_in rest s
 
 -- the variable that a part needs and the look-up has nothing for, if there is one
-abbrev pub part_missing : Part → List ℕ → LookUp → List Fault
-part_missing (Variable name) s look =
-    unless_found (look (span_bytes name s)) (NoSuchVariable name.start (span_bytes name s) ∷ [])
+abbrev pub part_missing : Part → List ℕ → LookUp → List variables.Variable
+part_missing (Variable name) s look = filter_map lacked (part_steps (Variable name) s look)
 part_missing part s look = []
 
 -- next where something was found, else the index right after the part
@@ -114,23 +111,14 @@ abbrev pub next_index : Part → List ℕ → LookUp → ℕ → ℕ
 next_index (Default name next) s look after = next_if_found (look (span_bytes name s)) next after
 next_index part s look after = after
 
--- what parts are missing
-abbrev pub missing_in : List Part → List ℕ → LookUp → List Fault
-missing_in [] s look = []
-missing_in (part ∷ rest) s look = part_missing part s look ++ missing_in rest s look
-
--- what a list of parts is missing: those that an expansion visits
-abbrev pub parts_missing : List Part → List ℕ → LookUp → List Fault
-parts_missing parts s look = missing_in (visited_parts parts 0 0 s look) s look
+-- what a list of parts is missing
+abbrev pub parts_missing : List Part → List ℕ → LookUp → List variables.Variable
+parts_missing parts s look = filter_map lacked (parts_steps parts s look)
 
 -- the parts, the first of which has index i, mean the tree, whose text is at position p of the source
 pub record PartsMean (s : List ℕ) (i : ℕ) (parts : List Part) (p : ℕ) (t : Tree) : Type 0 where
   pub fit : AllFit i (i + length parts) s parts
-  pub same_value : (look : LookUp) → joined_value (visited_parts parts i 0 s look) s look ≡ value p t look
-  pub same_written : (look : LookUp)
-      → joined_written (visited_parts parts i 0 s look) s look ≡ written p t look
-  pub same_missing : (look : LookUp)
-      → missing_in (visited_parts parts i 0 s look) s look ≡ all_missing p t look
+  pub same_steps : (look : LookUp) → steps_in (visited_parts parts i 0 s look) s look ≡ steps_of p t look
   pub same_variables : variables_in parts s ≡ variables_of p t
   pub same_count : (look : LookUp) → length (visited_parts parts i 0 s look) ≡ visited_count t look
 

@@ -2,7 +2,7 @@
 use Rattle.std.specs.Prelude.{◌≡◌, ℕ, ◌+◌, ◌<◌, ◌≤◌, List, [], ◌∷◌, ◌++◌, length, Option, Some, IfSome, is_some, Bool, false, Result, IfErr, IfOk, OnOk}
 use Rattle.std.specs.List.{AllByRecursion}
 use Rattle.subst_language.specs.Language.LookUp.{LookUp}
-use Rattle.subst_raw.specs.Parts.{visited_parts, joined_value, joined_written, parts_value, parts_written}
+use Rattle.subst_raw.specs.Parts.{steps_in, visited_parts, parts_steps}
 use Rattle.subst_raw.specs.Span.{span_bytes}
 use Rattle.subst_raw.specs.Context.{Context, ByContext, Writes, Stops, WritesPart, StopsAtPart, jump_of}
 use Rattle.subst_raw.specs.declared.expand.Stop.{Stop}
@@ -25,8 +25,7 @@ AllSettled look_up s end parts = AllByRecursion (IsSettled look_up s end) parts
 abbrev pub WritesVisited : {V Seen W First : Type 0} → Context V Seen W First → List ℕ → (LookUp → List Part)
     → W → W → Type 0
 WritesVisited context s visited before after =
-    Writes context (λ look. joined_value (visited look) s look) (λ look. joined_written (visited look) s look)
-    before after
+    Writes context (λ look. steps_in (visited look) s look) before after
 
 -- what parts give was written
 abbrev pub WritesParts : {V Seen W First : Type 0} → Context V Seen W First → List ℕ → List Part → W → W
@@ -38,8 +37,7 @@ WritesParts context s parts before after =
 abbrev pub StopsInParts : {V Seen W First : Type 0} → Context V Seen W First → List ℕ → Stop → List Part → W
     → W → Type 0
 StopsInParts context s stopped parts before after =
-    Stops context s stopped (λ look. parts_value parts s look) (λ look. parts_written parts s look) before
-    after
+    Stops context s stopped (parts_steps parts s) before after
 
 -- What came of appending what parts give: all was written, or writing stopped within it. Each part that was
 -- visited was a turn.

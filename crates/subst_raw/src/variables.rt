@@ -9,7 +9,7 @@ ghost use Rattle.subst_error.specs.Range.{IsRangeIn};
 ghost use Rattle.subst_language.specs.Language.Sentence.{ByTree};
 ghost use Rattle.subst_language.specs.Language.Variables.{all_missing, variables_of};
 ghost use Rattle.subst_language.specs.Calls.VariableMap.{ByNames};
-ghost use Rattle.subst_language.specs.Calls.Variables.{kind_of, missing_fault, missing_range, variable_of};
+ghost use Rattle.subst_language.specs.Calls.Variables.{kind_of, missing_variable, missing_range, variable_of};
 ghost use Rattle.subst_language.specs.Calls.Variables.{variable_range};
 ghost use Rattle.subst_raw.specs.Packed.{unpacked_parts};
 ghost use Rattle.subst_raw.specs.Parts.{AllFit, IsInSource, IsTemplateOf};
@@ -113,7 +113,7 @@ where
     M::Value: Drop,
     requires { IsTemplateOf source.now parts.now }
     ensures missing { ByNames (M.look_up variables.now) (λ look. ByTree source.now
-        (λ t. IfOk result (λ list. map missing_fault list.items ≡ all_missing 0 t look))) }
+        (λ t. IfOk result (λ list. map missing_variable list.items ≡ all_missing 0 t look))) }
     ensures range { IfOk result (λ list.
         All (λ e. (missing_range e).end ≤ length source.now) list.items) }
     ensures text { IsUtf8 source.now → IfOk result (λ list.
@@ -137,7 +137,7 @@ where
     requires { let parts = unpacked_parts O.value packed.now in
         AllFit 0 (length parts) source.now parts }
     ensures { ByNames (M.look_up variables.now) (λ look. IfOk result (λ list.
-        map missing_fault list.items
+        map missing_variable list.items
         ≡ parts_missing (unpacked_parts O.value packed.now) source.now look)) }
 {
     let mut list = Vec::new(alloc);
@@ -167,7 +167,7 @@ where
     M::Value: Drop,
     requires { IsInSource source.now part }
     ensures { ByNames (M.look_up variables.now) (λ look. IfOk result (λ missing.
-        map missing_fault (option_to_list missing) ≡ part_missing part source.now look)) }
+        map missing_variable (option_to_list missing) ≡ part_missing part source.now look)) }
 {
     let Part::Variable(span) = part else {
         return Ok(None);

@@ -5,6 +5,7 @@ use Rattle.std.proofs.lemmas.List.Folds.{concat-append}
 use Rattle.std.specs.List.{concat}
 use Rattle.std.specs.Prelude.{IsSomeAnd}
 use Rattle.subst.specs.Fault.{Fault, NoSuchVariable}
+use Rattle.subst.specs.Language.Variables.{Variable, required}
 use Rattle.subst_uses.specs.Report.{AreReports, IsReport, report_of}
 
 -- the report of an error that states a fault is that of the fault
@@ -15,19 +16,19 @@ report_of_a_fault bytes_of (Some f) file s result some report = report
 report_of_a_fault bytes_of None file s result some report = absurd (some refl)
 
 -- one more report, of a variable that is missing
-pub report_added : (file s : List ℕ) (faults : List Fault) (position : ℕ) (name text shown both : List ℕ)
-    → AreReports file faults s text → IsReport file (Some (NoSuchVariable position name)) s shown
-    → both ≡ text ++ shown → AreReports file (faults ++ NoSuchVariable position name ∷ []) s both
-report_added file s faults position name text shown both (reports, each, is) one added =
-    let f = NoSuchVariable position name in
-    let here : report_of file (Some f) s ≡ Some shown = ap Some (sym one) in
-    let more : map (λ g. report_of file (Some g) s) (faults ++ f ∷ [])
-    ≡ map (λ g. report_of file (Some g) s) faults ++ report_of file (Some f) s ∷ [] =
-    map_push (λ g. report_of file (Some g) s) faults f in
+pub report_added : (file s : List ℕ) (missing : List Variable) (position : ℕ) (name text shown both : List ℕ)
+    → AreReports file missing s text → IsReport file (Some (NoSuchVariable position name)) s shown
+    → both ≡ text ++ shown → AreReports file (missing ++ required position name ∷ []) s both
+report_added file s missing position name text shown both (reports, each, is) one added =
+    let report = λ (v : Variable). report_of file (Some (NoSuchVariable v.position v.name)) s in
+    let here : report (required position name) ≡ Some shown = ap Some (sym one) in
+    let more : map report (missing ++ required position name ∷ [])
+    ≡ map report missing ++ report (required position name) ∷ [] =
+    map_push report missing (required position name) in
     let last : concat (reports ++ shown ∷ []) ≡ concat reports ++ shown =
     concat-append reports (shown ∷ []) ∙ ap (λ x. concat reports ++ x) (append-nil shown) in (
       reports ++ shown ∷ [],
-      more ∙ ap (λ xs. xs ++ report_of file (Some f) s ∷ []) each
+      more ∙ ap (λ xs. xs ++ report (required position name) ∷ []) each
           ∙ ap (λ x. map Some reports ++ x ∷ []) here ∙ sym (map_push Some reports shown),
       added ∙ ap (λ x. x ++ shown) is ∙ sym last,
     )

@@ -3,14 +3,14 @@ use Rattle.std.specs.Prelude.{◌≡◌, ◌⊎◌, ℕ, List, [], Option, Some,
 use Rattle.std.specs.Fmt.{decimal, ◌++?◌}
 use Rattle.std.specs.List.{concat}
 use Rattle.subst.specs.Display.{display_of_error}
-use Rattle.subst.specs.Fault.{Fault}
+use Rattle.subst.specs.Fault.{Fault, NoSuchVariable}
 use Rattle.subst.specs.Highlighting.{highlighting_of}
 use Rattle.subst.specs.Language.Answer.{Answers, Gives}
 use Rattle.subst.specs.Language.BadItem.{HasFault}
 use Rattle.subst.specs.Language.LookUp.{LookUp}
 use Rattle.subst.specs.Language.Sentence.{Spells}
 use Rattle.subst.specs.Language.Tree.{Tree}
-use Rattle.subst.specs.Language.Variables.{all_missing}
+use Rattle.subst.specs.Language.Variables.{Variable, all_missing}
 use Rattle.subst.specs.Position.{position_of}
 use Rattle.subst_uses.specs.declared.report.Outcome.{Outcome}
 use Rattle.subst_uses.specs.declared.report.Outcome.TheVariants.{Output, Report}
@@ -26,10 +26,11 @@ report_of file e s =
 abbrev pub IsReport : List ℕ → Option Fault → List ℕ → List ℕ → Type 0
 IsReport file e s text = IfSome (report_of file e s) (λ shown. text ≡ shown)
 
--- the text is the reports of the faults, one for each, in their order
-abbrev pub AreReports : List ℕ → List Fault → List ℕ → List ℕ → Type 0
-AreReports file faults s text = (reports : List (List ℕ))
-    × (map (λ f. report_of file (Some f) s) faults ≡ map Some reports) × (text ≡ concat reports)
+-- the text is the reports of the variables that are missing, one for each, in their order
+abbrev pub AreReports : List ℕ → List Variable → List ℕ → List ℕ → Type 0
+AreReports file missing s text = (reports : List (List ℕ))
+    × (map (λ v. report_of file (Some (NoSuchVariable v.position v.name)) s) missing ≡ map Some reports)
+    × (text ≡ concat reports)
 
 -- what the source gives; or a report of its fault, or of each variable that it is missing, if there is one
 abbrev pub IsWholeOutcome : LookUp → List ℕ → List ℕ → Outcome → Type 0

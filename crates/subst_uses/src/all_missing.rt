@@ -2,7 +2,7 @@
 
 ghost use Rattle.std.specs.Prelude.{IfOk, map, string_bytes};
 ghost use Rattle.std.specs.List.{All};
-ghost use Rattle.subst.specs.Calls.Variables.{missing_fault, missing_range};
+ghost use Rattle.subst.specs.Calls.Variables.{missing_variable, missing_range};
 ghost use Rattle.subst.specs.Range.{IsRangeIn};
 ghost use Rattle.subst_uses.specs.CommandLine.{texts_of};
 ghost use Rattle.subst_uses.specs.Report.{AreReports, IsWholeOutcome};
@@ -55,7 +55,7 @@ fn reports(
 ) -> Result<String, AllocError>
     requires { All (λ e. IsRangeIn source.now (missing_range e)) missing.items }
     ensures { IfOk result (λ text.
-        AreReports file.now (map missing_fault missing.items) source.now (string_bytes text)) }
+        AreReports file.now (map missing_variable missing.items) source.now (string_bytes text)) }
 {
     let mut text = String::new(alloc);
     for e in missing {

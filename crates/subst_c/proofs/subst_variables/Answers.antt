@@ -10,7 +10,7 @@ pub returns-in-Ok-variables-clause-done : goal.returns-in-Ok-variables-clause-do
 returns-in-Ok-variables-clause-done c done =
     let list = c.in-Ok-variables.ensures in
     records_put (λ v. variable_record (variable_of v)) _ c.deref.result.now _ _ _
-    (has_records variable_of variable_record (variables_of 0) c.args.source.now _ c.deref.result.now _
+    (has_records variable_of (variables_of 0) c.args.source.now _ c.deref.result.now _
     c.in-Ok.ensures.ok.1 c.deref.ensures.value c.in-Ok.ensures.ok.0 list.variables) c.deliver.ensures.needed
     (c.deliver.ensures.done done)
 
@@ -18,7 +18,7 @@ pub returns-in-Ok-variables-clause-too_small : goal.returns-in-Ok-variables-clau
 returns-in-Ok-variables-clause-too_small c small =
     let list = c.in-Ok-variables.ensures in
     records_too_long (λ v. variable_record (variable_of v)) _ c.deref.result.now _ _
-    (has_records variable_of variable_record (variables_of 0) c.args.source.now _ c.deref.result.now _
+    (has_records variable_of (variables_of 0) c.args.source.now _ c.deref.result.now _
     c.in-Ok.ensures.ok.1 c.deref.ensures.value c.in-Ok.ensures.ok.0 list.variables) c.deliver.ensures.needed
     (c.deliver.ensures.too_small small)
 

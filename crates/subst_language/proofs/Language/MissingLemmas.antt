@@ -1,114 +1,203 @@
--- Missing variables are missing: what a value that is none says of the look-up.
-use Rattle.std.proofs.Common.{◌≡◌, ℕ, ◌+◌, List, [], ◌++◌, length, Option, Some, None, IsSome, refl, subst, inl, inr}
+-- Which variables are missing: those that are required and that the look-up has nothing for.
+use Rattle.std.proofs.Common.{◌≡◌, ℕ, ◌+◌, ◌≤◌, Bool, List, [], ◌∷◌, ◌++◌, length, Option, Some, None, IsSome, is_some, refl, sym, ap, ◌∙◌, subst, arith}
 use Rattle.std.proofs.lemmas.Bool.{false≢true}
-use Rattle.std.specs.List.{All, AllByRecursion}
-use Rattle.subst_error.specs.Fault.{Fault, NoSuchVariable}
-use Rattle.subst_language.specs.Language.Tree.{Item, Plain, Escaped, Short, Braced, Optional, Default, Tree, Empty, Then, item_text}
+use Rattle.std.proofs.lemmas.List.Elements.{All-filter, All-from_recursion, filter-append, filter_map-append}
+use Rattle.std.specs.List.{All, AllByRecursion, filter, filter_map}
+use Rattle.subst_language.specs.Language.Answer.{Answers, Gives}
+use Rattle.subst_language.specs.Language.Laws.{IsSublist}
+use Rattle.subst_language.specs.Language.Laws.IsSublist.{nothing, kept, left_out}
+use Rattle.subst_language.specs.Language.LookUp.{LookUp}
 use Rattle.subst_language.specs.Language.NamesIn.{names_in_item, names_in}
 use Rattle.subst_language.specs.Language.Sentence.{Spells}
-use Rattle.subst_language.specs.Language.LookUp.{LookUp}
-use Rattle.subst_language.specs.Language.Value.{Value, Bytes, Missing, joined, found_or, item_value, value}
-use Rattle.subst_language.specs.Language.Answer.{Answers, Gives, Refuses}
-use Rattle.subst_language.proofs.Language.ListLemmas.{each_parts, each_by_recursion}
-use Rattle.subst_language.proofs.Language.NamesInLemmas.{IsBytes}
-use Rattle.subst_language.specs.Language.Variables.{unless_found, item_missing, all_missing}
-use Rattle.subst_language.proofs.Language.VariablesLemmas.{IsLacked, first_missing, missing_lacked}
-use Rattle.subst_language.proofs.Language.UnsettledLemmas.{fault_is_known}
+use Rattle.subst_language.specs.Language.Steps.{Step, Lacks, given_or, item_steps, steps_of}
+use Rattle.subst_language.specs.Language.Tree.{Item, Plain, Escaped, Short, Braced, Optional, Default, Tree, Empty, Then, item_text}
+use Rattle.subst_language.specs.Language.Value.{Bytes, Missing, value}
+use Rattle.subst_language.specs.Language.Variables.{Variable, required, is_required, name_of, item_variables, variables_of, lacked, all_missing}
+use Rattle.subst_language.proofs.Language.ListLemmas.{each_append, each_parts, each_by_recursion, each_mapped}
+use Rattle.subst_language.proofs.Language.VariablesLemmas.{missing_first, none_missing, variable_names}
 
--- the look-up has nothing for the variable that a source is refused for
-pub refused_missing : (s : List ℕ) (look : LookUp) (position : ℕ) (name : List ℕ)
-    → Answers s look (Refuses (NoSuchVariable position name)) → look name ≡ None
-refused_missing s look position name (inl fault) = absurd (fault_is_known position name fault refl)
-refused_missing s look position name (inr (t, spells, missing)) =
-    let lacked = first_missing (IsLacked look) t 0 look (NoSuchVariable position name) missing
-    (missing_lacked look t 0) in
-    let (q, n, same, none) = lacked in
-    let name_same : n ≡ name = cc in cc
+-- a list without all of its elements
+none_left : {X : Type 0} (xs : List X) → IsSublist [] xs
+none_left [] = nothing
+none_left (x ∷ xs) = left_out (none_left xs)
 
--- so where it has something, the source isn't refused for that variable, wherever it is
-pub found_not_refused : (s : List ℕ) (look : LookUp) (position : ℕ) (name : List ℕ) → IsSome (look name)
-    → ¬ (Answers s look (Refuses (NoSuchVariable position name)))
-found_not_refused s look position name some refused =
-    false≢true (subst IsSome (refused_missing s look position name refused) some)
+-- two lists without some, concatenated
+sublist_append : {X : Type 0} {xs ys us vs : List X} → IsSublist xs ys → IsSublist us vs
+    → IsSublist (xs ++ us) (ys ++ vs)
+sublist_append nothing more = more
+sublist_append (kept rest) more = kept (sublist_append rest more)
+sublist_append (left_out rest) more = left_out (sublist_append rest more)
 
--- bytes joined are bytes
-bytes_joined : (v w : Value) → IsBytes v → IsBytes w → IsBytes (joined v w)
-bytes_joined (Bytes x) (Bytes y) h k = (x ++ y, refl)
-bytes_joined (Bytes x) (Missing p n) h (y, e) = absurd cc
-bytes_joined (Missing p n) w (x, e) k = absurd cc
+-- what holds of each element holds of each that is left
+each_left : {X : Type 0} (P : X → Type 0) {xs ys : List X} → IsSublist xs ys → AllByRecursion P ys
+    → AllByRecursion P xs
+each_left P nothing each = tt
+each_left P (kept rest) each = (each.0, each_left P rest each.1)
+each_left P (left_out rest) each = each_left P rest each.1
 
--- what was found is bytes
-found_bytes : (found : Option (List ℕ)) (v : Value) → IsSome found → IsBytes (found_or found v)
-found_bytes (Some x) v some = (x, refl)
-found_bytes None v some = absurd (false≢true some)
+-- no more elements are left than there are
+sublist_length : {X : Type 0} {xs ys : List X} → IsSublist xs ys → length xs ≤ length ys
+sublist_length nothing = omega arith
+sublist_length (kept rest) = omega (arith, sublist_length rest)
+sublist_length (left_out rest) = omega (arith, sublist_length rest)
 
-module _ (look : LookUp) where
-  -- the look-up has something for each of the names
-  abbrev HasAll : List (List ℕ) → Type 0
-  HasAll = AllByRecursion (λ n. IsSome (look n))
+-- and where there are as many, it is the list
+sublist_same : {X : Type 0} {xs ys : List X} → IsSublist xs ys → length ys ≤ length xs → xs ≡ ys
+sublist_same nothing long = refl
+sublist_same {X} (kept {x = x} rest) long = ap (λ (zs : List X). x ∷ zs) (sublist_same rest (omega arith))
+sublist_same (left_out rest) long = absurd (omega (arith, sublist_length rest))
 
-  -- where that is so of an item, it gives bytes
-  item_given : (item : Item) (p : ℕ) → HasAll (names_in_item item) → IsBytes (item_value p item look)
-  item_given (Plain b) p each = (_, refl)
-  item_given (Escaped b) p each = (_, refl)
-  item_given (Short n) p each = found_bytes (look n) _ each.0
-  item_given (Braced n) p each = found_bytes (look n) _ each.0
-  item_given (Optional n) p each = found_bytes (look n) _ each.0
-  item_given (Default n t) p each = found_bytes (look n) _ each.0
+-- the list without some, of which each is a variable that the look-up has nothing for
+record IsFewer (look : LookUp) (xs ys : List Variable) : Type 0 where
+  sublist : IsSublist xs ys
+  each : AllByRecursion (λ v. look v.name ≡ None) xs
 
-  -- so does a tree
-  tree_given : (t : Tree) (p : ℕ) → HasAll (names_in t) → IsBytes (value p t look)
-  tree_given Empty p each = (_, refl)
-  tree_given (Then item rest) p each =
-      let parts = each_parts (λ n. IsSome (look n)) (names_in_item item) (names_in rest) each in
-      bytes_joined _ _ (item_given item p parts.0) (tree_given rest (p + length (item_text item)) parts.1)
+module _ (a b : LookUp) where
+  -- the second look-up has something for each of the names that the first has something for
+  abbrev HasAlso : List (List ℕ) → Type 0
+  HasAlso = AllByRecursion (λ n. IsSome (a n) → IsSome (b n))
+
+  -- where that is so of a name, of what is missing where a has nothing for it
+  found_fewer : (o r : Option (List ℕ)) (xs ys : List Step) → (IsSome o → IsSome r)
+      → (r ≡ None → IsFewer b (filter_map lacked xs) (filter_map lacked ys))
+      → IsFewer b (filter_map lacked (given_or r xs)) (filter_map lacked (given_or o ys))
+  found_fewer o (Some x) xs ys wider fewer = record { sublist = none_left _; each = tt }
+  found_fewer None None xs ys wider fewer = fewer refl
+  found_fewer (Some y) None xs ys wider fewer = absurd (false≢true (wider refl))
+
+  mutual
+    -- where that is so of the names in an item, it is missing under b what it is missing under a, without
+    -- what b has
+    item_fewer : (item : Item) (p : ℕ) → HasAlso (names_in_item item)
+        → IsFewer b (filter_map lacked (item_steps p item b)) (filter_map lacked (item_steps p item a))
+    item_fewer (Plain c) p also = record { sublist = nothing; each = tt }
+    item_fewer (Escaped c) p also = record { sublist = nothing; each = tt }
+    item_fewer (Short n) p also =
+        found_fewer (a n) (b n) _ _ also.0 (λ none. record { sublist = kept nothing; each = (none, tt) })
+    item_fewer (Braced n) p also =
+        found_fewer (a n) (b n) _ _ also.0 (λ none. record { sublist = kept nothing; each = (none, tt) })
+    item_fewer (Optional n) p also =
+        found_fewer (a n) (b n) [] [] also.0 (λ none. record { sublist = nothing; each = tt })
+    item_fewer (Default n t) p also =
+        found_fewer (a n) (b n) _ _ also.0 (λ none. missing_fewer t (p + 3 + length n) also.1)
+
+    -- so is a tree
+    missing_fewer : (t : Tree) (p : ℕ) → HasAlso (names_in t)
+        → IsFewer b (all_missing p t b) (all_missing p t a)
+    missing_fewer Empty p also = record { sublist = nothing; each = tt }
+    missing_fewer (Then item rest) p also =
+        let parts = each_parts (λ n. IsSome (a n) → IsSome (b n)) (names_in_item item) (names_in rest) also in
+        let first = item_fewer item p parts.0 in
+        let more = missing_fewer rest (p + length (item_text item)) parts.1 in
+        rw (
+          filter_map-append lacked (item_steps p item a) (steps_of (p + length (item_text item)) rest a),
+          filter_map-append lacked (item_steps p item b) (steps_of (p + length (item_text item)) rest b),
+        ) (record {
+          sublist = sublist_append first.sublist more.sublist;
+          each = each_append _ _ _ first.each more.each;
+        })
+
+-- a variable is required
+abbrev is_needed : Variable → Bool
+is_needed v = is_required v.kind
+
+mutual
+  -- an item is missing its required variables, where nothing is found for any name
+  item_required : (item : Item) (p : ℕ)
+      → filter_map lacked (item_steps p item (λ name. None)) ≡ filter is_needed (item_variables p item)
+  item_required (Plain b) p = refl
+  item_required (Escaped b) p = refl
+  item_required (Short n) p = refl
+  item_required (Braced n) p = refl
+  item_required (Optional n) p = refl
+  item_required (Default n t) p = tree_required t (p + 3 + length n)
+
+  -- so is a tree
+  tree_required : (t : Tree) (p : ℕ)
+      → all_missing p t (λ name. None) ≡ filter is_needed (variables_of p t)
+  tree_required Empty p = refl
+  tree_required (Then item rest) p =
+      let q = p + length (item_text item) in
+      rw (
+        filter_map-append lacked (item_steps p item (λ name. None)) (steps_of q rest (λ name. None)),
+        filter-append is_needed (item_variables p item) (variables_of q rest),
+        item_required item p,
+        tree_required rest q,
+      ) refl
+
+-- what is missing is the required variables without some
+pub missing_required : (p : ℕ) (t : Tree) (look : LookUp)
+    → IsSublist (all_missing p t look) (filter (λ v. is_required v.kind) (variables_of p t))
+missing_required p t look =
+    let fewer = missing_fewer (λ name. None) look t p
+    (each_by_recursion _ (names_in t) (λ k d inside some. absurd (false≢true some))) in
+    subst (IsSublist (all_missing p t look)) (tree_required t p) fewer.sublist
+
+-- the look-up has nothing for each that is missing
+pub missing_lacked : (p : ℕ) (t : Tree) (look : LookUp)
+    → AllByRecursion (λ v. look v.name ≡ None) (all_missing p t look)
+missing_lacked p t look =
+    (missing_fewer look look t p (each_by_recursion _ (names_in t) (λ k d inside some. some))).each
+
+-- what holds of each variable of a tree holds of each that is missing
+pub missing_among : (P : Variable → Type 0) (p : ℕ) (t : Tree) (look : LookUp)
+    → AllByRecursion P (variables_of p t) → AllByRecursion P (all_missing p t look)
+missing_among P p t look each =
+    each_left P (missing_required p t look)
+    (each_by_recursion P _ (All-filter is_needed P (variables_of p t) (All-from_recursion P _ each)))
+
+-- and of the variable that the value is missing
+pub first_among : (P : Variable → Type 0) (p position : ℕ) (t : Tree) (look : LookUp) (name : List ℕ)
+    → value p t look ≡ Missing position name → AllByRecursion P (variables_of p t)
+    → P (required position name)
+first_among P p position t look name missing each =
+    let (more, is) = missing_first p position t look name missing in
+    (subst (AllByRecursion P) is (missing_among P p t look each)).0
+
+-- where the look-up has something for each that is missing, the value is bytes
+all_supplied : (p : ℕ) (t : Tree) (look : LookUp)
+    → AllByRecursion (λ v. IsSome (look v.name)) (all_missing p t look)
+    → (x : List ℕ) × (value p t look ≡ Bytes x)
+all_supplied p t look some =
+    (none_missing p t look).0 (none (all_missing p t look) (missing_lacked p t look) some)
+  where
+    none : (missing : List Variable) → AllByRecursion (λ v. look v.name ≡ None) missing
+        → AllByRecursion (λ v. IsSome (look v.name)) missing → missing ≡ []
+    none [] lacks some = refl
+    none (v ∷ missing) lacks some = absurd (false≢true (subst IsSome lacks.0 some.0))
+
+-- so it is under a look-up that has something for each, and for all that another one has something for
+pub missing_supplied : (p : ℕ) (t : Tree) (a b : LookUp) → ((n : List ℕ) → IsSome (a n) → IsSome (b n))
+    → All (λ v. IsSome (b v.name)) (all_missing p t a) → (x : List ℕ) × (value p t b ≡ Bytes x)
+missing_supplied p t a b wider each =
+    let fewer = missing_fewer a b t p (each_by_recursion _ (names_in t) (λ k d inside. wider _)) in
+    all_supplied p t b (each_left (λ v. IsSome (b v.name)) fewer.sublist (each_by_recursion _ _ each))
+
+-- bytes stay bytes under a look-up that has something for at least the same names
+pub bytes_stay : (p : ℕ) (t : Tree) (a b : LookUp) (x : List ℕ)
+    → All (λ n. IsSome (a n) → IsSome (b n)) (names_in t) → value p t a ≡ Bytes x
+    → (y : List ℕ) × (value p t b ≡ Bytes y)
+bytes_stay p t a b x also gives =
+    let fewer = missing_fewer a b t p (each_by_recursion _ (names_in t) also) in
+    let none = (none_missing p t a).1 (x, gives) in
+    let left = subst (IsSublist (all_missing p t b)) none fewer.sublist in
+    (none_missing p t b).0 (sublist_same left (omega arith))
+
+-- look-ups that have something for the same names are missing the same
+pub missing_same : (p : ℕ) (t : Tree) (a b : LookUp) → ((n : List ℕ) → is_some (a n) ≡ is_some (b n))
+    → all_missing p t a ≡ all_missing p t b
+missing_same p t a b same =
+    let more = missing_fewer b a t p (each_by_recursion _ (names_in t) (λ k d inside some. same _ ∙ some)) in
+    let fewer =
+    missing_fewer a b t p (each_by_recursion _ (names_in t) (λ k d inside some. sym (same _) ∙ some)) in
+    sublist_same more.sublist (sublist_length fewer.sublist)
 
 -- a source gives bytes under a look-up that has something for each name in its tree
 pub all_given : (s : List ℕ) (t : Tree) (look : LookUp) → Spells t s → All (λ n. IsSome (look n)) (names_in t)
     → (x : List ℕ) × Answers s look (Gives x)
 all_given s t look spells each =
-    let (x, gives) = tree_given look t 0 (each_by_recursion (λ n. IsSome (look n)) (names_in t) each) in
+    let P = λ (n : List ℕ). IsSome (look n) in
+    let names = each_mapped name_of P (variables_of 0 t) (variable_names 0 t) (each_by_recursion P _ each) in
+    let (x, gives) =
+    all_supplied 0 t look (missing_among (λ v. P v.name) 0 t look (each_by_recursion _ _ names)) in
     (x, (t, spells, gives))
-
--- the fault is that of a variable that the look-up has something for
-abbrev pub IsSupplied : LookUp → Fault → Type 0
-IsSupplied look f = (position : ℕ) (name : List ℕ) → f ≡ NoSuchVariable position name → IsSome (look name)
-
--- what was found, or else bytes, is bytes
-or_bytes : (found : Option (List ℕ)) (v : Value) → IsBytes v → IsBytes (found_or found v)
-or_bytes (Some x) v is = (x, refl)
-or_bytes None v is = is
-
-module _ (a b : LookUp) (wider : (n : List ℕ) → IsSome (a n) → IsSome (b n)) where
-  -- bytes, where a has something and so has b, or where all that is missing under a is supplied
-  found_supplied : (found : Option (List ℕ)) (n : List ℕ) (v : Value) (faults : List Fault)
-      → (IsSome found → IsSome (b n)) → AllByRecursion (IsSupplied b) (unless_found found faults)
-      → (AllByRecursion (IsSupplied b) faults → IsBytes (found_or (b n) v)) → IsBytes (found_or (b n) v)
-  found_supplied (Some x) n v faults wide each of = found_bytes (b n) v (wide refl)
-  found_supplied None n v faults wide each of = of each
-
-  mutual
-    -- where b has something for all that a has, and for all that an item is missing under a, the item gives
-    -- bytes under b
-    item_supplied : (item : Item) (p q : ℕ) → AllByRecursion (IsSupplied b) (item_missing p item a)
-        → IsBytes (item_value q item b)
-    item_supplied (Plain x) p q each = (_, refl)
-    item_supplied (Escaped x) p q each = (_, refl)
-    item_supplied (Short n) p q each =
-        found_supplied (a n) n _ _ (wider n) each (λ here. found_bytes (b n) _ (here.0 _ _ refl))
-    item_supplied (Braced n) p q each =
-        found_supplied (a n) n _ _ (wider n) each (λ here. found_bytes (b n) _ (here.0 _ _ refl))
-    item_supplied (Optional n) p q each = or_bytes (b n) _ ([], refl)
-    item_supplied (Default n t) p q each =
-        found_supplied (a n) n _ _ (wider n) each
-        (λ here. or_bytes (b n) _ (missing_supplied t (p + 3 + length n) (q + 3 + length n) here))
-
-    -- so does a tree
-    pub missing_supplied : (t : Tree) (p q : ℕ) → AllByRecursion (IsSupplied b) (all_missing p t a)
-        → IsBytes (value q t b)
-    missing_supplied Empty p q each = (_, refl)
-    missing_supplied (Then item rest) p q each =
-        let parts = each_parts (IsSupplied b) (item_missing p item a) _ each in
-        let long = length (item_text item) in
-        bytes_joined _ _ (item_supplied item p q parts.0)
-        (missing_supplied rest (p + long) (q + long) parts.1)

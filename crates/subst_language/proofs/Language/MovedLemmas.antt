@@ -46,9 +46,14 @@ mutual
       fault_after t formed (bad_moved n (q + length (text t)) (omega arith) bad)
 
 -- the value of a text that is moved
-abbrev moved_value : ℕ → Value → Value
+abbrev pub moved_value : ℕ → Value → Value
 moved_value n (Bytes x) = Bytes x
 moved_value n (Missing position name) = Missing (position + n) name
+
+-- it is bytes where the value is
+pub moved_bytes : (n : ℕ) (v : Value) (x : List ℕ) → moved_value n v ≡ Bytes x → v ≡ Bytes x
+moved_bytes n (Bytes y) x is = is
+moved_bytes n (Missing position name) x is = absurd cc
 
 -- of values joined
 joined_moved : (n : ℕ) (v w : Value) → joined (moved_value n v) (moved_value n w) ≡ moved_value n (joined v w)

@@ -24,10 +24,10 @@ use Rattle.subst_language.specs.Language.BadItem.HasFault.{fault_after}
 use Rattle.subst_language.specs.Language.Answer.{Answers, Refuses, IsMissing}
 use Rattle.subst_language.specs.Calls.Outcome.{OnFault}
 use Rattle.std.specs.List.{AllByRecursion}
-use Rattle.subst_language.specs.Language.Variables.{name_range, item_variables, variables_of, all_missing}
+use Rattle.subst_language.specs.Language.Variables.{name_range, item_variables, variables_of}
 use Rattle.subst_language.proofs.Language.ListLemmas.{each_append, each_weaker}
 use Rattle.subst_language.proofs.Language.NameLemmas.{name_is_utf8}
-use Rattle.subst_language.proofs.Language.VariablesLemmas.{first_missing, missing_among}
+use Rattle.subst_language.proofs.Language.MissingLemmas.{first_among}
 use Rattle.subst_language.proofs.Language.Utf8Lemmas.{cut_at, after_ascii, after_name, in_braces, ascii_alone}
 
 -- The text s is at position p. The range is a part of it, and what is in the range and what is after it are
@@ -295,19 +295,13 @@ variables_in_text s t is spells =
     (sym spells.spelled) (tree_placed t 0 0 [] (omega arith) spells.well_formed
     (subst IsUtf8 spells.spelled is)))
 
--- so has each that a look-up has nothing for
-pub missing_in_text : (s : List ℕ) (t : Tree) (look : LookUp) → IsUtf8 s → Spells t s
-    → AllByRecursion (λ f. IsRangeIn s (range_of (Some f))) (all_missing 0 t look)
-missing_in_text s t look is spells =
-    missing_among (λ f. IsRangeIn s (range_of (Some f))) look t 0 (variables_in_text s t is spells)
-
 -- each refusal of a text has a range whose ends are character boundaries of the text
 pub refusal_in_text : (s : List ℕ) (look : LookUp) (f : Fault) → IsUtf8 s → Answers s look (Refuses f)
     → IsRangeIn s (range_of (Some f))
 refusal_in_text s look f is (inl fault) = placed_in s (range_of (Some f)) (fault_placed fault is)
-refusal_in_text s look f is (inr (t, spells, missing)) =
-    first_missing (λ g. IsRangeIn s (range_of (Some g))) t 0 look f missing
-    (missing_in_text s t look is spells)
+refusal_in_text s look f is (inr (t, spells, (position, name, missing, same))) =
+    rw same (first_among (λ v. IsRangeIn s (name_range v)) 0 position t look name missing
+    (variables_in_text s t is spells))
 
 -- an error that a refusal of a text states has its range in the text; where memory ran out it is the empty
 -- one at the text's start

@@ -18,9 +18,9 @@ use Rattle.subst_language.specs.Language.Answer.{Answers, Refuses, IsMissing}
 use Rattle.subst_language.specs.Language.Sentence.{Spells}
 use Rattle.subst_language.specs.Calls.Outcome.{OnFault}
 use Rattle.std.specs.List.{AllByRecursion}
-use Rattle.subst_language.specs.Language.Variables.{Variable, name_range, item_variables, variables_of, all_missing}
+use Rattle.subst_language.specs.Language.Variables.{Variable, name_range, item_variables, variables_of}
 use Rattle.subst_language.proofs.Language.ListLemmas.{each_append, each_weaker}
-use Rattle.subst_language.proofs.Language.VariablesLemmas.{first_missing, missing_among}
+use Rattle.subst_language.proofs.Language.MissingLemmas.{first_among}
 
 -- the character at the front of bytes takes at most as many as there are
 front_fits : (bytes : List ℕ) (c : CharOrByte) → IsFrontCharacter bytes c → source_len c ≤ length bytes
@@ -96,19 +96,13 @@ variables_within s t spells =
     each_weaker _ _ (λ v ends. omega (arith, ends, ap length spells.spelled)) (variables_of 0 t)
     (tree_within t 0)
 
--- so does that of each that a look-up has nothing for
-pub missing_within : (s : List ℕ) (t : Tree) (look : LookUp) → Spells t s
-    → AllByRecursion (λ f. (range_of (Some f)).end ≤ length s) (all_missing 0 t look)
-missing_within s t look spells =
-    missing_among (λ f. (range_of (Some f)).end ≤ length s) look t 0 (variables_within s t spells)
-
 -- each refusal of a source has a range that ends within the source
 pub refusal_within : (s : List ℕ) (look : LookUp) (f : Fault) → Answers s look (Refuses f)
     → (range_of (Some f)).end ≤ length s
 refusal_within s look f (inl fault) = omega (arith, fault_within fault)
-refusal_within s look f (inr (t, spells, missing)) =
-    first_missing (λ g. (range_of (Some g)).end ≤ length s) t 0 look f missing
-    (missing_within s t look spells)
+refusal_within s look f (inr (t, spells, (position, name, missing, same))) =
+    rw same (first_among (λ v. (name_range v).end ≤ length s) 0 position t look name missing
+    (variables_within s t spells))
 
 -- so has an error of parsing; where memory ran out it is the empty range at the source's start
 pub parse_result_within : {T : Type 0} (s : List ℕ) (r : Result T ParseError)

@@ -1,125 +1,97 @@
 -- How long values are: exactly, and at most.
-use Rattle.std.proofs.Common.{◌≡◌, ℕ, ◌+◌, ◌*◌, ◌≤◌, ◌==◌, List, [], ◌∷◌, ◌++◌, length, Option, Some, None, refl, subst, count_by, sum_by, length-append, arith}
-use Rattle.std.proofs.lemmas.List.Sums.{sum_by-append, sum_by-le}
+use Rattle.std.proofs.Common.{◌≡◌, ℕ, ◌+◌, ◌*◌, ◌≤◌, ◌==◌, List, [], ◌∷◌, ◌++◌, length, Option, Some, None, unwrap_or, refl, sym, ◌∙◌, subst, count_by, sum_by, length-append, arith}
+use Rattle.std.proofs.lemmas.List.Sums.{sum_by-append, sum_by-cons, sum_by-le}
 use Rattle.std.proofs.Math.Nat.{mul-le-mul_right}
 use Rattle.subst_language.specs.Language.Bytes.{dollar, colon, question_mark, opening_brace, closing_brace}
 use Rattle.subst_language.specs.Language.Tree.{Item, Plain, Escaped, Short, Braced, Optional, Default, Tree, Empty, Then, item_text, text}
 use Rattle.subst_language.specs.Language.NamesIn.{names_in_item, names_in}
 use Rattle.subst_language.specs.Language.LookUp.{LookUp}
-use Rattle.subst_language.specs.Language.Value.{Value, Bytes, Missing, joined, found_or, item_value, value}
-use Rattle.subst_language.specs.Language.ValueLength.{found_length, length_of, item_value_length, value_length, item_visited_length, visited_length}
+use Rattle.subst_language.specs.Language.Steps.{Step, Lacks, given_or, item_steps, steps_of}
+use Rattle.subst_language.specs.Language.Value.{Bytes, value}
+use Rattle.subst_language.specs.Language.ValueLength.{length_of, given_length, step_length, value_length, visited_length}
 use Rattle.subst_language.specs.Language.Answer.{Answers, Gives}
 use Rattle.subst_language.specs.Language.Sentence.{Spells}
-
--- a value that is bytes has this length
-abbrev HasLength : Value → ℕ → Type 0
-HasLength (Bytes x) n = n ≡ length x
-HasLength (Missing position name) n = Unit {0}
-
--- values joined have their lengths added
-joined_length : (v w : Value) (m n : ℕ) → HasLength v m → HasLength w n → HasLength (joined v w) (m + n)
-joined_length (Bytes x) (Bytes y) m n h k = omega (arith, length-append x y)
-joined_length (Bytes x) (Missing p name) m n h k = tt
-joined_length (Missing p name) w m n h k = tt
-
--- what was found has its length, or what is there instead
-found_has_length : (found : Option (List ℕ)) (v : Value) (n : ℕ) → HasLength v n
-    → HasLength (found_or found v) (found_length found n)
-found_has_length (Some x) v n h = refl
-found_has_length None v n h = h
-
-module _ (look : LookUp) where
-  mutual
-    -- the value of an item has the length that is said
-    item_length : (item : Item) (p : ℕ) → HasLength (item_value p item look) (item_value_length item look)
-    item_length (Plain b) p = refl
-    item_length (Escaped b) p = refl
-    item_length (Short n) p = found_has_length (look n) (Missing (p + 1) n) 0 tt
-    item_length (Braced n) p = found_has_length (look n) (Missing (p + 2) n) 0 tt
-    item_length (Optional n) p = found_has_length (look n) (Bytes []) 0 refl
-    item_length (Default n t) p = found_has_length (look n) _ _ (tree_length t (p + 3 + length n))
-
-    -- so has that of a tree
-    tree_length : (t : Tree) (p : ℕ) → HasLength (value p t look) (value_length t look)
-    tree_length Empty p = refl
-    tree_length (Then item rest) p =
-        joined_length _ _ _ _ (item_length item p) (tree_length rest (p + length (item_text item)))
+use Rattle.subst_language.proofs.Language.MovedLemmas.{moved_bytes, value_moved}
+use Rattle.subst_language.proofs.Language.StepsLemmas.{Tells, value_tells}
 
 -- the length of a value that is bytes is that of the bytes
 pub value_length_exact : (p : ℕ) (t : Tree) (look : LookUp) (x : List ℕ) → value p t look ≡ Bytes x
     → value_length t look ≡ length x
 value_length_exact p t look x gives =
-    subst (λ v. HasLength v (value_length t look)) gives (tree_length look t p)
+    let here = moved_bytes p (value 0 t look) x (sym (value_moved t 0 p p look (omega arith)) ∙ gives) in
+    (subst (Tells (steps_of 0 t look)) here (value_tells 0 t look)).1
 
--- what was found is at most itself and more
-found_at_most : (found : Option (List ℕ)) (n m k : ℕ) → n ≤ m + k
-    → found_length found n ≤ m + found_length found k
-found_at_most (Some x) n m k le = omega arith
-found_at_most None n m k le = le
+-- Steps give at most as many bytes as these of their own and what was found, and found at most is this.
+record IsBounded (own found : ℕ) (steps : List Step) : Type 0 where
+  all : sum_by step_length steps ≤ own + sum_by given_length steps
+  given : sum_by given_length steps ≤ found
 
-mutual
-  -- an item's value is at most as long as its text and what was found for the variables that are visited
-  item_length_at_most : (item : Item) (look : LookUp)
-      → item_value_length item look ≤ length (item_text item) + item_visited_length item look
-  item_length_at_most (Plain b) look = omega arith
-  item_length_at_most (Escaped b) look = omega arith
-  item_length_at_most (Short n) look = omega arith
-  item_length_at_most (Braced n) look = omega arith
-  item_length_at_most (Optional n) look = omega arith
-  item_length_at_most (Default n t) look =
-      omega (
-        arith,
-        found_at_most (look n) (value_length t look) (length (text t)) (visited_length t look)
-            (value_length_at_most t look),
-        length-append n (colon ∷ text t ++ closing_brace ∷ []),
-        length-append (text t) (closing_brace ∷ []),
-      )
+-- of what was found, or else of steps
+found_bounded : (o : Option (List ℕ)) (own found : ℕ) (steps : List Step) → IsBounded own found steps
+    → IsBounded own (length (unwrap_or o []) + found) (given_or o steps)
+found_bounded (Some x) own found steps bounded = record { all = omega arith; given = omega arith }
+found_bounded None own found steps bounded = record { all = omega arith; given = omega arith }
 
-  -- so is a tree's
-  pub value_length_at_most : (t : Tree) (look : LookUp)
-      → value_length t look ≤ length (text t) + visited_length t look
-  value_length_at_most Empty look = omega arith
-  value_length_at_most (Then item rest) look =
-      omega (
-        arith,
-        item_length_at_most item look,
-        value_length_at_most rest look,
-        length-append (item_text item) (text rest),
-      )
+-- of steps concatenated
+append_bounded : (a b c d : ℕ) (xs ys : List Step) → IsBounded a c xs → IsBounded b d ys
+    → IsBounded (a + b) (c + d) (xs ++ ys)
+append_bounded a b c d xs ys first second =
+    let all = sum_by-append step_length xs ys in
+    let given = sum_by-append given_length xs ys in
+    record { all = omega arith; given = omega arith }
 
--- what was found for a name and what is there instead are at most both
-found_sum : (found : Option (List ℕ)) (n m : ℕ) → n ≤ m → found_length found n ≤ found_length found 0 + m
-found_sum (Some x) n m le = omega arith
-found_sum None n m le = omega arith
+-- up to larger bounds
+wider : (a b c d : ℕ) {steps : List Step} → IsBounded a c steps → a ≤ b → c ≤ d → IsBounded b d steps
+wider a b c d bounded le more = record { all = omega arith; given = omega arith }
 
-mutual
-  -- what was found for the visited variables of an item is at most what there is for each of its names
-  item_visited_at_most : (item : Item) (look : LookUp)
-      → item_visited_length item look ≤ sum_by (length_of look) (names_in_item item)
-  item_visited_at_most (Plain b) look = omega arith
-  item_visited_at_most (Escaped b) look = omega arith
-  item_visited_at_most (Short n) look = omega arith
-  item_visited_at_most (Braced n) look = omega arith
-  item_visited_at_most (Optional n) look = omega arith
-  item_visited_at_most (Default n t) look =
-      omega (
-        arith,
-        found_sum (look n) (visited_length t look) (sum_by (length_of look) (names_in t))
-            (visited_length_at_most t look),
-        sum_by-append (length_of look) (n ∷ []) (names_in t),
-      )
+-- a step without bytes
+lacks_bounded : (q : ℕ) (n : List ℕ) → IsBounded 0 0 (Lacks q n ∷ [])
+lacks_bounded q n = record { all = omega arith; given = omega arith }
 
-  -- so it is of a tree
-  pub visited_length_at_most : (t : Tree) (look : LookUp)
-      → visited_length t look ≤ sum_by (length_of look) (names_in t)
-  visited_length_at_most Empty look = omega arith
-  visited_length_at_most (Then item rest) look =
-      omega (
-        arith,
-        item_visited_at_most item look,
-        visited_length_at_most rest look,
-        sum_by-append (length_of look) (names_in_item item) (names_in rest),
-      )
+module _ (look : LookUp) where
+  mutual
+    -- an item gives at most the bytes of its text and what was found, and for each of its names at most what
+    -- there is
+    item_bounded : (item : Item) (p : ℕ) → IsBounded (length (item_text item))
+        (sum_by (length_of look) (names_in_item item)) (item_steps p item look)
+    item_bounded (Plain b) p = record { all = omega arith; given = omega arith }
+    item_bounded (Escaped b) p = record { all = omega arith; given = omega arith }
+    item_bounded (Short n) p =
+        wider _ _ _ _ (found_bounded (look n) 0 0 _ (lacks_bounded (p + 1) n)) (omega arith) (omega arith)
+    item_bounded (Braced n) p =
+        wider _ _ _ _ (found_bounded (look n) 0 0 _ (lacks_bounded (p + 2) n)) (omega arith) (omega arith)
+    item_bounded (Optional n) p =
+        wider _ _ _ _ (found_bounded (look n) 0 0 [] record { all = omega arith; given = omega arith })
+        (omega arith) (omega arith)
+    item_bounded (Default n t) p =
+        wider _ _ _ _ (found_bounded (look n) _ _ _ (tree_bounded t (p + 3 + length n)))
+        (omega (
+          arith,
+          length-append n (colon ∷ text t ++ closing_brace ∷ []),
+          length-append (text t) (closing_brace ∷ []),
+        ))
+        (omega (arith, sum_by-cons (length_of look) n (names_in t)))
+
+    -- so does a tree
+    tree_bounded : (t : Tree) (p : ℕ)
+        → IsBounded (length (text t)) (sum_by (length_of look) (names_in t)) (steps_of p t look)
+    tree_bounded Empty p = record { all = omega arith; given = omega arith }
+    tree_bounded (Then item rest) p =
+        rw (
+          length-append (item_text item) (text rest),
+          sum_by-append (length_of look) (names_in_item item) (names_in rest),
+        ) (append_bounded _ _ _ _ _ _ (item_bounded item p)
+        (tree_bounded rest (p + length (item_text item))))
+
+-- a value is at most as long as the text and what was found for the variables that are visited
+pub value_length_at_most : (t : Tree) (look : LookUp)
+    → value_length t look ≤ length (text t) + visited_length t look
+value_length_at_most t look = (tree_bounded look t 0).all
+
+-- of which there is at most one for each name
+pub visited_length_at_most : (t : Tree) (look : LookUp)
+    → visited_length t look ≤ sum_by (length_of look) (names_in t)
+visited_length_at_most t look = (tree_bounded look t 0).given
 
 -- how many dollars a text has
 abbrev dollars : List ℕ → ℕ
@@ -168,7 +140,7 @@ lengths_at_most : (look : LookUp) (longest : ℕ)
 lengths_at_most look longest short name = of (look name) (short name)
   where
     of : (found : Option (List ℕ)) → ((y : List ℕ) → found ≡ Some y → length y ≤ longest)
-        → found_length found 0 ≤ longest
+        → length (unwrap_or found []) ≤ longest
     of (Some y) each = each y refl
     of None each = omega arith
 

@@ -1,8 +1,6 @@
 -- What the variables that a template tells, and the errors of those that are missing, say.
-use Rattle.std.specs.Prelude.{ℕ, Some, string_bytes}
+use Rattle.std.specs.Prelude.{ℕ, string_bytes}
 use Rattle.std.specs.declared.ops.Range.{Range}
-use Rattle.subst_error.specs.Fault.{Fault, NoSuchVariable}
-use Rattle.subst_error.specs.Range.{range_of}
 use Rattle.subst_error.specs.declared.NoSuchVariable as errors
 use Rattle.subst_language.specs.Language.Variables as variables
 use Rattle.subst_language.specs.declared.variable.Variable.{Variable}
@@ -19,9 +17,9 @@ kind_of WithDefault = variables.OrDefault
 abbrev pub variable_of : Variable → variables.Variable
 variable_of it = record { position = it.position; name = it.name.now; kind = kind_of it.kind }
 
--- the fault of a variable that is missing
-abbrev pub missing_fault : errors.NoSuchVariable → Fault
-missing_fault e = NoSuchVariable e.position (string_bytes e.name)
+-- the variable that an error says is missing
+abbrev pub missing_variable : errors.NoSuchVariable → variables.Variable
+missing_variable e = variables.required e.position (string_bytes e.name)
 
 -- the range of its name in the source
 abbrev pub variable_range : Variable → Range ℕ
@@ -29,4 +27,4 @@ variable_range it = variables.name_range (variable_of it)
 
 -- and of the name of one that is missing
 abbrev pub missing_range : errors.NoSuchVariable → Range ℕ
-missing_range e = range_of (Some (missing_fault e))
+missing_range e = variables.name_range (missing_variable e)

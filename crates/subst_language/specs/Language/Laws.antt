@@ -1,5 +1,5 @@
 -- Laws of the definitions.
-use Rattle.std.specs.Prelude.{◌≡◌, ◌⊎◌, ℕ, ◌+◌, ◌<◌, List, ◌∷◌, ◌++◌, length, Some, None}
+use Rattle.std.specs.Prelude.{◌≡◌, ◌⊎◌, ℕ, ◌+◌, ◌<◌, List, [], ◌∷◌, ◌++◌, length, Some, None}
 use Rattle.subst_error.specs.Fault.{Fault, InvalidEscapeSequence, MissingVariableName, UnexpectedCharacter, MissingClosingBrace, NoSuchVariable}
 use Rattle.subst_language.specs.Language.Bytes.{dollar, opening_brace}
 use Rattle.subst_language.specs.Language.Tree.{Tree}
@@ -29,3 +29,9 @@ IsSettled end (MissingVariableName position len) = position + len < end
 IsSettled end (UnexpectedCharacter position character expected) = Unit {0}
 IsSettled end (MissingClosingBrace position) = ⊥
 IsSettled end (NoSuchVariable position name) = ⊥
+
+-- the first list is the second without some of its elements
+pub data IsSublist {X : Type 0} : List X → List X → Type 0 where
+  nothing : IsSublist [] []
+  kept : {x : X} {xs ys : List X} → IsSublist xs ys → IsSublist (x ∷ xs) (x ∷ ys)
+  left_out : {x : X} {xs ys : List X} → IsSublist xs ys → IsSublist xs (x ∷ ys)

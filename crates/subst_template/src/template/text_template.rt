@@ -11,7 +11,7 @@ ghost use Rattle.subst_language.specs.Language.BadItem.{HasFault};
 ghost use Rattle.subst_language.specs.Language.Value.{value};
 ghost use Rattle.subst_language.specs.Language.Written.{written};
 ghost use Rattle.subst_language.specs.Language.Variables.{all_missing, variables_of};
-ghost use Rattle.subst_language.specs.Calls.Variables.{missing_fault, missing_range, variable_of, variable_range};
+ghost use Rattle.subst_language.specs.Calls.Variables.{missing_variable, missing_range, variable_of, variable_range};
 ghost use Rattle.subst_language.specs.Calls.VariableMap.{ByLookUp, ByNames};
 ghost use Rattle.subst_language.specs.Calls.Outcome.{OnFault, Expands, ExpandsInto, OnOutOfMemory};
 
@@ -201,7 +201,7 @@ impl<'a> Template<'a> {
     where
         M::Value: Drop,
         ensures missing { ByNames (M.look_up variables.now) (λ look. ByTree self.now
-            (λ t. IfOk result (λ list. map missing_fault list.items ≡ all_missing 0 t look))) }
+            (λ t. IfOk result (λ list. map missing_variable list.items ≡ all_missing 0 t look))) }
         ensures sentence { IsSentence self.now }
         ensures range { IfOk result (λ list.
             All (λ e. IsRangeIn self.now (missing_range e)) list.items) }

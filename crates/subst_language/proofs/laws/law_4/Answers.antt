@@ -1,4 +1,5 @@
-use Rattle.subst_language.proofs.Language.NamesInLemmas.{value_same, bytes_stay}
+use Rattle.subst_language.proofs.Language.MissingLemmas.{bytes_stay}
+use Rattle.subst_language.proofs.Language.NamesInLemmas.{value_same}
 use Rattle.subst_language.proofs.laws.law_4.Goals as goal
 
 -- where the look-ups agree on the names, the value is one

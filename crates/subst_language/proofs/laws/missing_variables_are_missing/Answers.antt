@@ -1,14 +1,31 @@
-use Rattle.subst_language.proofs.Language.MissingLemmas.{all_given, found_not_refused, refused_missing}
+-- What a refusal says of the look-up, and what the look-up says of refusals.
+use Rattle.std.proofs.Common.{◌≡◌, ℕ, List, None, IsSome, refl, subst, inl, inr}
+use Rattle.std.proofs.lemmas.Bool.{false≢true}
+use Rattle.std.specs.List.{AllByRecursion}
+use Rattle.subst_error.specs.Fault.{NoSuchVariable}
+use Rattle.subst_language.specs.Language.Answer.{Answers, Refuses}
+use Rattle.subst_language.specs.Language.LookUp.{LookUp}
+use Rattle.subst_language.proofs.Language.MissingLemmas.{all_given, missing_lacked}
+use Rattle.subst_language.proofs.Language.UnsettledLemmas.{fault_is_known}
+use Rattle.subst_language.proofs.Language.VariablesLemmas.{missing_first}
 use Rattle.subst_language.proofs.laws.missing_variables_are_missing.Goals as goal
 
--- what a refusal says of the look-up
+-- the look-up has nothing for the variable that a source is refused for
+refused_missing : (s : List ℕ) (look : LookUp) (position : ℕ) (name : List ℕ)
+    → Answers s look (Refuses (NoSuchVariable position name)) → look name ≡ None
+refused_missing s look position name (inl fault) = absurd (fault_is_known position name fault refl)
+refused_missing s look position name (inr (t, spells, (q, n, missing, same))) =
+    let (more, is) = missing_first 0 q t look n missing in
+    let lacked = (subst (AllByRecursion (λ v. look v.name ≡ None)) is (missing_lacked 0 t look)).0 in
+    let name_same : n ≡ name = cc in cc
+
 pub returns-clause-missing : goal.returns-clause-missing
 returns-clause-missing c = refused_missing
 
--- and what the look-up says of refusals
 pub returns-clause-given : goal.returns-clause-given
 returns-clause-given c = all_given
 
--- of the next one too
+-- so where it has something, the source isn't refused for that variable, wherever it is
 pub returns-clause-retry : goal.returns-clause-retry
-returns-clause-retry c = found_not_refused
+returns-clause-retry c s look position name some refused =
+    false≢true (subst IsSome (refused_missing s look position name refused) some)

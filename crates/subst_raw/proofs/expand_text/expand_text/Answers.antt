@@ -11,6 +11,7 @@ use Rattle.subst_language.proofs.Language.RangeLemmas.{expand_error_in_text}
 use Rattle.subst_raw.proofs.FilledTextLemmas.{output_is_text}
 use Rattle.subst_raw.proofs.TemplateOfLemmas.{template_value, template_missing}
 use Rattle.subst_raw.proofs.expand_text.expand_text.Goals as goal
+use Rattle.subst_raw.proofs.PartsLemmas.{same_value}
 
 pub text_of-requires : goal.text_of-requires
 text_of-requires g c =
@@ -50,6 +51,6 @@ returns-in-Err-clause-range g c =
     let tree = c.requires.tree in
     let same = ap (λ s. parts_value c.args.parts.now s look) c.as_bytes.ensures.value in
     let missing = subst (λ v. IfSome (expand_fault c.in-Err.e) (IsMissing v))
-    (same ∙ c.requires.mean.same_value look) c.in-Err.ensures.missing in
+    (same ∙ same_value c.requires.mean look) c.in-Err.ensures.missing in
     expand_error_in_text c.args.source.now tree look (expand_fault c.in-Err.e) c.utf8.source c.requires.spells
     missing

@@ -12,6 +12,7 @@ use Rattle.subst_language.proofs.Language.RangeLemmas.{expand_error_in_text}
 use Rattle.subst_raw.proofs.FilledTextLemmas.{text_after}
 use Rattle.subst_raw.proofs.TemplateOfLemmas.{template_value, template_written, errors_missing}
 use Rattle.subst_raw.proofs.expand_text.expand_text_into.Goals as goal
+use Rattle.subst_raw.proofs.PartsLemmas.{same_value}
 
 pub text_of-requires : goal.text_of-requires
 text_of-requires g c =
@@ -64,6 +65,6 @@ returns-clause-range g c =
     IfErr-weaker c.expand_into-outcome.result _ _
     (λ e missing. expand_error_in_text c.args.source.now c.requires.tree look (expand_into_fault e)
     c.utf8.source c.requires.spells
-    (subst (λ v. IfSome (expand_into_fault e) (IsMissing v)) (same ∙ c.requires.mean.same_value look)
+    (subst (λ v. IfSome (expand_into_fault e) (IsMissing v)) (same ∙ same_value c.requires.mean look)
     missing))
     c.expand_into-outcome.ensures.expands.missing

@@ -1,8 +1,9 @@
 -- The list is that of the parts, narrow or wide, and so that of the source's tree.
-use Rattle.std.proofs.Common.{◌≤◌, length, Some, sym, ap, ◌∙◌}
-use Rattle.subst_error.specs.Range.{range_of, IsRangeIn}
-use Rattle.subst_language.proofs.Language.RangeLemmas.{missing_in_text}
-use Rattle.subst_language.proofs.Language.RangeWithinLemmas.{missing_within}
+use Rattle.std.proofs.Common.{◌≤◌, length, sym, ap, ◌∙◌}
+use Rattle.subst_error.specs.Range.{IsRangeIn}
+use Rattle.subst_language.specs.Language.Variables.{name_range}
+use Rattle.subst_language.proofs.Language.RangeLemmas.{variables_in_text}
+use Rattle.subst_language.proofs.Language.RangeWithinLemmas.{variables_within}
 use Rattle.subst_raw.specs.PartLists.{slice_parts}
 use Rattle.subst_raw.proofs.ListedLemmas.{lists_missing, each_missing}
 use Rattle.subst_raw.proofs.variables.missing.Goals as goal
@@ -20,7 +21,7 @@ returns-in-Narrow-clause-range g c =
     let same = ap slice_parts (sym c.in-Narrow.is) ∙ c.as_slice.ensures in
     let look_up = g.M.VariableMap.look_up c.args.variables.now in
     each_missing s _ c.requires same look_up c.missing_of.result c.missing_of.ensures
-    (λ f. (range_of (Some f)).end ≤ length s) (λ look. missing_within s _ look c.requires.spells)
+    (λ v. (name_range v).end ≤ length s) (variables_within s _ c.requires.spells)
 
 pub returns-in-Narrow-clause-text : goal.returns-in-Narrow-clause-text
 returns-in-Narrow-clause-text g c is =
@@ -28,7 +29,7 @@ returns-in-Narrow-clause-text g c is =
     let same = ap slice_parts (sym c.in-Narrow.is) ∙ c.as_slice.ensures in
     let look_up = g.M.VariableMap.look_up c.args.variables.now in
     each_missing s _ c.requires same look_up c.missing_of.result c.missing_of.ensures
-    (λ f. IsRangeIn s (range_of (Some f))) (λ look. missing_in_text s _ look is c.requires.spells)
+    (λ v. IsRangeIn s (name_range v)) (variables_in_text s _ is c.requires.spells)
 
 pub returns-in-Wide-clause-missing : goal.returns-in-Wide-clause-missing
 returns-in-Wide-clause-missing g c =
@@ -43,7 +44,7 @@ returns-in-Wide-clause-range g c =
     let same = ap slice_parts (sym c.in-Wide.is) ∙ c.as_slice.ensures in
     let look_up = g.M.VariableMap.look_up c.args.variables.now in
     each_missing s _ c.requires same look_up c.missing_of-in-Wide.result c.missing_of-in-Wide.ensures
-    (λ f. (range_of (Some f)).end ≤ length s) (λ look. missing_within s _ look c.requires.spells)
+    (λ v. (name_range v).end ≤ length s) (variables_within s _ c.requires.spells)
 
 pub returns-in-Wide-clause-text : goal.returns-in-Wide-clause-text
 returns-in-Wide-clause-text g c is =
@@ -51,4 +52,4 @@ returns-in-Wide-clause-text g c is =
     let same = ap slice_parts (sym c.in-Wide.is) ∙ c.as_slice.ensures in
     let look_up = g.M.VariableMap.look_up c.args.variables.now in
     each_missing s _ c.requires same look_up c.missing_of-in-Wide.result c.missing_of-in-Wide.ensures
-    (λ f. IsRangeIn s (range_of (Some f))) (λ look. missing_in_text s _ look is c.requires.spells)
+    (λ v. IsRangeIn s (name_range v)) (variables_in_text s _ is c.requires.spells)

@@ -4,7 +4,7 @@ use Rattle.std.proofs.lemmas.Bool.Decides.{nat_tests}
 use Rattle.std.proofs.lemmas.List.{nil_from_length}
 use Rattle.std.specs.Option.{is_some, option_map}
 use Rattle.subst.proofs.Calling.{expanded_memory_alone}
-use Rattle.subst.specs.Calls.Variables.{missing_fault}
+use Rattle.subst.specs.Calls.Variables.{missing_variable}
 use Rattle.subst_uses.specs.CommandLine.{texts_of}
 use Rattle.subst_uses.proofs.all_missing.filled.Goals as goal
 
@@ -22,7 +22,7 @@ of_expanding-requires c =
     (grind (arith, nat_tests, list.ok.0, c.is_empty.ensures, c.if-not-is_empty.false)) in
     let none =
     sym (c.in_ok-missing.ensures.missing look (λ name. is_some-mapped (λ v. string_bytes v) _) t spells)
-    ∙ ap (λ es. map missing_fault es) empty in
+    ∙ ap (λ es. map missing_variable es) empty in
     let (x, gives) = (c.missing_lists_are_whole.ensures.none 0 t look).0 none in
     expanded_memory_alone x _ c.in-Err-expand.e gives
     (c.in-Err-expand.ensures.value (λ v. string_bytes v) (λ v. refl) t spells)

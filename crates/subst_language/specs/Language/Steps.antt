@@ -1,0 +1,42 @@
+-- The steps of an evaluation. What it writes, how long its value is, and all that it is missing are told
+-- by them.
+use Rattle.std.specs.Prelude.{ℕ, ◌+◌, List, [], ◌∷◌, ◌++◌, length, Option, Some, None}
+use Rattle.subst_language.specs.Language.LookUp.{LookUp}
+use Rattle.subst_language.specs.Language.Tree.{Item, Plain, Escaped, Short, Braced, Optional, Default, Tree, Empty, Then, item_text}
+use Rattle.subst_language.specs.Language.Value.{Value, Bytes, Missing, joined}
+
+pub data Step : Type 0 where
+  -- a byte of the tree, which stands for itself or is after a backslash
+  Own : ℕ → Step
+  -- what the look-up has for a name
+  Given : List ℕ → Step
+  -- a variable that is needed and has no value, with the position of the first byte of its name
+  Lacks : (position : ℕ) → (name : List ℕ) → Step
+
+-- the value of steps
+abbrev pub steps_value : List Step → Value
+steps_value [] = Bytes []
+steps_value (Own b ∷ rest) = joined (Bytes (b ∷ [])) (steps_value rest)
+steps_value (Given x ∷ rest) = joined (Bytes x) (steps_value rest)
+steps_value (Lacks position name ∷ rest) = Missing position name
+
+-- what was found, else these steps
+abbrev pub given_or : Option (List ℕ) → List Step → List Step
+given_or (Some x) steps = Given x ∷ []
+given_or None steps = steps
+
+abbrev mutual
+  -- the steps of an item whose text begins at position p
+  pub item_steps : ℕ → Item → LookUp → List Step
+  item_steps p (Plain b) look = Own b ∷ []
+  item_steps p (Escaped b) look = Own b ∷ []
+  item_steps p (Short n) look = given_or (look n) (Lacks (p + 1) n ∷ [])
+  item_steps p (Braced n) look = given_or (look n) (Lacks (p + 2) n ∷ [])
+  item_steps p (Optional n) look = given_or (look n) []
+  item_steps p (Default n t) look = given_or (look n) (steps_of (p + 3 + length n) t look)
+
+  -- the steps of a tree whose text begins at position p, in the order of the text
+  pub steps_of : ℕ → Tree → LookUp → List Step
+  steps_of p Empty look = []
+  steps_of p (Then item rest) look =
+      item_steps p item look ++ steps_of (p + length (item_text item)) rest look
