@@ -1,4 +1,5 @@
 -- What callers see beside the language: maps as look-ups, and results as answers.
+pub use Rattle.subst_language.specs.Calls.Clauses
 pub use Rattle.subst_language.specs.Calls.Outcome
 pub use Rattle.subst_language.specs.Calls.VariableMap
 pub use Rattle.subst_language.specs.Calls.Variables

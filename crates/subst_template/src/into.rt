@@ -1,15 +1,12 @@
 //! Substitutions into an output that is lent, whose errors take no memory.
 
-ghost use Rattle.std.specs.Prelude.{◌≡◌, ◌+◌, ◌<◌, ◌≤◌, length, IfErr, IfNone, IfOk, IfSome, OnErr};
+ghost use Rattle.std.specs.Prelude.{◌≡◌, ◌≤◌, IfOk, OnErr};
 ghost use Rattle.std.specs.Prelude.{string_bytes, string_capacity, string_len, vec_capacity, vec_len};
-ghost use Rattle.subst_error.specs.ErrorFault.{expand_into_fault, parse_fault, substitute_into_fault};
-ghost use Rattle.subst_error.specs.Range.{range_of, IsRangeIn};
-ghost use Rattle.subst_language.specs.Language.Answer.{Answers, Refuses};
-ghost use Rattle.subst_language.specs.Language.BadItem.{HasFault};
-ghost use Rattle.subst_language.specs.Language.Sentence.{ByTree, IsSentence};
-ghost use Rattle.subst_language.specs.Language.Written.{written};
-ghost use Rattle.subst_language.specs.Calls.VariableMap.{ByLookUp, ByNames};
-ghost use Rattle.subst_language.specs.Calls.Outcome.{IfRefused, SubstitutesInto};
+ghost use Rattle.subst_error.specs.ErrorFault.{substitute_into_fault};
+ghost use Rattle.subst_language.specs.Language.Sentence.{IsSentence};
+ghost use Rattle.subst_language.specs.Calls.VariableMap.{ByLookUp};
+ghost use Rattle.subst_language.specs.Calls.Outcome.{SubstitutesInto};
+ghost use Rattle.subst_language.specs.Calls.Clauses.{ByWritten, OverflowsParsed, StatesRefusal, StatesKind, EndsWithin, IsRangedIn};
 
 use std::alloc::Global;
 use std::convert::{AsSlice, AsStr};
@@ -49,20 +46,16 @@ where
     ensures capacity { vec_capacity output.old ≤ vec_capacity output.new }
 
     // After the parse, out of memory only with cause: the room is shorter than what is written.
-    ensures full { ByLookUp M.Value.items M.see (M.look_up variables.now)
-        (λ look. ByTree source.now (λ t. IfRefused result (λ e. Unit {0})
-        (λ e. IfNone (expand_into_fault e)
-        (vec_capacity output.old < vec_len output.old + length (written 0 t look))))) }
+    ensures full { ByWritten M.Value.items M.see (M.look_up variables.now) source.now
+        (OverflowsParsed (vec_capacity output.old) (vec_len output.old) result) }
 
     // Only a sentence gives bytes or misses a variable; any other source has a fault. The range of an error
     // ends within the source.
     ensures sentence { IfOk result (λ done. IsSentence source.now) }
-    ensures kind { IfRefused result (λ e. IfSome (parse_fault e) (HasFault 0 source.now))
-        (λ e. IsSentence source.now) }
-    ensures refusal { ByNames (M.look_up variables.now) (λ look. IfErr result
-        (λ e. IfSome (substitute_into_fault e) (λ f. Answers source.now look (Refuses f)))) }
-    ensures range { IfErr result
-        (λ e. (range_of (substitute_into_fault e)).end ≤ length source.now) }
+    ensures kind { StatesKind source.now result }
+    ensures refusal { StatesRefusal (M.look_up variables.now) source.now
+        substitute_into_fault result }
+    ensures range { EndsWithin source.now substitute_into_fault result }
 {
     let plain = plain_len(source);
     at_once::substitute_into::<M, SliceBytes>(alloc, source, plain, variables, output)
@@ -98,20 +91,16 @@ where
     ensures capacity { string_capacity output.old ≤ string_capacity output.new }
 
     // After the parse, out of memory only with cause: the room is shorter than what is written.
-    ensures full { ByLookUp M.Value.text M.see (M.look_up variables.now)
-        (λ look. ByTree source.now (λ t. IfRefused result (λ e. Unit {0})
-        (λ e. IfNone (expand_into_fault e)
-        (string_capacity output.old < string_len output.old + length (written 0 t look))))) }
+    ensures full { ByWritten M.Value.text M.see (M.look_up variables.now) source.now
+        (OverflowsParsed (string_capacity output.old) (string_len output.old) result) }
 
     // Only a sentence gives a text or misses a variable; any other source has a fault. An error has its range
     // in the source.
     ensures sentence { IfOk result (λ done. IsSentence source.now) }
-    ensures kind { IfRefused result (λ e. IfSome (parse_fault e) (HasFault 0 source.now))
-        (λ e. IsSentence source.now) }
-    ensures refusal { ByNames (M.look_up variables.now) (λ look. IfErr result
-        (λ e. IfSome (substitute_into_fault e) (λ f. Answers source.now look (Refuses f)))) }
-    ensures range { IfErr result
-        (λ e. IsRangeIn source.now (range_of (substitute_into_fault e))) }
+    ensures kind { StatesKind source.now result }
+    ensures refusal { StatesRefusal (M.look_up variables.now) source.now
+        substitute_into_fault result }
+    ensures range { IsRangedIn source.now substitute_into_fault result }
 {
     let plain = plain_len(source.as_bytes());
     at_once::substitute_text_into(alloc, source, plain, variables, output)

@@ -4,13 +4,13 @@
 //! `subst` re-exports all public items of this crate, and describes the language.
 #![tactic(auto)]
 
-ghost use Rattle.std.specs.Prelude.{◌≤◌, length, IfErr, IfOk, IfSome, string_bytes};
+ghost use Rattle.std.specs.Prelude.{IfOk, IfSome, string_bytes};
 ghost use Rattle.subst_error.specs.ErrorFault.{error_fault};
-ghost use Rattle.subst_error.specs.Range.{range_of, IsRangeIn};
 ghost use Rattle.subst_language.specs.Language.Answer.{Answers};
 ghost use Rattle.subst_language.specs.Language.Sentence.{IsSentence};
 ghost use Rattle.subst_language.specs.Calls.VariableMap.{ByLookUp, ByNames};
 ghost use Rattle.subst_language.specs.Calls.Outcome.{answer_of, refusal_of};
+ghost use Rattle.subst_language.specs.Calls.Clauses.{EndsWithin, IsRangedIn};
 
 pub use into::{substitute_bytes_into, substitute_into};
 pub use owned::{is_plain, substitute_bytes_owned, substitute_owned};
@@ -66,7 +66,7 @@ where
     ensures sentence { IfOk result (λ output. IsSentence source.now) }
     ensures refusal { ByNames (M.look_up variables.now)
         (λ look. IfSome (refusal_of result) (Answers source.now look)) }
-    ensures range { IfErr result (λ e. (range_of (error_fault e)).end ≤ length source.now) }
+    ensures range { EndsWithin source.now error_fault result }
 {
     let plain = plain_len(source);
     if plain == source.len() {
@@ -108,7 +108,7 @@ where
     ensures sentence { IfOk result (λ output. IsSentence source.now) }
     ensures refusal { ByNames (M.look_up variables.now)
         (λ look. IfSome (refusal_of result) (Answers source.now look)) }
-    ensures range { IfErr result (λ e. IsRangeIn source.now (range_of (error_fault e))) }
+    ensures range { IsRangedIn source.now error_fault result }
 {
     let plain = plain_len(source.as_bytes());
     if plain == source.len() {

@@ -1,14 +1,14 @@
 //! Sources that are owned: one that has nothing to fill in is returned as it is, without a copy.
 
-ghost use Rattle.std.specs.Prelude.{◌≡◌, ◌↔◌, ◌≤◌, length, IfErr, IfOk, IfSome, IsTrue, Ok, string_bytes};
+ghost use Rattle.std.specs.Prelude.{◌≡◌, ◌↔◌, IfOk, IfSome, IsTrue, Ok, string_bytes};
 ghost use Rattle.std.specs.List.{All};
 ghost use Rattle.subst_error.specs.ErrorFault.{error_fault};
-ghost use Rattle.subst_error.specs.Range.{range_of, IsRangeIn};
 ghost use Rattle.subst_language.specs.Language.Answer.{Answers};
 ghost use Rattle.subst_language.specs.Language.Bytes.{IsPlain};
 ghost use Rattle.subst_language.specs.Language.Sentence.{IsSentence};
 ghost use Rattle.subst_language.specs.Calls.VariableMap.{ByLookUp, ByNames};
 ghost use Rattle.subst_language.specs.Calls.Outcome.{answer_of, refusal_of};
+ghost use Rattle.subst_language.specs.Calls.Clauses.{EndsWithin, IsRangedIn};
 
 use std::alloc::Global;
 use std::convert::{AsSlice, AsStr};
@@ -62,7 +62,7 @@ where
     ensures sentence { IfOk result (λ output. IsSentence source.items) }
     ensures refusal { ByNames (M.look_up variables.now)
         (λ look. IfSome (refusal_of result) (Answers source.items look)) }
-    ensures range { IfErr result (λ e. (range_of (error_fault e)).end ≤ length source.items) }
+    ensures range { EndsWithin source.items error_fault result }
 
     // A plain source is returned as it is, also where no memory is left.
     ensures plain { All IsPlain source.items → result ≡ Ok source }
@@ -104,7 +104,7 @@ where
     ensures sentence { IfOk result (λ output. IsSentence (string_bytes source)) }
     ensures refusal { ByNames (M.look_up variables.now)
         (λ look. IfSome (refusal_of result) (Answers (string_bytes source) look)) }
-    ensures range { IfErr result (λ e. IsRangeIn (string_bytes source) (range_of (error_fault e))) }
+    ensures range { IsRangedIn (string_bytes source) error_fault result }
 
     // A plain source is returned as it is, also where no memory is left.
     ensures plain { All IsPlain (string_bytes source) → result ≡ Ok source }

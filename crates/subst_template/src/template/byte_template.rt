@@ -2,22 +2,17 @@
 //! has a template, and it expands to the value of the source's tree. Contracts bound the reads of a parse
 //! and count the turns of an expansion.
 
-ghost use Rattle.std.specs.Prelude.{◌≡◌, ◌+◌, ◌*◌, ◌^◌, ◌<◌, ◌≤◌, length, IfOk, IfErr, IfSome, OnErr, OnOk, map};
+ghost use Rattle.std.specs.Prelude.{◌≡◌, ◌+◌, ◌*◌, ◌^◌, ◌≤◌, length, IfOk, IfErr, OnErr, OnOk};
 ghost use Rattle.std.specs.Prelude.{vec_capacity, vec_len};
-ghost use Rattle.std.specs.List.{All};
 ghost use Rattle.subst_error.specs.ErrorFault.{expand_fault, expand_into_fault, parse_fault};
-ghost use Rattle.subst_error.specs.Range.{range_of};
-ghost use Rattle.subst_language.specs.Language.Answer.{IsMissing};
 ghost use Rattle.subst_language.specs.Language.Sentence.{IsSentence, ByTree};
 ghost use Rattle.subst_language.specs.Language.BadItem.{HasFault};
-ghost use Rattle.subst_language.specs.Language.Value.{value};
-ghost use Rattle.subst_language.specs.Language.Written.{written};
 ghost use Rattle.subst_language.specs.Language.Counts.{visited_count};
-ghost use Rattle.subst_language.specs.Language.Variables.{all_missing, variables_of};
-ghost use Rattle.subst_language.specs.Calls.Variables.{missing_variable, missing_range, variable_of, variable_range};
-ghost use Rattle.subst_language.specs.Calls.VariableMap.{ByLookUp, ByNames};
+ghost use Rattle.subst_language.specs.Calls.Variables.{missing_range, variable_range};
+ghost use Rattle.subst_language.specs.Calls.VariableMap.{ByLookUp};
 ghost use Rattle.subst_language.specs.Calls.Outcome.{OnFault, Expands};
 ghost use Rattle.subst_language.specs.Calls.Outcome.{ExpandsInto, ExpandsIntoSlice, OnOutOfMemory};
+ghost use Rattle.subst_language.specs.Calls.Clauses.{ByValue, ByWritten, Overflows, Misses, EndsWithin, AreVariables, ListsMissing, EachEndsWithin};
 
 use crate::template::byte_string::ByteString;
 use std::alloc::{AllocError, Global};
@@ -63,7 +58,7 @@ impl<'a> ByteTemplate<'a> {
         // Only a sentence has a template, which is that of the source.
         ensures ok { IfOk result (λ template. IsSentence source.now × (template ≡ source.now)) }
         ensures err { OnFault parse_fault result (HasFault 0 source.now) }
-        ensures range { IfErr result (λ e. (range_of (parse_fault e)).end ≤ length source.now) }
+        ensures range { EndsWithin source.now parse_fault result }
     {
         ByteTemplate::from_slice_counted(alloc, source, &mut Reads::new())
     }
@@ -88,7 +83,7 @@ impl<'a> ByteTemplate<'a> {
         ensures grows { reads.old ≤ reads.new }
         ensures whole { OnOk result (reads.old + length source.now ≤ reads.new) }
         ensures refused { IfErr result (λ e. reads.old + 1 ≤ reads.new) }
-        ensures range { IfErr result (λ e. (range_of (parse_fault e)).end ≤ length source.now) }
+        ensures range { EndsWithin source.now parse_fault result }
     {
         let parts = parse(alloc, source, reads)?;
         let parts = CowParts::from(parts);
@@ -116,16 +111,14 @@ impl<'a> ByteTemplate<'a> {
     ) -> Result<Vec<u8>, ExpandError>
     where
         M::Value: AsSlice<u8> + Drop,
-        ensures value { ByLookUp M.Value.items M.see (M.look_up variables.now)
-            (λ look. ByTree self.now
-            (λ t. Expands (λ output. output.items) result (value 0 t look))) }
+        ensures value { ByValue M.Value.items M.see (M.look_up variables.now) self.now
+            (Expands (λ output. output.items) result) }
 
         // Whatever the map: a template's source has a tree, and an error states the variable that its
         // evaluation misses, which is in the source.
         ensures sentence { IsSentence self.now }
-        ensures missing { ByNames (M.look_up variables.now) (λ look. ByTree self.now
-            (λ t. IfErr result (λ e. IfSome (expand_fault e) (IsMissing (value 0 t look))))) }
-        ensures range { IfErr result (λ e. (range_of (expand_fault e)).end ≤ length self.now) }
+        ensures missing { Misses (M.look_up variables.now) self.now expand_fault result }
+        ensures range { EndsWithin self.now expand_fault result }
     {
         let mut turns = Turns::new();
         self.expand_counted(alloc, variables, &mut turns)
@@ -147,9 +140,8 @@ impl<'a> ByteTemplate<'a> {
     ) -> Result<Vec<u8>, ExpandError>
     where
         M::Value: AsSlice<u8> + Drop,
-        ensures value { ByLookUp M.Value.items M.see (M.look_up variables.now)
-            (λ look. ByTree self.now
-            (λ t. Expands (λ output. output.items) result (value 0 t look))) }
+        ensures value { ByValue M.Value.items M.see (M.look_up variables.now) self.now
+            (Expands (λ output. output.items) result) }
         ensures counted { ByLookUp M.Value.items M.see (M.look_up variables.now)
             (λ look. ByTree self.now
             (λ t. OnOk result (turns.new ≡ turns.old + visited_count t look))) }
@@ -160,9 +152,8 @@ impl<'a> ByteTemplate<'a> {
         // Whatever the map: a template's source has a tree, and an error states the variable that its
         // evaluation misses, which is in the source.
         ensures sentence { IsSentence self.now }
-        ensures missing { ByNames (M.look_up variables.now) (λ look. ByTree self.now
-            (λ t. IfErr result (λ e. IfSome (expand_fault e) (IsMissing (value 0 t look))))) }
-        ensures range { IfErr result (λ e. (range_of (expand_fault e)).end ≤ length self.now) }
+        ensures missing { Misses (M.look_up variables.now) self.now expand_fault result }
+        ensures range { EndsWithin self.now expand_fault result }
     {
         expand::<M, SliceBytes>(alloc, self.source, &self.parts, variables, turns)
     }
@@ -189,23 +180,19 @@ impl<'a> ByteTemplate<'a> {
     ) -> Result<(), ExpandIntoError<'a>>
     where
         M::Value: AsSlice<u8> + Drop,
-        ensures value { ByLookUp M.Value.items M.see (M.look_up variables.now)
-            (λ look. ByTree self.now
-            (λ t. ExpandsInto output.old.items result output.new.items (value 0 t look))) }
+        ensures value { ByValue M.Value.items M.see (M.look_up variables.now) self.now
+            (ExpandsInto output.old.items result output.new.items) }
 
         // Whatever the map, an error leaves the items as they were, and the room only grows.
         ensures kept { OnErr result (output.new.items ≡ output.old.items) }
         ensures capacity { vec_capacity output.old ≤ vec_capacity output.new }
 
         // Out of memory only with cause: the room is shorter than what is written.
-        ensures full { ByLookUp M.Value.items M.see (M.look_up variables.now)
-            (λ look. ByTree self.now (λ t. OnOutOfMemory expand_into_fault result
-            (vec_capacity output.old < vec_len output.old + length (written 0 t look)))) }
+        ensures full { ByWritten M.Value.items M.see (M.look_up variables.now) self.now
+            (Overflows (vec_capacity output.old) (vec_len output.old) result) }
         ensures sentence { IsSentence self.now }
-        ensures missing { ByNames (M.look_up variables.now) (λ look. ByTree self.now (λ t.
-            IfErr result (λ e. IfSome (expand_into_fault e) (IsMissing (value 0 t look))))) }
-        ensures range { IfErr result
-            (λ e. (range_of (expand_into_fault e)).end ≤ length self.now) }
+        ensures missing { Misses (M.look_up variables.now) self.now expand_into_fault result }
+        ensures range { EndsWithin self.now expand_into_fault result }
     {
         let mut turns = Turns::new();
         expand_into::<M, SliceBytes>(self.source, &self.parts, variables, &mut turns, output)
@@ -226,17 +213,13 @@ impl<'a> ByteTemplate<'a> {
     ) -> Result<usize, ExpandIntoError<'a>>
     where
         M::Value: AsSlice<u8> + Drop,
-        ensures value { ByLookUp M.Value.items M.see (M.look_up variables.now)
-            (λ look. ByTree self.now
-            (λ t. ExpandsIntoSlice slice.old result slice.new (value 0 t look))) }
-        ensures full { ByLookUp M.Value.items M.see (M.look_up variables.now)
-            (λ look. ByTree self.now (λ t. OnOutOfMemory expand_into_fault result
-            (2 ^ 64 ≤ length (written 0 t look)))) }
+        ensures value { ByValue M.Value.items M.see (M.look_up variables.now) self.now
+            (ExpandsIntoSlice slice.old result slice.new) }
+        ensures full { ByWritten M.Value.items M.see (M.look_up variables.now) self.now
+            (λ x. OnOutOfMemory expand_into_fault result (2 ^ 64 ≤ length x)) }
         ensures sentence { IsSentence self.now }
-        ensures missing { ByNames (M.look_up variables.now) (λ look. ByTree self.now (λ t.
-            IfErr result (λ e. IfSome (expand_into_fault e) (IsMissing (value 0 t look))))) }
-        ensures range { IfErr result
-            (λ e. (range_of (expand_into_fault e)).end ≤ length self.now) }
+        ensures missing { Misses (M.look_up variables.now) self.now expand_into_fault result }
+        ensures range { EndsWithin self.now expand_into_fault result }
     {
         expand_into_slice::<M, SliceBytes>(self.source, &self.parts, variables, slice)
     }
@@ -248,11 +231,9 @@ impl<'a> ByteTemplate<'a> {
     ///
     /// When allocation fails.
     pub fn variables(&self, alloc: Global) -> Result<Vec<Variable<'a>>, AllocError>
-        ensures variables { IfOk result (λ list.
-            ByTree self.now (λ t. map variable_of list.items ≡ variables_of 0 t)) }
+        ensures variables { IfOk result (λ list. AreVariables self.now list.items) }
         ensures sentence { IsSentence self.now }
-        ensures range { IfOk result (λ list.
-            All (λ v. (variable_range v).end ≤ length self.now) list.items) }
+        ensures range { IfOk result (λ list. EachEndsWithin self.now variable_range list.items) }
     {
         variables(alloc, self.source, &self.parts)
     }
@@ -272,11 +253,9 @@ impl<'a> ByteTemplate<'a> {
     ) -> Result<Vec<NoSuchVariable>, AllocError>
     where
         M::Value: Drop,
-        ensures missing { ByNames (M.look_up variables.now) (λ look. ByTree self.now
-            (λ t. IfOk result (λ list. map missing_variable list.items ≡ all_missing 0 t look))) }
+        ensures missing { ListsMissing (M.look_up variables.now) self.now result }
         ensures sentence { IsSentence self.now }
-        ensures range { IfOk result (λ list.
-            All (λ e. (missing_range e).end ≤ length self.now) list.items) }
+        ensures range { IfOk result (λ list. EachEndsWithin self.now missing_range list.items) }
     {
         missing(alloc, self.source, &self.parts, variables)
     }

@@ -1,20 +1,14 @@
 //! Templates that own their byte sources: a source and its parts. Each lends a `ByteTemplate` of the same
 //! source.
 
-ghost use Rattle.std.specs.Prelude.{◌≡◌, ◌+◌, ◌<◌, ◌≤◌, length, IfErr, IfOk, IfSome, OnErr, map};
+ghost use Rattle.std.specs.Prelude.{◌≡◌, ◌≤◌, IfOk, OnErr};
 ghost use Rattle.std.specs.Prelude.{vec_capacity, vec_len};
-ghost use Rattle.std.specs.List.{All};
 ghost use Rattle.subst_error.specs.ErrorFault.{expand_fault, expand_into_fault, parse_fault};
-ghost use Rattle.subst_error.specs.Range.{range_of};
-ghost use Rattle.subst_language.specs.Language.Answer.{IsMissing};
-ghost use Rattle.subst_language.specs.Language.Sentence.{IsSentence, ByTree};
+ghost use Rattle.subst_language.specs.Language.Sentence.{IsSentence};
 ghost use Rattle.subst_language.specs.Language.BadItem.{HasFault};
-ghost use Rattle.subst_language.specs.Language.Value.{value};
-ghost use Rattle.subst_language.specs.Language.Written.{written};
-ghost use Rattle.subst_language.specs.Language.Variables.{all_missing, variables_of};
-ghost use Rattle.subst_language.specs.Calls.Variables.{missing_variable, missing_range, variable_of, variable_range};
-ghost use Rattle.subst_language.specs.Calls.VariableMap.{ByLookUp, ByNames};
-ghost use Rattle.subst_language.specs.Calls.Outcome.{OnFault, Expands, ExpandsInto, OnOutOfMemory};
+ghost use Rattle.subst_language.specs.Calls.Variables.{missing_range, variable_range};
+ghost use Rattle.subst_language.specs.Calls.Outcome.{OnFault, Expands, ExpandsInto};
+ghost use Rattle.subst_language.specs.Calls.Clauses.{ByValue, ByWritten, Overflows, Misses, EndsWithin, AreVariables, ListsMissing, EachEndsWithin};
 
 use crate::template::byte_string::ByteString;
 use crate::template::byte_template::ByteTemplate;
@@ -57,7 +51,7 @@ impl ByteTemplateBuf {
         // Only a sentence has a template, which is that of the source.
         ensures ok { IfOk result (λ template. IsSentence source.items × (template ≡ source.items)) }
         ensures err { OnFault parse_fault result (HasFault 0 source.items) }
-        ensures range { IfErr result (λ e. (range_of (parse_fault e)).end ≤ length source.items) }
+        ensures range { EndsWithin source.items parse_fault result }
     {
         let alloc = *source.allocator();
         let parts = parse(alloc, &source, &mut Reads::new())?;
@@ -128,16 +122,14 @@ impl ByteTemplateBuf {
     ) -> Result<Vec<u8>, ExpandError>
     where
         M::Value: AsSlice<u8> + Drop,
-        ensures value { ByLookUp M.Value.items M.see (M.look_up variables.now)
-            (λ look. ByTree self.now
-            (λ t. Expands (λ output. output.items) result (value 0 t look))) }
+        ensures value { ByValue M.Value.items M.see (M.look_up variables.now) self.now
+            (Expands (λ output. output.items) result) }
 
         // Whatever the map: a template's source has a tree, and an error states the variable that its
         // evaluation misses, which is in the source.
         ensures sentence { IsSentence self.now }
-        ensures missing { ByNames (M.look_up variables.now) (λ look. ByTree self.now
-            (λ t. IfErr result (λ e. IfSome (expand_fault e) (IsMissing (value 0 t look))))) }
-        ensures range { IfErr result (λ e. (range_of (expand_fault e)).end ≤ length self.now) }
+        ensures missing { Misses (M.look_up variables.now) self.now expand_fault result }
+        ensures range { EndsWithin self.now expand_fault result }
     {
         self.as_template().expand(alloc, variables)
     }
@@ -155,23 +147,19 @@ impl ByteTemplateBuf {
     ) -> Result<(), ExpandIntoError<'_>>
     where
         M::Value: AsSlice<u8> + Drop,
-        ensures value { ByLookUp M.Value.items M.see (M.look_up variables.now)
-            (λ look. ByTree self.now
-            (λ t. ExpandsInto output.old.items result output.new.items (value 0 t look))) }
+        ensures value { ByValue M.Value.items M.see (M.look_up variables.now) self.now
+            (ExpandsInto output.old.items result output.new.items) }
 
         // Whatever the map, an error leaves the items as they were, and the room only grows.
         ensures kept { OnErr result (output.new.items ≡ output.old.items) }
         ensures capacity { vec_capacity output.old ≤ vec_capacity output.new }
 
         // Out of memory only with cause: the room is shorter than what is written.
-        ensures full { ByLookUp M.Value.items M.see (M.look_up variables.now)
-            (λ look. ByTree self.now (λ t. OnOutOfMemory expand_into_fault result
-            (vec_capacity output.old < vec_len output.old + length (written 0 t look)))) }
+        ensures full { ByWritten M.Value.items M.see (M.look_up variables.now) self.now
+            (Overflows (vec_capacity output.old) (vec_len output.old) result) }
         ensures sentence { IsSentence self.now }
-        ensures missing { ByNames (M.look_up variables.now) (λ look. ByTree self.now (λ t.
-            IfErr result (λ e. IfSome (expand_into_fault e) (IsMissing (value 0 t look))))) }
-        ensures range { IfErr result
-            (λ e. (range_of (expand_into_fault e)).end ≤ length self.now) }
+        ensures missing { Misses (M.look_up variables.now) self.now expand_into_fault result }
+        ensures range { EndsWithin self.now expand_into_fault result }
     {
         self.as_template().expand_into(output, variables)
     }
@@ -182,11 +170,9 @@ impl ByteTemplateBuf {
     ///
     /// When allocation fails.
     pub fn variables(&self, alloc: Global) -> Result<Vec<Variable<'_>>, AllocError>
-        ensures variables { IfOk result (λ list.
-            ByTree self.now (λ t. map variable_of list.items ≡ variables_of 0 t)) }
+        ensures variables { IfOk result (λ list. AreVariables self.now list.items) }
         ensures sentence { IsSentence self.now }
-        ensures range { IfOk result (λ list.
-            All (λ v. (variable_range v).end ≤ length self.now) list.items) }
+        ensures range { IfOk result (λ list. EachEndsWithin self.now variable_range list.items) }
     {
         self.as_template().variables(alloc)
     }
@@ -203,11 +189,9 @@ impl ByteTemplateBuf {
     ) -> Result<Vec<NoSuchVariable>, AllocError>
     where
         M::Value: Drop,
-        ensures missing { ByNames (M.look_up variables.now) (λ look. ByTree self.now
-            (λ t. IfOk result (λ list. map missing_variable list.items ≡ all_missing 0 t look))) }
+        ensures missing { ListsMissing (M.look_up variables.now) self.now result }
         ensures sentence { IsSentence self.now }
-        ensures range { IfOk result (λ list.
-            All (λ e. (missing_range e).end ≤ length self.now) list.items) }
+        ensures range { IfOk result (λ list. EachEndsWithin self.now missing_range list.items) }
     {
         self.as_template().missing(alloc, variables)
     }

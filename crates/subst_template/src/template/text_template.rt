@@ -1,19 +1,13 @@
 //! Templates over texts that they borrow, with the contracts of `ByteTemplate` over the bytes of texts.
 
-ghost use Rattle.std.specs.Prelude.{◌≡◌, ◌+◌, ◌<◌, ◌≤◌, length, IfErr, IfOk, IfSome, OnErr, map};
+ghost use Rattle.std.specs.Prelude.{◌≡◌, ◌≤◌, IfOk, OnErr};
 ghost use Rattle.std.specs.Prelude.{string_bytes, string_capacity, string_len};
-ghost use Rattle.std.specs.List.{All};
 ghost use Rattle.subst_error.specs.ErrorFault.{expand_fault, expand_into_fault, parse_fault};
-ghost use Rattle.subst_error.specs.Range.{range_of, IsRangeIn};
-ghost use Rattle.subst_language.specs.Language.Answer.{IsMissing};
-ghost use Rattle.subst_language.specs.Language.Sentence.{IsSentence, ByTree};
+ghost use Rattle.subst_language.specs.Language.Sentence.{IsSentence};
 ghost use Rattle.subst_language.specs.Language.BadItem.{HasFault};
-ghost use Rattle.subst_language.specs.Language.Value.{value};
-ghost use Rattle.subst_language.specs.Language.Written.{written};
-ghost use Rattle.subst_language.specs.Language.Variables.{all_missing, variables_of};
-ghost use Rattle.subst_language.specs.Calls.Variables.{missing_variable, missing_range, variable_of, variable_range};
-ghost use Rattle.subst_language.specs.Calls.VariableMap.{ByLookUp, ByNames};
-ghost use Rattle.subst_language.specs.Calls.Outcome.{OnFault, Expands, ExpandsInto, OnOutOfMemory};
+ghost use Rattle.subst_language.specs.Calls.Variables.{missing_range, variable_range};
+ghost use Rattle.subst_language.specs.Calls.Outcome.{OnFault, Expands, ExpandsInto};
+ghost use Rattle.subst_language.specs.Calls.Clauses.{ByValue, ByWritten, Overflows, Misses, IsRangedIn, AreVariables, ListsMissing, EachIsRangedIn};
 
 use std::alloc::{AllocError, Global};
 use std::convert::AsStr;
@@ -66,7 +60,7 @@ impl<'a> Template<'a> {
         ensures err { OnFault parse_fault result (HasFault 0 source.now) }
 
         // The fault is in the source, between two of its characters.
-        ensures range { IfErr result (λ e. IsRangeIn source.now (range_of (parse_fault e))) }
+        ensures range { IsRangedIn source.now parse_fault result }
     {
         let parts = parse(alloc, source.as_bytes(), &mut Reads::new())?;
         let parts = CowParts::from(parts);
@@ -94,16 +88,14 @@ impl<'a> Template<'a> {
     ) -> Result<String, ExpandError>
     where
         M::Value: AsStr + Drop,
-        ensures value { ByLookUp M.Value.text M.see (M.look_up variables.now)
-            (λ look. ByTree self.now
-            (λ t. Expands (λ output. string_bytes output) result (value 0 t look))) }
+        ensures value { ByValue M.Value.text M.see (M.look_up variables.now) self.now
+            (Expands (λ output. string_bytes output) result) }
 
         // Whatever the map: a template's source has a tree, and an error states the variable that its
         // evaluation misses, which is in the source.
         ensures sentence { IsSentence self.now }
-        ensures missing { ByNames (M.look_up variables.now) (λ look. ByTree self.now
-            (λ t. IfErr result (λ e. IfSome (expand_fault e) (IsMissing (value 0 t look))))) }
-        ensures range { IfErr result (λ e. IsRangeIn self.now (range_of (expand_fault e))) }
+        ensures missing { Misses (M.look_up variables.now) self.now expand_fault result }
+        ensures range { IsRangedIn self.now expand_fault result }
     {
         expand_text(alloc, self.source, &self.parts, variables)
     }
@@ -130,23 +122,19 @@ impl<'a> Template<'a> {
     ) -> Result<(), ExpandIntoError<'a>>
     where
         M::Value: AsStr + Drop,
-        ensures value { ByLookUp M.Value.text M.see (M.look_up variables.now)
-            (λ look. ByTree self.now (λ t. ExpandsInto (string_bytes output.old) result
-            (string_bytes output.new) (value 0 t look))) }
+        ensures value { ByValue M.Value.text M.see (M.look_up variables.now) self.now
+            (ExpandsInto (string_bytes output.old) result (string_bytes output.new)) }
 
         // Whatever the map, an error leaves the text as it was, and the room only grows.
         ensures kept { OnErr result (string_bytes output.new ≡ string_bytes output.old) }
         ensures capacity { string_capacity output.old ≤ string_capacity output.new }
 
         // Out of memory only with cause: the room is shorter than what is written.
-        ensures full { ByLookUp M.Value.text M.see (M.look_up variables.now)
-            (λ look. ByTree self.now (λ t. OnOutOfMemory expand_into_fault result
-            (string_capacity output.old < string_len output.old + length (written 0 t look)))) }
+        ensures full { ByWritten M.Value.text M.see (M.look_up variables.now) self.now
+            (Overflows (string_capacity output.old) (string_len output.old) result) }
         ensures sentence { IsSentence self.now }
-        ensures missing { ByNames (M.look_up variables.now) (λ look. ByTree self.now (λ t.
-            IfErr result (λ e. IfSome (expand_into_fault e) (IsMissing (value 0 t look))))) }
-        ensures range { IfErr result
-            (λ e. IsRangeIn self.now (range_of (expand_into_fault e))) }
+        ensures missing { Misses (M.look_up variables.now) self.now expand_into_fault result }
+        ensures range { IsRangedIn self.now expand_into_fault result }
     {
         expand_text_into(self.source, &self.parts, variables, output)
     }
@@ -167,11 +155,9 @@ impl<'a> Template<'a> {
     ///
     /// When allocation fails.
     pub fn variables(&self, alloc: Global) -> Result<Vec<Variable<'a>>, AllocError>
-        ensures variables { IfOk result (λ list.
-            ByTree self.now (λ t. map variable_of list.items ≡ variables_of 0 t)) }
+        ensures variables { IfOk result (λ list. AreVariables self.now list.items) }
         ensures sentence { IsSentence self.now }
-        ensures range { IfOk result (λ list.
-            All (λ v. IsRangeIn self.now (variable_range v)) list.items) }
+        ensures range { IfOk result (λ list. EachIsRangedIn self.now variable_range list.items) }
     {
         variables(alloc, self.source.as_bytes(), &self.parts)
     }
@@ -200,11 +186,9 @@ impl<'a> Template<'a> {
     ) -> Result<Vec<NoSuchVariable>, AllocError>
     where
         M::Value: Drop,
-        ensures missing { ByNames (M.look_up variables.now) (λ look. ByTree self.now
-            (λ t. IfOk result (λ list. map missing_variable list.items ≡ all_missing 0 t look))) }
+        ensures missing { ListsMissing (M.look_up variables.now) self.now result }
         ensures sentence { IsSentence self.now }
-        ensures range { IfOk result (λ list.
-            All (λ e. IsRangeIn self.now (missing_range e)) list.items) }
+        ensures range { IfOk result (λ list. EachIsRangedIn self.now missing_range list.items) }
     {
         missing(alloc, self.source.as_bytes(), &self.parts, variables)
     }

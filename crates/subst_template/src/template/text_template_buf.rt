@@ -1,19 +1,13 @@
 //! Templates that own their texts, with the contracts of `ByteTemplateBuf` over the bytes of texts.
 
-ghost use Rattle.std.specs.Prelude.{◌≡◌, ◌+◌, ◌<◌, ◌≤◌, length, IfErr, IfOk, IfSome, OnErr, map};
+ghost use Rattle.std.specs.Prelude.{◌≡◌, ◌≤◌, IfOk, OnErr};
 ghost use Rattle.std.specs.Prelude.{string_bytes, string_capacity, string_len};
-ghost use Rattle.std.specs.List.{All};
 ghost use Rattle.subst_error.specs.ErrorFault.{expand_fault, expand_into_fault, parse_fault};
-ghost use Rattle.subst_error.specs.Range.{range_of, IsRangeIn};
-ghost use Rattle.subst_language.specs.Language.Answer.{IsMissing};
-ghost use Rattle.subst_language.specs.Language.Sentence.{IsSentence, ByTree};
+ghost use Rattle.subst_language.specs.Language.Sentence.{IsSentence};
 ghost use Rattle.subst_language.specs.Language.BadItem.{HasFault};
-ghost use Rattle.subst_language.specs.Language.Value.{value};
-ghost use Rattle.subst_language.specs.Language.Written.{written};
-ghost use Rattle.subst_language.specs.Language.Variables.{all_missing, variables_of};
-ghost use Rattle.subst_language.specs.Calls.Variables.{missing_variable, missing_range, variable_of, variable_range};
-ghost use Rattle.subst_language.specs.Calls.VariableMap.{ByLookUp, ByNames};
-ghost use Rattle.subst_language.specs.Calls.Outcome.{OnFault, Expands, ExpandsInto, OnOutOfMemory};
+ghost use Rattle.subst_language.specs.Calls.Variables.{missing_range, variable_range};
+ghost use Rattle.subst_language.specs.Calls.Outcome.{OnFault, Expands, ExpandsInto};
+ghost use Rattle.subst_language.specs.Calls.Clauses.{ByValue, ByWritten, Overflows, Misses, IsRangedIn, AreVariables, ListsMissing, EachIsRangedIn};
 
 use crate::template::text_template::Template;
 use std::alloc::{AllocError, Global};
@@ -64,8 +58,7 @@ impl TemplateBuf {
         ensures err { OnFault parse_fault result (HasFault 0 (string_bytes source)) }
 
         // The fault is in the source, between two of its characters.
-        ensures range { IfErr result
-            (λ e. IsRangeIn (string_bytes source) (range_of (parse_fault e))) }
+        ensures range { IsRangedIn (string_bytes source) parse_fault result }
     {
         let alloc = *source.allocator();
         let parts = parse(alloc, source.as_bytes(), &mut Reads::new())?;
@@ -136,16 +129,14 @@ impl TemplateBuf {
     ) -> Result<String, ExpandError>
     where
         M::Value: AsStr + Drop,
-        ensures value { ByLookUp M.Value.text M.see (M.look_up variables.now)
-            (λ look. ByTree self.now
-            (λ t. Expands (λ output. string_bytes output) result (value 0 t look))) }
+        ensures value { ByValue M.Value.text M.see (M.look_up variables.now) self.now
+            (Expands (λ output. string_bytes output) result) }
 
         // Whatever the map: a template's source has a tree, and an error states the variable that its
         // evaluation misses, which is in the source.
         ensures sentence { IsSentence self.now }
-        ensures missing { ByNames (M.look_up variables.now) (λ look. ByTree self.now
-            (λ t. IfErr result (λ e. IfSome (expand_fault e) (IsMissing (value 0 t look))))) }
-        ensures range { IfErr result (λ e. IsRangeIn self.now (range_of (expand_fault e))) }
+        ensures missing { Misses (M.look_up variables.now) self.now expand_fault result }
+        ensures range { IsRangedIn self.now expand_fault result }
     {
         self.as_template().expand(alloc, variables)
     }
@@ -163,23 +154,19 @@ impl TemplateBuf {
     ) -> Result<(), ExpandIntoError<'_>>
     where
         M::Value: AsStr + Drop,
-        ensures value { ByLookUp M.Value.text M.see (M.look_up variables.now)
-            (λ look. ByTree self.now (λ t. ExpandsInto (string_bytes output.old) result
-            (string_bytes output.new) (value 0 t look))) }
+        ensures value { ByValue M.Value.text M.see (M.look_up variables.now) self.now
+            (ExpandsInto (string_bytes output.old) result (string_bytes output.new)) }
 
         // Whatever the map, an error leaves the text as it was, and the room only grows.
         ensures kept { OnErr result (string_bytes output.new ≡ string_bytes output.old) }
         ensures capacity { string_capacity output.old ≤ string_capacity output.new }
 
         // Out of memory only with cause: the room is shorter than what is written.
-        ensures full { ByLookUp M.Value.text M.see (M.look_up variables.now)
-            (λ look. ByTree self.now (λ t. OnOutOfMemory expand_into_fault result
-            (string_capacity output.old < string_len output.old + length (written 0 t look)))) }
+        ensures full { ByWritten M.Value.text M.see (M.look_up variables.now) self.now
+            (Overflows (string_capacity output.old) (string_len output.old) result) }
         ensures sentence { IsSentence self.now }
-        ensures missing { ByNames (M.look_up variables.now) (λ look. ByTree self.now (λ t.
-            IfErr result (λ e. IfSome (expand_into_fault e) (IsMissing (value 0 t look))))) }
-        ensures range { IfErr result
-            (λ e. IsRangeIn self.now (range_of (expand_into_fault e))) }
+        ensures missing { Misses (M.look_up variables.now) self.now expand_into_fault result }
+        ensures range { IsRangedIn self.now expand_into_fault result }
     {
         self.as_template().expand_into(output, variables)
     }
@@ -190,11 +177,9 @@ impl TemplateBuf {
     ///
     /// When allocation fails.
     pub fn variables(&self, alloc: Global) -> Result<Vec<Variable<'_>>, AllocError>
-        ensures variables { IfOk result (λ list.
-            ByTree self.now (λ t. map variable_of list.items ≡ variables_of 0 t)) }
+        ensures variables { IfOk result (λ list. AreVariables self.now list.items) }
         ensures sentence { IsSentence self.now }
-        ensures range { IfOk result (λ list.
-            All (λ v. IsRangeIn self.now (variable_range v)) list.items) }
+        ensures range { IfOk result (λ list. EachIsRangedIn self.now variable_range list.items) }
     {
         self.as_template().variables(alloc)
     }
@@ -211,11 +196,9 @@ impl TemplateBuf {
     ) -> Result<Vec<NoSuchVariable>, AllocError>
     where
         M::Value: Drop,
-        ensures missing { ByNames (M.look_up variables.now) (λ look. ByTree self.now
-            (λ t. IfOk result (λ list. map missing_variable list.items ≡ all_missing 0 t look))) }
+        ensures missing { ListsMissing (M.look_up variables.now) self.now result }
         ensures sentence { IsSentence self.now }
-        ensures range { IfOk result (λ list.
-            All (λ e. IsRangeIn self.now (missing_range e)) list.items) }
+        ensures range { IfOk result (λ list. EachIsRangedIn self.now missing_range list.items) }
     {
         self.as_template().missing(alloc, variables)
     }

@@ -1,0 +1,87 @@
+-- Clauses of many calls: what holds of the value of a source's tree, what an error states, what a list has.
+-- `items`, `see` and `look_up` tell a map's look-up, as those of `ByLookUp`; `fault_of` tells the fault of an
+-- error.
+use Rattle.std.specs.Prelude.{◌≡◌, ◌≤◌, ◌<◌, ◌+◌, ℕ, List, length, map, Option, Result, Vec, IfErr, IfNone, IfOk, IfSome}
+use Rattle.std.specs.List.{All}
+use Rattle.std.specs.declared.ops.Range.{Range}
+use Rattle.subst_error.specs.Fault.{Fault}
+use Rattle.subst_error.specs.ErrorFault.{expand_into_fault, parse_fault}
+use Rattle.subst_error.specs.Range.{range_of, IsRangeIn}
+use Rattle.subst_error.specs.declared.NoSuchVariable.{NoSuchVariable}
+use Rattle.subst_error.specs.declared.lent.ExpandIntoError.{ExpandIntoError}
+use Rattle.subst_error.specs.declared.lent.SubstituteIntoError.{SubstituteIntoError}
+use Rattle.subst_language.specs.Language.Answer.{Answers, Refuses, IsMissing}
+use Rattle.subst_language.specs.Language.BadItem.{HasFault}
+use Rattle.subst_language.specs.Language.Sentence.{ByTree, IsSentence}
+use Rattle.subst_language.specs.Language.Value as tree
+use Rattle.subst_language.specs.Language.Variables.{all_missing, variables_of}
+use Rattle.subst_language.specs.Language.Written.{written}
+use Rattle.subst_language.specs.Calls.Outcome.{IfRefused, OnFault, OnOutOfMemory}
+use Rattle.subst_language.specs.Calls.VariableMap.{ByLookUp, ByNames}
+use Rattle.subst_language.specs.Calls.Variables.{missing_variable, variable_of}
+use Rattle.subst_language.specs.declared.variable.Variable.{Variable}
+
+-- P holds of the value that the tree of the source s has under the map's look-up
+abbrev pub ByValue : {Value Seen : Type 0} → (Value → List ℕ) → (Value → Seen) → (List ℕ → Option Seen)
+    → List ℕ → (tree.Value → Type 0) → Type 0
+ByValue items see look_up s P =
+    ByLookUp items see look_up (λ look. ByTree s (λ t. P (tree.value 0 t look)))
+
+-- P holds of what an expansion of the source s writes: all bytes, or those before the missing variable
+abbrev pub ByWritten : {Value Seen : Type 0} → (Value → List ℕ) → (Value → Seen) → (List ℕ → Option Seen)
+    → List ℕ → (List ℕ → Type 0) → Type 0
+ByWritten items see look_up s P =
+    ByLookUp items see look_up (λ look. ByTree s (λ t. P (written 0 t look)))
+
+-- where memory runs out, x doesn't fit after so many bytes into this capacity
+abbrev pub Overflows : {T : Type 0} → (capacity len : ℕ) → Result T ExpandIntoError → List ℕ → Type 0
+Overflows capacity len result x = OnOutOfMemory expand_into_fault result (capacity < len + length x)
+
+-- so after the parse
+abbrev pub OverflowsParsed : {T : Type 0} → (capacity len : ℕ) → Result T SubstituteIntoError → List ℕ
+    → Type 0
+OverflowsParsed capacity len result x =
+    IfRefused result (λ e. Unit {0}) (λ e. IfNone (expand_into_fault e) (capacity < len + length x))
+
+-- whatever the values of the map, an error states the variable that the source s is missing
+abbrev pub Misses : {Seen T E : Type 0} → (List ℕ → Option Seen) → List ℕ → (E → Option Fault)
+    → Result T E → Type 0
+Misses look_up s fault_of result =
+    ByNames look_up (λ look. ByTree s (λ t. OnFault fault_of result (IsMissing (tree.value 0 t look))))
+
+-- whatever the values of the map, an error states what the source s is refused for
+abbrev pub StatesRefusal : {Seen T E : Type 0} → (List ℕ → Option Seen) → List ℕ → (E → Option Fault)
+    → Result T E → Type 0
+StatesRefusal look_up s fault_of result =
+    ByNames look_up (λ look. OnFault fault_of result (λ f. Answers s look (Refuses f)))
+
+-- where the parse is refused, the source s has the fault; an expansion is refused of a sentence alone
+abbrev pub StatesKind : {T : Type 0} → List ℕ → Result T SubstituteIntoError → Type 0
+StatesKind s result = IfRefused result (λ e. IfSome (parse_fault e) (HasFault 0 s)) (λ e. IsSentence s)
+
+-- the range of an error ends within the source s
+abbrev pub EndsWithin : {T E : Type 0} → List ℕ → (E → Option Fault) → Result T E → Type 0
+EndsWithin s fault_of result = IfErr result (λ e. (range_of (fault_of e)).end ≤ length s)
+
+-- the range of an error is in the text s, between two of its characters
+abbrev pub IsRangedIn : {T E : Type 0} → List ℕ → (E → Option Fault) → Result T E → Type 0
+IsRangedIn s fault_of result = IfErr result (λ e. IsRangeIn s (range_of (fault_of e)))
+
+-- these are the variables of the tree of the source s
+abbrev pub AreVariables : List ℕ → List Variable → Type 0
+AreVariables s list = ByTree s (λ t. map variable_of list ≡ variables_of 0 t)
+
+-- whatever the values of the map, the result lists all that the source s is missing
+abbrev pub ListsMissing : {Seen A E : Type 0} → (List ℕ → Option Seen) → List ℕ
+    → Result (Vec NoSuchVariable A) E → Type 0
+ListsMissing look_up s result =
+    ByNames look_up (λ look. ByTree s
+    (λ t. IfOk result (λ list. map missing_variable list.items ≡ all_missing 0 t look)))
+
+-- the range of each ends within the source s
+abbrev pub EachEndsWithin : {A : Type 0} → List ℕ → (A → Range ℕ) → List A → Type 0
+EachEndsWithin s range list = All (λ it. (range it).end ≤ length s) list
+
+-- the range of each is in the text s, between two of its characters
+abbrev pub EachIsRangedIn : {A : Type 0} → List ℕ → (A → Range ℕ) → List A → Type 0
+EachIsRangedIn s range list = All (λ it. IsRangeIn s (range it)) list
