@@ -9,6 +9,6 @@ pub use Rattle.subst_json.specs.Outcome
 pub use Rattle.subst_json.specs.Paths
 pub use Rattle.subst_json.specs.Places
 pub use Rattle.subst_json.specs.Pointer
-pub use Rattle.subst_json.specs.Refusals
 pub use Rattle.subst_walk.specs.Paths as Walk
+pub use Rattle.subst_walk.specs.Refused
 pub use Rattle.subst_walk.specs.Texts

@@ -6,4 +6,3 @@ pub mod Outcome
 pub mod Paths
 pub mod Places
 pub mod Pointer
-pub mod Refusals

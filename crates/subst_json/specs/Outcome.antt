@@ -1,12 +1,16 @@
 -- What a call returned that reads a tree and fills it in.
-use Rattle.std.specs.Prelude.{◌≡◌, ⊤, ℕ, List, Some, Result, IfErr, IfSome}
+use Rattle.std.specs.Prelude.{◌≡◌, ⊤, ℕ, List, Option, Some, Result, Ok, IfErr, IfOk, IfSome}
 use Rattle.serde_json.specs.Data.{Data}
 use Rattle.serde_json.specs.Read.{read}
+use Rattle.serde_json.specs.View.{view}
 use Rattle.serde_json.specs.declared.error.Error as reading
+use Rattle.serde_json.specs.declared.value.Value.{Value}
 use Rattle.subst_error.specs.Fault.{Fault}
 use Rattle.subst_error.specs.ErrorFault.{error_fault}
+use Rattle.subst_language.specs.Calls.VariableMap.{ByLookUp}
 use Rattle.subst_language.specs.Language.LookUp.{LookUp}
-use Rattle.subst_json.specs.Mapped.{IsMapped}
+use Rattle.subst_language.specs.Language.Several.{IsFirstRefusal}
+use Rattle.subst_json.specs.Mapped.{strings, IsMapped}
 use Rattle.subst_json.specs.declared.error.Error.{Error}
 use Rattle.subst_json.specs.declared.error.Error.TheVariants.{Json, Subst, OutOfMemory}
 
@@ -40,3 +44,24 @@ if_subst (OutOfMemory e) P = ⊤
 
 abbrev pub OnSubst : {T : Type 0} → Result T Error → (Fault → Type 0) → Type 0
 OnSubst result P = IfErr result (λ e. if_subst e P)
+
+-- Clauses of calls that read the text s and fill in its tree from a map, whose look-up `items`, `see` and
+-- `look_up` tell, as those of `ByLookUp`.
+
+-- the tree is that of the text, with its strings filled in
+abbrev pub ReturnsTree : {V Seen : Type 0} → (V → List ℕ) → (V → Seen) → (List ℕ → Option Seen) → List ℕ
+    → Result Value Error → Type 0
+ReturnsTree items see look_up s result = ByLookUp items see look_up
+    (λ look. IfOk result (λ tree. ReadsAsTree s (λ d. IsMapped look d (view tree))))
+
+-- the value is what the step that reads a type returns for that tree
+abbrev pub ReadsType : {V Seen T : Type 0} → (V → List ℕ) → (V → Seen) → (List ℕ → Option Seen)
+    → (Data → Result T reading.Error → Type 0) → List ℕ → Result T Error → Type 0
+ReadsType items see look_up Reads s result = ByLookUp items see look_up
+    (λ look. IfOk result (λ value. ReadsAsTree s (λ d. IsReadFilledIn look Reads d (Ok value))))
+
+-- the fault is that of the first string of the text's tree that is refused
+abbrev pub StatesFirst : {V Seen T : Type 0} → (V → List ℕ) → (V → Seen) → (List ℕ → Option Seen) → List ℕ
+    → Result T Error → Type 0
+StatesFirst items see look_up s result = ByLookUp items see look_up
+    (λ look. OnSubst result (λ f. ReadsAsTree s (λ d. IsFirstRefusal look (strings d) f)))

@@ -11,7 +11,7 @@
 //! nested more than 127 deep; a deeper tree, which a caller has built, takes as much more of the stack.
 #![tactic(auto)]
 
-ghost use Rattle.std.specs.Prelude.{◌≡◌, ◌⊎◌, Err, Ok, IfErr, IfOk, IsUtf8, None, OnErr, OnOk};
+ghost use Rattle.std.specs.Prelude.{◌≡◌, ◌⊎◌, Err, IfErr, IfOk, IsUtf8, None, OnErr, OnOk};
 ghost use Rattle.serde_json.specs.Errors.{IsOfText};
 ghost use Rattle.serde_json.specs.Read.{read};
 ghost use Rattle.serde_json.specs.View.{view};
@@ -22,12 +22,12 @@ ghost use Rattle.subst_language.specs.Language.Several.{IsFirstRefusal};
 ghost use Rattle.subst_walk.specs.Texts.{HasRange};
 ghost use Rattle.subst_json.specs.Mapped.{strings, IsMapped};
 ghost use Rattle.subst_json.specs.Errors.{HasOwnMemory};
-ghost use Rattle.subst_json.specs.Outcome.{ReadsAsTree, IsReadFilledIn, IfJson, OnJson, OnSubst};
+ghost use Rattle.subst_json.specs.Outcome.{ReadsAsTree, IsReadFilledIn, IfJson, OnJson, OnSubst, ReturnsTree, ReadsType, StatesFirst};
 
 pub use error::Error;
 pub use path::Path;
 pub use place::{place_in, place_of};
-pub use refusals::{Refusal, all_refusals, first_refusal};
+pub use refusals::{RefusedString, all_refusals, first_refusal};
 use serde_json::Value;
 use std::alloc::Global;
 use std::convert::AsStr;
@@ -97,15 +97,12 @@ where
     M::Value: AsStr + Drop,
 
     // It is the tree that the source is read as, with its strings filled in.
-    ensures ok { ByLookUp M.Value.text M.see (M.look_up variables.now)
-        (λ look. IfOk result (λ tree. ReadsAsTree source.now (λ d. IsMapped look d (view tree)))) }
+    ensures ok { ReturnsTree M.Value.text M.see (M.look_up variables.now) source.now result }
     ensures json { OnJson result (read source.now ≡ None) }
 
     // What the error says is of a text that is no tree, and not of a type.
     ensures kind { IfJson result IsOfText }
-    ensures subst { ByLookUp M.Value.text M.see (M.look_up variables.now)
-        (λ look. OnSubst result
-        (λ f. ReadsAsTree source.now (λ d. IsFirstRefusal look (strings d) f))) }
+    ensures subst { StatesFirst M.Value.text M.see (M.look_up variables.now) source.now result }
     ensures range { OnSubst result HasRange }
 
     // Neither `Json` nor `Subst` says that memory ran out.
@@ -127,17 +124,14 @@ pub fn value_from_slice<'a, M: VariableMap<'a>>(
 ) -> Result<Value, Error>
 where
     M::Value: AsStr + Drop,
-    ensures ok { ByLookUp M.Value.text M.see (M.look_up variables.now)
-        (λ look. IfOk result (λ tree. ReadsAsTree source.now (λ d. IsMapped look d (view tree)))) }
+    ensures ok { ReturnsTree M.Value.text M.see (M.look_up variables.now) source.now result }
 
     // The strings of a tree are filled in only where the bytes are UTF-8, and one is refused only there.
     ensures utf8 { OnOk result (IsUtf8 source.now) }
     ensures refused_utf8 { OnSubst result (λ f. IsUtf8 source.now) }
     ensures json { OnJson result (IsUtf8 source.now → read source.now ≡ None) }
     ensures kind { IfJson result IsOfText }
-    ensures subst { ByLookUp M.Value.text M.see (M.look_up variables.now)
-        (λ look. OnSubst result
-        (λ f. ReadsAsTree source.now (λ d. IsFirstRefusal look (strings d) f))) }
+    ensures subst { StatesFirst M.Value.text M.see (M.look_up variables.now) source.now result }
     ensures range { OnSubst result HasRange }
     ensures memory { IfErr result HasOwnMemory }
 {
@@ -166,17 +160,13 @@ where
     M::Value: AsStr + Drop,
 
     // It is what the step that reads a `T` returns for the tree with its strings filled in.
-    ensures ok { ByLookUp M.Value.text M.see (M.look_up variables.now)
-        (λ look. IfOk result
-        (λ value. ReadsAsTree source.now (λ d. IsReadFilledIn look T.reads d (Ok value)))) }
+    ensures ok { ReadsType M.Value.text M.see (M.look_up variables.now) T.reads source.now result }
 
     // `Json` is the reader's error, of a text that is no tree, or what that step returns for such a tree.
     ensures json { ByLookUp M.Value.text M.see (M.look_up variables.now)
         (λ look. IfJson result (λ e. ((read source.now ≡ None) × IsOfText e)
         ⊎ ReadsAsTree source.now (λ d. IsReadFilledIn look T.reads d (Err e)))) }
-    ensures subst { ByLookUp M.Value.text M.see (M.look_up variables.now)
-        (λ look. OnSubst result
-        (λ f. ReadsAsTree source.now (λ d. IsFirstRefusal look (strings d) f))) }
+    ensures subst { StatesFirst M.Value.text M.see (M.look_up variables.now) source.now result }
     ensures range { OnSubst result HasRange }
     ensures memory { IfErr result HasOwnMemory }
 {
@@ -196,9 +186,7 @@ pub fn from_slice<'a, T: FromTree, M: VariableMap<'a>>(
 ) -> Result<T, Error>
 where
     M::Value: AsStr + Drop,
-    ensures ok { ByLookUp M.Value.text M.see (M.look_up variables.now)
-        (λ look. IfOk result
-        (λ value. ReadsAsTree source.now (λ d. IsReadFilledIn look T.reads d (Ok value)))) }
+    ensures ok { ReadsType M.Value.text M.see (M.look_up variables.now) T.reads source.now result }
 
     // The strings of a tree are filled in only where the bytes are UTF-8, and one is refused only there.
     ensures utf8 { OnOk result (IsUtf8 source.now) }
@@ -206,9 +194,7 @@ where
     ensures json { ByLookUp M.Value.text M.see (M.look_up variables.now)
         (λ look. IfJson result (λ e. ((IsUtf8 source.now → read source.now ≡ None) × IsOfText e)
         ⊎ ReadsAsTree source.now (λ d. IsReadFilledIn look T.reads d (Err e)))) }
-    ensures subst { ByLookUp M.Value.text M.see (M.look_up variables.now)
-        (λ look. OnSubst result
-        (λ f. ReadsAsTree source.now (λ d. IsFirstRefusal look (strings d) f))) }
+    ensures subst { StatesFirst M.Value.text M.see (M.look_up variables.now) source.now result }
     ensures range { OnSubst result HasRange }
     ensures memory { IfErr result HasOwnMemory }
 {

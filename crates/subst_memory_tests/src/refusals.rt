@@ -48,25 +48,25 @@ impl Shown for filled::Path {
     }
 }
 
-impl Shown for json::Refusal {
+impl Shown for json::RefusedString {
     fn show(&self, rt: &HostRuntime, word: &str) {
         show_refusal(rt, word, &self.path, &self.text, &self.error);
     }
 }
 
-impl Shown for filled::Refusal {
+impl Shown for filled::RefusedString {
     fn show(&self, rt: &HostRuntime, word: &str) {
         show_refusal(rt, word, &self.path, &self.text, &self.error);
     }
 }
 
-impl Shown for Vec<json::Refusal> {
+impl Shown for Vec<json::RefusedString> {
     fn show(&self, rt: &HostRuntime, word: &str) {
         show_each(rt, word, self);
     }
 }
 
-impl Shown for Vec<filled::Refusal> {
+impl Shown for Vec<filled::RefusedString> {
     fn show(&self, rt: &HostRuntime, word: &str) {
         show_each(rt, word, self);
     }
@@ -108,7 +108,7 @@ fn refusals_of_plain_json(rt: &HostRuntime) -> Result<(), AllocError> {
     Ok(())
 }
 
-fn refusals_of_json(rt: &HostRuntime) -> Result<Option<json::Refusal>, AllocError> {
+fn refusals_of_json(rt: &HostRuntime) -> Result<Option<json::RefusedString>, AllocError> {
     let alloc = rt.alloc();
     let tree = json_tree(alloc, JSON)?;
     let map = texts(alloc, VARIABLES)?;
@@ -149,7 +149,7 @@ fn refusals_of_plain_toml(rt: &HostRuntime) -> Result<(), AllocError> {
     Ok(())
 }
 
-fn refusals_of_toml(rt: &HostRuntime) -> Result<Option<filled::Refusal>, AllocError> {
+fn refusals_of_toml(rt: &HostRuntime) -> Result<Option<filled::RefusedString>, AllocError> {
     let alloc = rt.alloc();
     let tree = toml_tree(alloc, TOML)?;
     let map = texts(alloc, VARIABLES)?;

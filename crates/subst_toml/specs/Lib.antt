@@ -6,4 +6,3 @@ pub mod Mapped
 pub mod Outcome
 pub mod Paths
 pub mod Places
-pub mod Refusals

@@ -1,13 +1,18 @@
 -- What a call returned that reads a tree and fills it in.
-use Rattle.std.specs.Prelude.{◌≡◌, ◌≤◌, ⊤, true, false, ℕ, List, Some, None, Result, Ok, Err, IfErr, IfSome, IsUtf8}
+use Rattle.std.specs.Prelude.{◌≡◌, ◌≤◌, ◌⊎◌, ⊤, true, false, ℕ, List, Option, Some, None, Result, Ok, Err, IfErr, IfOk, IfSome, IsUtf8}
 use Rattle.std.specs.Str.{valid_up_to, IsValidUpTo}
 use Rattle.toml.specs.Data.{Data, Members, table, members_depth, members_have_valid_dates}
+use Rattle.toml.specs.Errors.{IsWithin}
 use Rattle.toml.specs.Parse.{parse_document}
+use Rattle.toml.specs.View.{view}
 use Rattle.toml.specs.declared.de.error.Error as reading
+use Rattle.toml.specs.declared.value.Value.{Value}
 use Rattle.subst_error.specs.Fault.{Fault}
 use Rattle.subst_error.specs.ErrorFault.{error_fault}
+use Rattle.subst_language.specs.Calls.VariableMap.{ByLookUp}
 use Rattle.subst_language.specs.Language.LookUp.{LookUp}
-use Rattle.subst_toml.specs.Mapped.{IsMapped}
+use Rattle.subst_language.specs.Language.Several.{IsFirstRefusal}
+use Rattle.subst_toml.specs.Mapped.{strings, IsMapped}
 use Rattle.subst_toml.specs.declared.error.Error.{Error}
 use Rattle.subst_toml.specs.declared.error.Error.TheVariants.{InvalidUtf8, Toml, Subst, OutOfMemory}
 
@@ -62,3 +67,31 @@ if_subst (OutOfMemory e) P = ⊤
 
 abbrev pub OnSubst : {T : Type 0} → Result T Error → (Fault → Type 0) → Type 0
 OnSubst result P = IfErr result (λ e. if_subst e P)
+
+-- Clauses of calls that read the text s and fill in its tree from a map, whose look-up `items`, `see` and
+-- `look_up` tell, as those of `ByLookUp`.
+
+-- the tree is that of the text, with its strings filled in
+abbrev pub ReturnsTree : {V Seen : Type 0} → (V → List ℕ) → (V → Seen) → (List ℕ → Option Seen) → List ℕ
+    → Result Value Error → Type 0
+ReturnsTree items see look_up s result = ByLookUp items see look_up
+    (λ look. IfOk result (λ tree. ReadsAsTree s (λ d. IsMapped look d (view tree))))
+
+-- the value is what the step that reads a type returns for that tree
+abbrev pub ReadsType : {V Seen T : Type 0} → (V → List ℕ) → (V → Seen) → (List ℕ → Option Seen)
+    → (List ℕ → Result T reading.Error → Type 0) → List ℕ → Result T Error → Type 0
+ReadsType items see look_up Reads s result = ByLookUp items see look_up
+    (λ look. IfOk result (λ value. ReadsAsTree s (λ d. IsReadFilledIn look Reads d (Ok value))))
+
+-- the fault is that of the first string of the text's tree that is refused
+abbrev pub StatesFirst : {V Seen T : Type 0} → (V → List ℕ) → (V → Seen) → (List ℕ → Option Seen) → List ℕ
+    → Result T Error → Type 0
+StatesFirst items see look_up s result = ByLookUp items see look_up
+    (λ look. OnSubst result (λ f. ReadsAsTree s (λ d. IsFirstRefusal look (strings d) f)))
+
+-- the reader's error is of a text that is no document, or what that step returns for the tree
+abbrev pub StatesReading : {V Seen T : Type 0} → (V → List ℕ) → (V → Seen) → (List ℕ → Option Seen)
+    → (List ℕ → Result T reading.Error → Type 0) → List ℕ → Result T Error → Type 0
+StatesReading items see look_up Reads s result = ByLookUp items see look_up
+    (λ look. IfToml result (λ e. ((parse_document s ≡ None) × IsWithin s e)
+    ⊎ ReadsAsTree s (λ d. IsReadFilledIn look Reads d (Err e))))

@@ -15,7 +15,7 @@
 //! these are; a deeper tree, which a caller has built, takes as much more of the stack.
 #![tactic(auto)]
 
-ghost use Rattle.std.specs.Prelude.{◌≡◌, ◌⊎◌, Err, Ok, IfErr, IfOk, IsUtf8, MatchResult, None, OnErr, OnOk};
+ghost use Rattle.std.specs.Prelude.{◌≡◌, IfErr, IfOk, IsUtf8, MatchResult, None, OnErr, OnOk};
 ghost use Rattle.std.specs.Str.{IsValidUpTo, valid_up_to};
 ghost use Rattle.toml.specs.Data.{table};
 ghost use Rattle.toml.specs.Errors.{IsWithin};
@@ -28,12 +28,12 @@ ghost use Rattle.subst_language.specs.Language.Several.{IsFirstRefusal};
 ghost use Rattle.subst_walk.specs.Texts.{HasRange};
 ghost use Rattle.subst_toml.specs.Mapped.{strings, IsMapped};
 ghost use Rattle.subst_toml.specs.Errors.{HasOwnMemory};
-ghost use Rattle.subst_toml.specs.Outcome.{ReadsAsTree, IsReadFilledIn, IfToml, OnToml, OnSubst, TellsUtf8};
+ghost use Rattle.subst_toml.specs.Outcome.{ReadsAsTree, IfToml, OnToml, OnSubst, TellsUtf8, ReturnsTree, ReadsType, StatesFirst, StatesReading};
 
 pub use error::Error;
 pub use path::Path;
 pub use place::{place_in, place_of};
-pub use refusals::{Refusal, all_refusals, first_refusal};
+pub use refusals::{RefusedString, all_refusals, first_refusal};
 use std::alloc::Global;
 use std::convert::AsStr;
 use std::str::{self, Utf8Error};
@@ -104,8 +104,7 @@ where
     M::Value: AsStr + Drop,
 
     // It is the tree that the source is read as, with its strings filled in.
-    ensures ok { ByLookUp M.Value.text M.see (M.look_up variables.now)
-        (λ look. IfOk result (λ tree. ReadsAsTree source.now (λ d. IsMapped look d (view tree)))) }
+    ensures ok { ReturnsTree M.Value.text M.see (M.look_up variables.now) source.now result }
 
     // A text is UTF-8, so the error is never `InvalidUtf8`.
     ensures utf8 { TellsUtf8 source.now result }
@@ -113,9 +112,7 @@ where
 
     // Where the error is, is a range of the source.
     ensures span { IfToml result (IsWithin source.now) }
-    ensures subst { ByLookUp M.Value.text M.see (M.look_up variables.now)
-        (λ look. OnSubst result
-        (λ f. ReadsAsTree source.now (λ d. IsFirstRefusal look (strings d) f))) }
+    ensures subst { StatesFirst M.Value.text M.see (M.look_up variables.now) source.now result }
     ensures range { OnSubst result HasRange }
 
     // Neither `Toml` nor `Subst` says that memory ran out.
@@ -137,16 +134,13 @@ pub fn value_from_slice<'a, M: VariableMap<'a>>(
 ) -> Result<Value, Error>
 where
     M::Value: AsStr + Drop,
-    ensures ok { ByLookUp M.Value.text M.see (M.look_up variables.now)
-        (λ look. IfOk result (λ tree. ReadsAsTree source.now (λ d. IsMapped look d (view tree)))) }
+    ensures ok { ReturnsTree M.Value.text M.see (M.look_up variables.now) source.now result }
 
     // `InvalidUtf8` is returned where the bytes aren't UTF-8, and only there; it tells how far they are.
     ensures utf8 { TellsUtf8 source.now result }
     ensures toml { OnToml result (parse_document source.now ≡ None) }
     ensures span { IfToml result (IsWithin source.now) }
-    ensures subst { ByLookUp M.Value.text M.see (M.look_up variables.now)
-        (λ look. OnSubst result
-        (λ f. ReadsAsTree source.now (λ d. IsFirstRefusal look (strings d) f))) }
+    ensures subst { StatesFirst M.Value.text M.see (M.look_up variables.now) source.now result }
     ensures range { OnSubst result HasRange }
     ensures memory { IfErr result HasOwnMemory }
 {
@@ -170,19 +164,13 @@ where
     M::Value: AsStr + Drop,
 
     // It is what the step that reads a `T` returns for the tree with its strings filled in, printed.
-    ensures ok { ByLookUp M.Value.text M.see (M.look_up variables.now)
-        (λ look. IfOk result
-        (λ value. ReadsAsTree source.now (λ d. IsReadFilledIn look T.reads d (Ok value)))) }
+    ensures ok { ReadsType M.Value.text M.see (M.look_up variables.now) T.reads source.now result }
     ensures utf8 { TellsUtf8 source.now result }
 
     // `Toml` is the reader's error, of a text that is no document, or what that step returns for such a tree.
-    ensures toml { ByLookUp M.Value.text M.see (M.look_up variables.now)
-        (λ look. IfToml result
-        (λ e. ((parse_document source.now ≡ None) × IsWithin source.now e)
-        ⊎ ReadsAsTree source.now (λ d. IsReadFilledIn look T.reads d (Err e)))) }
-    ensures subst { ByLookUp M.Value.text M.see (M.look_up variables.now)
-        (λ look. OnSubst result
-        (λ f. ReadsAsTree source.now (λ d. IsFirstRefusal look (strings d) f))) }
+    ensures toml { StatesReading M.Value.text M.see (M.look_up variables.now) T.reads
+        source.now result }
+    ensures subst { StatesFirst M.Value.text M.see (M.look_up variables.now) source.now result }
     ensures range { OnSubst result HasRange }
     ensures memory { IfErr result HasOwnMemory }
 {
@@ -203,17 +191,11 @@ pub fn from_slice<'a, T: FromText, M: VariableMap<'a>>(
 ) -> Result<T, Error>
 where
     M::Value: AsStr + Drop,
-    ensures ok { ByLookUp M.Value.text M.see (M.look_up variables.now)
-        (λ look. IfOk result
-        (λ value. ReadsAsTree source.now (λ d. IsReadFilledIn look T.reads d (Ok value)))) }
+    ensures ok { ReadsType M.Value.text M.see (M.look_up variables.now) T.reads source.now result }
     ensures utf8 { TellsUtf8 source.now result }
-    ensures toml { ByLookUp M.Value.text M.see (M.look_up variables.now)
-        (λ look. IfToml result
-        (λ e. ((parse_document source.now ≡ None) × IsWithin source.now e)
-        ⊎ ReadsAsTree source.now (λ d. IsReadFilledIn look T.reads d (Err e)))) }
-    ensures subst { ByLookUp M.Value.text M.see (M.look_up variables.now)
-        (λ look. OnSubst result
-        (λ f. ReadsAsTree source.now (λ d. IsFirstRefusal look (strings d) f))) }
+    ensures toml { StatesReading M.Value.text M.see (M.look_up variables.now) T.reads
+        source.now result }
+    ensures subst { StatesFirst M.Value.text M.see (M.look_up variables.now) source.now result }
     ensures range { OnSubst result HasRange }
     ensures memory { IfErr result HasOwnMemory }
 {
@@ -251,9 +233,7 @@ where
     ensures utf8 { TellsUtf8 source.now result }
     ensures toml { OnToml result (parse_document source.now ≡ None) }
     ensures span { IfToml result (IsWithin source.now) }
-    ensures subst { ByLookUp M.Value.text M.see (M.look_up variables.now)
-        (λ look. OnSubst result
-        (λ f. ReadsAsTree source.now (λ d. IsFirstRefusal look (strings d) f))) }
+    ensures subst { StatesFirst M.Value.text M.see (M.look_up variables.now) source.now result }
     ensures range { OnSubst result HasRange }
     ensures memory { IfErr result HasOwnMemory }
 {

@@ -1,14 +1,11 @@
 //! The walk that finds the strings of a tree that are refused, with the steps that lead to them. It goes
 //! over items by index and members by their keys, as the walk that fills in a tree.
 
-ghost use Rattle.std.specs.Prelude.{IfOk, map};
-ghost use Rattle.std.specs.List.{AllByRecursion};
 ghost use Rattle.toml.specs.Data.{array, table};
 ghost use Rattle.toml.specs.View.{view, items_view, members_view};
-ghost use Rattle.subst_language.specs.Language.LookUp.{LookUp};
-ghost use Rattle.subst_walk.specs.Refused.{refusal_of, AreFound, HasRangeInText};
+ghost use Rattle.subst_walk.specs.Refused.{HasRangeInText, Finds, EachFound};
 ghost use Rattle.subst_toml.specs.Located.{located, located_items, located_members};
-ghost use Rattle.subst_toml.specs.Paths.{Leads};
+ghost use Rattle.subst_toml.specs.Paths.{LeadsTo};
 
 use std::alloc::{AllocError, Global};
 use subst_walk::{Fill, Refused, StepRef, Wanted, add_below, refused_string};
@@ -22,13 +19,9 @@ pub(crate) fn refused<F: Fill>(
     filler: &F,
     wanted: Wanted,
 ) -> Result<Vec<Refused>, AllocError>
-    ensures found { (look : LookUp) → F.is_look_up filler.now look → IfOk result (λ found.
-        AreFound look wanted (located (view value.now)) (map refusal_of found.items)) }
-    ensures leads { IfOk result (λ found.
-        AllByRecursion (λ it. Leads it.path (view value.now) it.text)
-        (map refusal_of found.items)) }
-    ensures range { IfOk result (λ found.
-        AllByRecursion HasRangeInText (map refusal_of found.items)) }
+    ensures found { Finds (F.is_look_up filler.now) wanted (located (view value.now)) result }
+    ensures leads { EachFound (LeadsTo (view value.now)) result }
+    ensures range { EachFound HasRangeInText result }
 {
     match value {
         Value::String(text) => refused_string(alloc, text.as_str(), filler),
@@ -48,14 +41,10 @@ fn refused_items<F: Fill>(
     filler: &F,
     wanted: Wanted,
 ) -> Result<Vec<Refused>, AllocError>
-    ensures found { (look : LookUp) → F.is_look_up filler.now look → IfOk result (λ found.
-        AreFound look wanted (located_items 0 (items_view items.now.items))
-        (map refusal_of found.items)) }
-    ensures leads { IfOk result (λ found.
-        AllByRecursion (λ it. Leads it.path (array (items_view items.now.items)) it.text)
-        (map refusal_of found.items)) }
-    ensures range { IfOk result (λ found.
-        AllByRecursion HasRangeInText (map refusal_of found.items)) }
+    ensures found { Finds (F.is_look_up filler.now) wanted
+        (located_items 0 (items_view items.now.items)) result }
+    ensures leads { EachFound (LeadsTo (array (items_view items.now.items))) result }
+    ensures range { EachFound HasRangeInText result }
 {
     let mut found = Vec::new(alloc);
     for (index, item) in items.iter().enumerate() {
@@ -76,14 +65,10 @@ fn refused_members<F: Fill>(
     filler: &F,
     wanted: Wanted,
 ) -> Result<Vec<Refused>, AllocError>
-    ensures found { (look : LookUp) → F.is_look_up filler.now look → IfOk result (λ found.
-        AreFound look wanted (located_members (members_view members.now.entries))
-        (map refusal_of found.items)) }
-    ensures leads { IfOk result (λ found.
-        AllByRecursion (λ it. Leads it.path (table (members_view members.now.entries)) it.text)
-        (map refusal_of found.items)) }
-    ensures range { IfOk result (λ found.
-        AllByRecursion HasRangeInText (map refusal_of found.items)) }
+    ensures found { Finds (F.is_look_up filler.now) wanted
+        (located_members (members_view members.now.entries)) result }
+    ensures leads { EachFound (LeadsTo (table (members_view members.now.entries))) result }
+    ensures range { EachFound HasRangeInText result }
 {
     let mut found = Vec::new(alloc);
     for (key, member) in members.iter() {

@@ -7,8 +7,8 @@ ghost use Rattle.toml.specs.View.{view, items_view, members_view};
 ghost use Rattle.subst_error.specs.ErrorFault.{error_fault};
 ghost use Rattle.subst_language.specs.Language.LookUp.{LookUp};
 ghost use Rattle.subst_language.specs.Calls.Outcome.{OnFault};
-ghost use Rattle.subst_language.specs.Language.Several.{IsFirstRefusal};
 ghost use Rattle.subst_walk.specs.Texts.{HasRange};
+ghost use Rattle.subst_walk.specs.Refused.{RefusesFirst};
 ghost use Rattle.subst_toml.specs.Mapped.{strings, strings_of_items, strings_of_members, IsMapped, AreMapped, HasMappedMembers};
 
 use std::alloc::Global;
@@ -22,8 +22,7 @@ use toml::{Table, Value};
 pub(crate) fn filled<F: Fill>(alloc: Global, value: Value, filler: &F) -> Result<Value, Error>
     ensures ok { (look : LookUp) → F.is_look_up filler.now look
         → IfOk result (λ tree. IsMapped look (view value) (view tree)) }
-    ensures err { (look : LookUp) → F.is_look_up filler.now look
-        → OnFault error_fault result (IsFirstRefusal look (strings (view value))) }
+    ensures err { RefusesFirst (F.is_look_up filler.now) (strings (view value)) result }
     ensures range { OnFault error_fault result HasRange }
 {
     match value {
@@ -42,8 +41,8 @@ pub(crate) fn filled<F: Fill>(alloc: Global, value: Value, filler: &F) -> Result
 fn filled_items<F: Fill>(alloc: Global, items: Vec<Value>, filler: &F) -> Result<Vec<Value>, Error>
     ensures ok { (look : LookUp) → F.is_look_up filler.now look → IfOk result
         (λ trees. AreMapped look (items_view items.items) (items_view trees.items)) }
-    ensures err { (look : LookUp) → F.is_look_up filler.now look → OnFault error_fault result
-        (IsFirstRefusal look (strings_of_items (items_view items.items))) }
+    ensures err { RefusesFirst (F.is_look_up filler.now)
+        (strings_of_items (items_view items.items)) result }
     ensures range { OnFault error_fault result HasRange }
 {
     let mut trees = Vec::with_capacity(alloc, items.len())?;
@@ -63,8 +62,8 @@ pub(crate) fn filled_members<F: Fill>(
     ensures ok { (look : LookUp) → F.is_look_up filler.now look → IfOk result
         (λ trees. HasMappedMembers look (members_view members.entries)
         (members_view trees.entries)) }
-    ensures err { (look : LookUp) → F.is_look_up filler.now look → OnFault error_fault result
-        (IsFirstRefusal look (strings_of_members (members_view members.entries))) }
+    ensures err { RefusesFirst (F.is_look_up filler.now)
+        (strings_of_members (members_view members.entries)) result }
     ensures range { OnFault error_fault result HasRange }
 {
     let mut trees = Vec::with_capacity(alloc, members.len())?;

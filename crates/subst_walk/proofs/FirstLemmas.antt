@@ -1,14 +1,18 @@
 -- What follows from the refusals of a tree's strings: the first one, and that all strings give bytes.
-use Rattle.std.proofs.Common.{◌≡◌, ℕ, List, [], ◌∷◌, ◌++◌, map, reverse, take, slice_get, Option, Some, None, IfSome, inl, inr, refl, sym, ap, ◌∙◌, subst}
+use Rattle.std.proofs.Common.{◌≡◌, ℕ, List, [], ◌∷◌, ◌++◌, map, reverse, slice_get, Option, Some, None, IfNone, IfSome, inl, inr, refl, sym, ap, ◌∙◌, subst}
 use Rattle.std.proofs.lemmas.List.{map-append, reverse-append}
 use Rattle.std.proofs.lemmas.List.Elements.{All-from_recursion}
-use Rattle.std.specs.List.{All, AllByRecursion}
+use Rattle.std.specs.List as list
+use Rattle.std.specs.List.{AllByRecursion}
+use Rattle.std.specs.Option.{option_map}
 use Rattle.subst_error.specs.Fault.{Fault}
 use Rattle.subst_language.specs.Language.LookUp.{LookUp}
 use Rattle.subst_language.specs.Language.Answer.{Answers, Refuses}
 use Rattle.subst_language.specs.Language.Several.{AreGiven, IsFirstRefusal, under}
 use Rattle.subst_language.proofs.Language.SeveralLemmas.{given_append, refusal_alone, refusal_before, refusal_after}
 use Rattle.subst_walk.specs.Paths.{Step, Located, Refusal, AreRefusals, below}
+use Rattle.subst_walk.specs.Refused.{AreFound, IsFirstOf}
+use Rattle.subst_walk.specs.declared.refused.Wanted.TheVariants.{First, All}
 
 -- the string
 abbrev pub text_of : Located → List ℕ
@@ -44,35 +48,6 @@ first_fault look (here ∷ strings) it rest f (inr (g, more, refused, same, h)) 
     refusal_before look (here.text ∷ []) (map text_of strings) f
     (refusal_alone look here.text f (subst (λ (e : Fault). Answers here.text look (Refuses e)) fault refused))
 
--- the last of at most one is the first of all
-pub last_of_first : {X : Type 0} (f : X → Refusal) (found : List X) (x : X) (all : List Refusal)
-    → map f (found ++ x ∷ []) ≡ take 1 all → Some (f x) ≡ slice_get all 0
-last_of_first f [] x [] h = absurd cc
-last_of_first f (y ∷ found) x [] h = absurd cc
-last_of_first f [] x (it ∷ all) h = let same : f x ≡ it = cc in ap Some same
-last_of_first f (y ∷ []) x (it ∷ all) h = absurd cc
-last_of_first f (y ∷ z ∷ found) x (it ∷ all) h = absurd cc
-
--- where none is found there are none
-pub none_of_first : (all : List Refusal) → [] ≡ take 1 all → all ≡ []
-none_of_first [] h = refl
-none_of_first (it ∷ all) h = absurd cc
-
--- what holds of each, holds of the last
-pub holds_of_last : {X : Type 0} (f : X → Refusal) (P : Refusal → Type 0) (found : List X) (x : X)
-    → AllByRecursion P (map f (found ++ x ∷ [])) → P (f x)
-holds_of_last f P [] x h = h.0
-holds_of_last f P (y ∷ found) x h = holds_of_last f P found x h.1
-
--- what holds of what each states, holds of each
-pub each_states : {X : Type 0} (f : X → Refusal) (P : Refusal → Type 0) (xs : List X)
-    → AllByRecursion P (map f xs) → All (λ x. P (f x)) xs
-each_states {X} f P xs h = All-from_recursion (λ x. P (f x)) xs (each xs h)
-  where
-    each : (xs : List X) → AllByRecursion P (map f xs) → AllByRecursion (λ x. P (f x)) xs
-    each [] h = tt
-    each (x ∷ xs) h = (h.0, each xs h.1)
-
 -- the fault that the first of all states is that of the first string that is refused
 pub stated_first : (look : LookUp) (strings : List Located) (it : Refusal) (all : List Refusal)
     → AreRefusals look strings all → Some it ≡ slice_get all 0
@@ -86,6 +61,51 @@ stated_first look strings it (first ∷ rest) h is =
         → IfSome fault (IsFirstRefusal look (map text_of strings))
     of_fault None stated = tt
     of_fault (Some f) stated = first_fault look strings first rest f h stated
+
+-- the first of what is found is the first of all
+pub first_of_all : (look : LookUp) (strings : List Located) (found : List Refusal) (first : Option Refusal)
+    → AreFound look First strings found → first ≡ slice_get found 0 → IsFirstOf look strings first
+first_of_all look strings found first ([], h, is) same = ([], h, rw is at same)
+first_of_all look strings found first (it ∷ all, h, is) same = (it ∷ all, h, rw is at same)
+
+-- its fault is that of the first string that is refused
+pub fault_of_first : {X : Type 0} (look : LookUp) (strings : List Located) (f : X → Refusal)
+    (first : Option X) → IsFirstOf look strings (option_map f first)
+    → IfSome first (λ x. IfSome (f x).fault (IsFirstRefusal look (map text_of strings)))
+fault_of_first look strings f None h = tt
+fault_of_first look strings f (Some x) (all, h, is) = stated_first look strings (f x) all h is
+
+-- where there is none, all strings give bytes
+pub given_without_first : {X : Type 0} (look : LookUp) (strings : List Located) (f : X → Refusal)
+    (first : Option X) (Q : Type 0) → IsFirstOf look strings (option_map f first)
+    → (AreGiven (under look) (map text_of strings) → Q) → IfNone first Q
+given_without_first look strings f (Some x) Q h given = tt
+given_without_first look strings f None Q ([], h, is) given = given (all_given look strings h)
+given_without_first look strings f None Q (it ∷ all, h, is) given = absurd cc
+
+-- what holds of each that is found, holds of the first
+pub holds_of_first : {X : Type 0} (f : X → Refusal) (P : Refusal → Type 0) (found : List Refusal)
+    (first : Option X) → option_map f first ≡ slice_get found 0 → AllByRecursion P found
+    → IfSome first (λ x. P (f x))
+holds_of_first f P found None is h = tt
+holds_of_first f P [] (Some x) is h = absurd cc
+holds_of_first f P (it ∷ found) (Some x) is h = let same : it ≡ f x = cc in subst P same h.0
+
+-- all that is found are the refusals of all strings
+pub all_of_found : (look : LookUp) (strings : List Located) (found stated : List Refusal)
+    → AreFound look All strings found → stated ≡ found → AreRefusals look strings stated
+all_of_found look strings found stated (all, h, is) same =
+    subst (AreRefusals look strings) (sym (same ∙ is)) h
+
+-- what holds of each that is found, holds of all
+pub holds_of_all : {X : Type 0} (f : X → Refusal) (P : Refusal → Type 0) (found : List Refusal) (xs : List X)
+    → map f xs ≡ found → AllByRecursion P found → list.All (λ x. P (f x)) xs
+holds_of_all {X} f P found xs same h =
+    All-from_recursion (λ x. P (f x)) xs (each xs (subst (AllByRecursion P) (sym same) h))
+  where
+    each : (xs : List X) → AllByRecursion P (map f xs) → AllByRecursion (λ x. P (f x)) xs
+    each [] h = tt
+    each (x ∷ xs) h = (h.0, each xs h.1)
 
 -- mapped, a list that is turned round is the mapped list, turned round
 pub map_reverse : {X Y : Type 0} (f : X → Y) (xs : List X) → map f (reverse xs) ≡ reverse (map f xs)

@@ -1,10 +1,15 @@
 -- What a walk has found of the strings of a tree that are refused.
-use Rattle.std.specs.Prelude.{◌≡◌, List, [], take, map, reverse, string_bytes}
+use Rattle.std.specs.Prelude.{◌≡◌, ℕ, List, [], Option, Result, IfOk, Vec, take, map, reverse, slice_get, string_bytes}
+use Rattle.std.specs.List.{AllByRecursion}
 use Rattle.subst_error.specs.ErrorFault.{error_fault}
 use Rattle.subst_error.specs.Range.{range_of, IsRangeIn}
+use Rattle.subst_error.specs.declared.Error.{Error}
+use Rattle.subst_language.specs.Calls.Outcome.{OnFault}
 use Rattle.subst_language.specs.Language.LookUp.{LookUp}
+use Rattle.subst_language.specs.Language.Several.{IsFirstRefusal}
 use Rattle.subst_walk.specs.Paths.{Step, Key, Index, Located, Refusal, AreRefusals, step_of}
 use Rattle.subst_walk.specs.declared.refused.Refused.{Refused}
+use Rattle.subst_walk.specs.declared.found.RefusedString.{RefusedString}
 use Rattle.subst_walk.specs.declared.refused.Wanted.{Wanted}
 use Rattle.subst_walk.specs.declared.refused.Wanted.TheVariants.{First, All}
 use Rattle.subst_walk.specs.declared.refused.StepRef.{StepRef}
@@ -23,9 +28,22 @@ refusal_of it = record {
   fault = error_fault it.error;
 }
 
+-- the refusal of a string whose path has these steps
+abbrev pub refusal_with : {P : Type 0} → (P → List Step) → RefusedString P → Refusal
+refusal_with steps it = record {
+  path = steps it.path;
+  text = string_bytes it.text;
+  fault = error_fault it.error;
+}
+
 -- the range of its fault is in its string
 abbrev pub HasRangeInText : Refusal → Type 0
 HasRangeInText it = IsRangeIn it.text (range_of it.fault)
+
+-- it is the first of the refusals of these strings, or nothing where there are none
+abbrev pub IsFirstOf : LookUp → List Located → Option Refusal → Type 0
+IsFirstOf look strings first =
+    (all : List Refusal) × AreRefusals look strings all × (first ≡ slice_get all 0)
 
 -- of all refusals those that are wanted
 abbrev pub wanted_of : Wanted → List Refusal → List Refusal
@@ -41,3 +59,18 @@ AreFound look wanted strings found =
 abbrev pub IsMet : Wanted → List Refusal → Type 0
 IsMet First found = ¬ (found ≡ [])
 IsMet All found = ⊥
+
+-- under each of these look-ups, what is wanted of the refusals of these strings is found
+abbrev pub Finds : {A E : Type 0} → (LookUp → Type 0) → Wanted → List Located
+    → Result (Vec Refused A) E → Type 0
+Finds IsLookUp wanted strings result = (look : LookUp) → IsLookUp look
+    → IfOk result (λ found. AreFound look wanted strings (map refusal_of found.items))
+
+-- P holds of each refusal that is found
+abbrev pub EachFound : {A E : Type 0} → (Refusal → Type 0) → Result (Vec Refused A) E → Type 0
+EachFound P result = IfOk result (λ found. AllByRecursion P (map refusal_of found.items))
+
+-- under each of these look-ups, the fault is that of the first of these strings that is refused
+abbrev pub RefusesFirst : {T : Type 0} → (LookUp → Type 0) → List (List ℕ) → Result T Error → Type 0
+RefusesFirst IsLookUp strings result = (look : LookUp) → IsLookUp look
+    → OnFault error_fault result (IsFirstRefusal look strings)

@@ -2,7 +2,8 @@
 //! fill in texts, and `Filler` is that by a map: it returns the answer of a text, and a text without `$`
 //! and `\` as it is. `put_values` puts values into a map, whose keys stay.
 //!
-//! `refused_string` and `add_below` are the steps of the walks that find refused strings.
+//! `refused_string` and `add_below` are the steps of the walks that find refused strings, which `first_found`
+//! and `all_found` return with their paths.
 //!
 //! `subst` re-exports `Step` alone, by its modules `json` and `toml`.
 #![tactic(auto)]
@@ -17,6 +18,7 @@ ghost use Rattle.subst_language.specs.Language.LookUp.{LookUp};
 ghost use Rattle.subst_language.specs.Calls.Outcome.{OnFault};
 ghost use Rattle.subst_walk.specs.Texts.{HasRange};
 
+pub use found::{RefusedString, TreePath, all_found, first_found};
 pub use refused::{Refused, StepRef, Wanted, add_below, refused_string};
 use std::alloc::{AllocError, Global};
 use std::collections::BTreeMap;
@@ -26,6 +28,7 @@ use subst_error::Error;
 use subst_map::VariableMap;
 use subst_template::{is_plain, substitute, substitute_owned};
 
+mod found;
 mod refused;
 mod step;
 

@@ -1,10 +1,9 @@
 //! The strings of a tree that are refused, as the walks over trees of each format find them.
 
 ghost use Rattle.std.specs.Prelude.{◌≡◌, ◌++◌, [], ◌∷◌, IfOk, OnOk, MatchBool, map};
-ghost use Rattle.std.specs.List.{AllByRecursion};
 ghost use Rattle.subst_language.specs.Language.LookUp.{LookUp};
 ghost use Rattle.subst_walk.specs.Paths.{step_of, at_root, refusal_below};
-ghost use Rattle.subst_walk.specs.Refused.{lent_step_of, refusal_of, AreFound, IsMet, HasRangeInText};
+ghost use Rattle.subst_walk.specs.Refused.{lent_step_of, refusal_of, AreFound, IsMet, HasRangeInText, EachFound};
 
 use crate::{Fill, Step};
 use std::alloc::{AllocError, Global};
@@ -74,10 +73,8 @@ pub fn refused_string<F: Fill>(
     ensures found { (look : LookUp) → F.is_look_up filler.now look → IfOk result (λ found.
         (wanted : Wanted) → AreFound look wanted (at_root text.now ∷ [])
         (map refusal_of found.items)) }
-    ensures text { IfOk result (λ found.
-        AllByRecursion (λ it. (it.path ≡ []) × (it.text ≡ text.now)) (map refusal_of found.items)) }
-    ensures range { IfOk result (λ found.
-        AllByRecursion HasRangeInText (map refusal_of found.items)) }
+    ensures text { EachFound (λ it. (it.path ≡ []) × (it.text ≡ text.now)) result }
+    ensures range { EachFound HasRangeInText result }
 {
     match filler.refusal(alloc, text)? {
         None => Ok(Vec::new(alloc)),
