@@ -1,5 +1,5 @@
 -- What a caller in C is told of a fault.
-use Rattle.std.specs.Prelude.{◌≡◌, ℕ, ◌-◌, Some}
+use Rattle.std.specs.Prelude.{◌≡◌, ◌≤◌, ℕ, ◌+◌, ◌-◌, List, Some, length}
 use Rattle.subst_error.specs.Fault.{Fault, InvalidEscapeSequence, MissingVariableName, UnexpectedCharacter, MissingClosingBrace, NoSuchVariable}
 use Rattle.subst_error.specs.Range.{range_of}
 use Rattle.subst_c.specs.declared.fault.FaultRecord.{FaultRecord}
@@ -21,3 +21,7 @@ record_of f =
 -- the record is that of such a fault
 abbrev pub IsToldOf : (Fault → Type 0) → FaultRecord → Type 0
 IsToldOf IsSuch told = (f : Fault) × IsSuch f × (told ≡ record_of f)
+
+-- it lies in the source s
+abbrev pub LiesIn : List ℕ → FaultRecord → Type 0
+LiesIn s told = told.position + told.length ≤ length s

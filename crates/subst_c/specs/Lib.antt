@@ -3,5 +3,6 @@ pub mod Fault
 pub mod Index
 pub mod Pairs
 pub mod Records
+pub mod Results
 pub mod Room
 pub mod Text

@@ -1,5 +1,7 @@
 -- The variables that pairs from C give.
-use Rattle.std.specs.Prelude.{List}
+use Rattle.std.specs.Prelude.{ℕ, List, IsUtf8}
+use Rattle.subst_error.specs.Fault.{Fault}
+use Rattle.subst_language.specs.Language.Answer.{Answers, Gives, Refuses}
 use Rattle.subst_language.specs.Language.LookUp.{LookUp}
 use Rattle.subst_map.specs.Maps.{first_value_by}
 use Rattle.subst_c.specs.declared.pairs.Pair.{Pair}
@@ -7,3 +9,15 @@ use Rattle.subst_c.specs.declared.pairs.Pair.{Pair}
 -- the value of the first pair with this name
 abbrev pub first_value : List Pair → LookUp
 first_value pairs = first_value_by (λ pair. pair.name.now) (λ pair. pair.value.now) pairs
+
+-- what the source s gives under the pairs
+abbrev pub GivenBy : List ℕ → List Pair → List ℕ → Type 0
+GivenBy s pairs x = Answers s (first_value pairs) (Gives x)
+
+-- what it gives, and this is UTF-8
+abbrev pub TextGivenBy : List ℕ → List Pair → List ℕ → Type 0
+TextGivenBy s pairs x = IsUtf8 x × GivenBy s pairs x
+
+-- what it is refused for
+abbrev pub RefusedBy : List ℕ → List Pair → Fault → Type 0
+RefusedBy s pairs f = Answers s (first_value pairs) (Refuses f)

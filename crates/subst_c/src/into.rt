@@ -1,13 +1,13 @@
 //! Filling in straight into the caller's room.
 
-ghost use Rattle.std.specs.Prelude.{◌≡◌, ◌≢◌, ◌+◌, ◌^◌, ◌≤◌, length};
-ghost use Rattle.subst_language.specs.Language.Answer.{Answers, Gives, Refuses};
+ghost use Rattle.std.specs.Prelude.{◌≡◌, ◌^◌, ◌≤◌, length};
 ghost use Rattle.subst_language.specs.Language.Sentence.{ByTree};
 ghost use Rattle.subst_language.specs.Language.Written.{written};
-ghost use Rattle.subst_c.specs.Fault.{IsToldOf};
-ghost use Rattle.subst_c.specs.Pairs.{first_value};
+ghost use Rattle.subst_c.specs.Fault.{IsToldOf, LiesIn};
+ghost use Rattle.subst_c.specs.Pairs.{first_value, GivenBy, RefusedBy};
 ghost use Rattle.subst_c.specs.Room.{IsPut, IsTooLong};
 ghost use Rattle.subst_c.specs.declared.outcome.TheConstants.{DONE, REFUSED, OUT_OF_MEMORY, ROOM_TOO_SMALL};
+ghost use Rattle.subst_c.specs.Results.{IsOther, KeepsRest};
 
 use crate::fault::{self, FaultRecord};
 use crate::outcome::{DONE, ROOM_TOO_SMALL};
@@ -28,21 +28,15 @@ pub fn expand_into_room(
     fault: &mut FaultRecord,
 ) -> u32
     ensures done { result ≡ DONE
-        → IsPut (λ x. Answers template.now (first_value pairs.now) (Gives x))
-        needed.new room.old room.new }
-    ensures refused { result ≡ REFUSED
-        → IsToldOf (λ f. Answers template.now (first_value pairs.now) (Refuses f)) fault.new }
-    ensures within { result ≡ REFUSED
-        → fault.new.position + fault.new.length ≤ length template.now }
+        → IsPut (GivenBy template.now pairs.now) needed.new room.old room.new }
+    ensures refused { result ≡ REFUSED → IsToldOf (RefusedBy template.now pairs.now) fault.new }
+    ensures within { result ≡ REFUSED → LiesIn template.now fault.new }
     ensures too_small { result ≡ ROOM_TOO_SMALL
-        → IsTooLong (λ x. Answers template.now (first_value pairs.now) (Gives x))
-        needed.new room.old }
-    ensures others { result ≢ DONE → result ≢ REFUSED → result ≢ ROOM_TOO_SMALL
-        → result ≡ OUT_OF_MEMORY }
+        → IsTooLong (GivenBy template.now pairs.now) needed.new room.old }
+    ensures others { IsOther result }
     ensures memory { result ≡ OUT_OF_MEMORY → ByTree template.now
         (λ t. 2 ^ 64 ≤ length (written 0 t (first_value pairs.now))) }
-    ensures fault_kept { result ≢ REFUSED → fault.new ≡ fault.old }
-    ensures needed_kept { result ≢ DONE → result ≢ ROOM_TOO_SMALL → needed.new ≡ needed.old }
+    ensures kept { KeepsRest result fault.old fault.new needed.old needed.new }
 {
     let index = index_of(alloc, template.source(), pairs);
     let written = template.expand_into_slice(room, &Pairs { pairs, index });

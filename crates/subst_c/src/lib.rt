@@ -10,17 +10,18 @@ ghost use Rattle.std.specs.List.{All};
 ghost use Rattle.std.specs.Str.{IsCharBoundary, IsUtf8};
 ghost use Rattle.subst_error.specs.Display.{IsDisplayOfFault};
 ghost use Rattle.subst_error.specs.Position.{position_at};
-ghost use Rattle.subst_language.specs.Language.Answer.{Answers, Gives, Refuses};
+ghost use Rattle.subst_language.specs.Language.Answer.{Answers, Gives};
 ghost use Rattle.subst_language.specs.Language.BadItem.{HasFault};
 ghost use Rattle.subst_language.specs.Language.Sentence.{IsSentence};
 ghost use Rattle.subst_language.specs.Language.Variables.{all_missing, variables_of};
 ghost use Rattle.subst_c.specs.Each.{AreOutputs, IsRefusedIn};
-ghost use Rattle.subst_c.specs.Fault.{IsToldOf};
-ghost use Rattle.subst_c.specs.Pairs.{first_value};
+ghost use Rattle.subst_c.specs.Fault.{IsToldOf, LiesIn};
+ghost use Rattle.subst_c.specs.Pairs.{first_value, GivenBy, TextGivenBy, RefusedBy};
 ghost use Rattle.subst_c.specs.Records.{HasRecords};
 ghost use Rattle.subst_c.specs.Room.{IsPut, IsTooLong};
 ghost use Rattle.subst_c.specs.Text.{IsHighlighting, SaysOf, are_texts};
 ghost use Rattle.subst_c.specs.declared.outcome.TheConstants.{DONE, REFUSED, OUT_OF_MEMORY, ROOM_TOO_SMALL, NOT_UTF8, NOT_A_BOUNDARY};
+ghost use Rattle.subst_c.specs.Results.{IsOther, KeepsRest};
 ghost use Rattle.subst_version.specs.declared.TheConstants.{MAJOR, MINOR, PATCH};
 
 pub use fault::FaultRecord;
@@ -63,28 +64,22 @@ pub extern "C" fn subst_bytes(
 ) -> u32
     // The room begins with what the source gives.
     ensures done { result ≡ DONE
-        → IsPut (λ x. Answers source.now (first_value pairs.now) (Gives x))
-        needed.new room.old room.new }
+        → IsPut (GivenBy source.now pairs.now) needed.new room.old room.new }
 
     // The fault is that which the source is refused for.
-    ensures refused { result ≡ REFUSED
-        → IsToldOf (λ f. Answers source.now (first_value pairs.now) (Refuses f)) fault.new }
+    ensures refused { result ≡ REFUSED → IsToldOf (RefusedBy source.now pairs.now) fault.new }
 
     // The fault lies in the source.
-    ensures within { result ≡ REFUSED
-        → fault.new.position + fault.new.length ≤ length source.now }
+    ensures within { result ≡ REFUSED → LiesIn source.now fault.new }
 
     // What the source gives is longer than the room.
     ensures too_small { result ≡ ROOM_TOO_SMALL
-        → IsTooLong (λ x. Answers source.now (first_value pairs.now) (Gives x))
-        needed.new room.old }
+        → IsTooLong (GivenBy source.now pairs.now) needed.new room.old }
 
     // There is no other result, but out of memory, and each leaves the rest as it was.
-    ensures others { result ≢ DONE → result ≢ REFUSED → result ≢ ROOM_TOO_SMALL
-        → result ≡ OUT_OF_MEMORY }
+    ensures others { IsOther result }
     ensures room_kept { result ≢ DONE → room.new ≡ room.old }
-    ensures fault_kept { result ≢ REFUSED → fault.new ≡ fault.old }
-    ensures needed_kept { result ≢ DONE → result ≢ ROOM_TOO_SMALL → needed.new ≡ needed.old }
+    ensures kept { KeepsRest result fault.old fault.new needed.old needed.new }
 {
     match answer::fill_in(alloc, source, pairs) {
         Ok(bytes) => room::deliver(&bytes, room, needed),
@@ -105,24 +100,18 @@ pub extern "C" fn subst_text(
 ) -> u32
     // As `subst_bytes`, and what is put into the room is UTF-8.
     ensures done { result ≡ DONE
-        → IsPut (λ x. IsUtf8 x × Answers source.now (first_value pairs.now) (Gives x))
-        needed.new room.old room.new }
-    ensures refused { result ≡ REFUSED
-        → IsToldOf (λ f. Answers source.now (first_value pairs.now) (Refuses f)) fault.new }
-    ensures within { result ≡ REFUSED
-        → fault.new.position + fault.new.length ≤ length source.now }
+        → IsPut (TextGivenBy source.now pairs.now) needed.new room.old room.new }
+    ensures refused { result ≡ REFUSED → IsToldOf (RefusedBy source.now pairs.now) fault.new }
+    ensures within { result ≡ REFUSED → LiesIn source.now fault.new }
     ensures too_small { result ≡ ROOM_TOO_SMALL
-        → IsTooLong (λ x. Answers source.now (first_value pairs.now) (Gives x))
-        needed.new room.old }
+        → IsTooLong (GivenBy source.now pairs.now) needed.new room.old }
 
     // The source or a value is told not to be UTF-8 exactly where one isn't.
     ensures text { result ≢ NOT_UTF8 → are_texts source.now pairs.now ≡ true }
     ensures not_text { result ≡ NOT_UTF8 → are_texts source.now pairs.now ≡ false }
-    ensures others { result ≢ DONE → result ≢ REFUSED → result ≢ ROOM_TOO_SMALL → result ≢ NOT_UTF8
-        → result ≡ OUT_OF_MEMORY }
+    ensures others { result ≢ NOT_UTF8 → IsOther result }
     ensures room_kept { result ≢ DONE → room.new ≡ room.old }
-    ensures fault_kept { result ≢ REFUSED → fault.new ≡ fault.old }
-    ensures needed_kept { result ≢ DONE → result ≢ ROOM_TOO_SMALL → needed.new ≡ needed.old }
+    ensures kept { KeepsRest result fault.old fault.new needed.old needed.new }
 {
     laws::texts_give_texts();
     if !answer::are_texts(source, pairs) {
@@ -146,19 +135,13 @@ pub extern "C" fn subst_bytes_into(
 ) -> u32
     // As `subst_bytes`.
     ensures done { result ≡ DONE
-        → IsPut (λ x. Answers source.now (first_value pairs.now) (Gives x))
-        needed.new room.old room.new }
-    ensures refused { result ≡ REFUSED
-        → IsToldOf (λ f. Answers source.now (first_value pairs.now) (Refuses f)) fault.new }
-    ensures within { result ≡ REFUSED
-        → fault.new.position + fault.new.length ≤ length source.now }
+        → IsPut (GivenBy source.now pairs.now) needed.new room.old room.new }
+    ensures refused { result ≡ REFUSED → IsToldOf (RefusedBy source.now pairs.now) fault.new }
+    ensures within { result ≡ REFUSED → LiesIn source.now fault.new }
     ensures too_small { result ≡ ROOM_TOO_SMALL
-        → IsTooLong (λ x. Answers source.now (first_value pairs.now) (Gives x))
-        needed.new room.old }
-    ensures others { result ≢ DONE → result ≢ REFUSED → result ≢ ROOM_TOO_SMALL
-        → result ≡ OUT_OF_MEMORY }
-    ensures fault_kept { result ≢ REFUSED → fault.new ≡ fault.old }
-    ensures needed_kept { result ≢ DONE → result ≢ ROOM_TOO_SMALL → needed.new ≡ needed.old }
+        → IsTooLong (GivenBy source.now pairs.now) needed.new room.old }
+    ensures others { IsOther result }
+    ensures kept { KeepsRest result fault.old fault.new needed.old needed.new }
 
     // Only what a sentence gives is written to the room.
     ensures room_kept { ¬ (IsSentence source.now) → room.new ≡ room.old }
@@ -182,23 +165,17 @@ pub extern "C" fn subst_text_into(
 ) -> u32
     // As `subst_bytes_into`, and what is put into the room is UTF-8.
     ensures done { result ≡ DONE
-        → IsPut (λ x. IsUtf8 x × Answers source.now (first_value pairs.now) (Gives x))
-        needed.new room.old room.new }
-    ensures refused { result ≡ REFUSED
-        → IsToldOf (λ f. Answers source.now (first_value pairs.now) (Refuses f)) fault.new }
-    ensures within { result ≡ REFUSED
-        → fault.new.position + fault.new.length ≤ length source.now }
+        → IsPut (TextGivenBy source.now pairs.now) needed.new room.old room.new }
+    ensures refused { result ≡ REFUSED → IsToldOf (RefusedBy source.now pairs.now) fault.new }
+    ensures within { result ≡ REFUSED → LiesIn source.now fault.new }
     ensures too_small { result ≡ ROOM_TOO_SMALL
-        → IsTooLong (λ x. Answers source.now (first_value pairs.now) (Gives x))
-        needed.new room.old }
+        → IsTooLong (GivenBy source.now pairs.now) needed.new room.old }
 
     // The source or a value is told not to be UTF-8 exactly where one isn't.
     ensures text { result ≢ NOT_UTF8 → are_texts source.now pairs.now ≡ true }
     ensures not_text { result ≡ NOT_UTF8 → are_texts source.now pairs.now ≡ false }
-    ensures others { result ≢ DONE → result ≢ REFUSED → result ≢ ROOM_TOO_SMALL → result ≢ NOT_UTF8
-        → result ≡ OUT_OF_MEMORY }
-    ensures fault_kept { result ≢ REFUSED → fault.new ≡ fault.old }
-    ensures needed_kept { result ≢ DONE → result ≢ ROOM_TOO_SMALL → needed.new ≡ needed.old }
+    ensures others { result ≢ NOT_UTF8 → IsOther result }
+    ensures kept { KeepsRest result fault.old fault.new needed.old needed.new }
 
     // Only what a sentence gives is written to the room, and only where all is UTF-8.
     ensures room_kept { ¬ (IsSentence source.now) → room.new ≡ room.old }
@@ -232,16 +209,14 @@ pub extern "C" fn subst_bytes_each(
     // The fault is that of the source, or of the first row under which it is refused, whose index is told.
     ensures refused { result ≡ REFUSED
         → IsToldOf (IsRefusedIn source.now rows.now row.new) fault.new }
-    ensures within { result ≡ REFUSED
-        → fault.new.position + fault.new.length ≤ length source.now }
+    ensures within { result ≡ REFUSED → LiesIn source.now fault.new }
 
     // The outputs are longer than the room, or more than the ends that there is room for.
     ensures too_small { result ≡ ROOM_TOO_SMALL
         → (x : List ℕ) × (outputs_end : List ℕ) × AreOutputs source.now rows.now x outputs_end
         × (needed.new ≡ length x)
         × ((length room.old < needed.new) ⊎ (length ends.old < length outputs_end)) }
-    ensures others { result ≢ DONE → result ≢ REFUSED → result ≢ ROOM_TOO_SMALL
-        → result ≡ OUT_OF_MEMORY }
+    ensures others { IsOther result }
     ensures room_kept { result ≢ DONE → (room.new ≡ room.old) × (ends.new ≡ ends.old) }
     ensures fault_kept { result ≢ REFUSED → (fault.new ≡ fault.old) × (row.new ≡ row.old) }
     ensures needed_kept { result ≢ DONE → result ≢ ROOM_TOO_SMALL → needed.new ≡ needed.old }
@@ -263,8 +238,7 @@ pub extern "C" fn subst_bytes_each(
 pub extern "C" fn subst_check(alloc: Global, source: &[u8], fault: &mut FaultRecord) -> u32
     ensures done { result ≡ DONE → IsSentence source.now }
     ensures refused { result ≡ REFUSED → IsToldOf (HasFault 0 source.now) fault.new }
-    ensures within { result ≡ REFUSED
-        → fault.new.position + fault.new.length ≤ length source.now }
+    ensures within { result ≡ REFUSED → LiesIn source.now fault.new }
     ensures others { result ≢ DONE → result ≢ REFUSED → result ≡ OUT_OF_MEMORY }
     ensures fault_kept { result ≢ REFUSED → fault.new ≡ fault.old }
 {
@@ -295,17 +269,14 @@ pub extern "C" fn subst_variables(
 
     // The source is no sentence, and the fault is that which it is refused for.
     ensures refused { result ≡ REFUSED → IsToldOf (HasFault 0 source.now) fault.new }
-    ensures within { result ≡ REFUSED
-        → fault.new.position + fault.new.length ≤ length source.now }
+    ensures within { result ≡ REFUSED → LiesIn source.now fault.new }
 
     // The variables are more than the room has records.
     ensures too_small { result ≡ ROOM_TOO_SMALL
         → IsTooLong (HasRecords source.now (variables_of 0)) needed.new room.old }
-    ensures others { result ≢ DONE → result ≢ REFUSED → result ≢ ROOM_TOO_SMALL
-        → result ≡ OUT_OF_MEMORY }
+    ensures others { IsOther result }
     ensures room_kept { result ≢ DONE → room.new ≡ room.old }
-    ensures fault_kept { result ≢ REFUSED → fault.new ≡ fault.old }
-    ensures needed_kept { result ≢ DONE → result ≢ ROOM_TOO_SMALL → needed.new ≡ needed.old }
+    ensures kept { KeepsRest result fault.old fault.new needed.old needed.new }
 {
     match ByteTemplate::from_slice(alloc, source) {
         Ok(template) => match template.variables(alloc) {
@@ -339,16 +310,13 @@ pub extern "C" fn subst_missing(
     ensures none { result ≡ DONE → (needed.new ≡ 0
         ↔ ((x : List ℕ) × Answers source.now (first_value pairs.now) (Gives x))) }
     ensures refused { result ≡ REFUSED → IsToldOf (HasFault 0 source.now) fault.new }
-    ensures within { result ≡ REFUSED
-        → fault.new.position + fault.new.length ≤ length source.now }
+    ensures within { result ≡ REFUSED → LiesIn source.now fault.new }
     ensures too_small { result ≡ ROOM_TOO_SMALL
         → IsTooLong (HasRecords source.now (λ t. all_missing 0 t (first_value pairs.now)))
         needed.new room.old }
-    ensures others { result ≢ DONE → result ≢ REFUSED → result ≢ ROOM_TOO_SMALL
-        → result ≡ OUT_OF_MEMORY }
+    ensures others { IsOther result }
     ensures room_kept { result ≢ DONE → room.new ≡ room.old }
-    ensures fault_kept { result ≢ REFUSED → fault.new ≡ fault.old }
-    ensures needed_kept { result ≢ DONE → result ≢ ROOM_TOO_SMALL → needed.new ≡ needed.old }
+    ensures kept { KeepsRest result fault.old fault.new needed.old needed.new }
 {
     match ByteTemplate::from_slice(alloc, source) {
         Ok(template) => {
