@@ -1,12 +1,13 @@
 //! The variable that a text begins with.
 
-ghost use Rattle.std.specs.Prelude.{◌≡◌, ◌≤◌, ◌↔◌, ℕ, List, ◌∷◌, ◌++◌, length, drop, take, IfSome, IfNone, IsTrue};
+ghost use Rattle.std.specs.Prelude.{◌≡◌, ◌↔◌, ℕ, List, ◌∷◌, ◌++◌, IfSome, IfNone, IsTrue};
 ghost use Rattle.std.specs.List.{AllByRecursion};
 ghost use Rattle.subst_language.specs.Language.Bytes.{opening_brace, closing_brace};
 ghost use Rattle.subst_language.specs.Language.Name.{IsNameByte, IsName, BeginsWithNo};
 ghost use Rattle.subst_foreign.specs.Foreign.{BeginsWithVariable, BeginsWithNoVariable};
 
 use crate::names::Names;
+use subst_language::name_len;
 
 /// Returns what comes after the variable that a text begins with, if it begins with one.
 pub(crate) fn after_variable<'t, N: Names>(text: &'t [u8], names: &N) -> Option<&'t [u8]>
@@ -73,21 +74,4 @@ fn is_variable<N: Names>(name: &[u8], names: &N) -> bool
     ensures { IsTrue result ↔ (IsName name.now × N.counts names.now name.now) }
 {
     !name.is_empty() && names.has(name)
-}
-
-/// Returns how many name bytes are at the start.
-fn name_len(bytes: &[u8]) -> usize
-    ensures run { AllByRecursion IsNameByte (take result bytes.now) }
-    ensures end { BeginsWithNo IsNameByte (drop result bytes.now) }
-    ensures within { result ≤ length bytes.now }
-{
-    let end = bytes.iter().position(|byte| !is_name_byte(*byte));
-    end.unwrap_or(bytes.len())
-}
-
-/// Returns whether the byte may stand in a name.
-fn is_name_byte(byte: u8) -> bool
-    ensures { IsTrue result ↔ IsNameByte byte }
-{
-    byte.is_ascii_alphanumeric() || byte == b'_'
 }

@@ -1,0 +1,37 @@
+//! Names of variables, and the bytes that they are made of.
+
+ghost use Rattle.std.specs.Prelude.{◌≡◌, ◌↔◌, ◌≤◌, IsTrue, drop, length, take};
+ghost use Rattle.std.specs.List.{list_all, AllByRecursion};
+ghost use Rattle.subst_language.specs.Language.Name as name;
+ghost use Rattle.subst_language.specs.Language.Name.{BeginsWithNo, IsName, IsNameByte};
+
+/// Returns whether bytes are a name: one or more of the letters, digits and the underscore of ASCII.
+pub fn is_name(bytes: &[u8]) -> bool
+    ensures { IsTrue result ↔ IsName bytes.now }
+{
+    !bytes.is_empty() && are_name_bytes(bytes)
+}
+
+/// Returns whether all bytes are name bytes.
+fn are_name_bytes(bytes: &[u8]) -> bool
+    ensures { result ≡ list_all name.is_name_byte bytes.now }
+{
+    bytes.iter().all(|byte| is_name_byte(*byte))
+}
+
+/// Returns how many name bytes are at the start.
+pub fn name_len(bytes: &[u8]) -> usize
+    ensures run { AllByRecursion IsNameByte (take result bytes.now) }
+    ensures end { BeginsWithNo IsNameByte (drop result bytes.now) }
+    ensures within { result ≤ length bytes.now }
+{
+    let end = bytes.iter().position(|byte| !is_name_byte(*byte));
+    end.unwrap_or(bytes.len())
+}
+
+/// Returns whether a name may have the byte.
+fn is_name_byte(byte: u8) -> bool
+    ensures { result ≡ name.is_name_byte byte }
+{
+    byte.is_ascii_alphanumeric() || byte == b'_'
+}
