@@ -2,9 +2,8 @@
 
 use crate::calls::{Shown, say};
 use crate::errors::{absent, no_name};
-use crate::fakes::{Drip, Trickle};
 use crate::marks::{begin, end};
-use crate::runs::{status_of_run, words_of};
+use crate::runs::{new_drip, new_trickle, status_of_run, words_of};
 use std::alloc::AllocError;
 use std::fmt::{Display, Write};
 use subst::error::{
@@ -17,6 +16,7 @@ use subst_filter_lib::device::standard::{FromReader, ToWriter};
 use subst_filter_lib::device::{ByteInput, ByteOutput};
 use subst_filter_lib::program::end_with;
 use subst_filter_lib::run_error::RunError;
+use subst_testing::fakes::Drip;
 
 const ESCAPE: InvalidEscapeSequence = InvalidEscapeSequence {
     position: 3,
@@ -206,7 +206,7 @@ fn refusal(rt: &HostRuntime) -> Result<RunError, AllocError> {
 fn end_with_refusal(rt: &HostRuntime) -> Result<(), AllocError> {
     let refusal = refusal(rt)?;
     let text = format!(in rt.alloc(); "subst: {refusal}\n  $\n  ^\n")?;
-    let mut drip = Drip::new(rt.alloc())?;
+    let mut drip = new_drip(rt.alloc())?;
     begin(rt, "end_with");
     let status = end_with(&refusal, &mut ToWriter::new(&mut drip));
     end(rt);
@@ -217,7 +217,7 @@ fn end_with_refusal(rt: &HostRuntime) -> Result<(), AllocError> {
 
 fn run_wrongly(rt: &HostRuntime) -> Result<(), AllocError> {
     let words = words_of(rt.alloc(), "bytes name")?;
-    let (mut output, mut errors) = (Drip::new(rt.alloc())?, Drip::new(rt.alloc())?);
+    let (mut output, mut errors) = (new_drip(rt.alloc())?, new_drip(rt.alloc())?);
     begin(rt, "run_program after wrong words");
     let status = status_of_run(
         rt.alloc(),
@@ -235,7 +235,7 @@ fn run_wrongly(rt: &HostRuntime) -> Result<(), AllocError> {
 
 fn make_devices(rt: &HostRuntime, drip: &mut Drip) {
     begin(rt, "calls of FromReader and ToWriter");
-    let input = FromReader::new(Trickle { rest: b"" });
+    let input = FromReader::new(new_trickle(b""));
     let output = ToWriter::new(drip);
     let have_failed = input.failed() || output.failed();
     end(rt);
@@ -252,6 +252,6 @@ pub fn calls(rt: &HostRuntime) -> Result<(), AllocError> {
     report(rt)?;
     end_with_refusal(rt)?;
     run_wrongly(rt)?;
-    make_devices(rt, &mut Drip::new(rt.alloc())?);
+    make_devices(rt, &mut new_drip(rt.alloc())?);
     Ok(())
 }

@@ -6,7 +6,6 @@ mod bytes;
 mod calls;
 mod documents;
 mod errors;
-mod fakes;
 mod foreign;
 mod free_calls;
 mod free_errors;

@@ -1,7 +1,6 @@
 //! Runs of the filter, whose input is read one byte per call.
 
 use crate::calls::{Shown, again, say, say_end, tell};
-use crate::fakes::{Drip, Trickle};
 use crate::marks::{begin, end, say_out_of_memory};
 use std::alloc::{AllocError, Global};
 use subst_filter_lib::device::standard::{FromReader, ToWriter};
@@ -10,10 +9,24 @@ use subst_filter_lib::program::run_program;
 use subst_filter_lib::run_error::RunError;
 use subst_filter_lib::status::OUT_OF_MEMORY;
 use subst_filter_lib::values::{Values, values_of_pairs, values_of_words};
+use subst_testing::fakes::{Drip, Fault, Trickle};
 use subst_testing::variables::{ByteValues, Texts, byte_values, texts};
 
 /// A sentence that needs a variable which isn't there.
 const MISSING: &[u8] = b"Hi ${hi:$name and ${who:$absent}}!";
+
+/// A reader that never fails.
+pub fn new_trickle(left: &[u8]) -> Trickle<'_> {
+    Trickle {
+        left,
+        fault: Fault::never(),
+    }
+}
+
+/// A writer that takes all bytes and never fails.
+pub fn new_drip(alloc: Global) -> Result<Drip, AllocError> {
+    Drip::new(alloc, usize::MAX, Fault::never())
+}
 
 impl Shown for Drip {
     fn show(&self, rt: &HostRuntime, word: &str) {
@@ -42,7 +55,7 @@ fn ran_over_bytes(
     drip: &mut Drip,
     values: &ByteValues<'_>,
 ) -> Result<(), RunError> {
-    let mut input = FromReader::new(Trickle { rest: source });
+    let mut input = FromReader::new(new_trickle(source));
     run_bytes(alloc, &mut input, &mut ToWriter::new(drip), values)
 }
 
@@ -52,14 +65,14 @@ fn ran_over_text(
     drip: &mut Drip,
     texts: &Texts<'_>,
 ) -> Result<(), RunError> {
-    let mut input = FromReader::new(Trickle { rest: source });
+    let mut input = FromReader::new(new_trickle(source));
     run_text(alloc, &mut input, &mut ToWriter::new(drip), texts)
 }
 
 fn run_over_bytes(rt: &HostRuntime, name: &str, source: &[u8]) -> Result<(), AllocError> {
     let alloc = rt.alloc();
     let map = byte_values(alloc, "name=the whole round world with all that is in it")?;
-    let mut drip = Drip::new(alloc)?;
+    let mut drip = new_drip(alloc)?;
     again!(rt, name, [drip, map],
         Err(RunError::OutOfMemory) => ran_over_bytes(alloc, source, &mut drip, &map));
     Ok(())
@@ -71,7 +84,7 @@ fn run_over_text(rt: &HostRuntime, name: &str, source: &[u8]) -> Result<(), Allo
         alloc,
         "name=❤ and the whole round world with all that is in it",
     )?;
-    let mut drip = Drip::new(alloc)?;
+    let mut drip = new_drip(alloc)?;
     again!(rt, name, [drip, map],
         Err(RunError::OutOfMemory) => ran_over_text(alloc, source, &mut drip, &map));
     Ok(())
@@ -96,8 +109,8 @@ struct Written {
 
 impl Written {
     fn new(alloc: Global) -> Result<Self, AllocError> {
-        let output = Drip::new(alloc)?;
-        let errors = Drip::new(alloc)?;
+        let output = new_drip(alloc)?;
+        let errors = new_drip(alloc)?;
         Ok(Written { output, errors })
     }
 }
@@ -117,9 +130,7 @@ pub fn status_of_run(
     output: &mut Drip,
     errors: &mut Drip,
 ) -> u8 {
-    let mut input = FromReader::new(Trickle {
-        rest: b"Hello $name!",
-    });
+    let mut input = FromReader::new(new_trickle(b"Hello $name!"));
     let mut output = ToWriter::new(output);
     let mut errors = ToWriter::new(errors);
     run_program(alloc, words, pairs, &mut input, &mut output, &mut errors)
@@ -146,7 +157,7 @@ fn ended(
     );
     let errors = &mut written.errors;
     if status == OUT_OF_MEMORY && errors.taken.as_slice() == b"subst: out of memory\n".as_slice() {
-        *errors = Drip::new(alloc)?;
+        *errors = new_drip(alloc)?;
         return Err(AllocError);
     }
     Ok(Status(status))
