@@ -1,9 +1,9 @@
 //! The environment, whose values need not be UTF-8.
 
-use crate::name::is_name;
 use crate::options::{Pair, owned};
 use std::alloc::{AllocError, Global};
 use std::env::{Env, FillError};
+use subst_language::is_name;
 
 /// For how long an entry there is room at first.
 const FIRST_ROOM: usize = 4096;
@@ -78,7 +78,7 @@ fn name_and_value(entry: &[u8]) -> Option<(&str, &[u8])> {
     let at = entry.iter().position(|b| *b == b'=')?;
     let (name, value) = entry.split_at(at);
     let name = str::from_utf8(name).ok()?;
-    if is_name(name) {
+    if is_name(name.as_bytes()) {
         Some((name, value.get(1..)?))
     } else {
         None

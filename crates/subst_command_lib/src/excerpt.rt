@@ -3,6 +3,7 @@
 use crate::shown::shown;
 use std::alloc::{AllocError, Global};
 use std::ops::Range;
+use subst::error::Underlined;
 use unicode_width::{UnicodeWidthChar, UnicodeWidthStr};
 
 /// The columns of the widest line that is shown whole, and at most those of any line as it is shown.
@@ -130,34 +131,22 @@ fn underlined(
     let (right, is_right_cut) = after.room(right);
     let before = last_columns(&before.text, left);
     let after = first_columns(&after.text, right);
-    let mut text = String::new(alloc);
-    text.push_str("  ")?;
-    push_if(&mut text, is_left_cut)?;
-    text.push_str(before)?;
-    text.push_str(after)?;
-    push_if(&mut text, is_right_cut)?;
-    text.push_str("\n  ")?;
-    push_times(
-        &mut text,
-        ' ',
-        before.width().saturating_add(usize::from(is_left_cut)),
-    )?;
-    push_times(&mut text, '^', carets.min(after.width()).max(1))?;
-    text.push('\n')?;
-    Ok(text)
+    let mut line = String::new(alloc);
+    push_if(&mut line, is_left_cut)?;
+    line.push_str(before)?;
+    line.push_str(after)?;
+    push_if(&mut line, is_right_cut)?;
+    let underlined = Underlined {
+        line: &line,
+        spaces: before.width().saturating_add(usize::from(is_left_cut)),
+        carets: carets.min(after.width()).max(1),
+    };
+    format!(in alloc; "{underlined}")
 }
 
 /// Appends what stands for a part that isn't shown, if there is one.
 fn push_if(text: &mut String, is_cut: bool) -> Result<(), AllocError> {
     if is_cut { text.push_str(CUT) } else { Ok(()) }
-}
-
-/// Appends a character so many times.
-fn push_times(text: &mut String, c: char, count: usize) -> Result<(), AllocError> {
-    for _ in 0..count {
-        text.push(c)?;
-    }
-    Ok(())
 }
 
 /// Returns the end of a text that takes at most so many columns.

@@ -12,7 +12,6 @@ mod fill;
 mod input;
 mod layers;
 mod listing;
-mod name;
 pub mod options;
 mod output;
 mod part;

@@ -2,10 +2,10 @@
 
 ghost use Rattle.std.specs.Prelude.{IfOk, ◌<◌, length};
 
-use crate::name::is_name;
 use clap::error::ErrorKind;
 use clap::{Arg, ArgAction, ArgMatches, Command, Error};
 use std::alloc::{AllocError, Global};
+use subst_language::is_name;
 
 /// The file that stands for standard input.
 pub const STANDARD_INPUT: &str = "-";
@@ -156,7 +156,7 @@ fn asked_pairs(alloc: Global, matches: &ArgMatches<'_>) -> Result<Vec<Pair>, Err
             let message = format!(in alloc; "no '=' in --set '{word}'")?;
             return Err(wrong(alloc, &message));
         };
-        if !is_name(name) {
+        if !is_name(name.as_bytes()) {
             let message = format!(in alloc; "no template can spell the name of --set '{word}'")?;
             return Err(wrong(alloc, &message));
         }
@@ -212,7 +212,7 @@ fn asked_placeholders<'w>(
 fn add_names<'w>(alloc: Global, names: &mut Vec<&'w str>, words: &'w str) -> Result<(), Error> {
     for word in words.split(|c: char| c == ',' || c.is_ascii_whitespace()) {
         let name = without_dollar(word);
-        if is_name(name) {
+        if is_name(name.as_bytes()) {
             names.push(name)?;
         } else if !word.is_empty() {
             let message = format!(in alloc; "no template can spell the name '{word}' of --only")?;

@@ -1,8 +1,8 @@
 //! Values files: `NAME=VALUE` lines.
 
-use crate::name::is_name;
 use crate::options::{Pair, owned};
 use std::alloc::{AllocError, Global};
+use subst_language::is_name;
 
 /// What is wrong with a line of a values file.
 #[derive(Clone, Copy, Debug, PartialEq, Eq)]
@@ -59,7 +59,7 @@ fn pair(line: &str, offset: usize) -> Result<Option<(&str, &str)>, LineFault> {
             end: start.saturating_add(begun.len()),
         });
     };
-    if !is_name(name) {
+    if !is_name(name.as_bytes()) {
         return Err(LineFault {
             message: "no template can spell this name",
             start,

@@ -19,13 +19,13 @@ const WIDEST: usize = 60;
 
 /// A line with a part of it underlined. It displays as two indented lines.
 #[derive(Clone, Copy)]
-struct Underlined<'a> {
+pub struct Underlined<'a> {
     /// The line.
-    line: &'a str,
+    pub line: &'a str,
     /// The columns of what is before that part.
-    spaces: usize,
+    pub spaces: usize,
     /// The columns of that part.
-    carets: usize,
+    pub carets: usize,
 }
 
 impl fmt::Display for Underlined<'_> {

@@ -8,7 +8,7 @@
 ghost use Rattle.std.specs.Prelude.{◌≡◌, ◌≤◌, length};
 ghost use Rattle.subst_error.specs.declared.TheConstants.{MESSAGE_CAPACITY};
 
-pub use highlighting::underline;
+pub use highlighting::{Underlined, underline};
 pub use lent::{ExpandIntoError, NoSuchVariableRef, SubstituteIntoError};
 pub use position::line_and_column;
 pub use quoted::QuotedPrintable;
