@@ -1,8 +1,10 @@
 -- What parts write by themselves.
-use Rattle.std.proofs.Common.{◌≡◌, ◌≤◌, ℕ, ◌+◌, List, [], ◌∷◌, length, map, append-nil, refl, sym, ap, ◌∙◌, subst, arith}
+use Rattle.std.proofs.Common.{◌≡◌, ◌≤◌, ◌<◌, ℕ, ◌+◌, List, [], ◌∷◌, length, map, append-nil, refl, sym, ap, ◌∙◌, subst, arith}
+use Rattle.std.specs.declared.alloc.AllocError.{AllocError}
 use Rattle.subst_language.specs.Language.LookUp.{LookUp}
+use Rattle.subst_language.specs.Language.Name.{IsName}
 use Rattle.subst_language.specs.Language.Steps.{Own, Given, steps_value}
-use Rattle.subst_language.specs.Language.Value.{Bytes, joined}
+use Rattle.subst_language.specs.Language.Value.{Bytes, Missing, joined}
 use Rattle.subst_language.specs.Language.Written.{steps_written}
 use Rattle.subst_language.specs.Calls.VariableMap.{look_up_of}
 use Rattle.subst_language.proofs.Language.StepsLemmas.{written_whole}
@@ -10,9 +12,14 @@ use Rattle.subst_raw.specs.Filled.{mark, marks_of, IsFilled, FillsMarks}
 use Rattle.subst_raw.specs.Filled.IsFilled.{empty, filled}
 use Rattle.subst_raw.specs.Output.{Puts}
 use Rattle.subst_raw.specs.Parts.{part_steps}
-use Rattle.subst_raw.specs.Context.{Context, ByContext, WritesPart}
+use Rattle.subst_raw.specs.Span.{IsSpan, span_bytes}
+use Rattle.subst_raw.specs.Context.{Context, ByContext, WritesPart, StopsAtPart}
+use Rattle.subst_raw.specs.declared.expand.Stop.TheVariants.{Full}
+use Rattle.subst_raw.specs.declared.expand.Stop.TheVariants as stop
+use Rattle.subst_raw.specs.declared.part.Span.{Span}
 use Rattle.subst_raw.specs.declared.part.Part.{Part}
 use Rattle.subst_raw.proofs.FilledLemmas.{all_kept}
+use Rattle.subst_raw.proofs.OutputLemmas.{nothing_appended}
 
 -- one mark filled in
 fills_one : {Passes : List ℕ → Type 0} (x : List ℕ) → Passes x → IsFilled Passes (mark ∷ []) x
@@ -75,3 +82,43 @@ writes_nothing context s part output none marked =
     (omega arith)
     (λ bytes reads. ap steps_value (none bytes reads))
     record { marked = []; given = ap steps_value marked; filled = empty }
+
+module _ {V Seen W First : Type 0} (context : Context V Seen W First) (s : List ℕ) (part : Part) (x : List ℕ)
+    (before after : W) (e : AllocError) (puts : Puts context.holds before [] after)
+    (full : context.room before < context.len before + length x)
+    (room : context.room before ≤ context.room after) where
+  -- where there is no room for the bytes that a part gives, writing stops at it
+  stops_full : ByContext context (λ look. steps_value (part_steps part s look) ≡ Bytes x)
+      → StopsAtPart context s part (Full e) before after
+  stops_full gives = record {
+    begins = record { appended = []; puts = puts; given = tt };
+    at = λ bytes reads.
+        let own = part_steps part s (look_up_of bytes context.look_up) in
+        omega (arith, full, ap length (written_whole own x (gives bytes reads)));
+    room = room;
+  }
+
+  -- for bytes of the source, or an escaped byte
+  pub stops_at_own : ((look : LookUp) → part_steps part s look ≡ map Own x)
+      → StopsAtPart context s part (Full e) before after
+  stops_at_own owns = stops_full (λ bytes reads. ap steps_value (owns _) ∙ own_value x)
+
+  -- for a value that was found
+  pub stops_at_value : ByContext context (λ look. part_steps part s look ≡ Given x ∷ [])
+      → StopsAtPart context s part (Full e) before after
+  stops_at_value gives =
+      stops_full (λ bytes reads. ap steps_value (gives bytes reads) ∙ ap Bytes (append-nil x))
+
+-- where a part needs a variable that is missing, writing stops at it
+pub stops_missing : {V Seen W First : Type 0} (context : Context V Seen W First) (s : List ℕ) (part : Part)
+    (name : Span) (output : W)
+    → ByContext context
+    (λ look. steps_value (part_steps part s look) ≡ Missing name.start (span_bytes name s))
+    → steps_value (part_steps part s (marks_of context.look_up)) ≡ Missing name.start (span_bytes name s)
+    → IsSpan s name × IsName (span_bytes name s)
+    → StopsAtPart context s part (stop.Missing name) output output
+stops_missing context s part name output gives marked named = record {
+  begins = nothing_appended _ output tt;
+  at = (gives, marked, named.0, named.1);
+  room = omega arith;
+}

@@ -4,6 +4,7 @@ use Rattle.std.proofs.lemmas.List.{drop-drop, length-take-le}
 use Rattle.std.specs.List.{slice_get}
 use Rattle.std.specs.Option.{option_map}
 use Rattle.subst_language.specs.Language.LookUp.{LookUp}
+use Rattle.subst_language.specs.Language.Steps.{Step, Given, given_or}
 use Rattle.subst_language.specs.Calls.VariableMap.{ReadsAs, look_up_of}
 use Rattle.subst_raw.specs.Span.{span_bytes}
 use Rattle.subst_raw.specs.Context.{jump_of}
@@ -137,7 +138,7 @@ next_within {at = at} {end = end} s look (Default name next) jumps below =
     found_within at next end (look (span_bytes name s)) jumps.0 jumps.1 below
 
 -- the index after a part, or that where its jump ends, is the one that an expansion goes on at
-after_jump : {Seen : Type 0} (look_up : List ℕ → Option Seen) (bytes : Seen → List ℕ) (s : List ℕ)
+pub after_jump : {Seen : Type 0} (look_up : List ℕ → Option Seen) (bytes : Seen → List ℕ) (s : List ℕ)
     (part : Part) (after : ℕ)
     → unwrap_or (jump_of look_up s part) after ≡ next_index part s (look_up_of bytes look_up) after
 after_jump look_up bytes s (Literal span) after = refl
@@ -149,21 +150,6 @@ after_jump {Seen} look_up bytes s (Default name next) after = of (look_up (span_
         → unwrap_or (option_map (λ _. next) found) after ≡ next_if_found (option_map bytes found) next after
     of (Some v) = refl
     of None = refl
-
-pub goes_to : {Seen : Type 0} (look_up : List ℕ → Option Seen) (s : List ℕ) (part : Part) (after : ℕ)
-    {jump : Option ℕ} {next : ℕ}
-    → jump ≡ jump_of look_up s part → next ≡ unwrap_or jump after → (bytes : Seen → List ℕ)
-    → next ≡ next_index part s (look_up_of bytes look_up) after
-goes_to look_up s part after jumps is bytes =
-    is ∙ ap (λ (o : Option ℕ). unwrap_or o after) jumps ∙ after_jump look_up bytes s part after
-
--- it is after that of the part, and within the list
-pub goes_within : {Seen : Type 0} (look_up : List ℕ → Option Seen) (s : List ℕ) {at end : ℕ} (part : Part)
-    {jump : Option ℕ} {next : ℕ} → JumpsWithin at end part → at < end → jump ≡ jump_of look_up s part
-    → next ≡ unwrap_or jump (at + 1) → (at < next) × (next ≤ end)
-goes_within look_up s {at} {end} part inside below jumps is =
-    subst (λ n. (at < n) × (n ≤ end)) (sym (goes_to look_up s part (at + 1) jumps is (λ _. [])))
-    (next_within s (look_up_of (λ _. []) look_up) part inside below)
 
 -- where the map has a value for a name, the look-up has the bytes that the value gives
 pub has_value : {V Seen : Type 0} (items : V → List ℕ) (see : V → Seen) (bytes : Seen → List ℕ)
@@ -178,3 +164,11 @@ pub has_none : {Seen : Type 0} (bytes : Seen → List ℕ) (look_up : List ℕ �
     → None ≡ look_up key
     → look_up_of bytes look_up key ≡ None
 has_none bytes look_up has = ap (option_map bytes) (sym has)
+
+-- so a part has the step of these bytes that has that of what is found
+pub found_gives : {V Seen : Type 0} (items : V → List ℕ) (see : V → Seen) (look_up : List ℕ → Option Seen)
+    {key named x : List ℕ} (v : V) (others : List Step) → key ≡ named → Some (see v) ≡ look_up key
+    → x ≡ items v → (bytes : Seen → List ℕ) → ReadsAs items see bytes
+    → given_or (look_up_of bytes look_up named) others ≡ Given x ∷ []
+found_gives items see look_up v others same has gives bytes reads =
+    rw (sym same, has_value items see bytes look_up v reads has gives) refl

@@ -1,5 +1,5 @@
 -- How far the expansion's loop has come.
-use Rattle.std.proofs.Common.{◌≡◌, ◌≤◌, ℕ, ◌+◌, List, [], ◌∷◌, ◌++◌, length, drop, Option, unwrap_or, Ok, Err, append-nil, append_assoc, length-append, refl, sym, ap, ◌∙◌, arith}
+use Rattle.std.proofs.Common.{◌≡◌, ◌≤◌, ℕ, ◌+◌, List, [], ◌∷◌, ◌++◌, length, drop, unwrap_or, Ok, Err, append-nil, append_assoc, length-append, refl, sym, ap, ◌∙◌, arith}
 use Rattle.std.proofs.lemmas.List.{drop_all}
 use Rattle.subst_language.specs.Calls.VariableMap.{look_up_of}
 use Rattle.subst_language.proofs.Language.ListLemmas.{IsElementAt}
@@ -8,7 +8,7 @@ use Rattle.subst_raw.specs.Parts.{FitsAt, resume_index, visited_parts}
 use Rattle.subst_raw.specs.Writing.{WritesVisited, AppendsParts}
 use Rattle.subst_raw.specs.declared.expand.Stop.{Stop}
 use Rattle.subst_raw.specs.declared.part.Part.{Part}
-use Rattle.subst_raw.proofs.ExpandLemmas.{goes_on, goes_to, visited_parts-here}
+use Rattle.subst_raw.proofs.ExpandLemmas.{goes_on, after_jump, visited_parts-here}
 use Rattle.subst_raw.proofs.WritingLemmas.{writes_none, writes_next, stops_next, writes_same}
 
 -- An expansion of parts that is at the index `at` has visited those that are done, whatever bytes the map's
@@ -34,11 +34,11 @@ module _ {V Seen W First : Type 0} (context : Context V Seen W First) (s : List 
   module _ {at : ℕ} {first before : W} {start turns later : ℕ} (so_far : HasVisited context s parts at first
       before start turns) where
     -- one more, after which it goes on at the next index or where its jump ends
-    pub visits_next : (part : Part) (after : W) (jump : Option ℕ) (next : ℕ) → IsElementAt parts at part
+    pub visits_next : (part : Part) (after : W) (next : ℕ) → IsElementAt parts at part
         → FitsAt at (length parts) s part → WritesPart context s part before after
-        → jump ≡ jump_of context.look_up s part → next ≡ unwrap_or jump (at + 1) → later ≡ turns + 1
+        → next ≡ unwrap_or (jump_of context.look_up s part) (at + 1) → later ≡ turns + 1
         → HasVisited context s parts next first after start later
-    visits_next part after jump next here fits writes jumps is one = record {
+    visits_next part after next here fits writes goes one = record {
       done = so_far.done ++ part ∷ [];
       visits = λ bytes.
           let look = look_up_of bytes context.look_up in
@@ -48,7 +48,7 @@ module _ {V Seen W First : Type 0} (context : Context V Seen W First) (s : List 
           ∙ ap (λ (visited : List Part). so_far.done ++ visited) there.visits
           ∙ sym (append_assoc so_far.done (part ∷ []) _)
           ∙ ap (λ i. (so_far.done ++ part ∷ []) ++ rest i)
-          (sym (goes_to context.look_up s part (at + 1) jumps is bytes));
+          (sym (goes ∙ after_jump context.look_up bytes s part (at + 1)));
       written =
           writes_next context s (λ _. so_far.done) (λ _. so_far.done ++ part ∷ []) part first before after
           so_far.written (λ bytes. refl) writes;

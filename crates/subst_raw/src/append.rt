@@ -1,6 +1,6 @@
 //! What a part gives by itself, appended to any output.
 
-ghost use Rattle.std.specs.Prelude.{◌≡◌, IfErr, IfOk};
+ghost use Rattle.std.specs.Prelude.{◌≡◌, IfErr, IfOk, is_some};
 ghost use Rattle.subst_raw.specs.Parts.{IsInSource};
 ghost use Rattle.subst_raw.specs.Context.{StopsAtPart, WritesPart, context_of, jump_of};
 
@@ -10,8 +10,7 @@ use crate::part::Part;
 use crate::read_value::ReadValue;
 use subst_map::VariableMap;
 
-/// Appends what a part gives by itself, and returns the jump that an expansion takes after it: that of a
-/// default whose name has a value.
+/// Appends what a part gives by itself, and returns whether it is that of a default whose name has a value.
 ///
 /// # Errors
 ///
@@ -23,40 +22,41 @@ pub(crate) fn append_part<'a, M: VariableMap<'a>, R: ReadValue<M::Value>, W: Out
     part: Part,
     variables: &'a M,
     output: &mut W,
-) -> Result<Option<usize>, Stop>
+) -> Result<bool, Stop>
 where
     M::Value: Drop,
     requires { IsInSource source.now part }
     ensures written { let context =
         context_of R.read R.is_read M.see (M.look_up variables.now) W.holds W.len W.room in
-        IfOk result (λ jump. WritesPart context source.now part output.old output.new) }
+        IfOk result (λ found. WritesPart context source.now part output.old output.new) }
     ensures stopped { let context =
         context_of R.read R.is_read M.see (M.look_up variables.now) W.holds W.len W.room in
         IfErr result (λ stop. StopsAtPart context source.now part stop output.old output.new) }
-    ensures jump { IfOk result (λ jump. jump ≡ jump_of (M.look_up variables.now) source.now part) }
+    ensures found { IfOk result
+        (λ found. found ≡ is_some (jump_of (M.look_up variables.now) source.now part)) }
 {
     match part {
         Part::Literal(span) => {
             output.append_bytes(bytes_at(source, span))?;
-            Ok(None)
+            Ok(false)
         }
         Part::Escaped(byte) => {
             output.append_byte(byte)?;
-            Ok(None)
+            Ok(false)
         }
         Part::Variable(name) => {
             let Some(value) = variables.get(name_at(source, name)) else {
                 return Err(Stop::Missing(name));
             };
             output.append_bytes(R::bytes_of(&value))?;
-            Ok(None)
+            Ok(false)
         }
-        Part::Default { name, next } => {
+        Part::Default { name, .. } => {
             let Some(value) = variables.get(name_at(source, name)) else {
-                return Ok(None);
+                return Ok(false);
             };
             output.append_bytes(R::bytes_of(&value))?;
-            Ok(Some(next))
+            Ok(true)
         }
     }
 }

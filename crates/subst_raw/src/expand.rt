@@ -19,10 +19,9 @@ ghost use Rattle.subst_raw.specs.Filled.{FillsMarks, marks_of};
 ghost use Rattle.subst_raw.specs.Writing.{AppendsParts};
 ghost use Rattle.subst_raw.specs.declared.expand.Stop.TheVariants as stops;
 
-use crate::append::append_part;
 use crate::output::{Output, SliceOutput};
 use crate::packed_part::{Offset, PackedPart};
-use crate::part::Span;
+use crate::part::{Part, Span};
 use crate::part_list::PartList;
 use crate::part_vec::{CowParts, PartSlice};
 use crate::read_value::ReadValue;
@@ -221,7 +220,8 @@ where
     outcome
 }
 
-/// Appends what the parts of a list give, as `append`.
+/// Appends what the parts of a list give, as `append`. Each arm goes on by itself, which takes fewer
+/// instructions than a test of what `append_part` returns.
 #[inline(always)]
 fn append_list<'a, M: VariableMap<'a>, R: ReadValue<M::Value>, O: Offset, W: Output>(
     source: &[u8],
@@ -239,8 +239,30 @@ where
 {
     let mut at = 0;
     while let Some(part) = list.part_at(at) {
-        let jump = append_part::<M, R, W>(source, part, variables, output)?;
-        at = jump.unwrap_or(at + 1);
+        match part {
+            Part::Literal(span) => {
+                output.append_bytes(bytes_at(source, span))?;
+                at += 1;
+            }
+            Part::Escaped(byte) => {
+                output.append_byte(byte)?;
+                at += 1;
+            }
+            Part::Variable(name) => {
+                let Some(value) = variables.get(name_at(source, name)) else {
+                    return Err(Stop::Missing(name));
+                };
+                output.append_bytes(R::bytes_of(&value))?;
+                at += 1;
+            }
+            Part::Default { name, next } => match variables.get(name_at(source, name)) {
+                Some(value) => {
+                    output.append_bytes(R::bytes_of(&value))?;
+                    at = next;
+                }
+                None => at += 1,
+            },
+        }
     }
     Ok(())
 }

@@ -112,7 +112,7 @@ where
             return false;
         };
         match append_part::<M, R, W>(self.source, part, self.variables, &mut self.output) {
-            Ok(jump) => jump.is_some(),
+            Ok(found) => found,
             Err(stop) => {
                 self.state = State::Stopped(stop);
                 false
