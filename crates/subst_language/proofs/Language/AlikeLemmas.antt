@@ -4,7 +4,6 @@ use Rattle.std.specs.List.{filter_map}
 use Rattle.std.specs.Option.{option_map}
 use Rattle.subst_error.specs.Fault.{Fault}
 use Rattle.subst_language.specs.Language.Answer.{IsMissing}
-use Rattle.subst_language.specs.Language.LookUp.{LookUp}
 use Rattle.subst_language.specs.Language.Steps.{Step, steps_of}
 use Rattle.subst_language.specs.Language.Tree.{Tree}
 use Rattle.subst_language.specs.Language.Value.{Value, Bytes, Missing, value}

@@ -9,7 +9,7 @@ use Rattle.subst_language.specs.Language.Laws.IsSublist.{nothing, kept, left_out
 use Rattle.subst_language.specs.Language.LookUp.{LookUp}
 use Rattle.subst_language.specs.Language.NamesIn.{names_in_item, names_in}
 use Rattle.subst_language.specs.Language.Sentence.{Spells}
-use Rattle.subst_language.specs.Language.Steps.{Step, Lacks, given_or, item_steps, steps_of}
+use Rattle.subst_language.specs.Language.Steps.{Step, given_or, item_steps, steps_of}
 use Rattle.subst_language.specs.Language.Tree.{Item, Plain, Escaped, Short, Braced, Optional, Default, Tree, Empty, Then, item_text}
 use Rattle.subst_language.specs.Language.Value.{Bytes, Missing, value}
 use Rattle.subst_language.specs.Language.Variables.{Variable, required, is_required, name_of, item_variables, variables_of, lacked, all_missing}

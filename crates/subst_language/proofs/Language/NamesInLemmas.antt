@@ -1,5 +1,5 @@
 -- Values under two look-ups that have the same for the names in a tree.
-use Rattle.std.proofs.Common.{◌≡◌, ℕ, ◌+◌, List, ◌++◌, length, refl}
+use Rattle.std.proofs.Common.{◌≡◌, ℕ, ◌+◌, List, length, refl}
 use Rattle.std.specs.List.{All, AllByRecursion}
 use Rattle.subst_language.specs.Language.Tree.{Item, Plain, Escaped, Short, Braced, Optional, Default, Tree, Empty, Then, item_text}
 use Rattle.subst_language.specs.Language.NamesIn.{names_in_item, names_in}
