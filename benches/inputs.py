@@ -1,7 +1,7 @@
 #!/usr/bin/env python3
 """inputs.py [FOLDER]   Makes the inputs of the benches, each a source and the variables that fill it in.
 
-Compares each with its sum in inputs.tsv, where the Rust crate's instructions for it stand too. With a folder, writes
+Compares each with its sum in inputs.tsv, where the Rust crate's instructions for it are too. With a folder, writes
 NAME.src and NAME.vars, lines NAME=VALUE, of each into it. README.md says what the inputs are.
 """
 import functools
@@ -49,7 +49,7 @@ class Input(NamedTuple):
         return "".join(f"{name}={value}\n" for name, value in self.variables.items()).encode()
 
     def sum(self):
-        """What tells these bytes from others."""
+        """A sum that differs where these bytes do."""
         return hashlib.sha256(self.source + b"\0" + self.lines()).hexdigest()[:16]
 
 

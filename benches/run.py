@@ -35,7 +35,7 @@ OTHERS = ("cat", "envsubst", "perl", "string.Template")
 SIMPLE = ("envsubst", "perl", "string.Template")
 # The works of the library: to parse, to expand, and to do both at once.
 WORKS = ("parse", "expand", "both")
-# The system takes words of a quarter of the stack that a program may have: enough for those of 100,000 variables.
+# The system takes arguments of a quarter of the stack that a program may have: enough for those of 100,000 variables.
 STACK = 16 * MIB
 
 PERL = r"s/\$(?:\{(\w+)\}|(\w+))/$ENV{$1 \/\/ $2}/gea"
@@ -51,7 +51,7 @@ class Workload(NamedTuple):
     name: str
     same: tuple = ()
     perl: str = PERL
-    # The first word of our program. With `env` the variables are its environment, otherwise its words.
+    # The first argument of our program. With `env` the variables are its environment, otherwise its arguments.
     word: str = "bytes"
     works: tuple = WORKS
     # The length up to which the source is repeated, if it is.
@@ -121,7 +121,7 @@ def lengthening(name):
 
 FAMILIES = (
     growing("nested defaults, {:,} deep", "depth{}", inputs.DEPTHS),
-    growing("variables, 1 MiB, {:,} words", "names{}", (10, 1_000, 100_000)),
+    growing("variables, 1 MiB, {:,} arguments", "names{}", (10, 1_000, 100_000)),
     growing("variables, 1 MiB, {:,} pairs of the environment", "names{}", (10, 1_000), word="env"),
     lengthening("plain"),
     lengthening("escapes"),
@@ -358,7 +358,7 @@ def table_of_texts(options):
         rows.append([workload.title, *two(*kinds), *two(*runs)])
     title = (
         "Instructions in process of `expand` of the same input as bytes, by a `ByteTemplate`, and as a text, by a "
-        f"`Template`; and those of `{OURS}` with the words `bytes` and `text`, start-up included:"
+        f"`Template`; and those of `{OURS}` with the arguments `bytes` and `text`, start-up included:"
     )
     columns = ["expand: bytes", "text", "text to bytes", f"{OURS}: bytes", "text", "text to bytes"]
     return title, ["Input", *columns], rows
@@ -454,7 +454,7 @@ def table_of_trees(kind, _options):
     tree that was read where the walk leaves it."""
     made, profile, values = inputs.document(kind), folder() / "profile", folder() / "values"
     values.write_bytes(made.lines())
-    total = instructions(run_on(made.source, program("subst_command"), f"--{kind}", "--values", str(values)), profile)
+    total = instructions(run_on(made.source, program("subst_program"), f"--{kind}", "--values", str(values)), profile)
     is_walk = re.compile(rf"subst_{kind}::walk::").search
     is_drop = re.compile(rf"subst_{kind}::.*Destruct::drop").search
     walk = drop = 0
@@ -497,14 +497,14 @@ def written(title, columns, rows):
 
 
 def put_into_results(name, text):
-    """Puts a table into the place between two lines of RESULTS.md that name it."""
+    """Puts a table between two lines of RESULTS.md that name it."""
     begin, end = f"<!-- {name} -->\n", f"<!-- end of {name} -->\n"
     before, rest = RESULTS.read_text(encoding="utf-8").split(begin)
     RESULTS.write_text(f"{before}{begin}\n{text}\n{end}{rest.split(end)[1]}", encoding="utf-8")
 
 
 def make_room_for_words():
-    """Lets the programs that are run have as many words as the largest input needs."""
+    """Lets the programs that are run have as many arguments as the largest input needs."""
     soft, hard = resource.getrlimit(resource.RLIMIT_STACK)
     if soft != resource.RLIM_INFINITY and soft < STACK:
         resource.setrlimit(resource.RLIMIT_STACK, (STACK, hard))

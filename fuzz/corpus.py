@@ -36,7 +36,7 @@ def twice(words):
 
 
 def written(source, words):
-    """A record as fuzz/subst.c reads it, with a room of a few bytes, and without words that it can't have."""
+    """A record as fuzz/subst.c reads it, with a buffer of a few bytes, and without words that it can't have."""
     words = [word[:LONGEST_WORD] for word in words[:2 * MOST_PAIRS]]
     return bytes([8, len(words) // 2, *map(len, words)]) + b''.join(words) + source
 

@@ -1,6 +1,6 @@
 /* A target of libFuzzer that holds each call of subst.h to what is said there.
  *
- * An input is a length of a room, a number of pairs, for each pair the lengths of its name and its value, these words,
+ * An input is a length of a buffer, a number of pairs, for each pair the lengths of its name and its value, these words,
  * and then the source. What a call writes has guards around it, since sanitizers don't see the library's own writes.
  * With -DSTANDALONE a main is added, for other compilers, that tries each file that is named. In texts.h, which
  * tools/faults.py prints, are the beginnings of the texts of faults, by their kinds.
@@ -28,8 +28,8 @@ struct input {
     size_t rows_len;
     size_t *ends;
     size_t ends_len;
-    /* the length of a room to try beside those that the result gives */
-    size_t room_len;
+    /* the length of a buffer to try beside those that the result gives */
+    size_t buffer_len;
 };
 
 /* What a call gave, or what it has to give: items with SUBST_DONE, and a fault with SUBST_REFUSED. */
@@ -86,7 +86,7 @@ static uint8_t *copy_of(const void *bytes, size_t length)
     return copy;
 }
 
-/* A room of this size with guards before and after it. */
+/* A buffer of this size with guards before and after it. */
 static uint8_t *guarded(size_t size)
 {
     uint8_t *block = taken(size + 2 * GUARD);
@@ -94,7 +94,7 @@ static uint8_t *guarded(size_t size)
     return block;
 }
 
-/* Whether the guards of a room are untouched, and its bytes from here on. */
+/* Whether the guards of a buffer are untouched, and its bytes from here on. */
 static int is_untouched(const uint8_t *block, size_t from, size_t size)
 {
     size_t i;
@@ -201,14 +201,14 @@ static void expect_within(const struct input *input, const struct subst_fault *f
 /* Calls */
 
 struct call {
-    uint32_t (*make)(const struct input *input, void *room, size_t room_len, struct answer *told);
+    uint32_t (*make)(const struct input *input, void *buffer, size_t buffer_len, struct answer *told);
     size_t item;
-    /* whether it writes straight into the room, which may then have anything without SUBST_DONE */
+    /* whether it writes straight into the buffer, which may then have anything without SUBST_DONE */
     int is_straight;
 };
 
 #define CALL(name, item, is_straight, ...)                                                                     \
-    static uint32_t make_##name(const struct input *input, void *room, size_t room_len, struct answer *told)   \
+    static uint32_t make_##name(const struct input *input, void *buffer, size_t buffer_len, struct answer *told)   \
     {                                                                                                          \
         return subst_##name(__VA_ARGS__);                                                                      \
     }                                                                                                          \
@@ -218,26 +218,26 @@ struct call {
 #define ROWS input->rows, input->rows_len
 #define ENDS input->ends, input->ends_len
 
-CALL(bytes, uint8_t, 0, SOURCE, PAIRS, room, room_len, &told->needed, &told->fault)
-CALL(text, uint8_t, 0, SOURCE, PAIRS, room, room_len, &told->needed, &told->fault)
-CALL(bytes_into, uint8_t, 1, SOURCE, PAIRS, room, room_len, &told->needed, &told->fault)
-CALL(text_into, uint8_t, 1, SOURCE, PAIRS, room, room_len, &told->needed, &told->fault)
-CALL(bytes_each, uint8_t, 0, SOURCE, ROWS, room, room_len, ENDS, &told->needed, &told->row, &told->fault)
-CALL(variables, struct subst_variable, 0, SOURCE, room, room_len, &told->needed, &told->fault)
-CALL(missing, struct subst_variable, 0, SOURCE, PAIRS, room, room_len, &told->needed, &told->fault)
-CALL(fault_text, uint8_t, 0, SOURCE, PAIRS, room, room_len, &told->needed)
-CALL(fault_highlighting, uint8_t, 0, SOURCE, PAIRS, room, room_len, &told->needed)
+CALL(bytes, uint8_t, 0, SOURCE, PAIRS, buffer, buffer_len, &told->needed, &told->fault)
+CALL(text, uint8_t, 0, SOURCE, PAIRS, buffer, buffer_len, &told->needed, &told->fault)
+CALL(bytes_into, uint8_t, 1, SOURCE, PAIRS, buffer, buffer_len, &told->needed, &told->fault)
+CALL(text_into, uint8_t, 1, SOURCE, PAIRS, buffer, buffer_len, &told->needed, &told->fault)
+CALL(bytes_each, uint8_t, 0, SOURCE, ROWS, buffer, buffer_len, ENDS, &told->needed, &told->row, &told->fault)
+CALL(variables, struct subst_variable, 0, SOURCE, buffer, buffer_len, &told->needed, &told->fault)
+CALL(missing, struct subst_variable, 0, SOURCE, PAIRS, buffer, buffer_len, &told->needed, &told->fault)
+CALL(fault_text, uint8_t, 0, SOURCE, PAIRS, buffer, buffer_len, &told->needed)
+CALL(fault_highlighting, uint8_t, 0, SOURCE, PAIRS, buffer, buffer_len, &told->needed)
 
-/* Makes a call in a room of this length, and holds it to what it writes with which result. One that writes straight into
- * the room leaves it as it was where the source is no template or no text. */
-static struct answer asked(const struct call *call, const struct input *input, size_t room_len)
+/* Makes a call in a buffer of this length, and holds it to what it writes with which result. One that writes straight into
+ * the buffer leaves it as it was where the source is no template or no text. */
+static struct answer asked(const struct call *call, const struct input *input, size_t buffer_len)
 {
     struct answer told = NOTHING;
-    size_t size = room_len * call->item, written = 0;
+    size_t size = buffer_len * call->item, written = 0;
     told.needed = UNTOLD;
     told.block = guarded(size);
     told.items = told.block + GUARD;
-    told.result = call->make(input, told.items, room_len, &told);
+    told.result = call->make(input, told.items, buffer_len, &told);
     EXPECT(told.result == SUBST_REFUSED || (IS_SAME(&told.fault, &NOTHING.fault) && told.row == UNTOLD));
     if (told.result == SUBST_DONE)
         written = told.needed * call->item;
@@ -262,11 +262,11 @@ static int has_items_of(const struct answer *told, const struct answer *wanted, 
     return 1;
 }
 
-/* Makes a call in a room of this length, which has to give this answer, or as much as needs more room. */
-static uint32_t expect(const struct call *call, const struct input *input, const struct answer *wanted, size_t room_len)
+/* Makes a call in a buffer of this length, which has to give this answer, or as much as needs a longer buffer. */
+static uint32_t expect(const struct call *call, const struct input *input, const struct answer *wanted, size_t buffer_len)
 {
-    struct answer told = asked(call, input, room_len);
-    int is_small = wanted->result == SUBST_DONE && room_len < wanted->needed;
+    struct answer told = asked(call, input, buffer_len);
+    int is_small = wanted->result == SUBST_DONE && buffer_len < wanted->needed;
     EXPECT(told.result == (is_small ? SUBST_ROOM_TOO_SMALL : wanted->result));
     EXPECT(told.needed == (wanted->result == SUBST_REFUSED ? 0 : wanted->needed));
     EXPECT(IS_SAME(&told.fault, &wanted->fault) && told.row == wanted->row);
@@ -288,28 +288,28 @@ static struct answer answer_of(const struct call *call, const struct input *inpu
 }
 
 /* Rooms to try for so many items: none, one too small, an exact one, a larger one, and one that the input says. */
-static void rooms_for(size_t lengths[ROOMS], const struct input *input, size_t needed)
+static void buffers_for(size_t lengths[ROOMS], const struct input *input, size_t needed)
 {
     lengths[0] = 0;
     lengths[1] = needed - (needed > 0);
     lengths[2] = needed;
     lengths[3] = needed + 3;
-    lengths[4] = input->room_len;
+    lengths[4] = input->buffer_len;
 }
 
-static void expect_in_rooms(const struct call *call, const struct input *input, const struct answer *wanted)
+static void expect_in_buffers(const struct call *call, const struct input *input, const struct answer *wanted)
 {
     size_t lengths[ROOMS], i;
-    rooms_for(lengths, input, wanted->needed);
+    buffers_for(lengths, input, wanted->needed);
     for (i = 0; i < ROOMS; i++)
         expect(call, input, wanted, lengths[i]);
 }
 
-/* The answer of a call, in each room. */
+/* The answer of a call, in each buffer. */
 static struct answer held(const struct call *call, const struct input *input)
 {
     struct answer answer = answer_of(call, input);
-    expect_in_rooms(call, input, &answer);
+    expect_in_buffers(call, input, &answer);
     return answer;
 }
 
@@ -317,10 +317,10 @@ static struct answer held(const struct call *call, const struct input *input)
 static void try_filling(const struct input *input, const struct answer *answer)
 {
     const struct answer *of_text = are_texts(input) ? answer : &NO_TEXT;
-    expect_in_rooms(&call_bytes, input, answer);
-    expect_in_rooms(&call_bytes_into, input, answer);
-    expect_in_rooms(&call_text, input, of_text);
-    expect_in_rooms(&call_text_into, input, of_text);
+    expect_in_buffers(&call_bytes, input, answer);
+    expect_in_buffers(&call_bytes_into, input, answer);
+    expect_in_buffers(&call_text, input, of_text);
+    expect_in_buffers(&call_text_into, input, of_text);
     if (of_text->result == SUBST_DONE)
         EXPECT(is_utf8(answer->items, answer->needed));
 }
@@ -387,7 +387,7 @@ static struct answer answer_of_rows(const struct input *input, const struct answ
     return all;
 }
 
-static void expect_rows(const struct input *rows, const struct answer *wanted, const size_t *ends, size_t room_len,
+static void expect_rows(const struct input *rows, const struct answer *wanted, const size_t *ends, size_t buffer_len,
                         size_t ends_len)
 {
     struct input input = *rows;
@@ -398,13 +398,13 @@ static void expect_rows(const struct input *rows, const struct answer *wanted, c
     input.ends_len = ends_len;
     if (all.result == SUBST_DONE && size < written)
         all.result = SUBST_ROOM_TOO_SMALL;
-    if (expect(&call_bytes_each, &input, &all, room_len) != SUBST_DONE)
+    if (expect(&call_bytes_each, &input, &all, buffer_len) != SUBST_DONE)
         written = 0;
     EXPECT(memcmp(input.ends, ends, written) == 0 && is_untouched(block, written, size));
     free(block);
 }
 
-/* No row, one, and as many as there are ways to leave out pairs in front, in rooms and with ends of each length. */
+/* No row, one, and as many as there are ways to leave out pairs in front, in buffers and with ends of each length. */
 static void try_rows(const struct input *given, const struct answer *answer)
 {
     size_t counts[] = {0, 1, given->pairs_len + 1}, lengths[ROOMS], ends[MOST_PAIRS + 1], i, j;
@@ -419,7 +419,7 @@ static void try_rows(const struct input *given, const struct answer *answer)
         struct answer all;
         input.rows_len = counts[i];
         all = answer_of_rows(&input, answer, ends);
-        rooms_for(lengths, &input, all.needed);
+        buffers_for(lengths, &input, all.needed);
         for (j = 0; j < ROOMS; j++)
             expect_rows(&input, &all, ends, lengths[j], input.rows_len);
         expect_rows(&input, &all, ends, all.needed, input.rows_len + 1);
@@ -446,7 +446,7 @@ static void expect_variables(const struct input *input, const struct answer *lis
 }
 
 /* Those that are missing are required variables that no pair names. There is none exactly where the source gives bytes,
- * and else the first one is what the fault tells. */
+ * and else the first one is the one that the fault reports. */
 static void expect_missing(const struct input *input, const struct answer *variables, const struct answer *missing,
                            const struct answer *answer)
 {
@@ -463,7 +463,7 @@ static void expect_missing(const struct input *input, const struct answer *varia
     }
 }
 
-/* The answer goes on with these bytes. Returns the place after them. */
+/* The answer goes on with these bytes. Returns the index after them. */
 static size_t after_part(const struct answer *answer, size_t at, const uint8_t *bytes, size_t length)
 {
     EXPECT(at <= answer->needed && length <= answer->needed - at);
@@ -497,8 +497,8 @@ static void try_lists(const struct input *input, const struct answer *answer)
 {
     struct answer variables, missing;
     if (!is_template(answer)) {
-        expect_in_rooms(&call_variables, input, answer);
-        expect_in_rooms(&call_missing, input, answer);
+        expect_in_buffers(&call_variables, input, answer);
+        expect_in_buffers(&call_missing, input, answer);
         return;
     }
     variables = held(&call_variables, input);
@@ -549,7 +549,7 @@ static void try_highlighting(const struct input *input, const struct answer *ans
 {
     struct answer text;
     if (!is_utf8(input->source, input->source_len)) {
-        expect_in_rooms(&call_fault_highlighting, input, &NO_TEXT);
+        expect_in_buffers(&call_fault_highlighting, input, &NO_TEXT);
         return;
     }
     text = held(&call_fault_highlighting, input);
@@ -559,8 +559,8 @@ static void try_highlighting(const struct input *input, const struct answer *ans
     free(text.block);
 }
 
-/* The line of a place counts the ends of lines before it. Its column counts the characters of the line before it, where
- * each of them is one column wide. */
+/* The line of a position counts the ends of lines before it. Its column counts the characters of the line before it,
+ * where each of them is one column wide. */
 static void expect_place(const struct input *input, size_t position, size_t line, size_t column)
 {
     const uint8_t *source = input->source;
@@ -574,10 +574,10 @@ static void expect_place(const struct input *input, size_t position, size_t line
         EXPECT(column == position - start + 1);
 }
 
-/* A place is told where the source is UTF-8, unless it is past the end or inside a character. */
+/* A position has a line and a column where the source is UTF-8, unless it is past the end or inside a character. */
 static void try_place(const struct input *input, const struct answer *answer)
 {
-    const size_t positions[] = {answer->result == SUBST_REFUSED ? answer->fault.position : 0, input->room_len,
+    const size_t positions[] = {answer->result == SUBST_REFUSED ? answer->fault.position : 0, input->buffer_len,
                                 input->source_len, input->source_len + 1, SIZE_MAX};
     size_t i;
     for (i = 0; i < sizeof positions / sizeof positions[0]; i++) {
@@ -605,7 +605,7 @@ static struct input input_of(const uint8_t *data, size_t size, struct subst_pair
     struct input input;
     size_t at = 0, i;
     memset(&input, 0, sizeof input);
-    input.room_len = at < size ? data[at++] : 0;
+    input.buffer_len = at < size ? data[at++] : 0;
     input.pairs_len = (at < size ? data[at++] : 0) % (MOST_PAIRS + 1);
     input.pairs = pairs;
     for (i = 0; i < 2 * input.pairs_len; i++)
@@ -627,7 +627,7 @@ static struct input input_of(const uint8_t *data, size_t size, struct subst_pair
     return input;
 }
 
-/* Fails where a call has changed what it was lent, and gives it back. The words end where the data do. */
+/* Fails where a call has changed what it borrows, and gives it back. The words end where the data do. */
 static void end_input(struct input *input, const uint8_t *end)
 {
     size_t i;
@@ -643,7 +643,7 @@ static void end_input(struct input *input, const uint8_t *end)
     }
 }
 
-/* The library has no counters of its own, so answers of a new kind are told to libFuzzer by these. */
+/* The library has no counters of its own, so answers of a new kind are reported to libFuzzer by these. */
 #if defined(__clang__) && defined(__linux__) && !defined(STANDALONE)
 __attribute__((section("__libfuzzer_extra_counters")))
 #endif

@@ -44,7 +44,7 @@ class FaultKind(enum.IntEnum):
 
 
 class VariableKind(enum.IntEnum):
-    """What there is in the place of a variable without a value.
+    """What there is in place of a variable without a value.
 
     REQUIRED: $name or ${name}, and the source is refused.
     OPTIONAL: ${name?}, nothing.
@@ -129,8 +129,8 @@ class Template(Generic[AnyStr]):
         return _variables(self._source)
 
     def missing(self, variables: Mapping[AnyStr, AnyStr]) -> List[Variable]:
-        """Returns those that are needed and have no value, in the same order. Those of a default are needed only where
-        it is used."""
+        """Returns the variables that are needed and have no value, in the order of the source. Those of a default are
+        needed only where it is used."""
         return _missing(self._source, variables)
 
 
@@ -145,12 +145,12 @@ def check(source: AnyStr) -> None:
 
 
 def variables(source: AnyStr) -> List[Variable]:
-    """Does what Template.variables does. Raises SubstError where the source is no template."""
+    """Returns the variables of a source, as Template.variables. Raises SubstError where the source is no template."""
     return _variables(_Source(source))
 
 
 def missing(source: AnyStr, variables: Mapping[AnyStr, AnyStr]) -> List[Variable]:
-    """Does what Template.missing does. Raises SubstError where the source is no template."""
+    """Returns what a source is missing, as Template.missing. Raises SubstError where the source is no template."""
     return _missing(_Source(source), variables)
 
 
@@ -212,7 +212,7 @@ class _Source(Generic[AnyStr]):
         self.encoded = _encoded(given)
 
     @property
-    def lent(self) -> Tuple[bytes, int]:
+    def borrowed(self) -> Tuple[bytes, int]:
         return self.encoded, len(self.encoded)
 
     def decoded(self, output: bytes) -> AnyStr:
@@ -232,7 +232,7 @@ class _Source(Generic[AnyStr]):
 
 
 def _encoded(word: AnyStr) -> bytes:
-    """The bytes of a word. A class over bytes may tell another length than there are, so these are copied."""
+    """The bytes of a str or bytes. A class over bytes may report another length than it has, so these are copied."""
     if isinstance(word, str):
         return str.encode(word, 'utf-8')
     return word if type(word) is bytes else bytes(memoryview(word))
@@ -254,14 +254,14 @@ def _pairs(source: _Source, variables: Mapping[AnyStr, AnyStr]) -> 'ctypes.Array
     return (_Pair * len(pairs))(*pairs)
 
 
-def _in_room(item: Any, count: int, call: Callable) -> Tuple[int, Any]:
-    """Makes a call with a room for so many items, and again with one for those that it takes. Returns its result, and
-    what it put into the room."""
+def _in_buffer(item: Any, count: int, call: Callable) -> Tuple[int, Any]:
+    """Makes a call with a buffer for so many items, and again with one for those that it takes. Returns its result, and
+    what it put into the buffer."""
     needed, result = ctypes.c_size_t(count), _ROOM_TOO_SMALL
     while result == _ROOM_TOO_SMALL:
-        room = (item * needed.value)()
-        result = _has_memory(call(room, len(room), needed))
-    return result, room[:needed.value] if result == _DONE else room[:0]
+        buffer = (item * needed.value)()
+        result = _has_memory(call(buffer, len(buffer), needed))
+    return result, buffer[:needed.value] if result == _DONE else buffer[:0]
 
 
 def _has_memory(result: int) -> int:
@@ -278,44 +278,44 @@ _MORE, _MOST = 1 << 10, 1 << 24
 
 def _fill_in(source: _Source, variables: Mapping[AnyStr, AnyStr]) -> AnyStr:
     pairs, fault = _pairs(source, variables), _Fault()
-    result, output = _in_room(ctypes.c_char, len(source.encoded) + _MORE, lambda *room: _library.subst_bytes_into(
-        *source.lent, pairs, len(pairs), *room, fault))
+    result, output = _in_buffer(ctypes.c_char, len(source.encoded) + _MORE, lambda *buffer: _library.subst_bytes_into(
+        *source.borrowed, pairs, len(pairs), *buffer, fault))
     if result == _REFUSED:
         raise _error(source, pairs, fault)
     return source.decoded(output)
 
 
 def _fill_in_each(source: _Source, given: Iterable[Mapping[AnyStr, AnyStr]]) -> List[AnyStr]:
-    lent = [_pairs(source, variables) for variables in given]
-    rows = (_Row * len(lent))(*((pairs, len(pairs)) for pairs in lent))
+    borrowed = [_pairs(source, variables) for variables in given]
+    rows = (_Row * len(borrowed))(*((pairs, len(pairs)) for pairs in borrowed))
     ends, row, fault = (ctypes.c_size_t * len(rows))(), ctypes.c_size_t(), _Fault()
     count = min(len(rows) * (len(source.encoded) + 64), _MOST)
-    result, output = _in_room(ctypes.c_char, count, lambda room, room_len, needed: _library.subst_bytes_each(
-        *source.lent, rows, len(rows), room, room_len, ends, len(ends), needed, row, fault))
+    result, output = _in_buffer(ctypes.c_char, count, lambda buffer, buffer_len, needed: _library.subst_bytes_each(
+        *source.borrowed, rows, len(rows), buffer, buffer_len, ends, len(ends), needed, row, fault))
     if result == _REFUSED:
-        raise _error(source, lent[row.value], fault, row.value)
+        raise _error(source, borrowed[row.value], fault, row.value)
     return [source.decoded(output[start:end]) for start, end in zip([0, *ends], ends)]
 
 
 def _check(source: _Source) -> None:
     fault = _Fault()
-    if _has_memory(_library.subst_check(*source.lent, fault)) == _REFUSED:
+    if _has_memory(_library.subst_check(*source.borrowed, fault)) == _REFUSED:
         raise _error(source, _pairs(source, {}), fault)
 
 
 def _variables(source: _Source) -> List[Variable]:
-    return _listed(source, lambda *room: _library.subst_variables(*source.lent, *room))
+    return _listed(source, lambda *buffer: _library.subst_variables(*source.borrowed, *buffer))
 
 
 def _missing(source: _Source, variables: Mapping[AnyStr, AnyStr]) -> List[Variable]:
     pairs = _pairs(source, variables)
-    return _listed(source, lambda *room: _library.subst_missing(*source.lent, pairs, len(pairs), *room))
+    return _listed(source, lambda *buffer: _library.subst_missing(*source.borrowed, pairs, len(pairs), *buffer))
 
 
 def _listed(source: _Source, call: Callable) -> List[Variable]:
     """The variables that a call lists. There are no more than dollars, and their names are ASCII."""
     fault = _Fault()
-    result, found = _in_room(_Variable, source.encoded.count(b'$'), lambda *room: call(*room, fault))
+    result, found = _in_buffer(_Variable, source.encoded.count(b'$'), lambda *buffer: call(*buffer, fault))
     if result == _REFUSED:
         raise _error(source, _pairs(source, {}), fault)
     indices = source.indices(variable.position for variable in found)
@@ -326,7 +326,7 @@ def _listed(source: _Source, call: Callable) -> List[Variable]:
 def _error(source: _Source, pairs: 'ctypes.Array[_Pair]', fault: _Fault, row: Optional[int] = None) -> SubstError:
     """The error that a fault of the source is."""
     def said(call: Callable) -> str:
-        _, text = _in_room(ctypes.c_char, 256, lambda *room: call(*source.lent, pairs, len(pairs), *room))
+        _, text = _in_buffer(ctypes.c_char, 256, lambda *buffer: call(*source.borrowed, pairs, len(pairs), *buffer))
         return text.decode('utf-8')
 
     start, end = source.indices([fault.position, fault.position + fault.length])
@@ -337,7 +337,7 @@ def _error(source: _Source, pairs: 'ctypes.Array[_Pair]', fault: _Fault, row: Op
 def _place(source: _Source, offset: int) -> Tuple[Optional[int], Optional[int]]:
     """The line and the column at an offset, where the source is UTF-8."""
     line, column = ctypes.c_size_t(), ctypes.c_size_t()
-    if _library.subst_place(*source.lent, offset, line, column) != _DONE:
+    if _library.subst_place(*source.borrowed, offset, line, column) != _DONE:
         return None, None
     return line.value, column.value
 
@@ -369,7 +369,7 @@ def _loaded(path: str) -> ctypes.CDLL:
 
 
 def _version() -> str:
-    """The version of the library, which it tells as one number, 102 for 0.1.2."""
+    """The version of the library, which it returns as one number, 102 for 0.1.2."""
     number = _library.subst_version()
     return f'{number // 10000}.{number // 100 % 100}.{number % 100}'
 

@@ -1,4 +1,4 @@
-"""Tests of the module subst, over the library that it finds. What it answers to each stored row, every text of a fault
+"""Tests of the module subst, over the library that it finds. What it returns for each stored row, every text of a fault
 with it, is compared by tools/replay.py.
 """
 import concurrent.futures
@@ -127,10 +127,10 @@ class Templates(Case):
 
 
 class Faults(Case):
-    """What is refused, and what is told of it."""
+    """What is refused, and what is reported of it."""
 
     def expect(self, kind, source, part):
-        """Every call that can tells this of a text, and of its bytes, where this part is at fault, by the same text."""
+        """Every call that can says this of a text, and of its bytes, where this part is at fault, by the same text."""
         for source, part in ((source, part), (source.encode(), part.encode())):
             calls = [(subst.fill_in, source, {}), (lambda: Template(source).fill_in_each([{}]),)]
             if kind is not FaultKind.NO_SUCH_VARIABLE:

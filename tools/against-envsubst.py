@@ -2,7 +2,7 @@
 """against-envsubst.py [--seed SEED]   Compares subst with GNU envsubst on random templates.
 
 Each template goes through envsubst, and through subst with --envsubst, or with --only where two names are listed; both
-have to write the same. What subst tells as missing is given to it as an empty value, which is what envsubst takes it
+have to write the same. What subst reports as missing is given to it as an empty value, which is what envsubst takes it
 for. The seed is fixed, unless SEED gives another; a failure names it. The last line is 'N passed, M failed, K skipped'.
 """
 import argparse
@@ -50,7 +50,7 @@ def ended(command, source, env):
 
 def output_of_ours(words, source, env):
     """What subst writes, where what is missing has an empty value."""
-    command = [path_of('subst_command'), '-e', *words]
+    command = [path_of('subst_program'), '-e', *words]
     first = ended(command, source, env)
     if first.returncode == 0:
         return first.stdout
@@ -79,7 +79,7 @@ def main():
     print(f'seed {seed}')
     tests = {f'envsubst_on_{TEMPLATES}_templates': ([], ['--envsubst']),
              f'envsubst_with_names_on_{TEMPLATES}_templates': ([LISTED], ['--only', LISTED])}
-    run_tests([(name, functools.partial(compare, seed, *words)) for name, words in tests.items()], ['subst_command'],
+    run_tests([(name, functools.partial(compare, seed, *words)) for name, words in tests.items()], ['subst_program'],
               ['envsubst'])
 
 

@@ -59,7 +59,7 @@ built_with_sanitizers() {
     runs "$folder/sanitized"
 }
 
-# Calls from several threads at once, built with more words for the compiler.
+# Calls from several threads at once, built with more arguments for the compiler.
 in_threads() {
   runs "$compiler" -std=c99 "${strict[@]}" "$@" -pthread -I"$include" -o "$folder/threads" tools/c_threads.c \
     "${archives[@]}" &&
@@ -111,13 +111,13 @@ refused_in_turn() {
   return 1
 }
 
-# How many requests for memory the tests make with these words.
+# How many requests for memory the tests make with these arguments.
 requests_of() {
   runs env LD_PRELOAD="$refusing" REFUSE_NONE=1 "$folder/c" "$@" >&2 && grep -c '^request ' "$ran"
 }
 
-# What subst_check asks for is what the parse takes. subst_bytes_into asks for no more, also to tell that a variable is
-# missing, and subst_bytes does.
+# What subst_check asks for is what the parse takes. subst_bytes_into asks for no more, also to report that a variable
+# is missing, and subst_bytes does.
 asked_by_the_parse_alone() {
   local parse into bytes
   parse=$(requests_of calls subst_check) && into=$(requests_of calls subst_bytes_into) &&
@@ -219,7 +219,7 @@ examples_of_readme_greet() {
   [ "$printed" = $'Hello world!\nHello world!' ]
 }
 
-# The compiler's words by pkg-config build the example too.
+# The compiler's arguments by pkg-config build the example too.
 package_is_found() {
   local words
   words=$(PKG_CONFIG_PATH=$folder/prefix/lib/pkgconfig pkg-config --cflags --libs subst) || return

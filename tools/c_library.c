@@ -16,7 +16,7 @@ enum { ROOM = 128, MOST_VARIABLES = 4, UNTOUCHED = 0xA5 };
 
 /* All that a call may write. */
 struct written {
-    uint8_t room[ROOM];
+    uint8_t buffer[ROOM];
     struct subst_variable variables[MOST_VARIABLES];
     size_t end, needed, row;
     struct subst_fault fault;
@@ -52,7 +52,7 @@ static int is_untouched(const struct written *written)
 /* Whether the result is this text. */
 static int holds(const struct written *written, const char *text)
 {
-    return written->needed == strlen(text) && memcmp(written->room, text, strlen(text)) == 0;
+    return written->needed == strlen(text) && memcmp(written->buffer, text, strlen(text)) == 0;
 }
 
 static void end_test(const char *name, const char *source, int is_right)
@@ -103,20 +103,20 @@ static const struct source sources[] = {
 /* The calls, for such a source */
 
 typedef uint32_t filling(const uint8_t *source, size_t source_len, const struct subst_pair *pairs, size_t pairs_len,
-                         uint8_t *room, size_t room_len, size_t *needed, struct subst_fault *fault);
+                         uint8_t *buffer, size_t buffer_len, size_t *needed, struct subst_fault *fault);
 typedef uint32_t saying(const uint8_t *source, size_t source_len, const struct subst_pair *pairs, size_t pairs_len,
-                        uint8_t *room, size_t room_len, size_t *needed);
+                        uint8_t *buffer, size_t buffer_len, size_t *needed);
 
 static uint32_t fill(filling *call, const char *source, struct written *written)
 {
     struct subst_pair pair = pair_of("name", "world");
-    return call(bytes_of(source), strlen(source), &pair, 1, written->room, ROOM, &written->needed, &written->fault);
+    return call(bytes_of(source), strlen(source), &pair, 1, written->buffer, ROOM, &written->needed, &written->fault);
 }
 
 static uint32_t say(saying *call, const char *source, struct written *written)
 {
     struct subst_pair pair = pair_of("name", "world");
-    return call(bytes_of(source), strlen(source), &pair, 1, written->room, ROOM, &written->needed);
+    return call(bytes_of(source), strlen(source), &pair, 1, written->buffer, ROOM, &written->needed);
 }
 
 static uint32_t bytes_call(const char *source, struct written *written)
@@ -143,7 +143,7 @@ static uint32_t each_call(const char *source, struct written *written)
 {
     struct subst_pair pair = pair_of("name", "world");
     struct subst_row row = {&pair, 1};
-    return subst_bytes_each(bytes_of(source), strlen(source), &row, 1, written->room, ROOM, &written->end, 1,
+    return subst_bytes_each(bytes_of(source), strlen(source), &row, 1, written->buffer, ROOM, &written->end, 1,
                             &written->needed, &written->row, &written->fault);
 }
 
@@ -271,21 +271,21 @@ static void test_index(size_t count)
     size_t i, length = make_placeholders(source, count);
     make_pairs(pairs, names, count);
     pairs[0].value_len = 0;
-    MAKE(result, &written, subst_bytes(bytes_of(source), length, pairs, count, written.room, ROOM, &written.needed,
+    MAKE(result, &written, subst_bytes(bytes_of(source), length, pairs, count, written.buffer, ROOM, &written.needed,
                                        &written.fault));
-    for (i = 0; i + 1 < count && written.room[i] == (i < (count - 1) / 2 ? 'v' : 'x'); i++)
+    for (i = 0; i + 1 < count && written.buffer[i] == (i < (count - 1) / 2 ? 'v' : 'x'); i++)
         ;
     end_test("subst_bytes", "an index", result == SUBST_DONE && written.needed == count - 1 && i + 1 == count
-             && written.room[count - 1] == UNTOUCHED);
+             && written.buffer[count - 1] == UNTOUCHED);
     source[length++] = '$';
     source[length++] = 'n';
-    MAKE(result, &written, subst_bytes_into(bytes_of(source), length, pairs, count, written.room, ROOM,
+    MAKE(result, &written, subst_bytes_into(bytes_of(source), length, pairs, count, written.buffer, ROOM,
                                             &written.needed, &written.fault));
     end_test("subst_bytes_into", "a name that no index has", result == SUBST_REFUSED
              && written.fault.kind == SUBST_NO_SUCH_VARIABLE && written.fault.position == length - 1);
 }
 
-/* Fills in as many placeholders as pairs, straight into the room, or only looks at them where there are no pairs. */
+/* Fills in as many placeholders as pairs, straight into the buffer, or only looks at them where there are no pairs. */
 static void call_for_pairs(size_t pairs_len, size_t count)
 {
     static char names[MOST_INDEXED][24], source[32 * MOST_INDEXED];
@@ -296,13 +296,13 @@ static void call_for_pairs(size_t pairs_len, size_t count)
     if (pairs_len == 0)
         subst_check(bytes_of(source), length, &written.fault);
     else
-        subst_bytes_into(bytes_of(source), length, pairs, pairs_len, written.room, ROOM, &written.needed,
+        subst_bytes_into(bytes_of(source), length, pairs, pairs_len, written.buffer, ROOM, &written.needed,
                          &written.fault);
 }
 
 /* NULL beside a length of 0 */
 
-/* The room that is too small is none. */
+/* The buffer that is too small is none. */
 static void test_null(const char *name, filling *call)
 {
     struct subst_pair empty = {bytes_of("a"), 1, NULL, 0}, nameless = {NULL, 0, bytes_of("1"), 1};
@@ -311,8 +311,8 @@ static void test_null(const char *name, filling *call)
     MAKE(result, &written, call(NULL, 0, NULL, 0, NULL, 0, &written.needed, &written.fault));
     end_test(name, "no source", result == SUBST_DONE && written.needed == 0);
     MAKE(result, &written, call(bytes_of("${a:bc}"), 7, NULL, 0, NULL, 0, &written.needed, &written.fault));
-    end_test(name, "no room", result == SUBST_ROOM_TOO_SMALL && written.needed == 2);
-    MAKE(result, &written, call(bytes_of("<${a:bc}>"), 9, &empty, 1, written.room, 2, &written.needed, &written.fault));
+    end_test(name, "no buffer", result == SUBST_ROOM_TOO_SMALL && written.needed == 2);
+    MAKE(result, &written, call(bytes_of("<${a:bc}>"), 9, &empty, 1, written.buffer, 2, &written.needed, &written.fault));
     end_test(name, "an empty value", result == SUBST_DONE && holds(&written, "<>"));
     MAKE(result, &written, call(bytes_of("$a"), 2, &nameless, 1, NULL, 0, &written.needed, &written.fault));
     end_test(name, "an empty name", result == SUBST_REFUSED && written.fault.kind == SUBST_NO_SUCH_VARIABLE);
@@ -325,7 +325,7 @@ static void test_null_of_lists(void)
     MAKE(result, &written, subst_missing(NULL, 0, NULL, 0, NULL, 0, &written.needed, &written.fault));
     end_test("subst_missing", "no source", result == SUBST_DONE && written.needed == 0);
     MAKE(result, &written, subst_missing(bytes_of("$a"), 2, NULL, 0, NULL, 0, &written.needed, &written.fault));
-    end_test("subst_missing", "no room", result == SUBST_ROOM_TOO_SMALL && written.needed == 1);
+    end_test("subst_missing", "no buffer", result == SUBST_ROOM_TOO_SMALL && written.needed == 1);
     MAKE(result, &written, subst_variables(NULL, 0, NULL, 0, &written.needed, &written.fault));
     end_test("subst_variables", "no source", result == SUBST_DONE && written.needed == 0);
 }
@@ -345,7 +345,7 @@ static void test_null_of_others(void)
     MAKE(result, &written, subst_bytes_each(NULL, 0, NULL, 0, NULL, 0, NULL, 0, &written.needed, &written.row,
                                             &written.fault));
     end_test("subst_bytes_each", "no rows", result == SUBST_DONE && written.needed == 0);
-    MAKE(result, &written, subst_bytes_each(bytes_of("a"), 1, &row, 1, written.room, 1, &written.end, 1,
+    MAKE(result, &written, subst_bytes_each(bytes_of("a"), 1, &row, 1, written.buffer, 1, &written.end, 1,
                                             &written.needed, &written.row, &written.fault));
     end_test("subst_bytes_each", "a row of no pairs", result == SUBST_DONE && written.end == 1 && holds(&written, "a"));
     result = subst_place(NULL, 0, 0, &line, &column);
@@ -362,7 +362,7 @@ static void test_version(void)
 
 enum { LARGE = 1 << 20, MOST_ROWS = 1000, MOST_PAIRS = 16000, FEWER_PAIRS = MOST_PAIRS / 16 };
 
-static uint8_t large_source[LARGE], large_room[LARGE];
+static uint8_t large_source[LARGE], large_buffer[LARGE];
 
 /* The processor time of a source with as many placeholders as pairs. */
 static clock_t time_of_pairs(const struct subst_pair *pairs, size_t count)
@@ -373,7 +373,7 @@ static clock_t time_of_pairs(const struct subst_pair *pairs, size_t count)
     for (i = 0; i < count; i++)
         length += (size_t)sprintf((char *)large_source + length, "${a%zu}", i * 7919 % count);
     start = clock();
-    if (subst_bytes(large_source, length, pairs, count, large_room, LARGE, &written.needed, &written.fault)
+    if (subst_bytes(large_source, length, pairs, count, large_buffer, LARGE, &written.needed, &written.fault)
         != SUBST_DONE || written.needed != count)
         return -1;
     return clock() - start;
@@ -413,7 +413,7 @@ static clock_t time_of_rows(size_t count)
         rows[i].pairs_len = 1;
     }
     start = clock();
-    if (subst_bytes_each(large_source, LARGE, rows, count, large_room, LARGE, ends, count, &written.needed,
+    if (subst_bytes_each(large_source, LARGE, rows, count, large_buffer, LARGE, ends, count, &written.needed,
                          &written.row, &written.fault) != SUBST_DONE || ends[count - 1] != count)
         return -1;
     return clock() - start;

@@ -28,18 +28,18 @@ static void make_source(void)
     }
 }
 
-/* Whether a call gives what is wanted, and another one tells the fault of a source without its last pair. */
+/* Whether a call gives what is wanted, and another one reports the fault of a source without its last pair. */
 static int is_right(void)
 {
-    uint8_t room[ROOM];
+    uint8_t buffer[ROOM];
     size_t needed = 0;
     struct subst_fault fault = {0, 0, 0};
     const uint8_t *bytes = (const uint8_t *)source;
-    if (subst_bytes(bytes, strlen(source), pairs, PAIRS, room, sizeof room, &needed, &fault) != SUBST_DONE)
+    if (subst_bytes(bytes, strlen(source), pairs, PAIRS, buffer, sizeof buffer, &needed, &fault) != SUBST_DONE)
         return 0;
-    if (needed != strlen(wanted) || memcmp(room, wanted, needed) != 0)
+    if (needed != strlen(wanted) || memcmp(buffer, wanted, needed) != 0)
         return 0;
-    return subst_bytes(bytes, strlen(source), pairs, PAIRS - 1, room, sizeof room, &needed, &fault) == SUBST_REFUSED &&
+    return subst_bytes(bytes, strlen(source), pairs, PAIRS - 1, buffer, sizeof buffer, &needed, &fault) == SUBST_REFUSED &&
            fault.kind == SUBST_NO_SUCH_VARIABLE && fault.position + fault.length == strlen(source);
 }
 

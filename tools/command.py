@@ -1,5 +1,5 @@
 #!/usr/bin/env python3
-"""command.py   Tests the built program of subst_command, which is installed as `subst`.
+"""command.py   Tests the built program of subst_program, which is installed as `subst`.
 
 No contract says anything of options, files and messages, so these tests run the program as a shell would: each option,
 each message whole, templates of other programs, and, in tools/command_files.py, files that are written whole or not at
@@ -89,7 +89,7 @@ def test_help_says_that_its_output_failed():
 # Tests of the options that give variables
 
 
-# Words of --set, a source, and what it gives.
+# Arguments of --set, a source, and what it gives.
 SETS = (
     (['-sA=1'], '$A', '1'),
     (['-s', 'A=1'], '$A', '1'),
@@ -229,7 +229,7 @@ def test_bytes():
     expect_fault(subst(['--bytes'], b'${A\xff'), told('<stdin>:1:4', unexpected(r"'\xFF'"), '${A\ufffd', '   ^'))
 
 
-# Sources that aren't UTF-8, with the place of the first byte that isn't, and its line.
+# Sources that aren't UTF-8, with the position of the first byte that isn't, and its line.
 NOT_UTF8 = (
     (b'\xff', '1:1', '\ufffd', '^'),
     (b'$\nab\xe2\x82', '2:3', 'ab\ufffd', '  ^'),
@@ -363,7 +363,7 @@ def test_places_are_those_in_the_text_that_was_given():
         expect(subst([*words, '--names'], source), 0, b'A\t<stdin>:1:14\trequired\nQ\t<stdin>:2:6\trequired\n')
 
 
-# Tests of files and words
+# Tests of files and arguments
 
 
 def test_files_and_standard_input():
@@ -399,7 +399,7 @@ def test_status_is_the_highest():
     expect(subst(['bad', 'nothing', '--names']), 3, errors=refused + absent)
 
 
-# Pairs of options that can't be given together, as their words and as they are told.
+# Pairs of options that can't be given together, as arguments and as they are reported.
 CONFLICTS = (
     ('--bytes', '--json'), ('--bytes', '--toml'), ('--json', '--toml'), ('--only <NAMES>', '--envsubst'),
     ('--output <FILE>', '--in-place'), ('--output <FILE>', '--check'), ('--output <FILE>', '--names'),
@@ -434,8 +434,8 @@ def test_wrong_words():
 
 
 WIDE = '\u6f22'
-# Sources of one fault each, with its place, whose columns are those of a terminal, what it is, the line as it is shown,
-# how many columns are before the carets, and how many carets there are.
+# Sources of one fault each, with its position, whose columns are those of a terminal, what it is, the line as it is
+# shown, how many columns are before the carets, and how many carets there are.
 FAULTS = (
     ('$', '1:1', NO_NAME, '$', 0, 1),
     ('a\n$\nb', '2:1', NO_NAME, '$', 0, 1),

@@ -275,7 +275,7 @@ def with_failing_call(call, number, words, *more):
                executable=shutil.which('strace'))
 
 
-# The system calls after which a new file isn't in the old one's place, with a word of their failure.
+# The system calls after which a new file isn't in the old one's place, with the error of each.
 CALLS = (('write', errno.EIO), ('fchmod', errno.EPERM), ('fsync', errno.EIO), ('fsync', errno.ENOSPC),
          ('rename,renameat,renameat2', errno.EACCES), ('rename,renameat,renameat2', errno.EXDEV))
 

@@ -11,7 +11,7 @@ import tempfile
 from faults import missing_name, no_such_variable
 from running import Skipped, expect, expect_that, need, path_of, run, shown
 
-PROGRAM = 'subst_command'
+PROGRAM = 'subst_program'
 # A user that owns no file.
 NOBODY = 65534
 NO_NAME = missing_name()
@@ -54,7 +54,7 @@ def need_to_run(program, *words):
 
 
 def told(place, what, line, carets):
-    """The message about a fault, with the line and the carets as they stand below its place."""
+    """The message about a fault, with the line and the carets as they are shown below its position."""
     return f'{place}: {what}\n  {line}\n  {carets}\n'.encode()
 
 
@@ -63,7 +63,7 @@ def missing(name, place, line, carets):
 
 
 def wrong_words(text, usage='[OPTIONS]', more=''):
-    """The message about wrong words."""
+    """The message about wrong arguments."""
     return f"error: {text}\n\n{more}Usage: subst {usage} [FILE]...\n\nFor more information, try '--help'.\n".encode()
 
 

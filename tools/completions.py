@@ -1,6 +1,6 @@
 #!/usr/bin/env python3
-"""completions.py bash|zsh|fish   Prints what completes the words of subst in a shell, from the options in its source,
-crates/subst_command_lib/src/options.rt. The options of its library, -h and -V, are named here.
+"""completions.py bash|zsh|fish   Prints what completes the arguments of subst in a shell, from the options in its
+source, crates/subst_cli/src/options.rt. The options of its library, -h and -V, are named here.
 """
 import re
 import sys
@@ -9,7 +9,7 @@ from typing import NamedTuple
 sys.dont_write_bytecode = True
 from running import CRATES
 
-SOURCE = CRATES / 'subst_command_lib/src/options.rt'
+SOURCE = CRATES / 'subst_cli/src/options.rt'
 # A row of the table there, and its value.
 ROW = re.compile(r'^    Row \{\n(.*?)^    \},', re.MULTILINE | re.DOTALL)
 TAKES = re.compile(r'takes: Some\(\("([^"]+)", ArgAction::(\w+)\)\)')
@@ -25,7 +25,7 @@ class Option(NamedTuple):
     repeats: bool = False
 
 
-# The options that the library answers.
+# The options that the library handles.
 OF_LIBRARY = [Option('h', 'help', '', 'Print help'), Option('V', 'version', '', 'Print version')]
 
 
@@ -46,26 +46,26 @@ def words(some_options):
 
 
 def excluded(option):
-    """The words that are not offered after an option, since only one of them can be given."""
+    """The options that are not offered after an option, since only one of them can be given."""
     return words(it for it in options() if it.name in option.conflicts or option.name in it.conflicts
                  or it == option and not option.repeats)
 
 
 def quoted(text, quote=r"'\''"):
-    """A text in single quotes, with this in the place of those in it."""
+    """A text in single quotes, with this in place of those in it."""
     return "'" + text.replace("'", quote) + "'"
 
 
 # The shells
 
 
-BASH = r'''# Completes the words of subst in bash: its options, nothing where a variable is named, and files, which
+BASH = r'''# Completes arguments of subst in bash: its options, nothing where a variable is named, and files, which
 # bash completes itself where nothing is offered here.
 
 _subst() {
   local at=$COMP_CWORD before given word
   COMPREPLY=()
-  # Each `=` and `:` parts a word of the command line into several.
+  # Each `=` and `:` splits a word of the command line into several.
   while ((at > 1)) && [[ ${COMP_WORDS[at]} == [=:]* || ${COMP_WORDS[at - 1]} == *[=:] ]]; do
     ((at--))
   done
@@ -97,7 +97,7 @@ def bash():
 
 
 def zsh_words(option):
-    """An option as zsh has it: what it can't be given with, its words, its help and what it takes."""
+    """An option as zsh has it: what it can't be given with, its names, its help and what it takes."""
     others = '- *' if option in OF_LIBRARY else ' '.join(excluded(option))
     before = (f'({others})' if others else '') + '*' * option.repeats
     takes = f":{option.value.lower()}:{'_files' if option.value == 'FILE' else ' '}" if option.value else ''
@@ -110,11 +110,11 @@ def zsh_words(option):
 
 def zsh():
     made = ''.join(f'  {zsh_words(option)} \\\n' for option in options())
-    return f"#compdef subst\n# Completes the words of subst in zsh.\n\n_arguments -s -S \\\n{made}  '*:file:_files'\n"
+    return f"#compdef subst\n# Completes arguments of subst in zsh.\n\n_arguments -s -S \\\n{made}  '*:file:_files'\n"
 
 
 def fish():
-    made = '# Completes the words of subst in fish.\n\n'
+    made = '# Completes arguments of subst in fish.\n\n'
     for option in options():
         letter = f' -s {option.letter}' if option.letter else ''
         takes = {'': '', 'FILE': ' -r -F'}.get(option.value, ' -x')

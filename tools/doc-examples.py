@@ -19,7 +19,7 @@ HEAD = '''//! The examples of the library, one after the other.
 use layered::Layered;
 use std::env;
 use subst::{ByteTemplate, Env, NoSubstitution, Template, TemplateBuf};
-use subst::{json, laws, substitute_bytes, substitute_bytes_into, substitute_bytes_owned, substitute_into};
+use subst::{escape, foreign, json, laws, substitute_bytes, substitute_bytes_into, substitute_bytes_owned, substitute_into};
 use subst::{substitute_owned, toml};
 
 mod layered;

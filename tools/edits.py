@@ -1,11 +1,11 @@
 #!/usr/bin/env python3
 """edits.py [--all] [CRATE | EDIT]..   Tries must-fail edits, many of them with one check.
 
-An edit, crates/X/must-fail/Y.edit.md, is a wrong program that the prover has to refuse. Those that end in .edit are
-for `rt ci`, and tried here only if they are named. Without words all edits are tried, but those of a crate whose sum
-is in tests/data/edits-refused.tsv: that of its files and its line in crates.txt, of what it uses, and of the kit.
-With --all these are tried too. A crate gets into that list, which nothing else writes, once all its edits are
-refused, and out of it with one that isn't.
+An edit, crates/X/must-fail/Y.edit.md, is a wrong program that the prover has to refuse. Those that end in .edit are for
+`rt ci`, and tried here only if they are named. Without arguments all edits are tried, but those of a crate whose sum is
+in tests/data/edits-refused.tsv: that of its files and its line in crates.txt, of what it uses, and of the kit. With
+--all these are tried too. A crate gets into that list, which nothing else writes, once all its edits are refused, and
+out of it with one that isn't.
 
 The crates are proved first, over kept work; nothing else may run over the tree meanwhile. Then edits of different
 functions are put into one copy of their crate, which is checked once. An edit is refused if the check refuses a
@@ -46,12 +46,12 @@ NOTED = re.compile(r'^note: src/\S+: it is not proved [^`]*\(`([^`]+)`\)', re.MU
 ERROR = re.compile(r'^(?:\./)?proofs/(\S+)/\w+\.antt:\d+:\d+: error: `([^`]+)`: (.*)', re.MULTILINE)
 # The last line of a check that isn't passed.
 ENDED = re.compile('^(?:logic=not-proved|only=)', re.MULTILINE)
-# What an open goal is told by, whatever function it is of.
+# What reports an open goal, whatever function it is of.
 TOLD = re.compile(r'^(?:note: src/\S+: it is not proved .*|(?:\./)?proofs/\S+: error: .*)', re.MULTILINE)
 # A proof that names what the edit took away says little of a contract.
 ONLY_NAMES = re.compile('has no field|is not in scope|has no `|was not admitted')
 # What a function owes: what it returns and leaves, what holds in each turn of a loop, of a value that it makes, and
-# before a call. Other goals are of numbers that fit, and of places that are in range.
+# before a call. Other goals are of numbers that fit, and of indices that are in range.
 OWED = re.compile('returns|loop|clause|invariant|requires')
 
 
@@ -93,7 +93,7 @@ class Edit:
 
 
 def block_around(head, text, at, length):
-    """The last block with such a head around a place: each ends in a line of one brace, indented as its head."""
+    """The last block with such a head around a position: each ends in a line of one brace, indented as its head."""
     for found in reversed(list(head.finditer(text, 0, max(at + length, 0)))):
         indent = re.match(' *', found[0])[0]
         if at < text.find(f'\n{indent}}}\n', found.end()):
@@ -115,8 +115,8 @@ def check(edits, uses):
     """What `rt check` says of a crate with these edits, and whether it is proved. Of several edits it is asked for the
     functions that they change alone, unless it knows one by another name."""
     names = sorted({name for edit in edits for name in edit.functions}) if len(edits) > 1 else []
-    with tempfile.TemporaryDirectory() as room:
-        crate = copy_of(edits[0].crate, pathlib.Path(room), uses)
+    with tempfile.TemporaryDirectory() as folder:
+        crate = copy_of(edits[0].crate, pathlib.Path(folder), uses)
         for edit in edits:
             edit.apply(crate)
         ran = rt(crate, 'check', *(f'--only={name}' for name in names))

@@ -12,7 +12,7 @@ seed=1
 compiler=${CC:-cc}
 strict=(-std=c99 -g -O1 -Wall -Wextra -Werror)
 
-# Builds the target by a compiler with more words.
+# Builds the target by a compiler with more arguments.
 built() {
   local name=$1
   shift

@@ -158,7 +158,7 @@ def test_tree_is_not_too_large():
 
 
 def prose(text):
-    """A page with blanks in the place of its blocks, so that its lines stay where they are."""
+    """A page with blanks in place of its blocks, so that its lines stay where they are."""
     return FENCE.sub(lambda block: re.sub(r'[^\n]', ' ', block[0]), text)
 
 
@@ -272,13 +272,13 @@ def sources(*patterns):
 
 
 def is_quoted(lines, *patterns):
-    """Whether lines stand together in a file; a line `..` stands for any lines."""
+    """Whether lines are together in a file; a line `..` stands for any lines."""
     parts = [re.escape(part) for part in re.split(r'\n(?:(?://|--) )?\.\.(?=\n)', stripped(lines))]
     return any(re.search(r'(?:\n.*)*?'.join(parts), source) for source in sources(*patterns))
 
 
 def test_quoted_code_is_that_of_the_source():
-    """Of antt each part of a block is found alone, since imports stand between them."""
+    """Of antt each part of a block is found alone, since imports are between them."""
     text = read(QUOTING)
     for block in FENCE.finditer(text):
         for part in {'rust': [block[2]], 'antt': block[2].split('\n\n')}.get(block[1], []):
@@ -373,8 +373,8 @@ def test_all_that_is_public_is_printed():
 
 # Facts in few files
 
-# The options of subst as its source has them, and what other programs that have options are told by.
-OPTIONS = 'crates/subst_command_lib/src/options.rt'
+# The options of subst as its source has them, and what other programs that have options are recognized by.
+OPTIONS = 'crates/subst_cli/src/options.rt'
 OTHER_PROGRAM = re.compile(r'\b(?:tools|benches|fuzz)/\w|\brt[ (]\w')
 
 

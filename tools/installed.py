@@ -1,4 +1,4 @@
-"""The library and its module for Python, as tools/install puts them below a prefix, and what they answer, in columns of
+"""The library and its module for Python, as tools/install puts them below a prefix, and what they return, in columns of
 the rows of crates/subst_vectors/data. Sources and variables are bytes or texts.
 """
 import contextlib

@@ -2,7 +2,7 @@
 # Makes a repository in a folder of its own, with the library in it as README.md says, and a program of the examples of
 # README.md, of the map of docs/CALLING.md, and of the examples in the library's comments, and runs that with `rt try`,
 # which proves nothing and so takes half a minute.
-# Then a program that uses a lent template after its owner was taken apart has to be refused for that. The last line is
+# Then a program that uses a borrowed template after its owner was taken apart has to be refused for that. The last line is
 # 'N passed, M failed, K skipped'.
 set -euo pipefail
 cd "$(dirname "$0")/.."
@@ -31,20 +31,20 @@ write_program() {
   { library_lines && printf 'greeting: subst anyhow\n'; } >"$folder/crates.txt"
 }
 
-# The same program, which now lends a template, takes its owner apart, and then uses what was lent.
+# The same program, which now lends a template, takes its owner apart, and then uses what was borrowed.
 write_use_after_taking_apart() {
   rm "$folder/crates/greeting/src/layered.rt"
   cat >"$folder/crates/greeting/src/main.rt" <<'PROGRAM'
-//! Uses a lent template after its owner was taken apart.
+//! Uses a borrowed template after its owner was taken apart.
 #![tactic(auto)]
 
 use subst::TemplateBuf;
 
 fn main(rt: HostRuntime) -> anyhow::Result<()> {
-    let owner = TemplateBuf::from_string(String::from_str(rt.alloc(), "lent")?).map_err(subst::Error::from)?;
-    let lent = owner.as_template();
+    let owner = TemplateBuf::from_string(String::from_str(rt.alloc(), "borrowed")?).map_err(subst::Error::from)?;
+    let borrowed = owner.as_template();
     let source = owner.into_source();
-    println!(rt; "{} {}", source, lent.source())?;
+    println!(rt; "{} {}", source, borrowed.source())?;
     Ok(())
 }
 PROGRAM
@@ -67,5 +67,5 @@ use_after_taking_apart_is_refused() {
 
 copy_library
 test_that 'a program of another repository' examples_are_run
-test_that 'a lent template after its owner was taken apart' use_after_taking_apart_is_refused
+test_that 'a borrowed template after its owner was taken apart' use_after_taking_apart_is_refused
 end

@@ -25,14 +25,14 @@ from filled import ROFF, filled
 from running import SECONDS, TOP, Skipped, expect_that, need, path_of, run_tests, version
 
 # The crates of the programs, by the names under which these are installed.
-CRATES = {'subst': 'subst_command', 'subst_filter': 'subst_filter'}
+CRATES = {'subst': 'subst_program', 'subst_filter': 'subst_filter'}
 PAGES = [TOP / f'docs/{name}.1.in' for name in CRATES]
 # What the tests need of others, where it is there.
 TOOLS = ('dpkg', 'dpkg-deb', 'fish', 'man', 'mandoc', 'zsh')
 # The files over which a document's examples are run.
 GIVEN = {'README.md': {'shop.env': 'name=Shop\n',
                        'web.conf.in': 'server {\nserver_name ${name};\nroot /srv/$app;\n}\n'}}
-# What an example of a document prints after each command, so that outputs are told apart.
+# What an example of a document prints after each command, so that outputs can be distinguished.
 MARK = '\x01'
 
 
@@ -192,7 +192,7 @@ def test_deb_is_installed_and_removed():
 
 def options():
     """The options of subst as its help has them: the letter, if there is one, the long form, and the text."""
-    printed = ran([path_of('subst_command'), '--help'])
+    printed = ran([path_of('subst_program'), '--help'])
     return set(re.findall(r'^  (?:-(\w), |    )--([\w-]+)(?: <[^>]*>)?\s+(.*)$', printed, re.MULTILINE))
 
 
@@ -203,7 +203,7 @@ def expect_same(path, found, wanted):
 
 
 def expect_words(path, found):
-    """Fails the test unless a file has the words of these options."""
+    """Fails the test unless a file has the names of these options."""
     words = {word for letter, name, _ in options() for word in (f'-{letter}', f'--{name}')}
     expect_same(path, set(found), words - {'-'})
 
@@ -216,21 +216,21 @@ def written(shell, path):
 
 
 def offered_by_bash(words):
-    """What is offered in bash for the last of its words. Where nothing is, bash offers files, or it is told not to."""
+    """What is offered in bash for the last of its arguments. Where nothing is, bash offers files, if allowed."""
     script = '. "$0"; compopt() { printf "%s " "$@"; }; COMP_WORDS=("$@"); COMP_CWORD=$(($# - 1)); _subst; ' \
         'printf "%s " "${COMPREPLY[@]}"'
     return ran(['bash', '-c', script, written('bash', 'shells/subst.bash'), 'subst', *words.split()]).split()
 
 
 def offered_by_fish(words):
-    """What is offered in fish for the last word of a command line, without the texts."""
+    """What is offered in fish for the last argument of a command line, without the texts."""
     script = f"source {written('fish', 'shells/subst.fish')}; complete -C 'subst {words}'"
     printed = ran(['fish', '-c', script], env={**os.environ, 'HOME': os.getcwd()})
     return [line.split('\t')[0] for line in printed.splitlines()]
 
 
 def expect_offers(offered, *pairs):
-    """Fails the test unless this is offered after these words."""
+    """Fails the test unless this is offered after these arguments."""
     for words, wanted in pairs:
         found = offered(words)
         expect_that(found == wanted, f'after subst {words} {offered.__name__}: {found} and not {wanted}')

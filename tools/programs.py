@@ -37,7 +37,7 @@ PLAIN = bytes(byte for byte in range(256) if byte not in b'\\$')
 NAME_BYTES = b'0123456789ABCDEFGHIJKLMNOPQRSTUVWXYZ_abcdefghijklmnopqrstuvwxyz'
 # Text that gives itself: all of it is more than a pipe holds.
 TEXT = b'Each line of this text is the same as all others.\n'
-# Each word of the filter, with a variable for those that take one.
+# Each first argument of the filter, with a variable for those that take one.
 WORDS = (['bytes', 'name=world'], ['text', 'name=world'], ['env'])
 
 
@@ -45,12 +45,12 @@ WORDS = (['bytes', 'name=world'], ['text', 'name=world'], ['env'])
 
 
 def fill_in(words, source=b'', **options):
-    """Runs the filter over bytes, with these words of the form NAME=VALUE."""
+    """Runs the filter over bytes, with these arguments of the form NAME=VALUE."""
     return run(PROGRAM, ['bytes', *words], source, **options)
 
 
 def fill_text_in(words, source=b'', **options):
-    """Runs the filter over text, with these words of the form NAME=VALUE."""
+    """Runs the filter over text, with these arguments of the form NAME=VALUE."""
     return run(PROGRAM, ['text', *words], source, **options)
 
 
@@ -60,8 +60,8 @@ def fill_in_from(environment, source=b'', **options):
 
 
 def with_entries(words, entries, has_name=True):
-    """The option that runs the filter with these entries as its environment, which may be no names and values, or
-    have a name twice; and with its own name before its words, or without."""
+    """The option that runs the filter with these entries as its environment, which may be no names and values, or have
+    a name twice; and with its own name before its arguments, or without."""
     def strings(items):
         return (ctypes.c_char_p * (len(items) + 1))(*items, None)
 
@@ -166,7 +166,7 @@ def test_filter_fills_texts_in():
 
 
 def expect_each_word(build):
-    """Fails the test unless a build of the filter does what each of its words says."""
+    """Fails the test unless a build of the filter does what each first argument says."""
     letter = ('Dear $name,\n${greeting:Grüße aus ${town:Köln}}! ${title?}You owe ${sum}${empty}\\: '
               '\\$name, \\{\\}, \\\\ and ❤.\n')
     written = 'Dear Zoë,\nGrüße aus Köln! You owe 12 €: $name, {}, \\ and ❤.\n'
@@ -222,7 +222,7 @@ def test_filter_takes_an_environment_as_it_is():
 
 def test_filter_takes_the_first_of_two_entries_with_a_name():
     expect(run(PROGRAM, [], b'$A', **with_entries([b'env'], [b'A=1', b'A=2', b'B', b'=C'])), 0, b'1')
-    # The program `env` sets a name again, and so hands on the last value alone.
+    # The program `env` sets a name again, and so passes on the last value alone.
     ran = subprocess.run(['env', '-i', 'A=1', 'A=2', path_of(PROGRAM), 'env'], input=b'$A', timeout=SECONDS,
                          stdout=subprocess.PIPE, stderr=subprocess.PIPE)
     expect(End(ran.returncode, ran.stdout, ran.stderr), 0, b'2')
@@ -258,7 +258,7 @@ def test_filter_fails_at_an_environment_outside_utf8():
             count = fill(writer)
             expect(fill_in_from(variables, stdin=reader), 3, errors=READ_FAILED)
             expect_that(len(left_in(reader)) == count, f'input was read with the environment {variables}')
-        # Only the word `env` reads it.
+        # Only the argument `env` reads it.
         for words in (['bytes', 'a=1'], ['text', 'a=1']):
             expect(run(PROGRAM, words, b'$a', env=variables), 0, b'1')
         expect(run(PROGRAM, ['env', 'a=1'], b'$a', env=variables), 2, errors=USAGE)
@@ -539,7 +539,7 @@ def test_filter_takes_names_of_100_kb():
 def test_filter_takes_4000_words():
     words = [f'name{number % 2000}=value{number}' for number in range(4000)]
     source = ''.join(f'${{name{number}}} $name{number}\n' for number in range(2000))
-    # The last word of a name counts.
+    # The last argument of a name counts.
     output = ''.join(f'value{number} value{number}\n' for number in range(2000, 4000))
     expect(fill_in(words, source.encode()), 0, output.encode())
 

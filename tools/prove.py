@@ -1,10 +1,10 @@
 #!/usr/bin/env python3
 """prove.py [CRATE]..   Proves crates over kept work, each once those that it uses are proved, and builds them.
 
-`rt ci` keeps nothing of what it proves, so this is the one proof for all that comes after it. Without words it makes
-what is tested and installed: the library for C and the programs, of which those that `rt ci` built stay as they are.
-Each crate is proved by one process, several side by side; nothing else may run over the tree meanwhile. The last line
-is 'N passed, M failed, K skipped'.
+`rt ci` keeps nothing of what it proves, so this is the one proof for all that comes after it. Without arguments it
+makes what is tested and installed: the library for C and the programs, of which those that `rt ci` built stay as they
+are. Each crate is proved by one process, several side by side; nothing else may run over the tree meanwhile. The last
+line is 'N passed, M failed, K skipped'.
 """
 import concurrent.futures
 import os
@@ -18,7 +18,7 @@ sys.dont_write_bytecode = True
 from running import CRATES, TOP, Wrong, build, end
 
 PARTS = ('src', 'specs', 'proofs')
-INSTALLED = ('subst_c', 'subst_filter', 'subst_command')
+INSTALLED = ('subst_c', 'subst_filter', 'subst_program')
 LANES = int(os.environ.get('RT_JOBS') or len(os.sched_getaffinity(0)))
 
 
@@ -48,17 +48,17 @@ def rt(crate, *words):
                           stderr=subprocess.STDOUT, encoding='utf-8', errors='replace')
 
 
-def copy_of(name, room, uses):
+def copy_of(name, folder, uses):
     """A copy of a crate over its kept work, with links to the files that a check leaves as they are."""
-    (room / 'crates').mkdir()
-    shutil.copy(TOP / 'crates.txt', room)
+    (folder / 'crates').mkdir()
+    shutil.copy(TOP / 'crates.txt', folder)
     for other in uses:
-        (room / 'crates' / other / 'src').mkdir(parents=True)
-    links = '-al' if room.stat().st_dev == TOP.stat().st_dev else '-a'
+        (folder / 'crates' / other / 'src').mkdir(parents=True)
+    links = '-al' if folder.stat().st_dev == TOP.stat().st_dev else '-a'
     for below in with_those_below([name], uses):
-        shutil.rmtree(room / 'crates' / below)
-        subprocess.run(['cp', links, CRATES / below, room / 'crates' / below], check=True)
-    crate = room / 'crates' / name
+        shutil.rmtree(folder / 'crates' / below)
+        subprocess.run(['cp', links, CRATES / below, folder / 'crates' / below], check=True)
+    crate = folder / 'crates' / name
     for part in PARTS:
         if (crate / part).is_dir():
             shutil.rmtree(crate / part)
@@ -68,14 +68,14 @@ def copy_of(name, room, uses):
 
 def prove(name, uses):
     """Proves a crate and builds it, if it is a library. It does so in a copy, since no two runs of `rt` work over one
-    library at a time, and puts the work in the place of what was kept."""
-    with tempfile.TemporaryDirectory() as room:
-        crate, kept = copy_of(name, pathlib.Path(room), uses), CRATES / name / 'out'
+    library at a time, and puts the work in place of what was kept."""
+    with tempfile.TemporaryDirectory() as folder:
+        crate, kept = copy_of(name, pathlib.Path(folder), uses), CRATES / name / 'out'
         ran = rt(crate, 'lib' if is_library(name) else 'check')
         if ran.returncode != 0:
             raise Wrong(f'{name} is not proved:\n{ran.stdout[-3000:]}')
         if kept.is_dir():
-            shutil.move(kept, pathlib.Path(room) / 'before')
+            shutil.move(kept, pathlib.Path(folder) / 'before')
         shutil.move(crate / 'out', kept)
 
 

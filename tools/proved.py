@@ -1,7 +1,7 @@
 #!/usr/bin/env python3
 """proved.py   Prints what is proved of what callers can reach, file by file: public functions, and traits and
-implementations that state something, each with the first paragraph of its comment and its clauses, as they stand in
-the source. tools/house.py asks for what isn't printed and should be.
+implementations that state something, each with the first paragraph of its comment and its clauses, as they are in the
+source. tools/house.py asks for what isn't printed and should be.
 """
 import functools
 import re
@@ -14,20 +14,20 @@ from prove import crates, with_those_below
 from running import CRATES
 
 # The crates that callers depend on.
-DOORS = ('subst', 'subst_filter_lib', 'subst_command_lib', 'subst_c')
+DOORS = ('subst', 'subst_filter_lib', 'subst_cli', 'subst_c')
 # Files that aren't printed, since callers don't reach their functions, and why; the longest beginning of a path counts,
 # and one without a reason is printed.
 HIDDEN = {
     'subst_raw/': '`subst` re-exports the module `steps` alone',
-    'subst_raw/src/steps.rt': '',
+    'subst_raw/src/counters.rt': '',
     'subst_walk/': '`subst` has no function of it',
     'subst_json/src/typed.rt': 'its module is private, and its trait is there for each type of `serde`',
     'subst_toml/src/typed.rt': 'its module is private, and its trait is there for each type of `serde`',
     'subst_c/': 'its modules are private',
     'subst_c/src/lib.rt': '',
-    'subst_command_lib/': 'most of its modules are private',
-    'subst_command_lib/src/options.rt': '',
-    'subst_command_lib/src/process.rt': '',
+    'subst_cli/': 'most of its modules are private',
+    'subst_cli/src/options.rt': '',
+    'subst_cli/src/process.rt': '',
 }
 # How an item begins: its margin, whether it is public, what it is, and its name.
 BEGIN = re.compile(r'(|    )(pub(?:\([^)]*\))? )?(?:unsafe |extern "C" )*(fn|trait|impl|type|ghost(?! use))\b ?(\w*)')

@@ -4,7 +4,7 @@
 Half of the documents are JSON, and half TOML, small ones but for a few that are deep or wide, with strings spelled in
 all ways, comments and white space. Their strings are templates. What `subst` makes of them is read back by Python's
 readers, and is the document with its strings filled in by tools/rules.py. Then a fault is put at one place in each, and
-`subst --check` tells that one alone, at its line and column. The seed is fixed, unless SEED gives another; a failure
+`subst --check` reports that one alone, at its line and column. The seed is fixed, unless SEED gives another; a failure
 names it with the document. Each test prints a line, and the last line is 'N passed, M failed, K skipped'.
 """
 import argparse
@@ -71,7 +71,7 @@ def cased(rng, digits):
 
 
 def is_raw(c, others=''):
-    """Whether a character may stand in a string as it is."""
+    """Whether a character may be in a string as it is."""
     return c in PLAIN or c in others or (' ' <= c < '\x7f' and c not in '"\\')
 
 
@@ -322,7 +322,7 @@ def toml_documents(rng, count):
     return (maker.document(number) for number in range(count))
 
 
-# Each kind of documents: how they are made, and a document that is told from all of them by what it gives.
+# Each kind of documents: how they are made, and a document that differs from all of them by what it gives.
 KINDS = {
     'json': (json_documents, '"the end of a document"\n'),
     'toml': (toml_documents, 'the = "end of a document"\n'),
@@ -344,7 +344,7 @@ def place(before):
 
 
 def with_fault(rng, text):
-    """A document with a fault in one of its strings, with the place and the text of that, or None where it has none."""
+    """A document with a fault in one of its strings, with its position and its text, or None where it has none."""
     marks = list(MARK.finditer(text))
     if not marks:
         return None
@@ -366,7 +366,7 @@ def write_files(folder, texts):
 
 def subst(folder, kind, words):
     """Runs the program on files of a folder."""
-    return run('subst_command', [f'--{kind}', '-s', f'a={VALUE}', *words], name='subst', cwd=folder)
+    return run('subst_program', [f'--{kind}', '-s', f'a={VALUE}', *words], name='subst', cwd=folder)
 
 
 def check_filled(folder, kind, texts):
@@ -390,7 +390,7 @@ def check_filled(folder, kind, texts):
 
 
 def check_faults(folder, kind, documents):
-    """Checks the places that are told of the faults of documents."""
+    """Checks the positions that are reported of the faults of documents."""
     write_files(folder, [text for text, _, _ in documents])
     end = subst(folder, kind, ['--check', *map(str, range(len(documents)))])
     expect(end._replace(errors=b''), 1)
@@ -398,8 +398,8 @@ def check_faults(folder, kind, documents):
     for number, (text, at, what) in enumerate(documents):
         message = messages[number] if number < len(messages) else 'nothing'
         if not (message.startswith(f'{number}:{at}: ') and message.endswith(what)):
-            raise Wrong(f'{text!r} has a fault at {at}, {what}, and what is told is {message}')
-    expect_that(len(messages) == len(documents), f'{len(documents)} faults are told as {len(messages)}')
+            raise Wrong(f'{text!r} has a fault at {at}, {what}, and what is reported is {message}')
+    expect_that(len(messages) == len(documents), f'{len(documents)} faults are reported as {len(messages)}')
 
 
 def check_chunk(seed, kind, number):
@@ -428,7 +428,7 @@ def main():
     print(f'seed {given.seed}')
     chunks = max(1, round(given.count / CHUNK / len(KINDS)))
     run_tests([(f'{chunks * CHUNK}_documents_of_{kind}', functools.partial(check, given.seed, kind, chunks))
-               for kind in KINDS], ['subst_command'])
+               for kind in KINDS], ['subst_program'])
 
 
 if __name__ == '__main__':

@@ -2,9 +2,9 @@
 """random-sources.py [--seed SEED] [--count COUNT] [--unproved]   Compares answers to random sources: a million.
 
 Half of the sources are of the grammar, and half are damaged at one place. What the few lines of tools/rules.py say of
-each, which are written from the rules of the language, stands in rows as in crates/subst_vectors/data: the output, or
-the fault and its place, the lists of variables and of those that are missing, and of a text the answer to the JSON
-document of this one string. The program `subst_vectors` answers each row in every way, and the installed library each
+each, which are written from the rules of the language, is in rows as in crates/subst_vectors/data: the output, or the
+fault and its position, the lists of variables and of those that are missing, and of a text the answer to the JSON
+document of this one string. The program `subst_vectors` runs each row in every way, and the installed library each
 source from Python. Some sources are then given to `subst_filter` and `subst`. With --unproved `rt try` runs the first
 program over the rows of fewer sources, 6,000, and nothing is proved or built. The seed is fixed, unless SEED gives
 another; each failure names it. Each test prints a line, and the last line is 'N passed, M failed, K skipped'.
@@ -29,7 +29,7 @@ CHUNK = 20000
 RUN = 300
 # How many pieces there are to join sources from, two or three in each; as many again are short ones.
 PIECES = 1000
-# How many sources are answered by `rt try`, which takes some milliseconds for each, and the seconds that it may take.
+# How many sources are run by `rt try`, which takes some milliseconds for each, and the seconds that it may take.
 TRIED, TRY_SECONDS = 6000, 600
 
 NAMES = ('a', 'b', 'c', 'd', '9', '_', 'a1', 'none', 'none_2')
@@ -134,7 +134,7 @@ def write_rows(file, sources, variables, answers):
 
 def expect_same(seed, name, source, came, wanted):
     if came[:max(2, len(wanted))] != wanted:
-        raise Wrong(f'seed {seed}, {name}, source {encode(source)}\n    is answered {came}\n    and not     {wanted}')
+        raise Wrong(f'seed {seed}, {name}, source {encode(source)}\n    gives   {came}\n    and not {wanted}')
 
 
 def compare_file(seed, prefix, name, number):
@@ -160,7 +160,7 @@ def compare(seed, prefix, name, files):
 
 
 def try_unproved(seed, count):
-    """Has the rows of so many sources answered by the program as `rt try` runs it."""
+    """Has the rows of so many sources run by the program as `rt try` runs it."""
     holds, data = {}, []
     for name, (*_, share) in MAKES.items():
         sources, variables = some_sources(seed, name, 'try', count * share // 10)
@@ -175,7 +175,7 @@ def try_unproved(seed, count):
 
 
 def programs_end_as_the_library_says(seed, prefix):
-    """Runs the filter, with each of its words, and `subst` on some texts, half of them damaged."""
+    """Runs the filter, with each first argument, and `subst` on some texts, half of them damaged."""
     module = installed.module(prefix)
     for name in ('texts_of_the_grammar', 'damaged_texts'):
         sources, variables = some_sources(seed, name, 'run', RUN // 2)
@@ -200,9 +200,9 @@ def expect_filter_ends(source, variables, output, error):
 
 
 def expect_subst_ends(source, variables, output, error):
-    """Of the messages the first line is compared, which has the place and the text of the first fault."""
+    """Of the messages the first line is compared, which has the position and the text of the first fault."""
     words = [word for name, value in variables.items() for word in (b'-s', name + b'=' + value)]
-    end = run('subst_command', words, source, name='subst')
+    end = run('subst_program', words, source, name='subst')
     first = f'<stdin>:{error.line}:{error.column}: {as_told(str(error))}\n'.encode() if error else b''
     expect(end._replace(errors=end.errors[:len(first) or None]), 1 if error else 0, output, first)
 
@@ -225,7 +225,7 @@ def main():
     if given.unproved:
         count = given.count or TRIED
         run_tests([(f'{count}_sources_by_rt_try', functools.partial(try_unproved, given.seed, count))], [])
-    programs = ['subst_filter', 'subst_command', 'subst_vectors']
+    programs = ['subst_filter', 'subst_program', 'subst_vectors']
     with installed.installed() as prefix:
         run_tests(tests(given.seed, given.count or 1000000, prefix), programs)
 

@@ -2,13 +2,13 @@
 """refuse-memory.py [--table]   Counts the requests for memory of each call and their bytes, and refuses each of them.
 
 The program subst_memory_tests makes each call between a line 'call: NAME' and a line 'end of call'. Before and after it,
-lines that begin with 'lent' show all that the call is lent, and its answer is in the lines in between. With no request
+lines that begin with 'borrowed' show all that the call borrows, and its answer is in the lines in between. With no request
 refused the output has to be the stored one, and the calls, the numbers of their requests and the bytes that these ask
 for have to be those of docs/MEMORY.md. Then the program is run once for each request of each call, which is refused in
 that run alone. With --table the rows that docs/MEMORY.md has to have are printed, and nothing is refused.
 
 Each such run has to print the stored output too, but for one thing: a call that is out of memory says so right after its
-end, and shows what it was lent, which has to be as before the call. The same call with memory then has to give its
+end, and shows what it borrows, which has to be as before the call. The same call with memory then has to give its
 answer. A call that makes requests has to be out of memory in at least one run. Each test is a call, and the last line
 is 'N passed, M failed, K skipped'.
 """
@@ -31,7 +31,7 @@ TABLE = {name: (int(count), int(size)) for name, count, size in
          re.findall(r'^(.*\S) +(\d+) +(\d+)$', BLOCKS[0], re.MULTILINE)}
 TABLE.update((name, (0, 0)) for name in BLOCKS[1].splitlines())
 # What the library says of a request, and the program of a call.
-REQUEST, CALL, END, LENT, OUT_OF_MEMORY = 'request ', 'call: ', 'end of call', 'lent', 'out of memory'
+REQUEST, CALL, END, LENT, OUT_OF_MEMORY = 'request ', 'call: ', 'end of call', 'borrowed', 'out of memory'
 
 
 class Call(NamedTuple):

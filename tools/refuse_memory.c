@@ -1,4 +1,4 @@
-/* A library to preload that refuses one request for memory, or tells of each.
+/* A library to preload that refuses one request for memory, or reports each.
  *
  * REFUSE_REQUEST says which of the program's requests gets NULL, counted from 1. When that request comes, the file that
  * REFUSE_REPORT names is made, so that without it no request was refused. With REFUSE_NONE in its place none is refused,
@@ -30,7 +30,7 @@ __attribute__((constructor)) static void begin(void)
     are_told = getenv("REFUSE_NONE") != NULL;
 }
 
-/* Tells of a request for this many bytes. If that fails, the program ends with a status of its own. */
+/* Reports a request for this many bytes. If that fails, the program ends with a status of its own. */
 static void tell(size_t size)
 {
     char line[40];

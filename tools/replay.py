@@ -1,10 +1,10 @@
 #!/usr/bin/env python3
 """replay.py [--prefix PREFIX]   Compares what people get for each row of crates/subst_vectors/data, in each column.
 
-The library for C answers through the module for Python, both as tools/install puts them below PREFIX, or else below a
-new one: each row of bytes and of lists, and those that are texts once more as texts. The program `subst` answers each
+The library for C is called through the module for Python, both as tools/install puts them below PREFIX, or else below a
+new one: each row of bytes and of lists, and those that are texts once more as texts. The program `subst` fills in each
 document; what it prints is read back by Python's readers. The rows are compared with tools/rules.py too. A row that
-differs is printed with what came in the place of its answer. Each test prints a line, and the last line is
+differs is printed with what came in place of its answer. Each test prints a line, and the last line is
 'N passed, M failed, K skipped'.
 """
 import argparse
@@ -73,7 +73,7 @@ def of_tree(row, tree):
 def by_subst(row):
     """Of a fault the text has to be among those of the faults of all strings."""
     words = [word for name, value in row.variables.items() for word in (b'-s', name + b'=' + value)]
-    end = run('subst_command', [f'--{row.kind}', *words], row.source, name='subst')
+    end = run('subst_program', [f'--{row.kind}', *words], row.source, name='subst')
     if end.status == 0 and not end.errors:
         return of_tree(row, read_document(row.kind, end.output.decode()))
     texts = [line for line in end.errors.decode().splitlines() if line.startswith('<stdin>:')]
@@ -127,7 +127,7 @@ def main():
     parser = argparse.ArgumentParser(description=__doc__.partition('   ')[2].partition('\n')[0])
     parser.add_argument('--prefix')
     with installed.installed(parser.parse_args().prefix) as prefix:
-        run_tests(list(tests(prefix)), ['subst_command'])
+        run_tests(list(tests(prefix)), ['subst_program'])
 
 
 main()

@@ -16,7 +16,7 @@ class Refused(Exception):
 
 
 class Variable(NamedTuple):
-    """A variable: its kind, the place of its name, the name, and what stands for it where it has no value."""
+    """A variable: its kind, the position of its name, the name, and what replaces it where it has no value."""
     kind: bytes
     place: int
     name: bytes
@@ -24,7 +24,7 @@ class Variable(NamedTuple):
 
 
 def parsed(source, at, end):
-    """The items of the source between two places: bytes, or a variable."""
+    """The items of the source between two positions: bytes, or a variable."""
     items = []
     while at < end:
         if plain := PLAIN_BYTES.match(source, at, end):
@@ -42,7 +42,7 @@ def parsed(source, at, end):
 
 
 def placeholder(source, at, end):
-    """The variable that begins at this dollar, and the place after it."""
+    """The variable that begins at this dollar, and the position after it."""
     brace = at + 1 if source[at + 1:min(at + 2, end)] == b'{' else None
     name = NAME.match(source, at + 1 if brace is None else at + 2, end)
     if name is None:
@@ -65,7 +65,7 @@ def placeholder(source, at, end):
 
 
 def closing_brace(source, at, end, brace):
-    """The place of the brace that closes the default which begins here."""
+    """The position of the brace that closes the default which begins here."""
     depth = 1
     for found in BRACE.finditer(source, at, end):
         depth += {b'{': 1, b'}': -1}.get(found[0], 0)

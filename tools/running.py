@@ -17,7 +17,7 @@ from typing import NamedTuple
 
 TOP = pathlib.Path(__file__).resolve().parent.parent
 CRATES = TOP / 'crates'
-# Words for which a program does its work, where it needs some.
+# Arguments with which a program does its work, where it needs some.
 WORDS = {'subst_filter': ['bytes'], 'subst_vectors': ['data/variables.tsv']}
 # How long a program may run. Each run takes less than a second on a machine that does nothing else.
 SECONDS = 30
@@ -147,7 +147,7 @@ def expect_that(fact, text):
         raise Wrong(text)
 
 
-# What stands by its number in a message of `subst`: what a terminal would obey, or what can't be seen.
+# What is shown by its number in a message of `subst`: what a terminal would obey, or what can't be seen.
 HIDDEN = re.compile('[\0-\x1f\x7f-\x9f\u061c\u200e\u200f\u2028-\u202e\u2066-\u2069\ufeff]')
 
 

@@ -27,7 +27,7 @@ class Run(NamedTuple):
 
 
 def check(source, *words):
-    return Run('subst_command', words, source)
+    return Run('subst_program', words, source)
 
 
 def fault_after_a_line(count):
@@ -63,7 +63,7 @@ def variables_in_a_hash_map(count):
 
 
 def sets(count):
-    return Run('subst_command', [word for name in names(count) for word in ('-s', f'{name}=1')], 8 * source_of(count))
+    return Run('subst_program', [word for name in names(count) for word in ('-s', f'{name}=1')], 8 * source_of(count))
 
 
 def variables(count):
@@ -152,7 +152,7 @@ def grows_little(work, count):
 def main():
     tests = [(work.__name__.replace('_', ' '), functools.partial(grows_little, work, count))
              for work, count in WORKS.items()]
-    run_tests(tests, ['subst_filter', 'subst_command'])
+    run_tests(tests, ['subst_filter', 'subst_program'])
 
 
 main()

@@ -16,7 +16,7 @@ except ImportError:  # before Python 3.11
     tomllib = None
 
 DATA = CRATES / 'subst_vectors' / 'data'
-# What can't stand in a column as it is. A byte that isn't of UTF-8 is read as a lone surrogate.
+# What can't be in a column as it is. A byte that isn't of UTF-8 is read as a lone surrogate.
 SPECIAL = re.compile('[\x00-\x1f\x7f%\udc80-\udcff]')
 SPECIAL_IN_PAIRS = re.compile('[\x00-\x1f\x7f%,=\udc80-\udcff]')
 # A second that Python's reader of TOML refuses; read as the one before it, everywhere.
@@ -24,7 +24,7 @@ LEAP_SECOND = re.compile('([0-9]{2}:[0-9]{2}):60')
 
 
 class Row(NamedTuple):
-    """A row: where it stands, its text, its kind, source and variables, and its other columns."""
+    """A row: where it is, its text, its kind, source and variables, and its other columns."""
     place: str
     line: str
     kind: str
@@ -130,7 +130,7 @@ def tree_of_row(row):
 
 
 def with_dates(tree):
-    """A tree in which dates are what Python's reader reads, in the place of their arrays."""
+    """A tree in which dates are what Python's reader reads, in place of their arrays."""
     if isinstance(tree, list):
         if tree[:2] == ['date', None]:
             return read_document('toml', f'date = {tree[2]}')['date']

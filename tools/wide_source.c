@@ -51,31 +51,31 @@ static int is_filled_in(const uint8_t *source, size_t length)
 {
     struct subst_pair pairs[] = {pair_of("a", "1"), pair_of("b", "2")};
     struct subst_fault fault;
-    uint8_t room[ROOM];
+    uint8_t buffer[ROOM];
     size_t needed = 0;
-    memset(room, UNTOUCHED, ROOM);
-    return subst_bytes_into(source, length, pairs, 2, room, ROOM, &needed, &fault) == SUBST_DONE && needed == 3 &&
-           memcmp(room, "1x2", 3) == 0 && room[3] == UNTOUCHED;
+    memset(buffer, UNTOUCHED, ROOM);
+    return subst_bytes_into(source, length, pairs, 2, buffer, ROOM, &needed, &fault) == SUBST_DONE && needed == 3 &&
+           memcmp(buffer, "1x2", 3) == 0 && buffer[3] == UNTOUCHED;
 }
 
 static int is_missing_its_last_variable(const uint8_t *source, size_t length)
 {
     struct subst_pair pair = pair_of("a", "1");
     struct subst_fault fault = {0, 0, 0};
-    uint8_t room[ROOM];
+    uint8_t buffer[ROOM];
     size_t needed;
-    return subst_bytes_into(source, length, &pair, 1, room, ROOM, &needed, &fault) == SUBST_REFUSED &&
+    return subst_bytes_into(source, length, &pair, 1, buffer, ROOM, &needed, &fault) == SUBST_REFUSED &&
            is_fault(&fault, SUBST_NO_SUCH_VARIABLE, length - 1, 1);
 }
 
 static int has_its_variables(const uint8_t *source, size_t length)
 {
-    struct subst_variable room[2] = {{9, 9, 9}, {9, 9, 9}};
+    struct subst_variable buffer[2] = {{9, 9, 9}, {9, 9, 9}};
     struct subst_fault fault;
     size_t needed = 0;
-    return subst_variables(source, length, room, 2, &needed, &fault) == SUBST_DONE && needed == 2 &&
-           room[0].kind == SUBST_WITH_DEFAULT && room[0].position == 2 && room[0].length == 1 &&
-           room[1].kind == SUBST_REQUIRED && room[1].position == length - 1 && room[1].length == 1;
+    return subst_variables(source, length, buffer, 2, &needed, &fault) == SUBST_DONE && needed == 2 &&
+           buffer[0].kind == SUBST_WITH_DEFAULT && buffer[0].position == 2 && buffer[0].length == 1 &&
+           buffer[1].kind == SUBST_REQUIRED && buffer[1].position == length - 1 && buffer[1].length == 1;
 }
 
 static int is_refused_at_its_end(const uint8_t *source, size_t length)

@@ -41,10 +41,10 @@ pub use Rattle.subst_language.proofs.CallingLemmas.{expanded}
 pub use Rattle.subst_language.proofs.CallingLemmas.{expanded_memory_alone}
 -- an expansion into an output appends what the source gives, or states what it is refused for
 pub use Rattle.subst_language.proofs.CallingLemmas.{given_into, missed_into}
--- a source that gives bytes: its expansion into an output that has room for them succeeds
-pub use Rattle.subst_language.proofs.CallingLemmas.{given_in_room}
--- where no value is longer than `longest`, an output with room for the source and for that much for each of
--- its dollars is never too short
+-- a source that gives bytes: its expansion into an output that has capacity for them succeeds
+pub use Rattle.subst_language.proofs.CallingLemmas.{given_in_capacity}
+-- where no value is longer than `longest`, an output with capacity for the source and for that much for each
+-- of its dollars is never too short
 pub use Rattle.subst_language.proofs.CallingLemmas.{never_full}
 -- where no value is longer than `longest`, an output has at most as many bytes as its source, and `longest`
 -- more for each dollar of the source
@@ -59,5 +59,5 @@ pub use Rattle.subst_language.proofs.WorkedExamples.Forms.{is_well_formed}
 pub use Rattle.subst_language.proofs.WorkedExamples.Words.{plain, only_plain, only}
 -- a JSON tree is filled in as one tree, or refused for one fault, and never both
 pub use Rattle.subst_json.proofs.OneOutcomeLemmas.{one_outcome}
--- the same of a TOML tree
+-- a TOML tree is filled in as one tree, or refused for one fault, and never both
 pub use Rattle.subst_toml.proofs.OneOutcomeLemmas.{one_outcome as toml_one_outcome}

@@ -3,11 +3,11 @@ pub use Rattle.subst_error.specs.declared.CharOrByte.{CharOrByte}
 pub use Rattle.subst_error.specs.declared.Error.{Error}
 pub use Rattle.subst_error.specs.declared.ExpandError.{ExpandError}
 pub use Rattle.subst_error.specs.declared.ParseError.{ParseError}
-pub use Rattle.subst_error.specs.declared.lent.ExpandIntoError.{ExpandIntoError}
-pub use Rattle.subst_error.specs.declared.lent.SubstituteIntoError.{SubstituteIntoError}
+pub use Rattle.subst_error.specs.declared.borrowed.ExpandIntoError.{ExpandIntoError}
+pub use Rattle.subst_error.specs.declared.borrowed.SubstituteIntoError.{SubstituteIntoError}
 pub use Rattle.subst_error.specs.declared.CharOrByte.TheVariants as character
 pub use Rattle.subst_error.specs.declared.Error.TheVariants as error
 pub use Rattle.subst_error.specs.declared.ExpandError.TheVariants as expanding
 pub use Rattle.subst_error.specs.declared.ParseError.TheVariants as parsing
-pub use Rattle.subst_error.specs.declared.lent.ExpandIntoError.TheVariants as expanding_into
-pub use Rattle.subst_error.specs.declared.lent.SubstituteIntoError.TheVariants as substituting_into
+pub use Rattle.subst_error.specs.declared.borrowed.ExpandIntoError.TheVariants as expanding_into
+pub use Rattle.subst_error.specs.declared.borrowed.SubstituteIntoError.TheVariants as substituting_into

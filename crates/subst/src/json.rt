@@ -9,6 +9,6 @@
 //! [`place_in`] return where they are in the document that was read.
 
 pub use subst_json::{
-    Error, Path, RefusedString, Step, all_refusals, first_refusal, from_slice, from_str, place_in,
-    place_of, substitute_string_values, value_from_slice, value_from_str,
+    Error, Path, PathStep, RefusedString, all_refusals, first_refusal, from_slice, from_str,
+    place_in, place_of, substitute_string_values, value_from_slice, value_from_str,
 };

@@ -1,16 +1,11 @@
 //! Laws of the definitions that the contracts cite. Each is the contract of a function that does nothing. And
-//! [`escaped`], [`escape_into`] and [`is_plain`], of which one of them speaks each, and templates for texts
-//! of other tools.
+//! [`escaped`], of which one of them speaks.
 
-pub use subst_escape::{escape_into, escaped};
-pub use subst_foreign::{
-    bytes_from_envsubst, bytes_with_only, from_envsubst, place_in_text, with_only,
-};
+pub use subst_escape::escaped;
 pub use subst_json::laws::{pointers_find_strings, trees_have_one_outcome};
 pub use subst_language::laws::{
     law_1, law_2, law_3, law_4, law_5, law_6, law_7, law_8, law_9, missing_lists_are_whole,
     missing_variables_are_missing, outputs_are_bounded, texts_give_texts, turns_are_bounded,
 };
 pub use subst_map::laws::{maps_are_look_ups, maps_are_look_ups_of_texts};
-pub use subst_template::is_plain;
 pub use subst_toml::laws::trees_have_one_outcome as toml_trees_have_one_outcome;

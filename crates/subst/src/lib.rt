@@ -13,10 +13,10 @@
 //! [`substitute`] fills in a text from texts, and [`substitute_bytes`] bytes from bytes. A source that is
 //! used more than once is parsed once: [`Template`] and [`ByteTemplate`] borrow it, [`TemplateBuf`] and
 //! [`ByteTemplateBuf`] own it. All read one language: a text gives the text whose bytes its bytes give. A
-//! template tells its variables, and all that a map is missing, by `variables` and `missing`.
+//! template lists its variables, and all that a map is missing, by `variables` and `missing`.
 //!
 //! Functions that allocate take an allocator and return `OutOfMemory` when allocation fails. After an
-//! error, sources, maps and templates that were lent are as before.
+//! error, sources, maps and templates that were borrowed are as before.
 //!
 //! Variables come from a `BTreeMap`, a `HashMap` or an `IndexMap` with keys `String` or `&str`, from pairs by
 //! an [`Env`], from [`NoSubstitution`], which has none, or from any other [`VariableMap`].
@@ -32,12 +32,14 @@ pub use subst_error as error;
 pub use subst_error::Error;
 pub use subst_language::{Variable, VariableKind};
 pub use subst_map::{Env, NeverValue, NoSubstitution, VariableMap};
-pub use subst_raw::steps;
+pub use subst_raw::counters as steps;
 pub use subst_template::{
     ByteTemplate, ByteTemplateBuf, Template, TemplateBuf, substitute, substitute_bytes,
     substitute_bytes_into, substitute_bytes_owned, substitute_into, substitute_owned,
 };
 
+pub mod escape;
+pub mod foreign;
 pub mod json;
 pub mod laws;
 pub mod toml;

@@ -1,4 +1,4 @@
--- What is told of an answer is what it says.
+-- What is reported of an answer is what it says.
 use Rattle.std.proofs.Common.{◌≡◌, ◌≢◌, ℕ, ◌+◌, ◌-◌, List, length, Option, Some, None, IfSome, Result, Ok, Err, IfOk, String, string_bytes, refl, subst, ap, arith}
 use Rattle.std.specs.Global.{Global}
 use Rattle.std.specs.Option.{option_map}
@@ -14,7 +14,7 @@ use Rattle.subst_c.specs.Fault.{IsToldOf}
 use Rattle.subst_c.specs.Text.{IsHighlighting, SaysOf}
 use Rattle.subst_c.specs.declared.fault.FaultRecord.{FaultRecord}
 
--- what is told of the fault that an error states is told of the one for which the source is refused
+-- what is reported of the fault that an error states is so of the one for which the source is refused
 pub told_of_refusal : (stated : Option Fault) (IsSuch : Fault → Type 0) (told : FaultRecord)
     → IfSome stated IsSuch → IsToldOf (λ f. stated ≡ Some f) told → IsToldOf IsSuch told
 told_of_refusal stated IsSuch told such (f, states, is) = (f, subst (λ o. IfSome o IsSuch) states such, is)
@@ -41,7 +41,7 @@ states_a_fault : (e : Error) → ((x : AllocError) → ¬ (e ≡ OutOfMemory x))
 states_a_fault (OutOfMemory x) other none = other x refl
 states_a_fault _ other none = cc
 
--- so its text is that of the fault
+-- the text of an error that states a fault is that of the fault
 of_a_fault : (e : Option Fault) (IsAnswer : Answer → Type 0) (text : List ℕ) → e ≢ None
     → IfSome (option_map Refuses e) IsAnswer → IsDisplayOfError e text
     → SaysOf IsAnswer IsDisplayOfFault text
@@ -57,7 +57,7 @@ text_of_error e IsAnswer (Ok text) other refused shown =
     of_a_fault (error_fault e) IsAnswer (string_bytes text) (states_a_fault e other) refused shown
 text_of_error e IsAnswer (Err x) other refused shown = tt
 
--- and its highlighting is that of the fault
+-- the highlighting of an error that states a fault is that of the fault
 highlights_a_fault : (e : Option Fault) (IsAnswer : Answer → Type 0) (s text : List ℕ) → e ≢ None
     → IfSome (option_map Refuses e) IsAnswer → text ≡ highlighting_of e s
     → SaysOf IsAnswer (IsHighlighting s) text

@@ -19,7 +19,7 @@ use Rattle.subst_language.specs.Language.Tree.{Tree}
 use Rattle.subst_language.specs.Language.Value.{Bytes, value}
 use Rattle.subst_error.specs.Range.{range_of}
 use Rattle.subst_c.specs.Each.{AreOutputs, ends_from, IsRefusedIn, under_row}
-use Rattle.subst_c.specs.Pairs.{first_value}
+use Rattle.subst_c.specs.Pairs.{pair_value}
 use Rattle.subst_c.specs.declared.pairs.Row.{Row}
 
 -- there are as many ends as outputs
@@ -47,7 +47,7 @@ concat-more outputs output =
 -- the output of the row at an index, after those of the rows before it
 pub one_more : (s : List ℕ) (rows : List Row) (i : ℕ) (d : Row)
     (bytes ends output new_bytes new_ends : List ℕ) → i < length rows → AreOutputs s (take i rows) bytes ends
-    → Answers s (first_value (get_or rows i d).pairs.now) (Gives output) → new_bytes ≡ bytes ++ output
+    → Answers s (pair_value (get_or rows i d).pairs.now) (Gives output) → new_bytes ≡ bytes ++ output
     → new_ends ≡ ends ++ length new_bytes ∷ [] → AreOutputs s (take (i + 1) rows) new_bytes new_ends
 one_more s rows i d bytes ends output new_bytes new_ends h are given joined ended =
     let all = are.outputs in
@@ -68,7 +68,7 @@ one_more s rows i d bytes ends output new_bytes new_ends h are given joined ende
 pub row_refused : (s : List ℕ) (rows : List Row) (i : ℕ) (d : Row)
     (bytes ends new_ends : List ℕ) (e o : Option Fault) → i < length rows
     → AreOutputs s (take i rows) bytes ends → new_ends ≡ ends → e ≡ o
-    → IfSome o (λ f. Answers s (first_value (get_or rows i d).pairs.now) (Refuses f))
+    → IfSome o (λ f. Answers s (pair_value (get_or rows i d).pairs.now) (Refuses f))
     → IfSome e (IsRefusedIn s rows (length new_ends))
 row_refused s rows i d bytes ends new_ends e o h are same states refused =
     subst (λ x. IfSome x (IsRefusedIn s rows (length new_ends))) (sym states) (of o refused)
@@ -78,7 +78,7 @@ row_refused s rows i d bytes ends new_ends e o h are same states refused =
         ∙ length_each (under_row s) (take i rows) are.outputs are.given
         ∙ length-take-le i rows (omega arith)
 
-    of : (o : Option Fault) → IfSome o (λ f. Answers s (first_value (get_or rows i d).pairs.now) (Refuses f))
+    of : (o : Option Fault) → IfSome o (λ f. Answers s (pair_value (get_or rows i d).pairs.now) (Refuses f))
         → IfSome o (IsRefusedIn s rows (length new_ends))
     of None r = tt
     of (Some f) r =
@@ -96,7 +96,7 @@ refused_within s rows i e h =
         → (look : LookUp) × IfSome (option_map Refuses o) (Answers s look)
     some_look None h = ((λ _. None), tt)
     some_look (Some f) (inl fault) = ((λ _. None), inl fault.0)
-    some_look (Some f) (inr at) = (first_value at.here.pairs.now, at.refused)
+    some_look (Some f) (inr at) = (pair_value at.here.pairs.now, at.refused)
 
 -- a variable that is missing is what the source is refused for
 pub refused_for_missing : {T : Type 0} (s : List ℕ) (look : LookUp) (t : Tree) (r : Result T ExpandError)

@@ -9,8 +9,8 @@ use Rattle.std.specs.HashMap.{HashMap, UpdatesBy}
 use Rattle.std.specs.Option.{option_map, option_or, unwrap_or}
 use Rattle.std.specs.Str.{bytes_eq}
 use Rattle.subst_map.specs.Maps.{hash_get_by_lent_text}
-use Rattle.subst_c.specs.Index.{value_in}
-use Rattle.subst_c.specs.Pairs.{first_value}
+use Rattle.subst_c.specs.Index.{indexed_value}
+use Rattle.subst_c.specs.Pairs.{pair_value}
 use Rattle.subst_c.specs.declared.pairs.Pair.{Pair}
 
 -- a value that is put where there was none, and else is the one that was there
@@ -24,7 +24,7 @@ pub adds_if_new : {S : Type 0} (m n : HashMap (Bor (List ℕ)) (Bor (List ℕ)) 
     (name value w : Bor (List ℕ))
     → UpdatesBy (λ x y. bytes_eq x.now y.now) (λ k. bytes_eq name.now k.now) m n (Some w)
     → w ≡ unwrap_or (hash_get_by_lent_text m name.now) value → (other : List ℕ)
-    → value_in n other ≡ option_or (value_in m other)
+    → indexed_value n other ≡ option_or (indexed_value m other)
     (if bytes_eq other name.now then Some value.now else None)
 adds_if_new m n name value w updates is other =
     of (bytes_eq name.now other) refl
@@ -36,7 +36,7 @@ adds_if_new m n name value w updates is other =
     turned : bytes_eq other name.now ≡ bytes_eq name.now other
     turned = nat_list_eq_equiv.symm other name.now
 
-    of : (b : Bool) → bytes_eq name.now other ≡ b → value_in n other ≡ option_or (value_in m other)
+    of : (b : Bool) → bytes_eq name.now other ≡ b → indexed_value n other ≡ option_or (indexed_value m other)
         (if bytes_eq other name.now then Some value.now else None)
     of true same =
         let here = put_if_new (hash_get_by_lent_text m name.now) value w is in
@@ -45,16 +45,16 @@ adds_if_new m n name value w updates is other =
     of false differ = grind (arith, common_steps, after, turned, differ)
 
 -- the value that pairs give once a pair is added: that of the pair where none gave one
-first_value-append : (pairs : List Pair) (pair : Pair) (name : List ℕ)
-    → first_value (pairs ++ pair ∷ []) name ≡ option_or (first_value pairs name)
+pair_value-append : (pairs : List Pair) (pair : Pair) (name : List ℕ)
+    → pair_value (pairs ++ pair ∷ []) name ≡ option_or (pair_value pairs name)
     (if bytes_eq name pair.name.now then Some pair.value.now else None)
-first_value-append [] pair name = grind (arith, common_steps)
-first_value-append (first ∷ pairs) pair name =
-    grind (arith, common_steps, first_value-append pairs pair name)
+pair_value-append [] pair name = grind (arith, common_steps)
+pair_value-append (first ∷ pairs) pair name =
+    grind (arith, common_steps, pair_value-append pairs pair name)
 
 -- the value that one pair more gives, where as many as `at` gave it so far
-pub first_value-take : (pairs : List Pair) (at : ℕ) (d : Pair) (name : List ℕ) → at < length pairs
-    → first_value (take (at + 1) pairs) name ≡ option_or (first_value (take at pairs) name)
+pub pair_value-take : (pairs : List Pair) (at : ℕ) (d : Pair) (name : List ℕ) → at < length pairs
+    → pair_value (take (at + 1) pairs) name ≡ option_or (pair_value (take at pairs) name)
     (if bytes_eq name (get_or pairs at d).name.now then Some (get_or pairs at d).value.now else None)
-first_value-take pairs at d name below =
-    rw (take_more pairs at d below) (first_value-append (take at pairs) (get_or pairs at d) name)
+pair_value-take pairs at d name below =
+    rw (take_more pairs at d below) (pair_value-append (take at pairs) (get_or pairs at d) name)

@@ -2,5 +2,5 @@ mod AnswerLemmas
 mod EachLemmas
 mod IndexLemmas
 mod RecordsLemmas
-mod RoomLemmas
+mod BufferLemmas
 mod TextLemmas

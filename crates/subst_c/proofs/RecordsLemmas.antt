@@ -1,4 +1,4 @@
--- What is told by the records of a list that says what is so of the source's tree.
+-- What is reported by the records of a list that says what is so of the source's tree.
 use Rattle.std.proofs.Common.{◌≡◌, ◌≤◌, ◌<◌, ◌↔◌, ℕ, ◌+◌, List, ◌++◌, drop, length, map, take, ap, ◌∙◌, subst, sym, arith}
 use Rattle.std.proofs.lemmas.List.{length-map, nil_from_length}
 use Rattle.std.proofs.lemmas.List.Elements.{All-map}
@@ -12,12 +12,13 @@ use Rattle.subst_language.specs.Language.Sentence.{ByTree, IsSentence}
 use Rattle.subst_language.specs.Language.Tree.{Tree}
 use Rattle.subst_language.specs.Language.Variables.{Variable, name_range, all_missing}
 use Rattle.subst_c.specs.Records.{HasRecords, variable_record}
-use Rattle.subst_c.specs.Room.{IsPut, IsTooLong}
+use Rattle.subst_c.specs.Buffer.{IsPut, IsTooLong}
 use Rattle.subst_c.specs.declared.variables.VariableRecord.{VariableRecord}
 
 -- The items of a list are the variables of the source's tree, seen so, and so many are told.
 module _ {A : Type 0} (view : A → Variable) (of : Tree → List Variable) (s template : List ℕ)
-    (list items : List A) (needed : ℕ) (same : template ≡ s) (lent : list ≡ items) (sentence : IsSentence s)
+    (list items : List A) (needed : ℕ) (same : template ≡ s) (borrowed : list ≡ items)
+    (sentence : IsSentence s)
     (are : ByTree template (λ t. map view items ≡ of t)) (counted : needed ≡ length list) where
   abbrev records : List VariableRecord
   records = map (λ x. variable_record (view x)) list
@@ -28,14 +29,14 @@ module _ {A : Type 0} (view : A → Variable) (of : Tree → List Variable) (s t
       let is = subst (λ (x : List ℕ). ByTree x (λ t. map view items ≡ of t)) same are t spells in (
         t,
         spells,
-        sym (map-map variable_record view list) ∙ ap (λ l. map variable_record (map view l)) lent
+        sym (map-map variable_record view list) ∙ ap (λ l. map variable_record (map view l)) borrowed
             ∙ ap (map variable_record) is,
       )
 
   count : needed ≡ length records
   count = counted ∙ sym (length-map list (λ x. variable_record (view x)))
 
-  -- their records are put at the front of the room
+  -- their records are put at the front of the buffer
   pub records_put : (old new : List VariableRecord) → new ≡ records ++ drop (length list) old
       → IsPut (HasRecords s of) needed old new
   records_put old new put = record {
@@ -45,10 +46,10 @@ module _ {A : Type 0} (view : A → Variable) (of : Tree → List Variable) (s t
     put = subst (λ n. new ≡ records ++ drop n old) (sym counted) put;
   }
 
-  -- or they are more than the room has
-  pub records_too_long : (room : List VariableRecord) → length room < length list
-      → IsTooLong (HasRecords s of) needed room
-  records_too_long room longer = record {
+  -- or they are more than the buffer has
+  pub records_too_long : (buffer : List VariableRecord) → length buffer < length list
+      → IsTooLong (HasRecords s of) needed buffer
+  records_too_long buffer longer = record {
     items = records;
     wanted = has_records;
     counted = count;
@@ -65,17 +66,18 @@ module _ {A : Type 0} (view : A → Variable) (of : Tree → List Variable) (s t
       ap (λ n. take n new) count ∙ ap (take (length records)) put
       ∙ take-append_seam records (drop (length list) old) in
       subst (All P) (sym front) (All-map P (λ x. variable_record (view x)) list
-      (subst (All (λ x. (name_range (view x)).end ≤ bound)) (sym lent) within))
+      (subst (All (λ x. (name_range (view x)).end ≤ bound)) (sym borrowed) within))
 
 -- a list of nothing is that of a source that gives bytes, and of no other sentence
 pub none_where_it_gives : {A : Type 0} (view : A → Variable) (look : LookUp) (s template : List ℕ)
     (list items : List A) (needed : ℕ) → template ≡ s → list ≡ items → IsSentence s
     → ByTree template (λ t. map view items ≡ all_missing 0 t look) → needed ≡ length list
     → (needed ≡ 0 ↔ ((x : List ℕ) × Answers s look (Gives x)))
-none_where_it_gives view look s template list items needed same lent (t, spells) are counted =
+none_where_it_gives view look s template list items needed same borrowed (t, spells) are counted =
     let is : ByTree s (λ t. map view items ≡ all_missing 0 t look) =
     subst (λ (x : List ℕ). ByTree x (λ t. map view items ≡ all_missing 0 t look)) same are in
-    let count : needed ≡ length (map view items) = counted ∙ ap length lent ∙ sym (length-map items view) in (
+    let count : needed ≡ length (map view items) =
+    counted ∙ ap length borrowed ∙ sym (length-map items view) in (
       λ none.
           let empty = nil_from_length (all_missing 0 t look)
           (sym (ap length (is t spells)) ∙ sym count ∙ none) in

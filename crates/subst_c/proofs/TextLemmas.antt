@@ -8,8 +8,8 @@ use Rattle.subst_language.specs.Language.Answer.{Answers, Gives}
 use Rattle.subst_language.specs.Language.LookUp.{LookUp, GivesTexts}
 use Rattle.subst_language.specs.Language.Sentence.{ByTree}
 use Rattle.subst_language.specs.Language.Value.{value, Bytes}
-use Rattle.subst_c.specs.Pairs.{first_value}
-use Rattle.subst_c.specs.Room.{IsPut}
+use Rattle.subst_c.specs.Pairs.{pair_value}
+use Rattle.subst_c.specs.Buffer.{IsPut}
 use Rattle.subst_c.specs.Text.{are_texts}
 use Rattle.subst_c.specs.declared.pairs.Pair.{Pair}
 
@@ -59,15 +59,15 @@ value_is_text (Some pair) x is e =
     subst (λ (s : List ℕ). IsUtf8 s) same (IsUtf8-from_is_utf8 pair.value.now is)
 value_is_text None x is e = absurd cc
 
--- what is put into the room is a text
+-- what is put into the buffer is a text
 pub puts_text : (law : TextsGiveTexts) (s : List ℕ) (pairs : List Pair) (needed : ℕ) (old new : List ℕ)
-    → are_texts s pairs ≡ true → IsPut (λ x. Answers s (first_value pairs) (Gives x)) needed old new
-    → IsPut (λ x. IsUtf8 x × Answers s (first_value pairs) (Gives x)) needed old new
+    → are_texts s pairs ≡ true → IsPut (λ x. Answers s (pair_value pairs) (Gives x)) needed old new
+    → IsPut (λ x. IsUtf8 x × Answers s (pair_value pairs) (Gives x)) needed old new
 puts_text law s pairs needed old new are put =
-    let texts : GivesTexts (first_value pairs) = λ name x found.
+    let texts : GivesTexts (pair_value pairs) = λ name x found.
     value_is_text (find (λ pair. bytes_eq name pair.name.now) pairs) x
     (found_is_text pairs name (second_passes (is_utf8 s) _ are)) found in
     let source = IsUtf8-from_is_utf8 s (first_passes (is_utf8 s) _ are) in
     let tree = put.wanted in
-    let is = law s put.items 0 (first_value pairs) source texts tree.0 tree.1 tree.2 in
+    let is = law s put.items 0 (pair_value pairs) source texts tree.0 tree.1 tree.2 in
     record { items = put.items; wanted = (is, put.wanted); counted = put.counted; put = put.put }

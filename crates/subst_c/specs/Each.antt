@@ -5,12 +5,12 @@ use Rattle.subst_error.specs.Fault.{Fault}
 use Rattle.subst_language.specs.Language.BadItem.{HasFault}
 use Rattle.subst_language.specs.Language.Sentence.{IsSentence}
 use Rattle.subst_language.specs.Language.Several.{EachGives, Question, RefusesAt}
-use Rattle.subst_c.specs.Pairs.{first_value}
+use Rattle.subst_c.specs.Pairs.{pair_value}
 use Rattle.subst_c.specs.declared.pairs.Row.{Row}
 
 -- the source under a row of pairs
 abbrev pub under_row : List ℕ → Row → Question
-under_row s row = (s, first_value row.pairs.now)
+under_row s row = (s, pair_value row.pairs.now)
 
 -- where each of some outputs ends, if they come one after the other from this position on
 abbrev pub ends_from : ℕ → List (List ℕ) → List ℕ

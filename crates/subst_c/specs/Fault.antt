@@ -1,24 +1,24 @@
--- What a caller in C is told of a fault.
+-- What calls from C report of a fault.
 use Rattle.std.specs.Prelude.{◌≡◌, ◌≤◌, ℕ, ◌+◌, ◌-◌, List, Some, length}
 use Rattle.subst_error.specs.Fault.{Fault, InvalidEscapeSequence, MissingVariableName, UnexpectedCharacter, MissingClosingBrace, NoSuchVariable}
 use Rattle.subst_error.specs.Range.{range_of}
 use Rattle.subst_c.specs.declared.fault.FaultRecord.{FaultRecord}
 
--- the number of its kind
-abbrev pub kind_of : Fault → ℕ
-kind_of (InvalidEscapeSequence position character) = 1
-kind_of (MissingVariableName position len) = 2
-kind_of (UnexpectedCharacter position character expected) = 3
-kind_of (MissingClosingBrace position) = 4
-kind_of (NoSuchVariable position name) = 5
+-- the number of a fault's kind
+abbrev pub fault_number : Fault → ℕ
+fault_number (InvalidEscapeSequence position character) = 1
+fault_number (MissingVariableName position len) = 2
+fault_number (UnexpectedCharacter position character expected) = 3
+fault_number (MissingClosingBrace position) = 4
+fault_number (NoSuchVariable position name) = 5
 
--- its kind, where it begins, and how many bytes it takes
+-- the record of a fault: its kind, where it begins, and how many bytes it takes
 abbrev pub record_of : Fault → FaultRecord
 record_of f =
     let range = range_of (Some f) in
-    record { kind = kind_of f; position = range.start; length = range.end - range.start }
+    record { kind = fault_number f; position = range.start; length = range.end - range.start }
 
--- the record is that of such a fault
+-- the record is that of a fault of which this holds
 abbrev pub IsToldOf : (Fault → Type 0) → FaultRecord → Type 0
 IsToldOf IsSuch told = (f : Fault) × IsSuch f × (told ≡ record_of f)
 

@@ -6,6 +6,6 @@ use Rattle.std.specs.Option.{option_map}
 use Rattle.subst_language.specs.Language.LookUp.{LookUp}
 use Rattle.subst_map.specs.Maps.{hash_get_by_lent_text}
 
--- the value that a map of lent bytes has under a name
-abbrev pub value_in : {S : Type 0} → HashMap (Bor (List ℕ)) (Bor (List ℕ)) S → LookUp
-value_in index name = option_map (λ value. value.now) (hash_get_by_lent_text index name)
+-- the value that a map of borrowed bytes has under a name
+abbrev pub indexed_value : {S : Type 0} → HashMap (Bor (List ℕ)) (Bor (List ℕ)) S → LookUp
+indexed_value index name = option_map (λ value. value.now) (hash_get_by_lent_text index name)

@@ -4,5 +4,5 @@ pub mod Index
 pub mod Pairs
 pub mod Records
 pub mod Results
-pub mod Room
+pub mod Buffer
 pub mod Text

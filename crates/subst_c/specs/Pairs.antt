@@ -7,12 +7,12 @@ use Rattle.subst_map.specs.Maps.{first_value_by}
 use Rattle.subst_c.specs.declared.pairs.Pair.{Pair}
 
 -- the value of the first pair with this name
-abbrev pub first_value : List Pair → LookUp
-first_value pairs = first_value_by (λ pair. pair.name.now) (λ pair. pair.value.now) pairs
+abbrev pub pair_value : List Pair → LookUp
+pair_value pairs = first_value_by (λ pair. pair.name.now) (λ pair. pair.value.now) pairs
 
 -- what the source s gives under the pairs
 abbrev pub GivenBy : List ℕ → List Pair → List ℕ → Type 0
-GivenBy s pairs x = Answers s (first_value pairs) (Gives x)
+GivenBy s pairs x = Answers s (pair_value pairs) (Gives x)
 
 -- what it gives, and this is UTF-8
 abbrev pub TextGivenBy : List ℕ → List Pair → List ℕ → Type 0
@@ -20,4 +20,4 @@ TextGivenBy s pairs x = IsUtf8 x × GivenBy s pairs x
 
 -- what it is refused for
 abbrev pub RefusedBy : List ℕ → List Pair → Fault → Type 0
-RefusedBy s pairs f = Answers s (first_value pairs) (Refuses f)
+RefusedBy s pairs f = Answers s (pair_value pairs) (Refuses f)

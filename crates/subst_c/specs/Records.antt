@@ -1,4 +1,4 @@
--- What a caller in C is told of variables.
+-- What calls from C report of variables.
 use Rattle.std.specs.Prelude.{◌≡◌, ℕ, List, length, map}
 use Rattle.subst_language.specs.Language.Sentence.{Spells}
 use Rattle.subst_language.specs.Language.Tree.{Tree}

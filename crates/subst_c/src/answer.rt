@@ -8,7 +8,7 @@ ghost use Rattle.subst_language.specs.Language.Answer.{Answers};
 ghost use Rattle.subst_error.specs.Display.{IsDisplayOfError, IsDisplayOfFault};
 ghost use Rattle.subst_error.specs.ErrorFault.{error_fault};
 ghost use Rattle.subst_error.specs.Range.{range_of};
-ghost use Rattle.subst_c.specs.Pairs.{first_value};
+ghost use Rattle.subst_c.specs.Pairs.{pair_value};
 ghost use Rattle.subst_c.specs.Text.{IsHighlighting, SaysOf, are_texts as all_are_texts};
 
 use crate::pairs::{Pair, Pairs, index_of};
@@ -24,7 +24,7 @@ use subst_template::substitute_bytes;
 /// The fault that the source is refused for. `OutOfMemory` when allocation fails.
 pub fn fill_in(alloc: Global, source: &[u8], pairs: &[Pair]) -> Result<Vec<u8>, Error>
     ensures answer { IfSome (answer_of (λ output. output.items) result)
-        (Answers source.now (first_value pairs.now)) }
+        (Answers source.now (pair_value pairs.now)) }
     ensures range { IfErr result (λ e. (range_of (error_fault e)).end ≤ length source.now) }
 {
     let index = index_of(alloc, source, pairs);
@@ -37,7 +37,7 @@ pub fn fill_in(alloc: Global, source: &[u8], pairs: &[Pair]) -> Result<Vec<u8>, 
 ///
 /// When allocation fails, and for nothing else.
 pub fn fault_text(alloc: Global, source: &[u8], pairs: &[Pair]) -> Result<String, AllocError>
-    ensures { IfOk result (λ text. SaysOf (Answers source.now (first_value pairs.now))
+    ensures { IfOk result (λ text. SaysOf (Answers source.now (pair_value pairs.now))
         IsDisplayOfFault (string_bytes text)) }
 {
     match fill_in(alloc, source, pairs) {
@@ -71,7 +71,7 @@ fn text_of(alloc: Global, e: &Error) -> Result<String, AllocError>
 ///
 /// When allocation fails, and for nothing else.
 pub fn fault_highlighting(alloc: Global, source: &str, pairs: &[Pair]) -> Result<String, AllocError>
-    ensures { IfOk result (λ text. SaysOf (Answers source.now (first_value pairs.now))
+    ensures { IfOk result (λ text. SaysOf (Answers source.now (pair_value pairs.now))
         (IsHighlighting source.now) (string_bytes text)) }
 {
     match fill_in(alloc, source.as_bytes(), pairs) {

@@ -4,12 +4,12 @@ ghost use Rattle.std.specs.Prelude.{◌≡◌, ◌≢◌, ◌⊎◌, ◌<◌, �
 ghost use Rattle.subst_error.specs.ErrorFault.{error_fault, expand_fault};
 ghost use Rattle.subst_language.specs.Language.Answer.{Answers, Gives, Refuses};
 ghost use Rattle.subst_c.specs.Each.{AreOutputs, IsRefusedIn};
-ghost use Rattle.subst_c.specs.Pairs.{first_value};
+ghost use Rattle.subst_c.specs.Pairs.{pair_value};
 ghost use Rattle.subst_c.specs.declared.outcome.TheConstants.{DONE, ROOM_TOO_SMALL};
 
+use crate::buffer;
 use crate::outcome::{DONE, ROOM_TOO_SMALL};
 use crate::pairs::{Pairs, Row, index_of};
-use crate::room;
 use std::alloc::Global;
 use subst_error::{Error, ExpandError};
 use subst_template::ByteTemplate;
@@ -24,24 +24,24 @@ pub struct Outputs {
 }
 
 impl Outputs {
-    /// Puts the outputs at the front of the room, and their ends at the front of `ends`, and tells how many
-    /// bytes the outputs are. Where one of the two is too small, both stay as they are.
-    pub fn deliver(&self, room: &mut [u8], ends: &mut [usize], needed: &mut usize) -> u32
+    /// Puts the outputs at the front of the buffer, their ends at the front of `ends`, and into `needed` how
+    /// many bytes the outputs are. Where one of the two is too small, both stay as they are.
+    pub fn deliver(&self, buffer: &mut [u8], ends: &mut [usize], needed: &mut usize) -> u32
         ensures needed { needed.new ≡ length self.now.bytes.items }
         ensures done { result ≡ DONE
-            → (room.new ≡ self.now.bytes.items ++ drop (length self.now.bytes.items) room.old)
+            → (buffer.new ≡ self.now.bytes.items ++ drop (length self.now.bytes.items) buffer.old)
             × (ends.new ≡ self.now.ends.items ++ drop (length self.now.ends.items) ends.old) }
         ensures too_small { result ≡ ROOM_TOO_SMALL
-            → (length room.old < length self.now.bytes.items)
+            → (length buffer.old < length self.now.bytes.items)
             ⊎ (length ends.old < length self.now.ends.items) }
-        ensures kept { result ≢ DONE → (room.new ≡ room.old) × (ends.new ≡ ends.old) }
+        ensures kept { result ≢ DONE → (buffer.new ≡ buffer.old) × (ends.new ≡ ends.old) }
         ensures others { result ≢ DONE → result ≡ ROOM_TOO_SMALL }
     {
         if ends.len() < self.ends.len() {
             *needed = self.bytes.len();
             return ROOM_TOO_SMALL;
         }
-        let result = room::deliver(&self.bytes, room, needed);
+        let result = buffer::deliver(&self.bytes, buffer, needed);
         if result == DONE {
             ends[..self.ends.len()].copy_from_slice(&self.ends);
         }
@@ -103,12 +103,12 @@ fn add(
     outputs: &mut Outputs,
 ) -> Result<(), ExpandError>
     ensures ok { OnOk result ((output : List ℕ)
-        × Answers template.now (first_value row.now.pairs.now) (Gives output)
+        × Answers template.now (pair_value row.now.pairs.now) (Gives output)
         × (outputs.new.bytes.items ≡ outputs.old.bytes.items ++ output)
         × (outputs.new.ends.items
         ≡ outputs.old.ends.items ++ (length outputs.new.bytes.items ∷ []))) }
     ensures err { IfErr result (λ e. IfSome (expand_fault e)
-        (λ f. Answers template.now (first_value row.now.pairs.now) (Refuses f))) }
+        (λ f. Answers template.now (pair_value row.now.pairs.now) (Refuses f))) }
     ensures ends { IfErr result (λ e. outputs.new.ends.items ≡ outputs.old.ends.items) }
 {
     let pairs = row.pairs;

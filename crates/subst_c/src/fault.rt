@@ -1,10 +1,10 @@
-//! What a caller in C is told of a fault.
+//! What calls from C report of a fault.
 
 ghost use Rattle.std.specs.Prelude.{◌≡◌, ◌≢◌, ◌+◌, ◌^◌, ◌<◌, None, Some};
 ghost use Rattle.std.specs.Option.{option_map};
 ghost use Rattle.subst_error.specs.ErrorFault.{error_fault, expand_into_fault};
 ghost use Rattle.subst_error.specs.Range.{range_of};
-ghost use Rattle.subst_c.specs.Fault.{IsToldOf, record_of, kind_of};
+ghost use Rattle.subst_c.specs.Fault.{IsToldOf, record_of, fault_number};
 ghost use Rattle.subst_c.specs.declared.outcome.TheConstants.{REFUSED, OUT_OF_MEMORY};
 
 use crate::outcome::{OUT_OF_MEMORY, REFUSED};
@@ -34,18 +34,18 @@ pub struct FaultRecord {
     pub length: usize,
 }
 
-/// Tells the fault that the error states. Where it states none, memory ran out.
+/// Reports the fault that the error states. Where it states none, memory ran out.
 pub fn refuse(e: &Error, fault: &mut FaultRecord) -> u32
     requires { (range_of (error_fault e.now)).end < 2 ^ 64 }
     ensures refused { result ≡ REFUSED → IsToldOf (λ f. error_fault e.now ≡ Some f) fault.new }
 
-    // What is told ends where the error's range does.
+    // What is reported ends where the error's range does.
     ensures end { result ≡ REFUSED
         → fault.new.position + fault.new.length ≡ (range_of (error_fault e.now)).end }
     ensures kept { result ≢ REFUSED → fault.new ≡ fault.old }
     ensures others { result ≢ REFUSED → result ≡ OUT_OF_MEMORY }
 
-    // A fault that is stated is told.
+    // A fault that is stated is reported.
     ensures memory { result ≢ REFUSED → error_fault e.now ≡ None }
 {
     let Some(kind) = kind(e) else {
@@ -60,7 +60,7 @@ pub fn refuse(e: &Error, fault: &mut FaultRecord) -> u32
     REFUSED
 }
 
-/// Tells the variable that the error states as missing. Where it states none, the bytes were too many to be
+/// Reports the variable that the error states as missing. Where it states none, the bytes were too many to be
 /// counted.
 #[tactic(auto, using(crate::proofs::AnswerLemmas::told_of_missing))]
 pub fn refuse_missing(e: &ExpandIntoError, fault: &mut FaultRecord) -> u32
@@ -87,7 +87,7 @@ pub fn refuse_missing(e: &ExpandIntoError, fault: &mut FaultRecord) -> u32
 
 /// Returns the number of the kind of fault that an error states.
 fn kind(e: &Error) -> Option<u32>
-    ensures { result ≡ option_map kind_of (error_fault e.now) }
+    ensures { result ≡ option_map fault_number (error_fault e.now) }
 {
     match e {
         Error::InvalidEscapeSequence(_) => Some(INVALID_ESCAPE_SEQUENCE),

@@ -1,11 +1,11 @@
-//! Filling in straight into the caller's room.
+//! Filling in straight into the caller's buffer.
 
 ghost use Rattle.std.specs.Prelude.{◌≡◌, ◌^◌, ◌≤◌, length};
 ghost use Rattle.subst_language.specs.Language.Sentence.{ByTree};
 ghost use Rattle.subst_language.specs.Language.Written.{written};
 ghost use Rattle.subst_c.specs.Fault.{IsToldOf, LiesIn};
-ghost use Rattle.subst_c.specs.Pairs.{first_value, GivenBy, RefusedBy};
-ghost use Rattle.subst_c.specs.Room.{IsPut, IsTooLong};
+ghost use Rattle.subst_c.specs.Pairs.{pair_value, GivenBy, RefusedBy};
+ghost use Rattle.subst_c.specs.Buffer.{IsPut, IsTooLong};
 ghost use Rattle.subst_c.specs.declared.outcome.TheConstants.{DONE, REFUSED, OUT_OF_MEMORY, ROOM_TOO_SMALL};
 ghost use Rattle.subst_c.specs.Results.{IsOther, KeepsRest};
 
@@ -15,35 +15,35 @@ use crate::pairs::{Pair, Pairs, index_of};
 use std::alloc::Global;
 use subst_template::ByteTemplate;
 
-/// Writes what the template gives under the pairs from the front of the room on, and tells how many bytes it
-/// is, also where the room is shorter. Memory is taken for an index alone, which it may be refused for:
-/// out of memory says that the bytes are too many for a `usize`. What the room has is unspecified unless all
-/// is done.
-pub fn expand_into_room(
+/// Writes what the template gives under the pairs from the front of the buffer on, and into `needed` how many
+/// bytes it is, also where the buffer is shorter. Memory is taken for an index alone, which it may be refused
+/// for: out of memory says that the bytes are too many for a `usize`. What the buffer has is unspecified
+/// unless all is done.
+pub fn expand_into_buffer(
     alloc: Global,
     template: &ByteTemplate,
     pairs: &[Pair],
-    room: &mut [u8],
+    buffer: &mut [u8],
     needed: &mut usize,
     fault: &mut FaultRecord,
 ) -> u32
     ensures done { result ≡ DONE
-        → IsPut (GivenBy template.now pairs.now) needed.new room.old room.new }
+        → IsPut (GivenBy template.now pairs.now) needed.new buffer.old buffer.new }
     ensures refused { result ≡ REFUSED → IsToldOf (RefusedBy template.now pairs.now) fault.new }
     ensures within { result ≡ REFUSED → LiesIn template.now fault.new }
     ensures too_small { result ≡ ROOM_TOO_SMALL
-        → IsTooLong (GivenBy template.now pairs.now) needed.new room.old }
+        → IsTooLong (GivenBy template.now pairs.now) needed.new buffer.old }
     ensures others { IsOther result }
     ensures memory { result ≡ OUT_OF_MEMORY → ByTree template.now
-        (λ t. 2 ^ 64 ≤ length (written 0 t (first_value pairs.now))) }
+        (λ t. 2 ^ 64 ≤ length (written 0 t (pair_value pairs.now))) }
     ensures kept { KeepsRest result fault.old fault.new needed.old needed.new }
 {
     let index = index_of(alloc, template.source(), pairs);
-    let written = template.expand_into_slice(room, &Pairs { pairs, index });
+    let written = template.expand_into_slice(buffer, &Pairs { pairs, index });
     match written {
         Ok(length) => {
             *needed = length;
-            if room.len() < length {
+            if buffer.len() < length {
                 return ROOM_TOO_SMALL;
             }
             DONE

@@ -1,8 +1,8 @@
-//! The library under names of C: variables come as pairs, and what is returned goes into the caller's room.
+//! The library under names of C: variables come as pairs, and what is returned goes into the caller's buffer.
 //!
 //! `include/subst.h.in` declares what is here, and docs/C.md shows how to call it. Each call returns
 //! one of the numbers of [`outcome`]. No pointer is null: where a length is 0, the header passes an address
-//! of its own. What is lent to be written overlaps nothing else that is passed.
+//! of its own. What is borrowed to be written overlaps nothing else that is passed.
 #![tactic(auto)]
 
 ghost use Rattle.std.specs.Prelude.{◌≡◌, ◌≢◌, ◌⊎◌, ◌↔◌, ◌+◌, ◌*◌, ◌<◌, ◌≤◌, ◌++◌, ℕ, List, drop, length, take, true, false};
@@ -16,9 +16,9 @@ ghost use Rattle.subst_language.specs.Language.Sentence.{IsSentence};
 ghost use Rattle.subst_language.specs.Language.Variables.{all_missing, variables_of};
 ghost use Rattle.subst_c.specs.Each.{AreOutputs, IsRefusedIn};
 ghost use Rattle.subst_c.specs.Fault.{IsToldOf, LiesIn};
-ghost use Rattle.subst_c.specs.Pairs.{first_value, GivenBy, TextGivenBy, RefusedBy};
+ghost use Rattle.subst_c.specs.Pairs.{pair_value, GivenBy, TextGivenBy, RefusedBy};
 ghost use Rattle.subst_c.specs.Records.{HasRecords};
-ghost use Rattle.subst_c.specs.Room.{IsPut, IsTooLong};
+ghost use Rattle.subst_c.specs.Buffer.{IsPut, IsTooLong};
 ghost use Rattle.subst_c.specs.Text.{IsHighlighting, SaysOf, are_texts};
 ghost use Rattle.subst_c.specs.declared.outcome.TheConstants.{DONE, REFUSED, OUT_OF_MEMORY, ROOM_TOO_SMALL, NOT_UTF8, NOT_A_BOUNDARY};
 ghost use Rattle.subst_c.specs.Results.{IsOther, KeepsRest};
@@ -36,12 +36,12 @@ use subst_version::{MAJOR, MINOR, PATCH};
 pub use variables::VariableRecord;
 
 mod answer;
+mod buffer;
 mod each;
 mod fault;
 mod into;
 pub mod outcome;
 mod pairs;
-mod room;
 mod variables;
 
 /// Returns the version of the library as one number, as 102 for 0.1.2.
@@ -52,19 +52,19 @@ pub extern "C" fn subst_version() -> u32
     10000 * MAJOR + 100 * MINOR + PATCH
 }
 
-/// Puts the bytes of `source` with its variables filled in from `pairs` at the front of the room.
+/// Puts the bytes of `source` with its variables filled in from `pairs` at the front of the buffer.
 #[unsafe(no_mangle)]
 pub extern "C" fn subst_bytes(
     alloc: Global,
     source: &[u8],
     pairs: &[Pair],
-    room: &mut [u8],
+    buffer: &mut [u8],
     needed: &mut usize,
     fault: &mut FaultRecord,
 ) -> u32
-    // The room begins with what the source gives.
+    // The buffer begins with what the source gives.
     ensures done { result ≡ DONE
-        → IsPut (GivenBy source.now pairs.now) needed.new room.old room.new }
+        → IsPut (GivenBy source.now pairs.now) needed.new buffer.old buffer.new }
 
     // The fault is that which the source is refused for.
     ensures refused { result ≡ REFUSED → IsToldOf (RefusedBy source.now pairs.now) fault.new }
@@ -72,56 +72,56 @@ pub extern "C" fn subst_bytes(
     // The fault lies in the source.
     ensures within { result ≡ REFUSED → LiesIn source.now fault.new }
 
-    // What the source gives is longer than the room.
+    // What the source gives is longer than the buffer.
     ensures too_small { result ≡ ROOM_TOO_SMALL
-        → IsTooLong (GivenBy source.now pairs.now) needed.new room.old }
+        → IsTooLong (GivenBy source.now pairs.now) needed.new buffer.old }
 
     // There is no other result, but out of memory, and each leaves the rest as it was.
     ensures others { IsOther result }
-    ensures room_kept { result ≢ DONE → room.new ≡ room.old }
+    ensures buffer_kept { result ≢ DONE → buffer.new ≡ buffer.old }
     ensures kept { KeepsRest result fault.old fault.new needed.old needed.new }
 {
     match answer::fill_in(alloc, source, pairs) {
-        Ok(bytes) => room::deliver(&bytes, room, needed),
+        Ok(bytes) => buffer::deliver(&bytes, buffer, needed),
         Err(e) => fault::refuse(&e, fault),
     }
 }
 
-/// Puts the text of `source` with its variables filled in from `pairs` at the front of the room. The source
+/// Puts the text of `source` with its variables filled in from `pairs` at the front of the buffer. The source
 /// and all values have to be UTF-8, and so is what is put there.
 #[unsafe(no_mangle)]
 pub extern "C" fn subst_text(
     alloc: Global,
     source: &[u8],
     pairs: &[Pair],
-    room: &mut [u8],
+    buffer: &mut [u8],
     needed: &mut usize,
     fault: &mut FaultRecord,
 ) -> u32
-    // As `subst_bytes`, and what is put into the room is UTF-8.
+    // As `subst_bytes`, and what is put into the buffer is UTF-8.
     ensures done { result ≡ DONE
-        → IsPut (TextGivenBy source.now pairs.now) needed.new room.old room.new }
+        → IsPut (TextGivenBy source.now pairs.now) needed.new buffer.old buffer.new }
     ensures refused { result ≡ REFUSED → IsToldOf (RefusedBy source.now pairs.now) fault.new }
     ensures within { result ≡ REFUSED → LiesIn source.now fault.new }
     ensures too_small { result ≡ ROOM_TOO_SMALL
-        → IsTooLong (GivenBy source.now pairs.now) needed.new room.old }
+        → IsTooLong (GivenBy source.now pairs.now) needed.new buffer.old }
 
     // The source or a value is told not to be UTF-8 exactly where one isn't.
     ensures text { result ≢ NOT_UTF8 → are_texts source.now pairs.now ≡ true }
     ensures not_text { result ≡ NOT_UTF8 → are_texts source.now pairs.now ≡ false }
     ensures others { result ≢ NOT_UTF8 → IsOther result }
-    ensures room_kept { result ≢ DONE → room.new ≡ room.old }
+    ensures buffer_kept { result ≢ DONE → buffer.new ≡ buffer.old }
     ensures kept { KeepsRest result fault.old fault.new needed.old needed.new }
 {
     laws::texts_give_texts();
     if !answer::are_texts(source, pairs) {
         return NOT_UTF8;
     }
-    subst_bytes(alloc, source, pairs, room, needed, fault)
+    subst_bytes(alloc, source, pairs, buffer, needed, fault)
 }
 
-/// Writes the bytes of `source` with its variables filled in from `pairs` straight into the room, from its
-/// front on. What the room has is unspecified unless the result is done. Memory is taken for the parse, and
+/// Writes the bytes of `source` with its variables filled in from `pairs` straight into the buffer, from its
+/// front on. What the buffer has is unspecified unless the result is done. Memory is taken for the parse, and
 /// for an index, which it may be refused for: after the parse, out of memory says that the bytes are too many
 /// for a `usize`.
 #[unsafe(no_mangle)]
@@ -129,47 +129,47 @@ pub extern "C" fn subst_bytes_into(
     alloc: Global,
     source: &[u8],
     pairs: &[Pair],
-    room: &mut [u8],
+    buffer: &mut [u8],
     needed: &mut usize,
     fault: &mut FaultRecord,
 ) -> u32
     // As `subst_bytes`.
     ensures done { result ≡ DONE
-        → IsPut (GivenBy source.now pairs.now) needed.new room.old room.new }
+        → IsPut (GivenBy source.now pairs.now) needed.new buffer.old buffer.new }
     ensures refused { result ≡ REFUSED → IsToldOf (RefusedBy source.now pairs.now) fault.new }
     ensures within { result ≡ REFUSED → LiesIn source.now fault.new }
     ensures too_small { result ≡ ROOM_TOO_SMALL
-        → IsTooLong (GivenBy source.now pairs.now) needed.new room.old }
+        → IsTooLong (GivenBy source.now pairs.now) needed.new buffer.old }
     ensures others { IsOther result }
     ensures kept { KeepsRest result fault.old fault.new needed.old needed.new }
 
-    // Only what a sentence gives is written to the room.
-    ensures room_kept { ¬ (IsSentence source.now) → room.new ≡ room.old }
+    // Only what a sentence gives is written to the buffer.
+    ensures buffer_kept { ¬ (IsSentence source.now) → buffer.new ≡ buffer.old }
 {
     match ByteTemplate::from_slice(alloc, source) {
-        Ok(template) => into::expand_into_room(alloc, &template, pairs, room, needed, fault),
+        Ok(template) => into::expand_into_buffer(alloc, &template, pairs, buffer, needed, fault),
         Err(e) => fault::refuse(&Error::from(e), fault),
     }
 }
 
-/// Does what `subst_bytes_into` does, where the source and all values are UTF-8. What is put into the room is
-/// then UTF-8 too.
+/// Does what `subst_bytes_into` does, where the source and all values are UTF-8. What is put into the buffer
+/// is then UTF-8 too.
 #[unsafe(no_mangle)]
 pub extern "C" fn subst_text_into(
     alloc: Global,
     source: &[u8],
     pairs: &[Pair],
-    room: &mut [u8],
+    buffer: &mut [u8],
     needed: &mut usize,
     fault: &mut FaultRecord,
 ) -> u32
-    // As `subst_bytes_into`, and what is put into the room is UTF-8.
+    // As `subst_bytes_into`, and what is put into the buffer is UTF-8.
     ensures done { result ≡ DONE
-        → IsPut (TextGivenBy source.now pairs.now) needed.new room.old room.new }
+        → IsPut (TextGivenBy source.now pairs.now) needed.new buffer.old buffer.new }
     ensures refused { result ≡ REFUSED → IsToldOf (RefusedBy source.now pairs.now) fault.new }
     ensures within { result ≡ REFUSED → LiesIn source.now fault.new }
     ensures too_small { result ≡ ROOM_TOO_SMALL
-        → IsTooLong (GivenBy source.now pairs.now) needed.new room.old }
+        → IsTooLong (GivenBy source.now pairs.now) needed.new buffer.old }
 
     // The source or a value is told not to be UTF-8 exactly where one isn't.
     ensures text { result ≢ NOT_UTF8 → are_texts source.now pairs.now ≡ true }
@@ -177,25 +177,25 @@ pub extern "C" fn subst_text_into(
     ensures others { result ≢ NOT_UTF8 → IsOther result }
     ensures kept { KeepsRest result fault.old fault.new needed.old needed.new }
 
-    // Only what a sentence gives is written to the room, and only where all is UTF-8.
-    ensures room_kept { ¬ (IsSentence source.now) → room.new ≡ room.old }
-    ensures room_kept_of_no_text { result ≡ NOT_UTF8 → room.new ≡ room.old }
+    // Only what a sentence gives is written to the buffer, and only where all is UTF-8.
+    ensures buffer_kept { ¬ (IsSentence source.now) → buffer.new ≡ buffer.old }
+    ensures buffer_kept_of_no_text { result ≡ NOT_UTF8 → buffer.new ≡ buffer.old }
 {
     laws::texts_give_texts();
     if !answer::are_texts(source, pairs) {
         return NOT_UTF8;
     }
-    subst_bytes_into(alloc, source, pairs, room, needed, fault)
+    subst_bytes_into(alloc, source, pairs, buffer, needed, fault)
 }
 
-/// Puts what `source` gives under each row of pairs at the front of the room, one output after the other, and
-/// where each ends at the front of `ends`. The source is parsed once.
+/// Puts what `source` gives under each row of pairs at the front of the buffer, one output after the other,
+/// and where each ends at the front of `ends`. The source is parsed once.
 #[unsafe(no_mangle)]
 pub extern "C" fn subst_bytes_each(
     alloc: Global,
     source: &[u8],
     rows: &[Row],
-    room: &mut [u8],
+    buffer: &mut [u8],
     ends: &mut [usize],
     needed: &mut usize,
     row: &mut usize,
@@ -203,26 +203,26 @@ pub extern "C" fn subst_bytes_each(
 ) -> u32
     ensures done { result ≡ DONE
         → (outputs_end : List ℕ)
-        × IsPut (λ x. AreOutputs source.now rows.now x outputs_end) needed.new room.old room.new
+        × IsPut (λ x. AreOutputs source.now rows.now x outputs_end) needed.new buffer.old buffer.new
         × (ends.new ≡ outputs_end ++ drop (length outputs_end) ends.old) }
 
-    // The fault is that of the source, or of the first row under which it is refused, whose index is told.
+    // The fault is that of the source, or of the first row under which it is refused; `row` says which.
     ensures refused { result ≡ REFUSED
         → IsToldOf (IsRefusedIn source.now rows.now row.new) fault.new }
     ensures within { result ≡ REFUSED → LiesIn source.now fault.new }
 
-    // The outputs are longer than the room, or more than the ends that there is room for.
+    // The outputs are longer than the buffer, or more than the ends that there is space for.
     ensures too_small { result ≡ ROOM_TOO_SMALL
         → (x : List ℕ) × (outputs_end : List ℕ) × AreOutputs source.now rows.now x outputs_end
         × (needed.new ≡ length x)
-        × ((length room.old < needed.new) ⊎ (length ends.old < length outputs_end)) }
+        × ((length buffer.old < needed.new) ⊎ (length ends.old < length outputs_end)) }
     ensures others { IsOther result }
-    ensures room_kept { result ≢ DONE → (room.new ≡ room.old) × (ends.new ≡ ends.old) }
+    ensures buffer_kept { result ≢ DONE → (buffer.new ≡ buffer.old) × (ends.new ≡ ends.old) }
     ensures fault_kept { result ≢ REFUSED → (fault.new ≡ fault.old) × (row.new ≡ row.old) }
     ensures needed_kept { result ≢ DONE → result ≢ ROOM_TOO_SMALL → needed.new ≡ needed.old }
 {
     match each::fill_in_each(alloc, source, rows) {
-        Ok(outputs) => outputs.deliver(room, ends, needed),
+        Ok(outputs) => outputs.deliver(buffer, ends, needed),
         Err(refusal) => {
             let result = fault::refuse(&refusal.error, fault);
             if result == REFUSED {
@@ -248,46 +248,46 @@ pub extern "C" fn subst_check(alloc: Global, source: &[u8], fault: &mut FaultRec
     }
 }
 
-/// Puts a record for each variable of `source` at the front of the room: its kind, the byte offset of its
+/// Puts a record for each variable of `source` at the front of the buffer: its kind, the byte offset of its
 /// name, and how many bytes that takes. They are in the order of the source, also those in defaults, and a
 /// name that is there twice has two. `needed` counts records.
 #[unsafe(no_mangle)]
 pub extern "C" fn subst_variables(
     alloc: Global,
     source: &[u8],
-    room: &mut [VariableRecord],
+    buffer: &mut [VariableRecord],
     needed: &mut usize,
     fault: &mut FaultRecord,
 ) -> u32
-    // The room begins with the records of the variables of the source's tree.
+    // The buffer begins with the records of the variables of the source's tree.
     ensures done { result ≡ DONE
-        → IsPut (HasRecords source.now (variables_of 0)) needed.new room.old room.new }
+        → IsPut (HasRecords source.now (variables_of 0)) needed.new buffer.old buffer.new }
 
     // Each name lies in the source.
     ensures names_within { result ≡ DONE
-        → All (λ r. r.position + r.length ≤ length source.now) (take needed.new room.new) }
+        → All (λ r. r.position + r.length ≤ length source.now) (take needed.new buffer.new) }
 
     // The source is no sentence, and the fault is that which it is refused for.
     ensures refused { result ≡ REFUSED → IsToldOf (HasFault 0 source.now) fault.new }
     ensures within { result ≡ REFUSED → LiesIn source.now fault.new }
 
-    // The variables are more than the room has records.
+    // The variables are more than the buffer has records.
     ensures too_small { result ≡ ROOM_TOO_SMALL
-        → IsTooLong (HasRecords source.now (variables_of 0)) needed.new room.old }
+        → IsTooLong (HasRecords source.now (variables_of 0)) needed.new buffer.old }
     ensures others { IsOther result }
-    ensures room_kept { result ≢ DONE → room.new ≡ room.old }
+    ensures buffer_kept { result ≢ DONE → buffer.new ≡ buffer.old }
     ensures kept { KeepsRest result fault.old fault.new needed.old needed.new }
 {
     match ByteTemplate::from_slice(alloc, source) {
         Ok(template) => match template.variables(alloc) {
-            Ok(list) => variables::deliver(&list, room, needed),
+            Ok(list) => variables::deliver(&list, buffer, needed),
             Err(_) => OUT_OF_MEMORY,
         },
         Err(e) => fault::refuse(&Error::from(e), fault),
     }
 }
 
-/// Puts a record for each variable that `source` needs and that no pair names at the front of the room, as
+/// Puts a record for each variable that `source` needs and that no pair names at the front of the buffer, as
 /// `subst_variables`. Each has the kind `REQUIRED`, and the result is done also where there are some. The
 /// names in a default that isn't used aren't needed.
 #[unsafe(no_mangle)]
@@ -295,27 +295,27 @@ pub extern "C" fn subst_missing(
     alloc: Global,
     source: &[u8],
     pairs: &[Pair],
-    room: &mut [VariableRecord],
+    buffer: &mut [VariableRecord],
     needed: &mut usize,
     fault: &mut FaultRecord,
 ) -> u32
     // As `subst_variables`, of all that the source's tree is missing.
     ensures done { result ≡ DONE
-        → IsPut (HasRecords source.now (λ t. all_missing 0 t (first_value pairs.now)))
-        needed.new room.old room.new }
+        → IsPut (HasRecords source.now (λ t. all_missing 0 t (pair_value pairs.now)))
+        needed.new buffer.old buffer.new }
     ensures names_within { result ≡ DONE
-        → All (λ r. r.position + r.length ≤ length source.now) (take needed.new room.new) }
+        → All (λ r. r.position + r.length ≤ length source.now) (take needed.new buffer.new) }
 
     // Nothing is missing exactly where the source gives bytes.
     ensures none { result ≡ DONE → (needed.new ≡ 0
-        ↔ ((x : List ℕ) × Answers source.now (first_value pairs.now) (Gives x))) }
+        ↔ ((x : List ℕ) × Answers source.now (pair_value pairs.now) (Gives x))) }
     ensures refused { result ≡ REFUSED → IsToldOf (HasFault 0 source.now) fault.new }
     ensures within { result ≡ REFUSED → LiesIn source.now fault.new }
     ensures too_small { result ≡ ROOM_TOO_SMALL
-        → IsTooLong (HasRecords source.now (λ t. all_missing 0 t (first_value pairs.now)))
-        needed.new room.old }
+        → IsTooLong (HasRecords source.now (λ t. all_missing 0 t (pair_value pairs.now)))
+        needed.new buffer.old }
     ensures others { IsOther result }
-    ensures room_kept { result ≢ DONE → room.new ≡ room.old }
+    ensures buffer_kept { result ≢ DONE → buffer.new ≡ buffer.old }
     ensures kept { KeepsRest result fault.old fault.new needed.old needed.new }
 {
     match ByteTemplate::from_slice(alloc, source) {
@@ -323,7 +323,7 @@ pub extern "C" fn subst_missing(
             let index = index_of(alloc, source, pairs);
             let missing = template.missing(alloc, &Pairs { pairs, index });
             match missing {
-                Ok(missing) => variables::deliver(&missing, room, needed),
+                Ok(missing) => variables::deliver(&missing, buffer, needed),
                 Err(_) => OUT_OF_MEMORY,
             }
         }
@@ -332,67 +332,67 @@ pub extern "C" fn subst_missing(
 }
 
 /// Puts the text of the fault that `subst_bytes` finds, over the same source and pairs, at the front of the
-/// room. Where that finds none, the text is empty.
+/// buffer. Where that finds none, the text is empty.
 #[unsafe(no_mangle)]
 pub extern "C" fn subst_fault_text(
     alloc: Global,
     source: &[u8],
     pairs: &[Pair],
-    room: &mut [u8],
+    buffer: &mut [u8],
     needed: &mut usize,
 ) -> u32
     ensures done { result ≡ DONE
-        → IsPut (SaysOf (Answers source.now (first_value pairs.now)) IsDisplayOfFault)
-        needed.new room.old room.new }
+        → IsPut (SaysOf (Answers source.now (pair_value pairs.now)) IsDisplayOfFault)
+        needed.new buffer.old buffer.new }
     ensures too_small { result ≡ ROOM_TOO_SMALL
-        → IsTooLong (SaysOf (Answers source.now (first_value pairs.now)) IsDisplayOfFault)
-        needed.new room.old }
+        → IsTooLong (SaysOf (Answers source.now (pair_value pairs.now)) IsDisplayOfFault)
+        needed.new buffer.old }
     ensures others { result ≢ DONE → result ≢ ROOM_TOO_SMALL → result ≡ OUT_OF_MEMORY }
-    ensures room_kept { result ≢ DONE → room.new ≡ room.old }
+    ensures buffer_kept { result ≢ DONE → buffer.new ≡ buffer.old }
     ensures needed_kept { result ≢ DONE → result ≢ ROOM_TOO_SMALL → needed.new ≡ needed.old }
 {
     match answer::fault_text(alloc, source, pairs) {
-        Ok(text) => room::deliver(text.as_bytes(), room, needed),
+        Ok(text) => buffer::deliver(text.as_bytes(), buffer, needed),
         Err(_) => OUT_OF_MEMORY,
     }
 }
 
 /// Puts the line of the fault that `subst_bytes` finds, over the same source and pairs, with the fault
-/// underlined, at the front of the room. Where that finds none, or the line is wider than 60 columns, the
+/// underlined, at the front of the buffer. Where that finds none, or the line is wider than 60 columns, the
 /// text is empty.
 #[unsafe(no_mangle)]
 pub extern "C" fn subst_fault_highlighting(
     alloc: Global,
     source: &[u8],
     pairs: &[Pair],
-    room: &mut [u8],
+    buffer: &mut [u8],
     needed: &mut usize,
 ) -> u32
     ensures done { result ≡ DONE
-        → IsPut (SaysOf (Answers source.now (first_value pairs.now)) (IsHighlighting source.now))
-        needed.new room.old room.new }
+        → IsPut (SaysOf (Answers source.now (pair_value pairs.now)) (IsHighlighting source.now))
+        needed.new buffer.old buffer.new }
     ensures too_small { result ≡ ROOM_TOO_SMALL
-        → IsTooLong (SaysOf (Answers source.now (first_value pairs.now))
-        (IsHighlighting source.now)) needed.new room.old }
+        → IsTooLong (SaysOf (Answers source.now (pair_value pairs.now))
+        (IsHighlighting source.now)) needed.new buffer.old }
 
-    // The source is told not to be UTF-8 exactly where it isn't.
+    // The result is `NOT_UTF8` exactly where the source isn't UTF-8.
     ensures text { result ≢ NOT_UTF8 → IsUtf8 source.now }
     ensures not_text { result ≡ NOT_UTF8 → ¬ (IsUtf8 source.now) }
     ensures others { result ≢ DONE → result ≢ ROOM_TOO_SMALL → result ≢ NOT_UTF8
         → result ≡ OUT_OF_MEMORY }
-    ensures room_kept { result ≢ DONE → room.new ≡ room.old }
+    ensures buffer_kept { result ≢ DONE → buffer.new ≡ buffer.old }
     ensures needed_kept { result ≢ DONE → result ≢ ROOM_TOO_SMALL → needed.new ≡ needed.old }
 {
     let Ok(source) = str::from_utf8(source) else {
         return NOT_UTF8;
     };
     match answer::fault_highlighting(alloc, source, pairs) {
-        Ok(shown) => room::deliver(shown.as_bytes(), room, needed),
+        Ok(shown) => buffer::deliver(shown.as_bytes(), buffer, needed),
         Err(_) => OUT_OF_MEMORY,
     }
 }
 
-/// Tells the line and the column of the byte offset `position` in `source`, both from 1, as
+/// Writes the line and the column of the byte offset `position` in `source`, both from 1, as
 /// `line_and_column` counts them.
 #[unsafe(no_mangle)]
 pub extern "C" fn subst_place(
@@ -404,11 +404,11 @@ pub extern "C" fn subst_place(
     ensures done { result ≡ DONE
         → (line.new, column.new) ≡ position_at position source.now }
 
-    // The source is told not to be UTF-8 exactly where it isn't.
+    // The result is `NOT_UTF8` exactly where the source isn't UTF-8.
     ensures text { result ≢ NOT_UTF8 → IsUtf8 source.now }
     ensures not_text { result ≡ NOT_UTF8 → ¬ (IsUtf8 source.now) }
 
-    // A position is told not to be a boundary exactly where it isn't one.
+    // It is done only at a boundary, and `NOT_A_BOUNDARY` only where the position isn't one.
     ensures boundary { result ≡ DONE → IsCharBoundary source.now position }
     ensures not_boundary { result ≡ NOT_A_BOUNDARY → ¬ (IsCharBoundary source.now position) }
     ensures others { result ≢ DONE → result ≢ NOT_UTF8 → result ≡ NOT_A_BOUNDARY }

@@ -9,7 +9,7 @@ pub const REFUSED: u32 = 1;
 /// Memory ran out.
 pub const OUT_OF_MEMORY: u32 = 4;
 
-/// The room is too small.
+/// The buffer is too small.
 pub const ROOM_TOO_SMALL: u32 = 5;
 
 /// What has to be a text isn't UTF-8.

@@ -4,8 +4,8 @@ ghost use Rattle.std.specs.Prelude.{◌≡◌, ℕ, List, Some, None, if◌then�
 ghost use Rattle.std.proofs.Props.{props};
 ghost use Rattle.std.specs.Option.{option_map, option_or};
 ghost use Rattle.std.specs.Str.{bytes_eq};
-ghost use Rattle.subst_c.specs.Index.{value_in};
-ghost use Rattle.subst_c.specs.Pairs.{first_value};
+ghost use Rattle.subst_c.specs.Index.{indexed_value};
+ghost use Rattle.subst_c.specs.Pairs.{pair_value};
 
 use std::alloc::{AllocError, Global};
 use std::collections::HashMap;
@@ -40,7 +40,7 @@ pub struct Pairs<'a> {
     pub pairs: &'a [Pair<'a>],
     pub index: Option<Index<'a>>,
     ghost indexed: { IfSome index (λ index. (name : List ℕ)
-        → value_in index name ≡ first_value pairs.now name) } by { Prim.hlevel props },
+        → indexed_value index name ≡ pair_value pairs.now name) } by { Prim.hlevel props },
 }
 
 impl<'a> VariableMap<'a> for Pairs<'_> {
@@ -50,7 +50,7 @@ impl<'a> VariableMap<'a> for Pairs<'_> {
 
     ghost see = { λ v. v.now };
 
-    ghost look_up = { λ self. first_value self.pairs.now };
+    ghost look_up = { λ self. pair_value self.pairs.now };
 
     fn get(&'a self, key: &str) -> Option<&'a [u8]> {
         match &self.index {
@@ -62,7 +62,7 @@ impl<'a> VariableMap<'a> for Pairs<'_> {
 
 /// Returns the value of the first pair with the name, for which the pairs are searched in turn.
 fn find<'a>(pairs: &[Pair<'a>], name: &str) -> Option<&'a [u8]>
-    ensures { option_map (λ value. value.now) result ≡ first_value pairs.now name.now }
+    ensures { option_map (λ value. value.now) result ≡ pair_value pairs.now name.now }
 {
     let pair = pairs.iter().find(|pair| name.as_bytes() == pair.name)?;
     Some(pair.value)
@@ -72,7 +72,7 @@ fn find<'a>(pairs: &[Pair<'a>], name: &str) -> Option<&'a [u8]>
 /// for it.
 pub fn index_of<'a>(alloc: Global, source: &[u8], pairs: &'a [Pair<'a>]) -> Option<Index<'a>>
     ensures { IfSome result (λ index. (name : List ℕ)
-        → value_in index name ≡ first_value pairs.now name) }
+        → indexed_value index name ≡ pair_value pairs.now name) }
 {
     if pairs.len() <= FEW || !has_many_placeholders(source) {
         return None;
@@ -93,7 +93,7 @@ fn has_many_placeholders(source: &[u8]) -> bool {
 /// When allocation fails.
 fn index<'a>(alloc: Global, pairs: &'a [Pair<'a>]) -> Result<Index<'a>, AllocError>
     ensures { IfOk result (λ index. (name : List ℕ)
-        → value_in index name ≡ first_value pairs.now name) }
+        → indexed_value index name ≡ pair_value pairs.now name) }
 {
     let mut index = HashMap::new(alloc);
     index.reserve(pairs.len())?;
@@ -109,8 +109,8 @@ fn insert_if_new<'a>(
     name: &'a [u8],
     value: &'a [u8],
 ) -> Result<(), AllocError>
-    ensures { OnOk result ((other : List ℕ) → value_in index.new other
-        ≡ option_or (value_in index.old other)
+    ensures { OnOk result ((other : List ℕ) → indexed_value index.new other
+        ≡ option_or (indexed_value index.old other)
         (if bytes_eq other name.now then Some value.now else None)) }
 {
     index.entry(name)?.or_insert(value);

@@ -1,4 +1,4 @@
-//! What a caller in C is told of variables.
+//! What calls from C report of variables.
 
 ghost use Rattle.std.specs.Prelude.{◌≡◌, ◌≢◌, ◌++◌, ◌<◌, drop, length, map};
 ghost use Rattle.subst_language.specs.Calls.Variables.{kind_of};
@@ -53,7 +53,7 @@ fn number_of(kind: VariableKind) -> u32
     }
 }
 
-/// What is told by a record.
+/// What a record reports.
 pub trait Recorded {
     /// The record.
     ghost recorded: { Self → VariableRecord };
@@ -85,22 +85,22 @@ impl Recorded for NoSuchVariable {
     }
 }
 
-/// Writes the records of a list at the front of the room, and tells how many they are. Where they are more
-/// than the room has, it stays as it is.
-pub fn deliver<T: Recorded>(list: &[T], room: &mut [VariableRecord], needed: &mut usize) -> u32
+/// Writes the records of a list at the front of the buffer, and into `needed` how many they are. Where they
+/// are more than the buffer has, it stays as it is.
+pub fn deliver<T: Recorded>(list: &[T], buffer: &mut [VariableRecord], needed: &mut usize) -> u32
     ensures needed { needed.new ≡ length list.now }
     ensures done { result ≡ DONE
-        → room.new ≡ map T.recorded list.now ++ drop (length list.now) room.old }
-    ensures too_small { result ≡ ROOM_TOO_SMALL → length room.old < length list.now }
-    ensures kept { result ≢ DONE → room.new ≡ room.old }
+        → buffer.new ≡ map T.recorded list.now ++ drop (length list.now) buffer.old }
+    ensures too_small { result ≡ ROOM_TOO_SMALL → length buffer.old < length list.now }
+    ensures kept { result ≢ DONE → buffer.new ≡ buffer.old }
     ensures others { result ≢ DONE → result ≡ ROOM_TOO_SMALL }
 {
     *needed = list.len();
-    if room.len() < list.len() {
+    if buffer.len() < list.len() {
         return ROOM_TOO_SMALL;
     }
     for (i, item) in list.iter().enumerate() {
-        room[i] = item.record();
+        buffer[i] = item.record();
     }
     DONE
 }

@@ -31,7 +31,7 @@ styled_two took f g h a b all one two is = record {
   flush = two.flush;
 }
 
--- a quoted form, where it is known, stands between texts that are known
+-- a quoted form, where it is known, is between texts that are known
 styled_around : {W : Type 0} (took : W → List ℕ → W → Type 0) (f g h i j : Formatter W)
     (q r : Result (Unit {0}) Error) (a b c : List ℕ) (o : Option (List ℕ))
     → (IsFlush f → HasWrittenStyled took f a g) → DisplaysStyledOnOk took g q o h → IsOk q

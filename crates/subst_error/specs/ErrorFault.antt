@@ -9,16 +9,16 @@ use Rattle.subst_error.specs.declared.ParseError.{ParseError}
 use Rattle.subst_error.specs.declared.ParseError.TheVariants as parsing
 use Rattle.subst_error.specs.declared.ExpandError.{ExpandError}
 use Rattle.subst_error.specs.declared.ExpandError.TheVariants as expanding
-use Rattle.subst_error.specs.declared.lent.ExpandIntoError.{ExpandIntoError}
-use Rattle.subst_error.specs.declared.lent.ExpandIntoError.TheVariants as expanding_into
-use Rattle.subst_error.specs.declared.lent.SubstituteIntoError.{SubstituteIntoError}
-use Rattle.subst_error.specs.declared.lent.SubstituteIntoError.TheVariants as substituting_into
+use Rattle.subst_error.specs.declared.borrowed.ExpandIntoError.{ExpandIntoError}
+use Rattle.subst_error.specs.declared.borrowed.ExpandIntoError.TheVariants as expanding_into
+use Rattle.subst_error.specs.declared.borrowed.SubstituteIntoError.{SubstituteIntoError}
+use Rattle.subst_error.specs.declared.borrowed.SubstituteIntoError.TheVariants as substituting_into
 
--- of an unexpected character
+-- the fault of an unexpected character
 abbrev pub unexpected_fault : unexpected.UnexpectedCharacter → Fault
 unexpected_fault e = UnexpectedCharacter e.position e.character (expected_text e.expected)
 
--- of an error of parsing
+-- the fault that an error of parsing states
 abbrev pub parse_fault : ParseError → Option Fault
 parse_fault (parsing.InvalidEscapeSequence e) = Some (InvalidEscapeSequence e.position e.character)
 parse_fault (parsing.MissingVariableName e) = Some (MissingVariableName e.position e.len)
@@ -26,12 +26,12 @@ parse_fault (parsing.UnexpectedCharacter e) = Some (unexpected_fault e)
 parse_fault (parsing.MissingClosingBrace e) = Some (MissingClosingBrace e.position)
 parse_fault (parsing.OutOfMemory e) = None
 
--- of an error of expansion
+-- the fault that an error of expansion states
 abbrev pub expand_fault : ExpandError → Option Fault
 expand_fault (expanding.NoSuchVariable e) = Some (NoSuchVariable e.position (string_bytes e.name))
 expand_fault (expanding.OutOfMemory e) = None
 
--- of an error of substitution, which parses and then expands
+-- the fault that an error of substitution states, which parses and then expands
 abbrev pub error_fault : Error → Option Fault
 error_fault (error.InvalidEscapeSequence e) = Some (InvalidEscapeSequence e.position e.character)
 error_fault (error.MissingVariableName e) = Some (MissingVariableName e.position e.len)
@@ -40,12 +40,12 @@ error_fault (error.MissingClosingBrace e) = Some (MissingClosingBrace e.position
 error_fault (error.NoSuchVariable e) = Some (NoSuchVariable e.position (string_bytes e.name))
 error_fault (error.OutOfMemory e) = None
 
--- of an error of expansion into an output that is lent
+-- the fault that an error of expansion into a borrowed output states
 abbrev pub expand_into_fault : ExpandIntoError → Option Fault
 expand_into_fault (expanding_into.NoSuchVariable e) = Some (NoSuchVariable e.position e.name.now)
 expand_into_fault (expanding_into.OutOfMemory e) = None
 
--- of an error of substitution into an output that is lent
+-- the fault that an error of substitution into a borrowed output states
 abbrev pub substitute_into_fault : SubstituteIntoError → Option Fault
 substitute_into_fault (substituting_into.Parse e) = parse_fault e
 substitute_into_fault (substituting_into.Expand e) = expand_into_fault e

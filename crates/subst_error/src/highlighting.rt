@@ -70,7 +70,8 @@ impl Error {
         }
     }
 
-    /// Returns what [`Error::write_source_highlighting`] writes.
+    /// Returns the line of `source` that the error is in, with the error's range underlined, as
+    /// [`Error::write_source_highlighting`] writes it.
     ///
     /// Both ends of the error's range have to be character boundaries of `source`, as they are for an error
     /// that a substitution of `source` returned.

@@ -15,11 +15,11 @@ ghost use Rattle.subst_error.specs.declared.MissingVariableName.{MissingVariable
 ghost use Rattle.subst_error.specs.declared.NoSuchVariable.{NoSuchVariable};
 ghost use Rattle.subst_error.specs.declared.ParseError.{ParseError};
 ghost use Rattle.subst_error.specs.declared.UnexpectedCharacter.{UnexpectedCharacter};
-ghost use Rattle.subst_error.specs.declared.lent.ExpandIntoError.{ExpandIntoError};
-ghost use Rattle.subst_error.specs.declared.lent.ExpandIntoError.TheVariants as expanding_into;
-ghost use Rattle.subst_error.specs.declared.lent.NoSuchVariableRef.{NoSuchVariableRef};
-ghost use Rattle.subst_error.specs.declared.lent.SubstituteIntoError.{SubstituteIntoError};
-ghost use Rattle.subst_error.specs.declared.lent.SubstituteIntoError.TheVariants as substituting_into;
+ghost use Rattle.subst_error.specs.declared.borrowed.ExpandIntoError.{ExpandIntoError};
+ghost use Rattle.subst_error.specs.declared.borrowed.ExpandIntoError.TheVariants as expanding_into;
+ghost use Rattle.subst_error.specs.declared.borrowed.NoSuchVariableRef.{NoSuchVariableRef};
+ghost use Rattle.subst_error.specs.declared.borrowed.SubstituteIntoError.{SubstituteIntoError};
+ghost use Rattle.subst_error.specs.declared.borrowed.SubstituteIntoError.TheVariants as substituting_into;
 
 use crate::{
     CharOrByte, Error, ExpandError, ExpandIntoError, ExpectedCharacter, InvalidEscapeSequence,
@@ -37,7 +37,7 @@ pub fn clones_state_equal_faults()
         → expand_fault copy ≡ expand_fault e }
     ensures missing { (e copy : NoSuchVariable) → ⟦<NoSuchVariable as Clone>⟧.is_clone e copy
         → error_fault (stated.NoSuchVariable copy) ≡ error_fault (stated.NoSuchVariable e) }
-    ensures missing_lent { (e copy : NoSuchVariableRef)
+    ensures missing_borrowed { (e copy : NoSuchVariableRef)
         → ⟦<NoSuchVariableRef<'static> as Clone>⟧.is_clone e copy
         → expand_into_fault (expanding_into.NoSuchVariable copy)
         ≡ expand_into_fault (expanding_into.NoSuchVariable e) }
@@ -65,7 +65,7 @@ pub fn clones_without_a_name_never_fail()
         → ⟦<UnexpectedCharacter as Clone>⟧.is_infallible e }
     ensures brace { (e : MissingClosingBrace)
         → ⟦<MissingClosingBrace as Clone>⟧.is_infallible e }
-    ensures missing_lent { (e : NoSuchVariableRef)
+    ensures missing_borrowed { (e : NoSuchVariableRef)
         → ⟦<NoSuchVariableRef<'static> as Clone>⟧.is_infallible e }
     ensures expanding_into { (e : ExpandIntoError)
         → ⟦<ExpandIntoError<'static> as Clone>⟧.is_infallible e }
@@ -101,8 +101,8 @@ pub fn equal_errors_state_equal_faults()
         (substituting_into.Parse a) (substituting_into.Expand b) ≡ false }
 {}
 
-/// The same law of what an error holds: two of these are equal exactly where errors that hold them state
-/// equal faults.
+/// The law of equality of what an error holds: two of these are equal exactly where errors that hold them
+/// state equal faults.
 pub fn equal_parts_state_equal_faults()
     ensures escape { (a b : InvalidEscapeSequence)
         → IsTrue (⟦<InvalidEscapeSequence as PartialEq>⟧.eq a b)
@@ -123,7 +123,7 @@ pub fn equal_parts_state_equal_faults()
     ensures variable { (a b : NoSuchVariable) → IsTrue (⟦<NoSuchVariable as PartialEq>⟧.eq a b)
         ↔ (error_fault (stated.NoSuchVariable a)
         ≡ error_fault (stated.NoSuchVariable b)) }
-    ensures variable_lent { (a b : NoSuchVariableRef)
+    ensures variable_borrowed { (a b : NoSuchVariableRef)
         → IsTrue (⟦<NoSuchVariableRef<'static> as PartialEq>⟧.eq a b)
         ↔ (expand_into_fault (expanding_into.NoSuchVariable a)
         ≡ expand_into_fault (expanding_into.NoSuchVariable b)) }

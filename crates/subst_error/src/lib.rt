@@ -8,19 +8,19 @@
 ghost use Rattle.std.specs.Prelude.{◌≡◌, ◌≤◌, length};
 ghost use Rattle.subst_error.specs.declared.TheConstants.{MESSAGE_CAPACITY};
 
+pub use borrowed::{ExpandIntoError, NoSuchVariableRef, SubstituteIntoError};
 pub use highlighting::{Underlined, underline};
-pub use lent::{ExpandIntoError, NoSuchVariableRef, SubstituteIntoError};
 pub use position::line_and_column;
 pub use quoted::QuotedPrintable;
 use std::alloc::AllocError;
 use std::fmt;
 use std::fmt::InlineText;
 
+mod borrowed;
 mod conversions;
 mod display;
 mod highlighting;
 pub mod laws;
-mod lent;
 mod line;
 mod position;
 mod quoted;

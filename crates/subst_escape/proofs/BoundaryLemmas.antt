@@ -8,7 +8,7 @@ use Rattle.std.proofs.lemmas.Str.{IsUtf8-past_char, IsCharBoundary-at_seam, IsCh
 use Rattle.std.specs.List.{position}
 use Rattle.std.specs.Str.{IsUtf8, IsCharBoundary, encode_utf8_all}
 use Rattle.std.specs.String.Boundary.{IsSplitPoint}
-use Rattle.subst_language.specs.Language.Bytes.{is_special}
+use Rattle.subst_language.specs.Language.Escaped.{is_special}
 
 -- in UTF-8 a special byte is a character, so the text may be cut before it and after it
 pub boundaries_of_special : (x : List ℕ) (k : ℕ) → position is_special x ≡ Some k → IsUtf8 x

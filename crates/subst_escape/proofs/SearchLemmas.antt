@@ -4,8 +4,8 @@ use Rattle.std.specs.List.{position, position_or_len}
 use Rattle.std.proofs.lemmas.Grind.{common_steps}
 use Rattle.std.proofs.lemmas.List.Sums.{fails_before_first}
 use Rattle.std.proofs.lemmas.List.Quantifiers.{position-Some}
-use Rattle.subst_language.specs.Language.Bytes.{backslash, is_special}
-use Rattle.subst_language.specs.Language.Escaped.{escaped_byte, escaped}
+use Rattle.subst_language.specs.Language.Bytes.{backslash}
+use Rattle.subst_language.specs.Language.Escaped.{is_special, escaped_byte, escaped}
 
 -- a byte that isn't special stays as it is
 escaped_byte-plain : (b : ℕ) → is_special b ≡ false → escaped_byte b ≡ b ∷ []

@@ -4,7 +4,7 @@
 ghost use Rattle.std.specs.Prelude.{◌≡◌, ◌≤◌, ◌<◌, ◌+◌, ◌++◌, ℕ, List, ◌∷◌, length, IfOk, OnOk, OnErr};
 ghost use Rattle.std.specs.Prelude.{string_bytes, string_capacity, string_len};
 ghost use Rattle.std.specs.List.{position};
-ghost use Rattle.subst_language.specs.Language.Bytes as classes;
+ghost use Rattle.subst_language.specs.Language.Bytes.{backslash};
 ghost use Rattle.subst_language.specs.Language.Escaped as language;
 
 use std::alloc::{AllocError, Global};
@@ -74,7 +74,7 @@ fn append_escaped(text: &str, output: &mut String) -> Result<(), AllocError>
 /// When the output has to grow and allocation fails. The backslash may have been appended then.
 fn append_after_backslash(text: &str, output: &mut String) -> Result<(), AllocError>
     ensures escaped { OnOk result
-        (string_bytes output.new ≡ string_bytes output.old ++ classes.backslash ∷ text.now) }
+        (string_bytes output.new ≡ string_bytes output.old ++ backslash ∷ text.now) }
     ensures part { (part : List ℕ) × (string_bytes output.new ≡ string_bytes output.old ++ part) }
     ensures full { OnErr result
         (string_capacity output.old < string_len output.old + (1 + length text.now)) }
@@ -86,14 +86,14 @@ fn append_after_backslash(text: &str, output: &mut String) -> Result<(), AllocEr
 
 /// Returns the index of the first byte that a backslash escapes.
 fn first_special(text: &str) -> Option<usize>
-    ensures { result ≡ position classes.is_special text.now }
+    ensures { result ≡ position language.is_special text.now }
 {
     text.as_bytes().iter().position(|byte| is_special(*byte))
 }
 
 /// Returns whether a backslash escapes the byte.
 fn is_special(byte: u8) -> bool
-    ensures { result ≡ classes.is_special byte }
+    ensures { result ≡ language.is_special byte }
 {
     matches!(byte, b'\\' | b'$' | b'{' | b'}' | b':')
 }

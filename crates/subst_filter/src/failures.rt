@@ -6,7 +6,7 @@ use std::io::ErrorKind;
 use std::test::Fail;
 use subst_testing::fakes::Fault;
 
-/// What such a run gives.
+/// What a run over `Hello $name!` gives.
 const GIVEN: &str = "Hello world!";
 
 fn run(call: Call) -> Run<'static> {
@@ -43,11 +43,19 @@ fn expect_failed_writes(alloc: Global, call: Call, kind: ErrorKind) -> Result<()
 
 /// The writer takes no more than some of the 12 bytes.
 fn expect_full_writer(alloc: Global, call: Call) -> Result<(), Fail> {
-    for room in 0..12 {
-        Run { room, ..run(call) }.expect(alloc, written(alloc, room)?.as_str())?;
+    for capacity in 0..12 {
+        Run {
+            capacity,
+            ..run(call)
+        }
+        .expect(alloc, written(alloc, capacity)?.as_str())?;
     }
-    let room = 12;
-    Run { room, ..run(call) }.expect(alloc, "gives Hello world!")
+    let capacity = 12;
+    Run {
+        capacity,
+        ..run(call)
+    }
+    .expect(alloc, "gives Hello world!")
 }
 
 #[test]

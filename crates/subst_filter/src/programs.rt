@@ -1,4 +1,4 @@
-//! The program over its words, its pairs and its streams.
+//! The program over its arguments, its pairs and its streams.
 
 use std::alloc::{AllocError, Global};
 use std::io::ErrorKind;
@@ -27,7 +27,7 @@ fn pairs(alloc: Global, texts: &[(&str, &str)]) -> Result<Vec<(String, String)>,
     Ok(pairs)
 }
 
-/// The words of a command line, over a source, and when a read and a write fail.
+/// The arguments of a command line, over a source, and when a read and a write fail.
 #[derive(Clone, Copy)]
 struct Program<'a> {
     line: &'a [&'a str],
@@ -47,7 +47,7 @@ impl<'a> Program<'a> {
         }
     }
 
-    /// It ends with this status, output and standard error, which are told with bars in between.
+    /// It ends with this status, output and standard error, which are shown with bars in between.
     fn expect(&self, alloc: Global, wanted: &str) -> Result<(), Fail> {
         let came = self.told(alloc)?;
         if came.as_str() == wanted {
@@ -87,7 +87,7 @@ fn told(alloc: Global, status: u8, output: &[u8], errors: &[u8]) -> Result<Strin
     format!(in alloc; "{status}|{output}|{errors}")
 }
 
-/// Programs with these words over these sources end so.
+/// Programs with these arguments over these sources end so.
 fn expect_ends(alloc: Global, rows: &[(&[&str], &[u8], &str)]) -> Result<(), Fail> {
     for &(line, source, wanted) in rows {
         Program::new(line, source).expect(alloc, wanted)?;
@@ -136,7 +136,7 @@ fn variables_are_filled_in_where_the_task_takes_the_source(rt: HostRuntime) -> R
     expect_ends(rt.alloc(), rows)
 }
 
-/// A program with these words over this source prints this fault, and then what is shown of it.
+/// A program with these arguments over this source prints this fault, and then what is shown of it.
 fn expect_refusal<'a>(
     alloc: Global,
     line: &'a [&'a str],
@@ -183,7 +183,7 @@ fn missing_variable_of_a_source_is_printed(rt: HostRuntime) -> Result<(), Fail> 
     Ok(())
 }
 
-/// Programs that give `a1`, but whose read or write fails so, end so.
+/// Programs that give `a1`, but whose read or write fails so, end as this text says.
 fn expect_failure(alloc: Global, read: Fault, write: Fault, wanted: &str) -> Result<(), Fail> {
     let lines: [&[&str]; 3] = [&["bytes", "A=1"], &["text", "A=1"], &["env"]];
     for line in lines {

@@ -28,7 +28,7 @@ pub struct Run<'a> {
     pub pairs: &'a str,
     pub read: Fault,
     pub write: Fault,
-    pub room: usize,
+    pub capacity: usize,
 }
 
 impl<'a> Run<'a> {
@@ -40,11 +40,11 @@ impl<'a> Run<'a> {
             pairs,
             read: Fault::never(),
             write: Fault::never(),
-            room: usize::MAX,
+            capacity: usize::MAX,
         }
     }
 
-    /// It ends so.
+    /// The run ends as this text says.
     pub fn expect(&self, alloc: Global, wanted: &str) -> Result<(), Fail> {
         let came = self.told(alloc)?;
         if came.as_str() == wanted {
@@ -56,7 +56,7 @@ impl<'a> Run<'a> {
     }
 
     fn told(&self, alloc: Global) -> Result<String, AllocError> {
-        let mut drip = Drip::new(alloc, self.room, self.write)?;
+        let mut drip = Drip::new(alloc, self.capacity, self.write)?;
         let ended = match self.call {
             Call::RunBytes => self.over_bytes(alloc, &mut drip, &byte_values(alloc, self.pairs)?),
             Call::RunText => self.over_text(alloc, &mut drip, &texts(alloc, self.pairs)?),
@@ -102,7 +102,7 @@ fn told(alloc: Global, ended: &Ended, drip: &Drip) -> Result<String, AllocError>
     }
 }
 
-/// Runs over sources with the pairs of their variables end so.
+/// Runs over these sources, with the pairs of their variables, end as the texts beside them say.
 pub fn expect_runs(alloc: Global, call: Call, rows: &[(&str, &str, &str)]) -> Result<(), Fail> {
     for &(source, pairs, wanted) in rows {
         Run::new(call, source.as_bytes(), pairs).expect(alloc, wanted)?;
@@ -110,7 +110,7 @@ pub fn expect_runs(alloc: Global, call: Call, rows: &[(&str, &str, &str)]) -> Re
     Ok(())
 }
 
-/// Runs over texts without variables end so.
+/// Runs over these texts, without variables, end as the texts beside them say.
 pub fn expect_texts(alloc: Global, rows: &[(&str, &str)]) -> Result<(), Fail> {
     for &(source, wanted) in rows {
         Run::new(Call::RunText, source.as_bytes(), "").expect(alloc, wanted)?;

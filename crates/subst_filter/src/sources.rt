@@ -67,14 +67,14 @@ fn faults_are_shown_in_their_line(rt: HostRuntime) -> Result<(), Fail> {
     expect_texts(rt.alloc(), &rows)
 }
 
-/// What is told of a dollar after so many letters, with its line.
+/// What is shown of a dollar after so many letters, with its line.
 fn told_with_line(alloc: Global, count: usize) -> Result<String, AllocError> {
     let (line, spaces) = ("x".repeat(alloc, count)?, " ".repeat(alloc, count)?);
     let end = count.saturating_add(1);
     format!(in alloc; "{count}..{end}: MissingVariableName\n  {line}$\n  {spaces}^\n")
 }
 
-/// This is told of a dollar after so many letters.
+/// This is shown of a dollar after so many letters.
 fn expect_after(alloc: Global, count: usize, told: &str) -> Result<(), Fail> {
     let letters = "x".repeat(alloc, count)?;
     let source = format!(in alloc; "{letters}$")?;
@@ -88,7 +88,7 @@ fn widest_line_that_is_shown_has_60_columns(rt: HostRuntime) -> Result<(), Fail>
     expect_after(rt.alloc(), 60, "60..61: MissingVariableName\n")
 }
 
-/// A name of so many letters is told whole.
+/// A name of so many letters is shown whole.
 fn expect_name(alloc: Global, len: usize) -> Result<(), Fail> {
     let name = "n".repeat(alloc, len)?;
     let source = format!(in alloc; "${name}")?;

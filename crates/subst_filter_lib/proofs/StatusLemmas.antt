@@ -6,7 +6,7 @@ use Rattle.subst.specs.ErrorFault.{error_fault}
 use Rattle.subst.specs.Language.LookUp.{LookUp}
 use Rattle.subst_filter_lib.specs.FilterRun.{RunAnswers, IsRefusedBy, Tells, OnceRead, UnlessWriting, WritesPrefix}
 use Rattle.subst_filter_lib.specs.RunError.{error_status}
-use Rattle.subst_filter_lib.specs.Task.{Takes}
+use Rattle.subst_filter_lib.specs.Task.{Accepts}
 use Rattle.subst_filter_lib.specs.declared.run_error.RunError.{RunError}
 use Rattle.subst_filter_lib.specs.declared.run_error.RunError.TheVariants.{Read, Write, NotUtf8, Subst, OutOfMemory}
 use Rattle.subst_filter_lib.specs.declared.task.Task.{Task}
@@ -20,7 +20,7 @@ value_with (Some x) P h = (x, h)
 -- at the status REFUSED a run has a source that its task doesn't take, or that is refused
 pub refused_at_status : (e : RunError) (task : Task) (left : Option (List ℕ)) (look : LookUp)
     (old new : Option (List ℕ)) → error_status e ≡ REFUSED
-    → IfSome left (λ source. Tells (Takes task source) (Err e))
+    → IfSome left (λ source. Tells (Accepts task source) (Err e))
     → IfSome left (λ source. RunAnswers source look (Err e) old new)
     → IfSome left (λ source. IsRefusedBy task source look)
 refused_at_status Read task left look old new is told run = absurd (omega arith)
@@ -43,9 +43,9 @@ read_at_status OutOfMemory is read = absurd (omega arith)
 -- at the status DEVICE_FAILED a run has written nothing, or a prefix of the answer
 pub prefix_at_status : (e : RunError) (task : Task) (left : Option (List ℕ)) (look : LookUp)
     (old new : Option (List ℕ)) → error_status e ≡ DEVICE_FAILED
-    → IfSome left (λ source. Tells (Takes task source) (Err e)) → UnlessWriting (Err e) (Keeps old new)
+    → IfSome left (λ source. Tells (Accepts task source) (Err e)) → UnlessWriting (Err e) (Keeps old new)
     → IfSome left (λ source. RunAnswers source look (Err e) old new)
-    → Keeps old new ⊎ IfSome left (λ source. Takes task source × WritesPrefix source look old new)
+    → Keeps old new ⊎ IfSome left (λ source. Accepts task source × WritesPrefix source look old new)
 prefix_at_status Read task left look old new is told kept run = inl kept
 prefix_at_status Write task None look old new is told kept run = inr tt
 prefix_at_status Write task (Some source) look old new is told kept run = inr (told, run)

@@ -1,4 +1,4 @@
--- Lemmas on words, and on the look-up of the variables that they give.
+-- Lemmas on arguments, and on the look-up of the variables that they give.
 use Rattle.std.proofs.Common.{◌≡◌, ℕ, ◌+◌, ◌<◌, Bool, true, false, List, [], ◌∷◌, ◌++◌, if◌then◌else◌, get_or, length, take, Option, Some, None, MatchOption, IfSome, is_some, String, string_bytes, refl, sym, subst, arith}
 use Rattle.std.proofs.lemmas.Grind.{common_steps}
 use Rattle.std.proofs.lemmas.List.{take_more}

@@ -8,7 +8,7 @@ use Rattle.subst.specs.Fault.{Fault}
 use Rattle.subst.specs.Language.LookUp.{LookUp}
 use Rattle.subst.specs.Errors.{Error}
 use Rattle.subst_filter_lib.specs.Device.{AppendsPrefix}
-use Rattle.subst_filter_lib.specs.Task.{Takes}
+use Rattle.subst_filter_lib.specs.Task.{Accepts}
 use Rattle.subst_filter_lib.specs.declared.run_error.RunError.{RunError}
 use Rattle.subst_filter_lib.specs.declared.task.Task.{Task}
 use Rattle.subst_filter_lib.specs.declared.run_error.RunError.TheVariants.{Read, Write, NotUtf8, Subst, OutOfMemory}
@@ -35,7 +35,7 @@ IsRefusedWith source look e = IsSomeAnd (error_fault e) (λ f. Answers source lo
 
 -- the task doesn't take the source, or takes it and it is refused for some fault
 abbrev pub IsRefusedBy : Task → List ℕ → LookUp → Type 0
-IsRefusedBy task source look = ¬ (Takes task source) ⊎ (Takes task source × IsRefused source look)
+IsRefusedBy task source look = ¬ (Accepts task source) ⊎ (Accepts task source × IsRefused source look)
 
 -- How the result of a run goes with the answer of its source. Done: the answer's bytes were written. Writing
 -- failed: a prefix of them was. Refused: the error states the fault.
@@ -45,7 +45,7 @@ RunAnswers source look (Err Write) old new = WritesPrefix source look old new
 RunAnswers source look (Err (Subst e shown)) old new = IsRefusedWith source look e
 RunAnswers source look (Err _) old new = ⊤
 
--- A run tells whether P holds of its source: it says NotUtf8 where P doesn't hold, and only there, unless
+-- A run reports whether P holds of its source: it says NotUtf8 where P doesn't hold, and only there, unless
 -- reading failed or memory ran out.
 abbrev pub Tells : Type 0 → Result (Unit {0}) RunError → Type 0
 Tells P (Err Read) = ⊤
@@ -53,7 +53,7 @@ Tells P (Err OutOfMemory) = ⊤
 Tells P (Err NotUtf8) = ¬ P
 Tells P _ = P
 
--- a run over text tells a text from other bytes
+-- a run over text distinguishes a text from other bytes
 abbrev pub TellsText : Result (Unit {0}) RunError → List ℕ → Type 0
 TellsText result source = Tells (IsUtf8 source) result
 

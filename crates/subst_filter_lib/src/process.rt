@@ -1,4 +1,4 @@
-//! The program in its process: its words, its environment and its three standard streams.
+//! The program in its process: its arguments, its environment and its three standard streams.
 
 ghost use Rattle.std.specs.Prelude.{◌≡◌, ◌≢◌, ◌≤◌, Some, [], IsOkAnd};
 ghost use Rattle.std.specs.IoError.{error_kind};
@@ -16,9 +16,9 @@ use std::io::ErrorKind;
 use std::process::ExitCode;
 use std::{env, io};
 
-/// Runs the program over the words of its command line, its environment, which is read for the word `env`
-/// alone, and its standard streams, and returns the status to end with. It is one of the module
-/// [`crate::status`], as `run_program` has it; also if the words or the environment can't be read.
+/// Runs the program over the arguments of its command line, its environment, which is read for the argument
+/// `env` alone, and its standard streams, and returns the status to end with. It is one of the module
+/// [`crate::status`], as `run_program` has it; also if the arguments or the environment can't be read.
 pub fn run(rt: &HostRuntime) -> ExitCode
     ensures statuses { exit_status result ≤ OUT_OF_MEMORY }
 {
@@ -39,25 +39,25 @@ pub fn run(rt: &HostRuntime) -> ExitCode
     ExitCode::from(status)
 }
 
-/// Returns the words after the program's name, and the pairs that they ask for.
+/// Returns the arguments after the program's name, and the pairs that they ask for.
 ///
 /// # Errors
 ///
-/// [`RunError::OutOfMemory`] if memory runs out, and [`RunError::Read`] if a word or a pair isn't UTF-8.
+/// [`RunError::OutOfMemory`] if memory runs out, and [`RunError::Read`] if an argument or a pair isn't UTF-8.
 fn words_and_pairs(rt: &HostRuntime) -> Result<(Vec<String>, Vec<(String, String)>), RunError> {
     let words = words(rt).map_err(|e| fault_of_words(&e))?;
     let pairs = pairs(rt, &words).map_err(|e| fault_of_pairs(&e))?;
     Ok((words, pairs))
 }
 
-/// Returns the words after the program's name.
+/// Returns the arguments after the program's name.
 fn words(rt: &HostRuntime) -> io::Result<Vec<String>> {
     let words = env::args(rt)?.skip(1).collect(rt.alloc())?;
     Ok(words)
 }
 
-/// Returns the pairs of the environment if the words ask for them; otherwise the environment isn't read, and
-/// there are none.
+/// Returns the pairs of the environment if the arguments ask for them; otherwise the environment isn't read,
+/// and there are none.
 fn pairs(rt: &HostRuntime, words: &[String]) -> Result<Vec<(String, String)>, VarError>
     ensures unread { task_of words.now ≢ Some Task.Environment
         → IsOkAnd result (λ pairs. pairs.items ≡ []) }
@@ -69,7 +69,7 @@ fn pairs(rt: &HostRuntime, words: &[String]) -> Result<Vec<(String, String)>, Va
     Ok(pairs)
 }
 
-/// Returns the error that the program ends with if it can't read its words.
+/// Returns the error that the program ends with if it can't read its arguments.
 fn fault_of_words(e: &io::Error) -> RunError
     ensures memory { error_kind e.now ≡ ErrorKind.OutOfMemory → result ≡ RunError.OutOfMemory }
     ensures other { error_kind e.now ≢ ErrorKind.OutOfMemory → result ≡ RunError.Read }

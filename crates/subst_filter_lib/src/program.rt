@@ -1,4 +1,4 @@
-//! What the program does with the words of its command line, the pairs of its environment and its three
+//! What the program does with the arguments of its command line, the pairs of its environment and its three
 //! streams.
 
 ghost use Rattle.std.specs.Prelude.{◌≡◌, ◌≢◌, ◌≤◌, ◌⊎◌, ◌↔◌, true, None, drop, OnOk, IfSome, IsErrOf};
@@ -6,7 +6,7 @@ ghost use Rattle.std.specs.Io.KnownBytes.{Keeps};
 ghost use Rattle.subst_filter_lib.specs.Device.{ReadsAll};
 ghost use Rattle.subst_filter_lib.specs.FilterRun.{RunAnswers, WritesAnswer, WritesPrefix, IsRefusedBy, Tells, OnceRead, UnlessReadFails, UnlessWriteFails, UnlessWriting};
 ghost use Rattle.subst_filter_lib.specs.RunError.{error_status};
-ghost use Rattle.subst_filter_lib.specs.Task.{task_of, Takes, variables_of};
+ghost use Rattle.subst_filter_lib.specs.Task.{task_of, Accepts, look_up_of_task};
 
 use crate::device::{ByteInput, ByteOutput};
 use crate::engine::{run_bytes, run_text, write_all};
@@ -18,24 +18,24 @@ use std::alloc::Global;
 use std::fmt;
 use std::fmt::Write;
 
-/// What is printed for wrong words.
+/// What is printed for wrong arguments.
 const USAGE: &str = "usage: subst_filter bytes|text|env [NAME=VALUE]...\n";
 
-/// Runs the program over the words after its name, the pairs of the environment and its three streams, and
-/// returns the status to end with:
+/// Runs the program over the arguments after its name, the pairs of the environment and its three streams,
+/// and returns the status to end with:
 ///
 /// - [`DONE`]: the source was read from `input` to its end, and its answer was written to `output`, which was
 ///   then flushed.
 /// - [`REFUSED`]: the source is refused, or isn't UTF-8 where it has to be, and nothing was written to
 ///   `output`.
-/// - [`WRONG_WORDS`]: the words don't say what to do, nothing was read from `input`, and nothing was written
-///   to `output`.
+/// - [`WRONG_WORDS`]: the arguments don't say what to do, nothing was read from `input`, and nothing was
+///   written to `output`.
 /// - [`DEVICE_FAILED`]: `input` or `output` failed, and at most a prefix of the answer was written to
 ///   `output`.
 /// - [`OUT_OF_MEMORY`]: memory ran out, and nothing was written to `output`.
 ///
 /// At each status but [`DONE`] the reason is written to `errors`. If that fails, the status stays the same.
-/// The pairs are looked at only where the words are `env` alone.
+/// The pairs are looked at only where the arguments are `env` alone.
 pub fn run_program<I: ByteInput, O: ByteOutput, P: ByteOutput>(
     alloc: Global,
     words: &[String],
@@ -49,8 +49,8 @@ pub fn run_program<I: ByteInput, O: ByteOutput, P: ByteOutput>(
 
     // Done: the source was read to its end, and its answer was written and nothing else.
     ensures done { result ≡ DONE → ReadsAll (I.left input.old) (I.left input.new)
-        × IfSome (task_of words.now) (λ task. IfSome (I.left input.old) (λ source. Takes task source
-        × WritesAnswer source (variables_of task words.now pairs.items)
+        × IfSome (task_of words.now) (λ task. IfSome (I.left input.old) (λ source.
+        Accepts task source × WritesAnswer source (look_up_of_task task words.now pairs.items)
         (O.written output.old) (O.written output.new))) }
 
     // Done: the output was flushed after the last byte was written.
@@ -61,20 +61,20 @@ pub fn run_program<I: ByteInput, O: ByteOutput, P: ByteOutput>(
         → (I.has_failed input.new ≡ I.has_failed input.old)
         × (O.has_failed output.new ≡ O.has_failed output.old) }
 
-    // Wrong words: nothing was read.
+    // Wrong arguments: nothing was read.
     ensures untouched { result ≡ WRONG_WORDS → Keeps (I.left input.old) (I.left input.new) }
 
     // Refused: the source was read to its end, and isn't one that the task takes, or its answer is a refusal.
     ensures refused { result ≡ REFUSED → ReadsAll (I.left input.old) (I.left input.new)
         × IfSome (task_of words.now) (λ task. IfSome (I.left input.old) (λ source.
-        IsRefusedBy task source (variables_of task words.now pairs.items))) }
+        IsRefusedBy task source (look_up_of_task task words.now pairs.items))) }
 
     // A device failed: nothing was written, or a prefix of the answer.
     ensures failed { result ≡ DEVICE_FAILED
         → (I.has_failed input.new ≡ true) ⊎ (O.has_failed output.new ≡ true) }
     ensures prefix { result ≡ DEVICE_FAILED → Keeps (O.written output.old) (O.written output.new)
-        ⊎ IfSome (task_of words.now) (λ task. IfSome (I.left input.old) (λ source. Takes task source
-        × WritesPrefix source (variables_of task words.now pairs.items)
+        ⊎ IfSome (task_of words.now) (λ task. IfSome (I.left input.old) (λ source.
+        Accepts task source × WritesPrefix source (look_up_of_task task words.now pairs.items)
         (O.written output.old) (O.written output.new))) }
 
     // At any other status nothing was written.
@@ -91,7 +91,7 @@ pub fn run_program<I: ByteInput, O: ByteOutput, P: ByteOutput>(
     }
 }
 
-/// Makes a map of the variables of the task, from the words after the first one or from the pairs of the
+/// Makes a map of the variables of the task, from the arguments after the first one or from the pairs of the
 /// environment, and runs the filter over it.
 ///
 /// # Errors
@@ -107,11 +107,11 @@ fn run_task<I: ByteInput, O: ByteOutput>(
 ) -> Result<(), RunError>
     // What was written is the answer of what was read.
     ensures answer { IfSome (I.left input.old) (λ source. RunAnswers source
-        (variables_of task words.now pairs.now)
+        (look_up_of_task task words.now pairs.now)
         result (O.written output.old) (O.written output.new)) }
 
-    // The source is one that the task takes, or is told not to be.
-    ensures source { IfSome (I.left input.old) (λ source. Tells (Takes task source) result) }
+    // The source is one that the task takes, or is reported not to be.
+    ensures source { IfSome (I.left input.old) (λ source. Tells (Accepts task source) result) }
 
     ensures whole { OnceRead result (ReadsAll (I.left input.old) (I.left input.new)) }
     ensures unwritten { UnlessWriting result (Keeps (O.written output.old) (O.written output.new)) }
@@ -131,7 +131,7 @@ fn run_task<I: ByteInput, O: ByteOutput>(
     }
 }
 
-/// Returns the words after the first one.
+/// Returns the arguments after the first one.
 fn after_first(words: &[String]) -> &[String]
     ensures { result.now ≡ drop 1 words.now }
 {

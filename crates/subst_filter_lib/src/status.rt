@@ -6,7 +6,7 @@ pub const DONE: u8 = 0;
 /// The source is refused.
 pub const REFUSED: u8 = 1;
 
-/// The words of the command line don't say what to do.
+/// The arguments of the command line don't say what to do.
 pub const WRONG_WORDS: u8 = 2;
 
 /// The input or the output failed.

@@ -1,4 +1,4 @@
-//! What the words of the command line say to do.
+//! What the arguments of the command line say to do.
 
 ghost use Rattle.std.specs.Prelude.{◌≡◌};
 ghost use Rattle.subst_filter_lib.specs.Words.{are_pairs};
@@ -6,9 +6,9 @@ ghost use Rattle.subst_filter_lib.specs.Words.{are_pairs};
 /// What the program is to do.
 #[derive(Clone, Copy, Debug, PartialEq, Eq)]
 pub enum Task {
-    /// To fill in bytes from the words after the first one.
+    /// To fill in bytes from the arguments after the first one.
     Bytes,
-    /// To fill in a text from the words after the first one.
+    /// To fill in a text from the arguments after the first one.
     Text,
     /// To fill in a text from the pairs of the environment.
     Environment,
@@ -17,9 +17,9 @@ pub enum Task {
 impl Task {
     ghost use Rattle.subst_filter_lib.specs.Task.{task_of};
 
-    /// Returns what the words after the program's name say to do, or `None` if they are wrong. They are right
-    /// in two cases: the first word is `bytes` or `text`, and each other has the form NAME=VALUE; or `env` is
-    /// the only word.
+    /// Returns what the arguments after the program's name say to do, or `None` if they are wrong. They are
+    /// right in two cases: the first one is `bytes` or `text`, and each other has the form NAME=VALUE; or
+    /// `env` is the only one.
     pub fn of_words(words: &[String]) -> Option<Task>
         ensures task { result ≡ task_of words.now }
     {
@@ -35,7 +35,7 @@ impl Task {
     }
 }
 
-/// Returns whether each word has the form NAME=VALUE.
+/// Returns whether each argument has the form NAME=VALUE.
 fn are_pairs(words: &[String]) -> bool
     ensures { result ≡ are_pairs words.now }
 {

@@ -1,4 +1,4 @@
-//! The variables that words of the command line and pairs of the environment give.
+//! The variables that arguments of the command line and pairs of the environment give.
 
 ghost use Rattle.std.specs.Prelude.{◌≡◌, ℕ, List, Some, None, if◌then◌else◌, OnOk, IfOk, IfSome, is_some};
 ghost use Rattle.std.specs.Option.{option_or};
@@ -15,8 +15,8 @@ use std::collections::HashMap;
 /// A name may be any text, also one that no placeholder can have.
 pub type Values<'w> = HashMap<&'w str, &'w str>;
 
-/// Returns the values of words of the form NAME=VALUE under their names. Where words have the same name, the
-/// last one gives its value. Other words give none.
+/// Returns the values of arguments of the form NAME=VALUE under their names. Where several have the same
+/// name, the last one gives its value. Other arguments give none.
 ///
 /// # Errors
 ///
@@ -49,8 +49,8 @@ pub fn values_of_pairs(alloc: Global, pairs: &[(String, String)]) -> Result<Valu
     Ok(values)
 }
 
-/// Puts the value of a word of the form NAME=VALUE under its name, in the place of one that is there. Another
-/// word changes nothing.
+/// Puts the value of an argument of the form NAME=VALUE under its name, in place of one that is there.
+/// Another argument changes nothing.
 #[tactic(auto, using(std::proofs::lemmas::Map::Text::text_keys))]
 fn insert_word<'w>(values: &mut Values<'w>, word: &'w str) -> Result<(), AllocError>
     ensures { OnOk result ((name : List ℕ) → value_under values.new name
@@ -78,7 +78,7 @@ fn insert_if_new<'w>(
     Ok(())
 }
 
-/// Returns the name and the value of a word of the form NAME=VALUE, which is split at its first `=`, or
+/// Returns the name and the value of an argument of the form NAME=VALUE, which is split at its first `=`, or
 /// `None` if it has none.
 fn pair(word: &str) -> Option<(&str, &str)>
     ensures form { is_some result ≡ is_pair word.now }

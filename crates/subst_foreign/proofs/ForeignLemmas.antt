@@ -239,7 +239,7 @@ written_end {Counts} {text} written rest new so_far plain is =
     let same = append-nil rest in
     subst (IsWrittenAs Counts text) (sym is) (so_far rest (subst (λ x. IsWrittenAs Counts x x) same end))
 
--- where a byte is escaped, it stands after a backslash
+-- where a byte is escaped, it is after a backslash
 pub escaped_part : {Counts : List ℕ → Type 0} {text first rest : List ℕ} (b : ℕ) (x old mid new : List ℕ)
     → text ≡ b ∷ x → is_escaped b ≡ true → BeginsWithNoVariable Counts text
     → first ≡ take 1 text → rest ≡ drop 1 text → mid ≡ old ++ backslash ∷ [] → new ≡ mid ++ first

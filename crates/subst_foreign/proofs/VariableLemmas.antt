@@ -14,7 +14,7 @@ no_short Counts x run end splits each ends none name rest named counts ended is 
     let same = split_unique name run rest end (name_bytes name named) each ended ends (sym is ∙ splits) in
     none (subst IsName same.0 named, subst Counts same.0 counts)
 
--- nor with one in braces
+-- a text begins with no such name in braces, since its longest run of name bytes after the brace is none
 pub no_braced : (Counts : List ℕ → Type 0) (x braced run end : List ℕ) → x ≡ opening_brace ∷ braced
     → braced ≡ run ++ end → AllByRecursion IsNameByte run → BeginsWithNo IsNameByte end
     → ((rest : List ℕ) → end ≡ closing_brace ∷ rest → ¬ (IsName run × Counts run))

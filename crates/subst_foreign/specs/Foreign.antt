@@ -53,7 +53,7 @@ AreRead Counts (Braced name ∷ rest) = IsName name × Counts name × AreRead Co
 abbrev pub Given : Type 0
 Given = Result (List ℕ) (List ℕ)
 
--- both, the first missing name from the left
+-- the bytes of both, or the first missing name from the left
 abbrev pub and_then : Given → Given → Given
 and_then (Err name) v = Err name
 and_then (Ok x) (Err name) = Err name
@@ -86,7 +86,7 @@ abbrev mutual
   unescaped [] = []
   unescaped (b ∷ rest) = if b == backslash then after_backslash rest else b ∷ unescaped rest
 
-  -- the same of what is after such a backslash: its first byte is escaped, whatever it is
+  -- the bytes after a backslash that begins an escape, without such backslashes: the first one stays
   pub after_backslash : List ℕ → List ℕ
   after_backslash [] = []
   after_backslash (b ∷ rest) = b ∷ unescaped rest

@@ -22,7 +22,7 @@ mod variable;
 /// A template for what this returns is another one: there the backslashes are text.
 ///
 /// ```rust
-/// let output = laws::from_envsubst(alloc, "$5 for ${name}")?;
+/// let output = foreign::from_envsubst(alloc, "$5 for ${name}")?;
 /// // \$5 for ${name}
 /// ```
 ///
@@ -35,7 +35,7 @@ pub fn from_envsubst(alloc: Global, text: &str) -> Result<String, AllocError>
     text_template_for(alloc, text, &ShellNames)
 }
 
-/// Does what [`from_envsubst`] does, to bytes.
+/// Returns a template for bytes in which GNU envsubst finds variables, as [`from_envsubst`] for a text.
 ///
 /// # Errors
 ///
@@ -51,7 +51,7 @@ pub fn bytes_from_envsubst(alloc: Global, source: &[u8]) -> Result<Vec<u8>, Allo
 /// their places. No text is refused. The names are gone through for each dollar.
 ///
 /// ```rust
-/// let output = laws::with_only(alloc, "$HOST:$PORT", &["PORT"])?;
+/// let output = foreign::with_only(alloc, "$HOST:$PORT", &["PORT"])?;
 /// // \$HOST:$PORT
 /// ```
 ///
@@ -65,7 +65,7 @@ pub fn with_only(alloc: Global, text: &str, names: &[&str]) -> Result<String, Al
     text_template_for(alloc, text, &ListedNames { names })
 }
 
-/// Does what [`with_only`] does, to bytes.
+/// Returns a template for bytes in which these names alone are variables, as [`with_only`] for a text.
 ///
 /// # Errors
 ///
@@ -78,12 +78,12 @@ pub fn bytes_with_only(alloc: Global, source: &[u8], names: &[&str]) -> Result<V
 }
 
 /// Returns the byte offset in a text of what is at a byte offset in the template that [`from_envsubst`] or
-/// [`with_only`] made of it. So a program that fills in the template can tell where an error is in the text
+/// [`with_only`] made of it. So a program that fills in the template can report where an error is in the text
 /// that it was given. Both bytes of an escape have the offset of the byte that they stand for. An offset past
 /// the end is taken as the end. The template is read once, up to the offset, and nothing is allocated.
 ///
 /// ```rust
-/// let output = format!(in alloc; "{}", laws::place_in_text(b"\\$5 for ${name}", 10))?;
+/// let output = format!(in alloc; "{}", foreign::place_in_text(b"\\$5 for ${name}", 10))?;
 /// // 9
 /// ```
 pub fn place_in_text(template: &[u8], at: usize) -> usize

@@ -14,7 +14,7 @@ pub(crate) trait Names {
         ensures { IsTrue result ↔ counts self.now name.now };
 }
 
-/// Those that shells know: all that don't begin with a digit.
+/// The names that shells know: all that don't begin with a digit.
 #[derive(Clone, Copy)]
 pub(crate) struct ShellNames;
 
@@ -31,7 +31,7 @@ impl Names for ShellNames {
     }
 }
 
-/// Those of a list.
+/// The names of a list.
 #[derive(Clone, Copy)]
 pub(crate) struct ListedNames<'a> {
     pub names: &'a [&'a str],

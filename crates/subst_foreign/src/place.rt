@@ -1,4 +1,4 @@
-//! Places in texts, from places in the templates for them.
+//! Byte offsets in texts, from byte offsets in the templates for them.
 
 ghost use Rattle.std.specs.Prelude.{◌≡◌, length};
 ghost use Rattle.subst_foreign.specs.Foreign.{unescaped};

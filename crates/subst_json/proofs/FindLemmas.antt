@@ -10,7 +10,7 @@ use Rattle.std.specs.Str.Parse.{AllDigits}
 use Rattle.serde_json.specs.Data.{Data, null, boolean, number, string, array, object}
 use Rattle.serde_json.specs.Find.{get, at, unescape, index_of, step, walk, pointer}
 use Rattle.serde_json.proofs.Paths.{Lacks, walk_part, walk_last}
-use Rattle.subst_walk.specs.Paths.{Step, Key, Index}
+use Rattle.subst_walk.specs.Paths.{PathStep, Key, Index}
 use Rattle.subst_json.specs.Paths.{Leads}
 use Rattle.subst_json.specs.Pointer.{escaped_byte, HasUsizeIndices, pointer_text}
 use Rattle.subst_json.proofs.PointerLemmas.{escaped_byte-other}
@@ -127,13 +127,13 @@ step_to_index i (object ms) e small found = cc
 -- ---- paths
 
 -- after a slash and the text of a step the reader goes on from where the step leads
-pointer-step : (xs : List ℕ) (path : List Step) (d e : Data) → Lacks 47 xs → step xs d ≡ Some e
+pointer-step : (xs : List ℕ) (path : List PathStep) (d e : Data) → Lacks 47 xs → step xs d ≡ Some e
     → pointer (47 ∷ (xs ++ pointer_text path)) d ≡ pointer (pointer_text path) e
 pointer-step xs [] d e lacks found = ap (λ l. walk [] l d) (append-nil xs) ∙ walk_last xs d lacks ∙ found
 pointer-step xs (Key key ∷ path) d e lacks found = walk_part xs _ d lacks ∙ rw found
 pointer-step xs (Index i ∷ path) d e lacks found = walk_part xs _ d lacks ∙ rw found
 
-pub pointer-leads : (path : List Step) (d : Data) (s : List ℕ) → HasUsizeIndices path → Leads path d s
+pub pointer-leads : (path : List PathStep) (d : Data) (s : List ℕ) → HasUsizeIndices path → Leads path d s
     → pointer (pointer_text path) d ≡ Some (string s)
 pointer-leads [] d s small same = ap Some same
 pointer-leads (Key key ∷ path) d s small (e, found, leads) =

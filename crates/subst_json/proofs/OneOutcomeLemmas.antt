@@ -120,7 +120,7 @@ mutual
     | inr h ↦ inr (h.0, refusal_before look (strings d) (strings_of_members ms) h.0 h.1)
   ]
 
--- and not both
+-- a tree is mapped or refused, and not both
 pub one_outcome : (look : LookUp) (d : Data) → IsMappedOrRefused look d
 one_outcome look d = record {
   either = either look d;

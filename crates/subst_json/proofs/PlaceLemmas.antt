@@ -4,12 +4,12 @@ use Rattle.std.proofs.lemmas.List.{length-take, take-take}
 use Rattle.std.proofs.lemmas.Option.{option_and_then_some}
 use Rattle.serde_json.specs.Data.{Data, string}
 use Rattle.serde_json.specs.Find.{get, at}
-use Rattle.subst_walk.specs.Paths.{Step, Key, Index}
+use Rattle.subst_walk.specs.Paths.{PathStep, Key, Index}
 use Rattle.subst_json.specs.Paths.{Leads}
-use Rattle.subst_json.specs.Places.{value_at, IsSpelledUntil, Spells}
+use Rattle.subst_json.specs.Places.{value_at, IsSpelledUntil, IsTokenOf}
 
 -- a path whose value is a string leads to it
-pub leads_to_value : (path : List Step) (d : Data) (s : List ℕ) → value_at path d ≡ Some (string s)
+pub leads_to_value : (path : List PathStep) (d : Data) (s : List ℕ) → value_at path d ≡ Some (string s)
     → Leads path d s
 leads_to_value [] d s h = cc
 leads_to_value (Key key ∷ path) d s h =
@@ -30,10 +30,10 @@ take-slice_range s start end len h =
 
 -- what a part of a token spells, as said of the text that the token is in
 pub spelled_until : (s token x : List ℕ) (start end len place : ℕ) → token ≡ slice_range s start end
-    → place ≡ start + len → len ≤ length token → Spells (take len token ++ 34 ∷ []) x
+    → place ≡ start + len → len ≤ length token → IsTokenOf (take len token ++ 34 ∷ []) x
     → IsSpelledUntil s start place x
 spelled_until s token x start end len place is at within h =
     let fits : len ≤ length (slice_range s start end) = subst (λ t. len ≤ length t) is within in
     let part : take len token ≡ slice_range s start place =
     ap (take len) is ∙ take-slice_range s start end len fits ∙ ap (slice_range s start) (sym at) in
-    subst (λ t. Spells (t ++ 34 ∷ []) x) part h
+    subst (λ t. IsTokenOf (t ++ 34 ∷ []) x) part h

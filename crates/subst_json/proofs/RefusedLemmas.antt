@@ -13,7 +13,7 @@ use Rattle.serde_json.proofs.Views.{Entry, get_item_within}
 use Rattle.subst_language.specs.Language.LookUp.{LookUp}
 use Rattle.subst_walk.specs.Paths.{Key, Index, Refusal, AreRefusals, refusal_below}
 use Rattle.subst_walk.specs.Refused.{AreFound, IsMet}
-use Rattle.subst_walk.specs.declared.refused.Wanted.{Wanted}
+use Rattle.subst_walk.specs.declared.refused.HowMany.{HowMany}
 use Rattle.subst_walk.proofs.FoundLemmas.{part_more, part_enough, each_of_part}
 use Rattle.subst_json.specs.Located.{located, located_items, located_members}
 use Rattle.subst_json.specs.Paths.{Leads}
@@ -27,7 +27,7 @@ cut_at vs i v within here =
     (drop_more vs i v within ∙ ap (λ x. x ∷ drop (i + 1) vs) (sym here))
 
 -- after an item, where more is wanted
-pub items_more : (look : LookUp) (wanted : Wanted) (vs : List Value) (i : ℕ) (v : Value)
+pub items_more : (look : LookUp) (wanted : HowMany) (vs : List Value) (i : ℕ) (v : Value)
     (before part found : List Refusal) → i < length vs → v ≡ get_or vs i v
     → AreRefusals look (located_items 0 (items_view (take i vs))) before
     → AreFound look wanted (located (view v)) part
@@ -43,7 +43,7 @@ items_more look wanted vs i v before part found within here h k is more =
     (part_more look wanted (Index (length (take i vs))) _ (located (view v)) before part found h k step more)
 
 -- after an item, where nothing more is wanted
-pub items_enough : (look : LookUp) (wanted : Wanted) (vs : List Value) (i : ℕ) (v : Value)
+pub items_enough : (look : LookUp) (wanted : HowMany) (vs : List Value) (i : ℕ) (v : Value)
     (before part found : List Refusal) → i < length vs → v ≡ get_or vs i v
     → AreRefusals look (located_items 0 (items_view (take i vs))) before → ¬ (IsMet wanted before)
     → AreFound look wanted (located (view v)) part
@@ -72,7 +72,7 @@ items_lead vs i v before part found within here h k is =
     (λ it leads. (view v, item, leads)) h k is
 
 -- after a member, where more is wanted
-pub members_more : (look : LookUp) (wanted : Wanted) (done : List Entry) (e : Entry)
+pub members_more : (look : LookUp) (wanted : HowMany) (done : List Entry) (e : Entry)
     (before part found : List Refusal) → AreRefusals look (located_members (members_view done)) before
     → AreFound look wanted (located (view e.1)) part
     → found ≡ before ++ map (refusal_below (Key (string_bytes e.0))) part → ¬ (IsMet wanted found)
@@ -82,7 +82,7 @@ members_more look wanted done e before part found h k is more =
     (part_more look wanted (Key (string_bytes e.0)) _ (located (view e.1)) before part found h k is more)
 
 -- after a member, where nothing more is wanted
-pub members_enough : (look : LookUp) (wanted : Wanted) (es done : List Entry) (e : Entry) (left : List Entry)
+pub members_enough : (look : LookUp) (wanted : HowMany) (es done : List Entry) (e : Entry) (left : List Entry)
     (before part found : List Refusal) → es ≡ done ++ e ∷ left
     → AreRefusals look (located_members (members_view done)) before → ¬ (IsMet wanted before)
     → AreFound look wanted (located (view e.1)) part

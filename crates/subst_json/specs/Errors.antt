@@ -26,7 +26,7 @@ HasOwnMemory (Json e) = ¬ (IsMemory e)
 HasOwnMemory (Subst e) = IsSome (error_fault e)
 HasOwnMemory (OutOfMemory e) = ⊤
 
--- the text of an error, where it is known: the reader's errors don't tell theirs
+-- the text of an error, where it is known: that of the reader's errors isn't
 abbrev pub display_of_json : Error → Option (List ℕ)
 display_of_json (Json e) = None
 display_of_json (Subst e) = display_of_error (error_fault e)

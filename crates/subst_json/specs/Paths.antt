@@ -2,18 +2,18 @@
 use Rattle.std.specs.Prelude.{◌≡◌, ℕ, List, [], ◌∷◌, Some, map}
 use Rattle.serde_json.specs.Data.{Data, string}
 use Rattle.serde_json.specs.Find.{get, at}
-use Rattle.subst_walk.specs.Paths.{Step, Key, Index, Refusal, step_of}
+use Rattle.subst_walk.specs.Paths.{PathStep, Key, Index, Refusal, step_of}
 use Rattle.subst_walk.specs.Refused.{refusal_with}
 use Rattle.subst_walk.specs.declared.found.RefusedString.{RefusedString}
 use Rattle.subst_json.specs.declared.path.Path.{Path}
 
 -- the steps of a path
-abbrev pub steps_of : Path → List Step
+abbrev pub steps_of : Path → List PathStep
 steps_of path = map step_of path.steps.items
 
 -- The path leads to this string: by each key to the value that the reader's look-up finds under it, and by
 -- each index to the item there.
-abbrev pub Leads : List Step → Data → List ℕ → Type 0
+abbrev pub Leads : List PathStep → Data → List ℕ → Type 0
 Leads [] d s = d ≡ string s
 Leads (Key key ∷ path) d s = (e : Data) × (get key d ≡ Some e) × Leads path e s
 Leads (Index i ∷ path) d s = (e : Data) × (at i d ≡ Some e) × Leads path e s

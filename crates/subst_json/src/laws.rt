@@ -4,7 +4,7 @@ ghost use Rattle.std.specs.Prelude.{◌≡◌, ℕ, List, Some};
 ghost use Rattle.serde_json.specs.Data.{Data, string};
 ghost use Rattle.serde_json.specs.Find.{pointer};
 ghost use Rattle.subst_language.specs.Language.LookUp.{LookUp};
-ghost use Rattle.subst_walk.specs.Paths.{Step};
+ghost use Rattle.subst_walk.specs.Paths.{PathStep};
 ghost use Rattle.subst_json.specs.Laws.{IsMappedOrRefused};
 ghost use Rattle.subst_json.specs.Paths.{Leads};
 ghost use Rattle.subst_json.specs.Pointer.{HasUsizeIndices, pointer_text};
@@ -19,6 +19,6 @@ pub fn trees_have_one_outcome()
 /// The law of pointers. By the text of a path, `Value::pointer` of `serde_json` finds the string that the
 /// path leads to.
 pub fn pointers_find_strings()
-    ensures found { (path : List Step) (d : Data) (s : List ℕ) → HasUsizeIndices path
+    ensures found { (path : List PathStep) (d : Data) (s : List ℕ) → HasUsizeIndices path
         → Leads path d s → pointer (pointer_text path) d ≡ Some (string s) }
 {}

@@ -33,7 +33,7 @@ use std::alloc::Global;
 use std::convert::AsStr;
 use subst_map::VariableMap;
 use subst_walk::Filler;
-pub use subst_walk::Step;
+pub use subst_walk::PathStep;
 use typed::FromTree;
 
 mod error;
@@ -85,9 +85,9 @@ where
 ///
 /// # Errors
 ///
-/// `Json` where the source isn't JSON, as `serde_json` decides, whatever its strings are; that error tells
-/// the line. Otherwise `Subst` with the fault of the first string that is refused; positions are byte
-/// offsets in that string. `OutOfMemory` when allocation fails.
+/// `Json` where the source isn't JSON, as `serde_json` decides, whatever its strings are; that error names
+/// the line. Otherwise `Subst` with the fault of the first string that is refused; positions are byte offsets
+/// in that string. `OutOfMemory` when allocation fails.
 pub fn value_from_str<'a, M: VariableMap<'a>>(
     alloc: Global,
     source: &str,
@@ -112,7 +112,7 @@ where
     fill_tree(alloc, value, variables)
 }
 
-/// Does to bytes what [`value_from_str`] does to a text.
+/// Reads JSON from bytes, and returns its tree with its strings filled in, as [`value_from_str`].
 ///
 /// # Errors
 ///
@@ -174,7 +174,7 @@ where
     Ok(T::from_tree(alloc, tree)?)
 }
 
-/// Does to bytes what [`from_str`] does to a text.
+/// Reads JSON from bytes, fills in its strings, and reads a `T` from the tree, as [`from_str`].
 ///
 /// # Errors
 ///

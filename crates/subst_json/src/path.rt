@@ -10,20 +10,20 @@ ghost use Rattle.subst_json.specs.Pointer.{escaped_byte, pointer_text, step_text
 
 use std::fmt;
 use std::fmt::Write;
-use subst_walk::{Step, TreePath};
+use subst_walk::{PathStep, TreePath};
 
 /// The path from a tree to a string of it. It displays as a JSON Pointer (RFC 6901), as
 /// `/server/list/0/x~1y`.
 #[derive(Clone, Debug, PartialEq, Eq, Drop)]
 pub struct Path {
     /// The steps, the first one from the root.
-    pub steps: Vec<Step>,
+    pub steps: Vec<PathStep>,
 }
 
 impl TreePath for Path {
     ghost path_steps = { steps_of };
 
-    fn from_steps(steps: Vec<Step>) -> Self {
+    fn from_steps(steps: Vec<PathStep>) -> Self {
         Path { steps }
     }
 }
@@ -45,13 +45,13 @@ impl fmt::Display for Path {
 /// # Errors
 ///
 /// That of the writer, where it fails.
-fn write_step<W: fmt::Write>(f: &mut fmt::Formatter<W>, step: &Step) -> fmt::Result
+fn write_step<W: fmt::Write>(f: &mut fmt::Formatter<W>, step: &PathStep) -> fmt::Result
     ensures { WritesOnOk W.write_str_gives f.old result (step_text (step_of step.now)) f.new }
 {
     f.write_str("/")?;
     match step {
-        Step::Key(key) => write_escaped(f, key),
-        Step::Index(index) => write!(f, "{index}"),
+        PathStep::Key(key) => write_escaped(f, key),
+        PathStep::Index(index) => write!(f, "{index}"),
     }
 }
 

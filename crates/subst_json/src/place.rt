@@ -1,7 +1,7 @@
-//! Places of strings in the JSON that they are read from.
+//! Spans of strings in the JSON that they are read from.
 //!
-//! A place is looked for in the text, and then made certain by the reader: one that the reader doesn't
-//! confirm is never returned.
+//! A span is looked for in the text, and then made certain by the reader: one that the reader doesn't confirm
+//! is never returned.
 
 ghost use Rattle.std.specs.Prelude.{◌≡◌, ◌++◌, ◌<◌, ◌≤◌, ◌∷◌, [], length, map, option_map, slice_range, string_bytes, take, IfOk, IfSome, IsTrue, MatchOption, None, Some};
 ghost use Rattle.serde_json.specs.Read.{read};
@@ -9,14 +9,14 @@ ghost use Rattle.serde_json.specs.View.{view};
 ghost use Rattle.subst_error.specs.Range.{IsRangeIn};
 ghost use Rattle.subst_walk.specs.Paths.{step_of};
 ghost use Rattle.subst_json.specs.Paths.{steps_of};
-ghost use Rattle.subst_json.specs.Places.{value_at, with_null, IsPlaceIn, IsPlaceOf, IsQuoted, LeadsToNull, Spells};
+ghost use Rattle.subst_json.specs.Places.{value_at, with_null, IsPlaceIn, IsPlaceOf, HasQuotes, LeadsToNull, IsTokenOf};
 
 use crate::path::Path;
 use json::{MAX_DEPTH, Reader, Scratch, Token};
 use serde_json::Value;
 use std::alloc::{AllocError, Global};
 use std::ops::Range;
-use subst_walk::Step;
+use subst_walk::PathStep;
 
 /// Returns the byte range in `source`, a JSON text, of the string that a path leads to, with its quotes.
 ///
@@ -56,9 +56,9 @@ pub fn place_of(
 /// Returns the byte range in `source`, a JSON text, that spells a range of a string of it.
 ///
 /// `token` is the byte range in `source` of the string with its quotes, as [`place_of`] returns it, and
-/// `range` is in byte offsets of the string. The place of a byte offset is where the character there begins
-/// to be spelled, and that of the string's end is the closing quote. It is `None` where the token is no
-/// string, where an end of the range is past the string's end or within a character, or where the range
+/// `range` is in byte offsets of the string. The position of a byte offset is where the character there
+/// begins to be spelled, and that of the string's end is the closing quote. It is `None` where the token is
+/// no string, where an end of the range is past the string's end or within a character, or where the range
 /// ends before it begins.
 ///
 /// # Errors
@@ -121,7 +121,8 @@ fn read_tree(alloc: Global, text: &str) -> Result<Option<Value>, AllocError>
 
 /// Returns the string that a text is read as, or `None` where it is none.
 fn read_string(alloc: Global, text: &str) -> Result<Option<String>, AllocError>
-    ensures { IfOk result (λ read. IfSome read (λ string. Spells text.now (string_bytes string))) }
+    ensures { IfOk result
+        (λ read. IfSome read (λ string. IsTokenOf text.now (string_bytes string))) }
 {
     match read_tree(alloc, text)? {
         Some(Value::String(string)) => Ok(Some(string)),
@@ -130,15 +131,15 @@ fn read_string(alloc: Global, text: &str) -> Result<Option<String>, AllocError>
 }
 
 /// Returns the value that these steps lead to.
-fn value_at<'a>(tree: &'a Value, steps: &[Step]) -> Option<&'a Value>
+fn value_at<'a>(tree: &'a Value, steps: &[PathStep]) -> Option<&'a Value>
     ensures { option_map (λ value. view value.now) result
         ≡ value_at (map step_of steps.now) (view tree.now) }
 {
     let mut value = tree;
     for step in steps {
         value = match step {
-            Step::Key(key) => value.get(key.as_str())?,
-            Step::Index(index) => value.get(*index)?,
+            PathStep::Key(key) => value.get(key.as_str())?,
+            PathStep::Index(index) => value.get(*index)?,
         };
     }
     Some(value)
@@ -147,7 +148,7 @@ fn value_at<'a>(tree: &'a Value, steps: &[Step]) -> Option<&'a Value>
 /// Returns whether a text is this string between quotes.
 fn is_token_of(alloc: Global, text: &str, string: &str) -> Result<bool, AllocError>
     ensures { IfOk result
-        (λ is. IsTrue is → IsQuoted text.now × Spells text.now string.now) }
+        (λ is. IsTrue is → HasQuotes text.now × IsTokenOf text.now string.now) }
 {
     let [b'"', .., b'"'] = text.as_bytes() else {
         return Ok(false);
@@ -163,7 +164,7 @@ fn is_replaced(
     alloc: Global,
     source: &str,
     range: &Range<usize>,
-    steps: &[Step],
+    steps: &[PathStep],
 ) -> Result<bool, AllocError>
     ensures { IfOk result
         (λ is. IsTrue is → LeadsToNull (map step_of steps.now) (with_null source.now range.now)) }
@@ -185,14 +186,14 @@ fn is_replaced(
 fn find_token(
     alloc: Global,
     source: &str,
-    steps: &[Step],
+    steps: &[PathStep],
 ) -> Result<Option<Range<usize>>, AllocError> {
     let mut scratch = Scratch::new(alloc);
     let mut value = from_value(source, &mut scratch)?;
     for step in steps {
         let next = match step {
-            Step::Key(key) => from_member(value, key, &mut scratch)?,
-            Step::Index(index) => from_item(value, *index, &mut scratch)?,
+            PathStep::Key(key) => from_member(value, key, &mut scratch)?,
+            PathStep::Index(index) => from_item(value, *index, &mut scratch)?,
         };
         let Some(next) = next else {
             return Ok(None);
@@ -283,7 +284,7 @@ fn spelled_until(
 ) -> Result<Option<usize>, AllocError>
     ensures { IfOk result
         (λ len. IfSome len (λ len. (len ≤ length token.now) × (offset ≤ length string.now)
-        × Spells (take len token.now ++ 34 ∷ []) (take offset string.now))) }
+        × IsTokenOf (take len token.now ++ 34 ∷ []) (take offset string.now))) }
 {
     let Some(part) = string.get(..offset) else {
         return Ok(None);

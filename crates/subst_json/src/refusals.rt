@@ -20,7 +20,7 @@ use serde_json::Value;
 use std::alloc::{AllocError, Global};
 use std::convert::AsStr;
 use subst_map::VariableMap;
-use subst_walk::{Filler, Wanted, all_found, first_found};
+use subst_walk::{Filler, HowMany, all_found, first_found};
 
 /// A string of a tree that is refused.
 pub type RefusedString = subst_walk::RefusedString<Path>;
@@ -58,7 +58,7 @@ where
         (λ it. LeadsTo (view tree.now) (refusal_of it))) }
     ensures range { IfOk result (λ first. IfSome first (λ it. HasRangeInText (refusal_of it))) }
 {
-    let found = refused(alloc, tree, &Filler { variables }, Wanted::First)?;
+    let found = refused(alloc, tree, &Filler { variables }, HowMany::First)?;
     Ok(first_found(found))
 }
 
@@ -83,6 +83,6 @@ where
         (λ it. LeadsTo (view tree.now) (refusal_of it)) all.items) }
     ensures range { IfOk result (λ all. All (λ it. HasRangeInText (refusal_of it)) all.items) }
 {
-    let found = refused(alloc, tree, &Filler { variables }, Wanted::All)?;
+    let found = refused(alloc, tree, &Filler { variables }, HowMany::All)?;
     all_found(alloc, found)
 }

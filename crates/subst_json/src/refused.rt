@@ -9,7 +9,7 @@ ghost use Rattle.subst_json.specs.Paths.{LeadsTo};
 
 use serde_json::{Map, Value};
 use std::alloc::{AllocError, Global};
-use subst_walk::{Fill, Refused, StepRef, Wanted, add_below, refused_string};
+use subst_walk::{Fill, HowMany, PathStepRef, Refused, add_below, refused_string};
 
 /// Returns those strings of a tree that are refused and wanted.
 #[cycle(walk)]
@@ -17,7 +17,7 @@ pub(crate) fn refused<F: Fill>(
     alloc: Global,
     value: &Value,
     filler: &F,
-    wanted: Wanted,
+    wanted: HowMany,
 ) -> Result<Vec<Refused>, AllocError>
     ensures found { Finds (F.is_look_up filler.now) wanted (located (view value.now)) result }
     ensures leads { EachFound (LeadsTo (view value.now)) result }
@@ -31,13 +31,13 @@ pub(crate) fn refused<F: Fill>(
     }
 }
 
-/// Returns those of an array.
+/// Returns the strings of an array that are refused and wanted.
 #[cycle(walk)]
 fn refused_items<F: Fill>(
     alloc: Global,
     items: &Vec<Value>,
     filler: &F,
-    wanted: Wanted,
+    wanted: HowMany,
 ) -> Result<Vec<Refused>, AllocError>
     ensures found { Finds (F.is_look_up filler.now) wanted
         (located_items 0 (items_view items.now.items)) result }
@@ -47,7 +47,7 @@ fn refused_items<F: Fill>(
     let mut found = Vec::new(alloc);
     for (index, item) in items.iter().enumerate() {
         let part = refused(alloc, item, filler, wanted)?;
-        add_below(alloc, &mut found, part, StepRef::Index(index))?;
+        add_below(alloc, &mut found, part, PathStepRef::Index(index))?;
         if wanted.is_met(&found) {
             return Ok(found);
         }
@@ -55,13 +55,13 @@ fn refused_items<F: Fill>(
     Ok(found)
 }
 
-/// Returns those of an object.
+/// Returns the strings of an object that are refused and wanted.
 #[cycle(walk)]
 fn refused_members<F: Fill>(
     alloc: Global,
     members: &Map<String, Value>,
     filler: &F,
-    wanted: Wanted,
+    wanted: HowMany,
 ) -> Result<Vec<Refused>, AllocError>
     ensures found { Finds (F.is_look_up filler.now) wanted
         (located_members (members_view members.now.entries)) result }
@@ -71,7 +71,7 @@ fn refused_members<F: Fill>(
     let mut found = Vec::new(alloc);
     for (key, member) in members.iter() {
         let part = refused(alloc, member, filler, wanted)?;
-        add_below(alloc, &mut found, part, StepRef::Key(key.as_str()))?;
+        add_below(alloc, &mut found, part, PathStepRef::Key(key.as_str()))?;
         if wanted.is_met(&found) {
             return Ok(found);
         }

@@ -11,7 +11,7 @@ use Rattle.subst_error.specs.Range.{range_of, IsRangeIn}
 use Rattle.subst_error.specs.declared.Error.{Error}
 use Rattle.subst_error.specs.declared.ExpandError.{ExpandError}
 use Rattle.subst_error.specs.declared.ParseError.{ParseError}
-use Rattle.subst_error.specs.declared.lent.ExpandIntoError.{ExpandIntoError}
+use Rattle.subst_error.specs.declared.borrowed.ExpandIntoError.{ExpandIntoError}
 use Rattle.subst_language.specs.Language.Bytes.{IsPlain, dollar}
 use Rattle.subst_language.specs.Language.Tree.{Tree, text}
 use Rattle.subst_language.specs.Language.Sentence.{ByTree, IsSentence, Spells}
@@ -106,7 +106,7 @@ given_into s look before after (Ok done) (t, spells) into =
     let (x, gives, appended) = into t spells in (x, (t, spells, gives), appended)
 given_into s look before after (Err e) sentence into = tt
 
--- or its error states what the source is refused for
+-- the error of an expansion of a source into an output states what the source is refused for
 pub missed_into : {T : Type 0} (s : List ℕ) (look : LookUp) (before after : List ℕ)
     (result : Result T ExpandIntoError) → IsSentence s
     → ByTree s (λ t. ExpandsInto before result after (value 0 t look))
@@ -115,24 +115,24 @@ missed_into s look before after (Ok done) sentence into = tt
 missed_into s look before after (Err e) (t, spells) into =
     refused_for s t look spells (expand_into_fault e) (into t spells)
 
--- a source that gives the bytes x: its expansion into an output that has room for them succeeds
-pub given_in_room : {T : Type 0} (s x : List ℕ) (look : LookUp) (before after : List ℕ) (len capacity : ℕ)
+-- a source that gives the bytes x: its expansion into an output that has enough for them succeeds
+pub given_in_capacity : {T : Type 0} (s x : List ℕ) (look : LookUp) (before after : List ℕ) (len capacity : ℕ)
     (result : Result T ExpandIntoError) → Answers s look (Gives x) → len + length x ≤ capacity
     → ByTree s (λ t. ExpandsInto before result after (value 0 t look))
     → ByTree s (λ t. OnOutOfMemory expand_into_fault result (capacity < len + length (written 0 t look)))
     → IsOk result
-given_in_room s x look before after len capacity (Ok done) given room into full = refl
-given_in_room s x look before after len capacity (Err e) (t, spells, gives) room into full =
+given_in_capacity s x look before after len capacity (Ok done) given enough into full = refl
+given_in_capacity s x look before after len capacity (Err e) (t, spells, gives) enough into full =
     absurd (no_error (expand_into_fault e) (into t spells) (full t spells))
   where
     no_error : (o : Option Fault) → IfSome o (IsMissing (value 0 t look))
         → IfNone o (capacity < len + length (written 0 t look)) → ⊥
     no_error None missing short =
         let tells = subst (Tells (steps_of 0 t look)) gives (value_tells 0 t look) in
-        omega (arith, room, short, ap length tells.0)
+        omega (arith, enough, short, ap length tells.0)
     no_error (Some f) (position, name, missing, is) short = absurd cc
 
--- Where no value is longer than `longest`, an output with room for the source, and for `longest` for each
+-- Where no value is longer than `longest`, an output with enough for the source, and for `longest` for each
 -- dollar of the source, is never too short.
 pub never_full : {T : Type 0} (s : List ℕ) (look : LookUp) (longest len capacity : ℕ)
     (result : Result T ExpandIntoError) → IsSentence s
@@ -140,15 +140,15 @@ pub never_full : {T : Type 0} (s : List ℕ) (look : LookUp) (longest len capaci
     → len + (length s + count_by (λ b. b == dollar) s * longest) ≤ capacity
     → ByTree s (λ t. OnOutOfMemory expand_into_fault result (capacity < len + length (written 0 t look)))
     → OnOutOfMemory expand_into_fault result ⊥
-never_full s look longest len capacity (Ok done) sentence short room full = tt
-never_full s look longest len capacity (Err e) (t, spells) short room full =
+never_full s look longest len capacity (Ok done) sentence short enough full = tt
+never_full s look longest len capacity (Err e) (t, spells) short enough full =
     of (expand_into_fault e) (full t spells)
   where
     of : (o : Option Fault) → IfNone o (capacity < len + length (written 0 t look)) → IfNone o ⊥
     of None too_short =
         let bound = value_length_within s t look longest spells short in
         let most = written_at_most (steps_of 0 t look) in
-        absurd (omega (arith, room, too_short, bound, most))
+        absurd (omega (arith, enough, too_short, bound, most))
     of (Some f) too_short = tt
 
 -- values that are bytes already leave a look-up as it is

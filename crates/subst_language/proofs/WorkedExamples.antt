@@ -43,13 +43,13 @@ pub nested_with_innermost : Answers (codes "Hello ${a:cruel ${b:round ${c:world}
     (looking_up ((codes "c", codes "planet") ∷ [])) (Gives (codes "Hello cruel round planet!"))
 nested_with_innermost = gives _ _ _ nested refl refl refl
 
--- the middle one too, whose default isn't needed then
+-- where the middle name too has a value, its default isn't needed
 pub nested_with_middle : Answers (codes "Hello ${a:cruel ${b:round ${c:world}}}!")
     (looking_up ((codes "c", codes "planet") ∷ (codes "b", codes "sphere") ∷ []))
     (Gives (codes "Hello cruel sphere!"))
 nested_with_middle = gives _ _ _ nested refl refl refl
 
--- and the outermost
+-- the outermost name has a value
 pub nested_with_outermost : Answers (codes "Hello ${a:cruel ${b:round ${c:world}}}!")
     (looking_up ((codes "c", codes "planet") ∷ (codes "b", codes "sphere") ∷ (codes "a", codes "spaceship")
     ∷ [])) (Gives (codes "Hello spaceship!"))

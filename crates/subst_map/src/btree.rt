@@ -1,4 +1,4 @@
-//! `BTreeMap` as a map of variables, with keys that it owns or keys that are lent.
+//! `BTreeMap` as a map of variables, with keys that it owns or keys that are borrowed.
 
 ghost use Rattle.std.specs.Prelude.{◌≡◌};
 
@@ -22,7 +22,7 @@ impl<'a, V: 'a> VariableMap<'a> for BTreeMap<String, V> {
     }
 }
 
-/// The value under the key, where keys are lent.
+/// The value under the key, where keys are borrowed.
 impl<'a, 'k, V: 'a> VariableMap<'a> for BTreeMap<&'k str, V> {
     ghost use Rattle.subst_map.specs.Maps.{btree_get_by_lent_text};
 

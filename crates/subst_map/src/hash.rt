@@ -1,4 +1,4 @@
-//! `HashMap` as a map of variables, with keys that it owns or keys that are lent.
+//! `HashMap` as a map of variables, with keys that it owns or keys that are borrowed.
 
 ghost use Rattle.std.specs.Prelude.{◌≡◌};
 
@@ -23,7 +23,7 @@ impl<'a, V: 'a, S: BuildHasher> VariableMap<'a> for HashMap<String, V, S> {
     }
 }
 
-/// The value under the key, where keys are lent.
+/// The value under the key, where keys are borrowed.
 impl<'a, 'k, V: 'a, S: BuildHasher> VariableMap<'a> for HashMap<&'k str, V, S> {
     ghost use Rattle.subst_map.specs.Maps.{hash_get_by_lent_text};
 

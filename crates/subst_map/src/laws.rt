@@ -14,15 +14,15 @@ use std::hash::BuildHasher;
 pub fn maps_are_look_ups<'a, 'k, V: AsSlice<u8> + 'a, S: BuildHasher>()
     ensures btree_map { ReadsAs ⟦<&'a V as AsSlice<u8>>⟧.items
         ⟦<BTreeMap<String, V> as VariableMap<'a>>⟧.see V.items }
-    ensures btree_map_of_lent { ReadsAs ⟦<&'a V as AsSlice<u8>>⟧.items
+    ensures btree_map_of_borrowed { ReadsAs ⟦<&'a V as AsSlice<u8>>⟧.items
         ⟦<BTreeMap<&'k str, V> as VariableMap<'a>>⟧.see V.items }
     ensures hash_map { ReadsAs ⟦<&'a V as AsSlice<u8>>⟧.items
         ⟦<HashMap<String, V, S> as VariableMap<'a>>⟧.see V.items }
-    ensures hash_map_of_lent { ReadsAs ⟦<&'a V as AsSlice<u8>>⟧.items
+    ensures hash_map_of_borrowed { ReadsAs ⟦<&'a V as AsSlice<u8>>⟧.items
         ⟦<HashMap<&'k str, V, S> as VariableMap<'a>>⟧.see V.items }
     ensures index_map { ReadsAs ⟦<&'a V as AsSlice<u8>>⟧.items
         ⟦<IndexMap<String, V, S> as VariableMap<'a>>⟧.see V.items }
-    ensures index_map_of_lent { ReadsAs ⟦<&'a V as AsSlice<u8>>⟧.items
+    ensures index_map_of_borrowed { ReadsAs ⟦<&'a V as AsSlice<u8>>⟧.items
         ⟦<IndexMap<&'k str, V, S> as VariableMap<'a>>⟧.see V.items }
     ensures no_substitution { ReadsAs ⟦<NeverValue as AsSlice<u8>>⟧.items
         ⟦<NoSubstitution as VariableMap<'a>>⟧.see (λ bytes. bytes) }
@@ -35,15 +35,15 @@ pub fn maps_are_look_ups<'a, 'k, V: AsSlice<u8> + 'a, S: BuildHasher>()
 pub fn maps_are_look_ups_of_texts<'a, 'k, V: AsStr + 'a, S: BuildHasher>()
     ensures btree_map { ReadsAs ⟦<&'a V as AsStr>⟧.text
         ⟦<BTreeMap<String, V> as VariableMap<'a>>⟧.see V.text }
-    ensures btree_map_of_lent { ReadsAs ⟦<&'a V as AsStr>⟧.text
+    ensures btree_map_of_borrowed { ReadsAs ⟦<&'a V as AsStr>⟧.text
         ⟦<BTreeMap<&'k str, V> as VariableMap<'a>>⟧.see V.text }
     ensures hash_map { ReadsAs ⟦<&'a V as AsStr>⟧.text
         ⟦<HashMap<String, V, S> as VariableMap<'a>>⟧.see V.text }
-    ensures hash_map_of_lent { ReadsAs ⟦<&'a V as AsStr>⟧.text
+    ensures hash_map_of_borrowed { ReadsAs ⟦<&'a V as AsStr>⟧.text
         ⟦<HashMap<&'k str, V, S> as VariableMap<'a>>⟧.see V.text }
     ensures index_map { ReadsAs ⟦<&'a V as AsStr>⟧.text
         ⟦<IndexMap<String, V, S> as VariableMap<'a>>⟧.see V.text }
-    ensures index_map_of_lent { ReadsAs ⟦<&'a V as AsStr>⟧.text
+    ensures index_map_of_borrowed { ReadsAs ⟦<&'a V as AsStr>⟧.text
         ⟦<IndexMap<&'k str, V, S> as VariableMap<'a>>⟧.see V.text }
     ensures no_substitution { ReadsAs ⟦<NeverValue as AsStr>⟧.text
         ⟦<NoSubstitution as VariableMap<'a>>⟧.see (λ bytes. bytes) }

@@ -74,7 +74,7 @@ fn taken(
     }
 }
 
-/// The owned copy of a template, which is taken; the next one is lent by the owner.
+/// The owned copy of a template, which is taken; the next one borrows from the owner.
 fn copied<'a>(
     alloc: Global,
     template: &mut ByteTemplate<'a>,
@@ -192,11 +192,11 @@ fn copy(rt: &HostRuntime) -> Result<(), Error> {
 fn copy_of(rt: &HostRuntime) -> Result<(), Error> {
     let alloc = rt.alloc();
     let owner = owned(alloc, SENTENCE)?;
-    clone(rt, "ByteTemplate::clone when lent", owner.as_template());
+    clone(rt, "ByteTemplate::clone when borrowed", owner.as_template());
     let mut template = ByteTemplate::from_slice(alloc, SENTENCE)?;
     let name = "ByteTemplateBuf::of_template";
     again!(rt, name, [owner], Err(_) => copied(alloc, &mut template, &owner));
-    let name = "ByteTemplateBuf::of_template when lent";
+    let name = "ByteTemplateBuf::of_template when borrowed";
     let mut template = owner.as_template();
     again!(rt, name, [owner], Err(_) => copied(alloc, &mut template, &owner));
     Ok(())

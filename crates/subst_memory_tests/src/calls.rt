@@ -7,21 +7,21 @@ use subst::error::{ExpandError, NoSuchVariable, ParseError};
 use subst_testing::answers::told_fault;
 
 /// Makes a call, by the name that it has in `docs/MEMORY.md`, and once more if what came matches the pattern
-/// of out of memory. Shows what the call is lent before it and after it, and what it gives. An empty line is
+/// of out of memory. Shows what the call borrows, before it and after it, and what it gives. An empty line is
 /// last.
 macro_rules! again {
-    ($rt:ident, $name:expr, [$($lent:ident),*], $out_of_memory:pat => $call:expr) => {
-        $($lent.show($rt, "lent");)*
+    ($rt:ident, $name:expr, [$($borrowed:ident),*], $out_of_memory:pat => $call:expr) => {
+        $($borrowed.show($rt, "borrowed");)*
         begin($rt, $name);
         let mut came = $call;
         end($rt);
         if let $out_of_memory = came {
             say_out_of_memory($rt);
-            $($lent.show($rt, "lent");)*
+            $($borrowed.show($rt, "borrowed");)*
             came = $call;
         }
         tell($rt, came);
-        $($lent.show($rt, "lent");)*
+        $($borrowed.show($rt, "borrowed");)*
         say_end($rt);
     };
 }
@@ -30,7 +30,7 @@ pub(crate) use again;
 
 /// What is printed of calls.
 pub trait Shown {
-    /// Prints it, in lines that begin with a word.
+    /// Prints this value, in lines that begin with a word.
     fn show(&self, rt: &HostRuntime, word: &str);
 }
 
@@ -73,7 +73,7 @@ impl Shown for () {
     }
 }
 
-/// Each line of it.
+/// A text is printed line by line.
 impl Shown for &str {
     fn show(&self, rt: &HostRuntime, word: &str) {
         for line in self.lines() {

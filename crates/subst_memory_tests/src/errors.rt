@@ -19,7 +19,7 @@ pub fn absent(alloc: Global) -> Result<NoSuchVariable, AllocError> {
 /// A source with a fault in its second line.
 const SOURCE: &str = "one\nHi $!";
 
-/// Its fault.
+/// The fault of `SOURCE`.
 pub fn no_name() -> Error
     ensures { error_fault result ≡ Some (fault.MissingVariableName 7 1) }
 {

@@ -8,7 +8,7 @@ use std::collections::{BTreeMap, HashMap};
 use subst::steps::{Reads, Turns};
 use subst::{
     ByteTemplate, ByteTemplateBuf, Env, Error, NoSubstitution, Template, TemplateBuf, VariableMap,
-    laws, substitute_bytes_owned, substitute_owned,
+    escape, laws, substitute_bytes_owned, substitute_owned,
 };
 
 /// Looks `name` and `absent` up.
@@ -54,21 +54,21 @@ fn get_of_index_map_with_own_keys(rt: &HostRuntime) -> Result<(), AllocError> {
     Ok(())
 }
 
-fn get_of_tree_with_lent_keys(rt: &HostRuntime) -> Result<(), AllocError> {
+fn get_of_tree_with_borrowed_keys(rt: &HostRuntime) -> Result<(), AllocError> {
     let mut map = BTreeMap::new(rt.alloc());
     map.insert("name", "world")?;
     get(rt, "get of BTreeMap<&str>", &map);
     Ok(())
 }
 
-fn get_of_hash_map_with_lent_keys(rt: &HostRuntime) -> Result<(), AllocError> {
+fn get_of_hash_map_with_borrowed_keys(rt: &HostRuntime) -> Result<(), AllocError> {
     let mut map = HashMap::new(rt.alloc());
     map.insert("name", "world")?;
     get(rt, "get of HashMap<&str>", &map);
     Ok(())
 }
 
-fn get_of_index_map_with_lent_keys(rt: &HostRuntime) -> Result<(), AllocError> {
+fn get_of_index_map_with_borrowed_keys(rt: &HostRuntime) -> Result<(), AllocError> {
     let mut map = IndexMap::new(rt.alloc());
     map.insert("name", "world")?;
     get(rt, "get of IndexMap<&str>", &map);
@@ -90,9 +90,9 @@ fn get_of_env(rt: &HostRuntime) -> Result<(), AllocError> {
     Ok(())
 }
 
-/// Prints the sources of templates that are lent in two ways.
-fn say_source(rt: &HostRuntime, lent: Template<'_>, by_from: Template<'_>) {
-    say(rt, "as_template:", lent.source());
+/// Prints the sources of templates that are borrowed in two ways.
+fn say_source(rt: &HostRuntime, borrowed: Template<'_>, by_from: Template<'_>) {
+    say(rt, "as_template:", borrowed.source());
     say(rt, "from:", by_from.source());
 }
 
@@ -105,9 +105,9 @@ fn take_text_apart(rt: &HostRuntime, owner: TemplateBuf) {
     say(rt, "into_source:", source.as_str());
 }
 
-/// The same of bytes.
-fn say_byte_source(rt: &HostRuntime, lent: ByteTemplate<'_>, by_from: ByteTemplate<'_>) {
-    say_bytes(rt, "as_template:", lent.source());
+/// Prints the sources of byte templates that are borrowed in two ways.
+fn say_byte_source(rt: &HostRuntime, borrowed: ByteTemplate<'_>, by_from: ByteTemplate<'_>) {
+    say_bytes(rt, "as_template:", borrowed.source());
     say_bytes(rt, "from:", by_from.source());
 }
 
@@ -140,8 +140,8 @@ fn plain_sources(rt: &HostRuntime) -> Result<(), Error> {
     let alloc = rt.alloc();
     let text = String::from_str(alloc, "{a: b}")?;
     let bytes = Vec::from_slice(alloc, b"{a: b}")?;
-    begin(rt, "laws::is_plain");
-    let is_plain = laws::is_plain(&bytes);
+    begin(rt, "escape::is_plain");
+    let is_plain = escape::is_plain(&bytes);
     end(rt);
     say(rt, "plain:", if is_plain { "yes" } else { "no" });
     begin(rt, "substitute_owned of a plain source");
@@ -186,9 +186,9 @@ pub fn calls(rt: &HostRuntime) -> Result<(), Error> {
     get_of_tree_with_own_keys(rt)?;
     get_of_hash_map_with_own_keys(rt)?;
     get_of_index_map_with_own_keys(rt)?;
-    get_of_tree_with_lent_keys(rt)?;
-    get_of_hash_map_with_lent_keys(rt)?;
-    get_of_index_map_with_lent_keys(rt)?;
+    get_of_tree_with_borrowed_keys(rt)?;
+    get_of_hash_map_with_borrowed_keys(rt)?;
+    get_of_index_map_with_borrowed_keys(rt)?;
     get_of_env(rt)?;
     get(rt, "get of NoSubstitution", &NoSubstitution);
     templates(rt)?;

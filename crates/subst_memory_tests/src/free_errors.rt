@@ -38,14 +38,14 @@ fn unexpected() -> UnexpectedCharacter {
     }
 }
 
-/// Writes the text of a value, for which there is room, and prints whether that is all of it.
+/// Writes the text of a value, for which there is capacity, and prints whether that is all of it.
 pub fn display<D: Display>(rt: &HostRuntime, call: &str, value: &D) -> Result<(), AllocError> {
     let text = value.to_string(rt.alloc())?;
-    let mut room = String::with_capacity(rt.alloc(), 128)?;
+    let mut capacity = String::with_capacity(rt.alloc(), 128)?;
     begin(rt, call);
-    let is_written = write!(room, "{value}").is_ok();
+    let is_written = write!(capacity, "{value}").is_ok();
     end(rt);
-    let is_whole = is_written && room == text;
+    let is_whole = is_written && capacity == text;
     say(
         rt,
         "gives",
@@ -174,7 +174,7 @@ fn convert_of_readers(rt: &HostRuntime) {
 
 /// What is shown of an error over its source.
 fn report(rt: &HostRuntime) -> Result<(), AllocError> {
-    let mut room = String::with_capacity(rt.alloc(), 128)?;
+    let mut capacity = String::with_capacity(rt.alloc(), 128)?;
     let e = no_name();
     let source = "one\nHi $!";
     begin(rt, "where an error is");
@@ -188,9 +188,9 @@ fn report(rt: &HostRuntime) -> Result<(), AllocError> {
     end(rt);
     let _ = rt.println(format_args!("{place:?}"));
     begin(rt, "write_source_highlighting");
-    let is_written = e.write_source_highlighting(&mut room, source).is_ok();
+    let is_written = e.write_source_highlighting(&mut capacity, source).is_ok();
     end(rt);
-    let _ = rt.println(format_args!("{is_written} {room:?}"));
+    let _ = rt.println(format_args!("{is_written} {capacity:?}"));
     Ok(())
 }
 

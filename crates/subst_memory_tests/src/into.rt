@@ -1,4 +1,4 @@
-//! Calls that append to an output that is lent, with hardly any room in it and with enough.
+//! Calls that append to a borrowed output, with hardly any capacity and with enough.
 
 use crate::calls::{Shown, again, say, say_end, tell};
 use crate::marks::{begin, end, say_out_of_memory};
@@ -8,15 +8,15 @@ use subst::error::{
     ExpandError, ExpandIntoError, NoSuchVariableRef, ParseError, SubstituteIntoError,
 };
 use subst::{
-    ByteTemplate, ByteTemplateBuf, Error, Template, TemplateBuf, laws, substitute_bytes_into,
+    ByteTemplate, ByteTemplateBuf, Error, Template, TemplateBuf, escape, substitute_bytes_into,
     substitute_into,
 };
 use subst_testing::variables;
 
-/// Room for what an output begins with, and no more.
+/// The capacity for what an output begins with, and no more.
 const NONE: usize = 2;
 
-/// More room than each call writes.
+/// More capacity than each call writes.
 const ENOUGH: usize = 256;
 
 impl Shown for ExpandIntoError<'_> {
@@ -46,69 +46,69 @@ impl Shown for usize {
     }
 }
 
-fn text_output(alloc: Global, room: usize) -> Result<String, AllocError> {
-    let mut output = String::with_capacity(alloc, room)?;
+fn text_output(alloc: Global, capacity: usize) -> Result<String, AllocError> {
+    let mut output = String::with_capacity(alloc, capacity)?;
     output.push_str("> ")?;
     Ok(output)
 }
 
-fn byte_output(alloc: Global, room: usize) -> Result<Vec<u8>, AllocError> {
-    let mut output = Vec::with_capacity(alloc, room)?;
+fn byte_output(alloc: Global, capacity: usize) -> Result<Vec<u8>, AllocError> {
+    let mut output = Vec::with_capacity(alloc, capacity)?;
     output.extend_from_slice(b"> ")?;
     Ok(output)
 }
 
-fn expand_text(rt: &HostRuntime, name: &str, source: &str, room: usize) -> Result<(), Error> {
+fn expand_text(rt: &HostRuntime, name: &str, source: &str, capacity: usize) -> Result<(), Error> {
     let alloc = rt.alloc();
     let template = Template::from_str(alloc, source)?;
     let map = variables::texts(alloc, texts::NAME)?;
-    let mut output = text_output(alloc, room)?;
+    let mut output = text_output(alloc, capacity)?;
     again!(rt, name, [template, map, output],
         Err(ExpandIntoError::OutOfMemory(_)) => template.expand_into(&mut output, &map));
     Ok(())
 }
 
-fn expand_text_owner(rt: &HostRuntime, name: &str, room: usize) -> Result<(), Error> {
+fn expand_text_owner(rt: &HostRuntime, name: &str, capacity: usize) -> Result<(), Error> {
     let owner = texts::owned(rt.alloc(), texts::SENTENCE)?;
-    Ok(expand_owned_text(rt, name, &owner, room)?)
+    Ok(expand_owned_text(rt, name, &owner, capacity)?)
 }
 
 fn expand_owned_text(
     rt: &HostRuntime,
     name: &str,
     owner: &TemplateBuf,
-    room: usize,
+    capacity: usize,
 ) -> Result<(), AllocError> {
     let map = variables::texts(rt.alloc(), texts::NAME)?;
-    let mut output = text_output(rt.alloc(), room)?;
+    let mut output = text_output(rt.alloc(), capacity)?;
     again!(rt, name, [owner, map, output],
         Err(ExpandIntoError::OutOfMemory(_)) => owner.expand_into(&mut output, &map));
     Ok(())
 }
 
-fn expand_bytes(rt: &HostRuntime, name: &str, source: &[u8], room: usize) -> Result<(), Error> {
+fn expand_bytes(rt: &HostRuntime, name: &str, source: &[u8], capacity: usize) -> Result<(), Error> {
     let alloc = rt.alloc();
     let template = ByteTemplate::from_slice(alloc, source)?;
     let map = variables::byte_values(alloc, bytes::NAME)?;
-    let mut output = byte_output(alloc, room)?;
+    let mut output = byte_output(alloc, capacity)?;
     again!(rt, name, [template, map, output],
         Err(ExpandIntoError::OutOfMemory(_)) => template.expand_into(&mut output, &map));
     Ok(())
 }
 
-fn expand_bytes_owner(rt: &HostRuntime, name: &str, room: usize) -> Result<(), Error> {
+fn expand_bytes_owner(rt: &HostRuntime, name: &str, capacity: usize) -> Result<(), Error> {
     let owner = bytes::owned(rt.alloc(), bytes::SENTENCE)?;
-    Ok(expand_owned_bytes(rt, name, &owner, room)?)
+    Ok(expand_owned_bytes(rt, name, &owner, capacity)?)
 }
 
 fn expand_owned_bytes(
     rt: &HostRuntime,
     name: &str,
     owner: &ByteTemplateBuf,
-    room: usize,
+    capacity: usize,
 ) -> Result<(), AllocError> {
     let map = variables::byte_values(rt.alloc(), bytes::NAME)?;
-    let mut output = byte_output(rt.alloc(), room)?;
+    let mut output = byte_output(rt.alloc(), capacity)?;
     again!(rt, name, [owner, map, output],
         Err(ExpandIntoError::OutOfMemory(_)) => owner.expand_into(&mut output, &map));
     Ok(())
@@ -118,16 +118,16 @@ fn expand_slice(rt: &HostRuntime, name: &str, source: &[u8]) -> Result<(), Error
     let alloc = rt.alloc();
     let template = ByteTemplate::from_slice(alloc, source)?;
     let map = variables::byte_values(alloc, bytes::NAME)?;
-    let mut room = [b'.'; ENOUGH];
+    let mut capacity = [b'.'; ENOUGH];
     again!(rt, name, [template, map],
-        Err(ExpandIntoError::OutOfMemory(_)) => template.expand_into_slice(&mut room, &map));
+        Err(ExpandIntoError::OutOfMemory(_)) => template.expand_into_slice(&mut capacity, &map));
     Ok(())
 }
 
-fn fill_in_text(rt: &HostRuntime, name: &str, source: &str, room: usize) -> Result<(), Error> {
+fn fill_in_text(rt: &HostRuntime, name: &str, source: &str, capacity: usize) -> Result<(), Error> {
     let alloc = rt.alloc();
     let map = variables::texts(alloc, texts::NAME)?;
-    let mut output = text_output(alloc, room)?;
+    let mut output = text_output(alloc, capacity)?;
     again!(rt, name, [map, output],
         Err(
             SubstituteIntoError::Parse(ParseError::OutOfMemory(_))
@@ -136,10 +136,15 @@ fn fill_in_text(rt: &HostRuntime, name: &str, source: &str, room: usize) -> Resu
     Ok(())
 }
 
-fn fill_in_bytes(rt: &HostRuntime, name: &str, source: &[u8], room: usize) -> Result<(), Error> {
+fn fill_in_bytes(
+    rt: &HostRuntime,
+    name: &str,
+    source: &[u8],
+    capacity: usize,
+) -> Result<(), Error> {
     let alloc = rt.alloc();
     let map = variables::byte_values(alloc, bytes::NAME)?;
-    let mut output = byte_output(alloc, room)?;
+    let mut output = byte_output(alloc, capacity)?;
     again!(rt, name, [map, output],
         Err(
             SubstituteIntoError::Parse(ParseError::OutOfMemory(_))
@@ -148,10 +153,10 @@ fn fill_in_bytes(rt: &HostRuntime, name: &str, source: &[u8], room: usize) -> Re
     Ok(())
 }
 
-fn escape(rt: &HostRuntime, name: &str, room: usize) -> Result<(), AllocError> {
+fn escape(rt: &HostRuntime, name: &str, capacity: usize) -> Result<(), AllocError> {
     let text = "a$b{c}:\\";
-    let mut output = text_output(rt.alloc(), room)?;
-    again!(rt, name, [text, output], Err(_) => laws::escape_into(text, &mut output));
+    let mut output = text_output(rt.alloc(), capacity)?;
+    again!(rt, name, [text, output], Err(_) => escape::escape_into(text, &mut output));
     Ok(())
 }
 
@@ -199,7 +204,7 @@ fn without_room(rt: &HostRuntime) -> Result<(), Error> {
     expand_bytes(rt, name, missing, NONE)?;
     expand_bytes_owner(rt, "ByteTemplateBuf::expand_into", NONE)?;
     fill_in_bytes(rt, "substitute_bytes_into", sentence, NONE)?;
-    Ok(escape(rt, "laws::escape_into", NONE)?)
+    Ok(escape(rt, "escape::escape_into", NONE)?)
 }
 
 fn with_room(rt: &HostRuntime) -> Result<(), Error> {
@@ -219,7 +224,7 @@ fn with_room(rt: &HostRuntime) -> Result<(), Error> {
     expand_slice(rt, "ByteTemplate::expand_into_slice", sentence)?;
     let name = "ByteTemplate::expand_into_slice of a missing variable";
     expand_slice(rt, name, missing)?;
-    Ok(escape(rt, "laws::escape_into with room", ENOUGH)?)
+    Ok(escape(rt, "escape::escape_into with room", ENOUGH)?)
 }
 
 pub fn calls(rt: &HostRuntime) -> Result<(), Error> {

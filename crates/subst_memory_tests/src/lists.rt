@@ -11,7 +11,7 @@ use subst_testing::variables::{byte_values, texts as text_values};
 /// Names that are missing: one twice, and two in a default.
 const LACKING: &str = "Hé $a, ${b:$c and ${d:$e}}, ${f?} and $a!";
 
-/// Each of them, one a line.
+/// Variables are printed one a line.
 impl Shown for Vec<Variable<'_>> {
     fn show(&self, rt: &HostRuntime, word: &str) {
         if self.is_empty() {
@@ -24,7 +24,7 @@ impl Shown for Vec<Variable<'_>> {
     }
 }
 
-/// Each of them, one a line.
+/// Missing variables are printed one a line.
 impl Shown for Vec<NoSuchVariable> {
     fn show(&self, rt: &HostRuntime, word: &str) {
         if self.is_empty() {

@@ -1,4 +1,4 @@
-//! Marks of calls, by which the script that refuses each request for memory in turn tells whose a request is.
+//! Marks of calls, by which the script that refuses each request for memory in turn knows whose a request is.
 
 use std::io::Print;
 

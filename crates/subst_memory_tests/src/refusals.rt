@@ -1,4 +1,4 @@
-//! Calls that look for the refused strings of a tree, and for their places in the document.
+//! Calls that look for the refused strings of a tree, and for their spans in the document.
 
 use crate::calls::{Shown, again, say, say_end, tell};
 use crate::documents::{VARIABLES, json_tree, toml_tree};
@@ -13,7 +13,7 @@ use subst_testing::variables::texts;
 /// A document with two members of one key. In the second one, and after it, is a refused string.
 const JSON: &str = "{\"a\":\"x\",\"\\u0061\":{\"b/~\":[\"$name\",\"\\u00e9$absent\"]},\"c\":\"$\"}";
 
-/// A document with a refused string behind a dotted key, and one after it.
+/// A document with a refused string after a dotted key, and one after it.
 const TOML: &str = "a.\"\\u0062 c\" = ['$name', \"\\u00E9$absent\"]\nd = '$'\n";
 
 /// The range of the name in the first refused string of both.
@@ -84,7 +84,7 @@ fn show_refusal<P: Shown>(rt: &HostRuntime, word: &str, path: &P, text: &String,
     error.show(rt, word);
 }
 
-/// Prints each of them.
+/// Prints each value of a list.
 fn show_each<T: Shown>(rt: &HostRuntime, word: &str, all: &Vec<T>) {
     if all.is_empty() {
         say(rt, word, "none");

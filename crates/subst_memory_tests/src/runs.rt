@@ -122,7 +122,7 @@ impl Shown for Written {
     }
 }
 
-/// The status of the program with these words over `Hello $name!`, and with these pairs as its environment.
+/// The status of the program with these arguments over `Hello $name!`, with these pairs as its environment.
 pub fn status_of_run(
     alloc: Global,
     words: &[String],
@@ -136,8 +136,8 @@ pub fn status_of_run(
     run_program(alloc, words, pairs, &mut input, &mut output, &mut errors)
 }
 
-/// The same with the pair of `name` and `world`, or another one if it is gone. Where the program is out of
-/// memory, it has to say that and no more, which is then forgotten.
+/// The status of the program with the pair of `name` and `world`, or another one if it is gone. Where the
+/// program is out of memory, it has to say that and no more, which is then forgotten.
 fn ended(
     alloc: Global,
     words: &[String],
@@ -170,7 +170,7 @@ fn pairs_of_name(alloc: Global) -> Result<Vec<(String, String)>, AllocError> {
     Ok(pairs)
 }
 
-/// The words of a line.
+/// The arguments in a line.
 pub fn words_of(alloc: Global, line: &str) -> Result<Vec<String>, AllocError> {
     let mut words = Vec::new(alloc);
     for word in line.split(' ') {
@@ -213,7 +213,7 @@ fn run_after(rt: &HostRuntime, name: &str, line: &str) -> Result<(), AllocError>
 }
 
 fn make_values_of_words(rt: &HostRuntime, words: &Vec<String>) {
-    words.show(rt, "lent");
+    words.show(rt, "borrowed");
     begin(rt, "values_of_words");
     let came = values_of_words(rt.alloc(), words);
     end(rt);
@@ -221,16 +221,16 @@ fn make_values_of_words(rt: &HostRuntime, words: &Vec<String>) {
         Ok(values) => values.show(rt, "gives"),
         Err(_) => {
             say_out_of_memory(rt);
-            words.show(rt, "lent");
+            words.show(rt, "borrowed");
             tell(rt, values_of_words(rt.alloc(), words));
         }
     }
-    words.show(rt, "lent");
+    words.show(rt, "borrowed");
     say_end(rt);
 }
 
 fn make_values_of_pairs(rt: &HostRuntime, pairs: &Vec<(String, String)>) {
-    pairs.show(rt, "lent");
+    pairs.show(rt, "borrowed");
     begin(rt, "values_of_pairs");
     let came = values_of_pairs(rt.alloc(), pairs);
     end(rt);
@@ -238,11 +238,11 @@ fn make_values_of_pairs(rt: &HostRuntime, pairs: &Vec<(String, String)>) {
         Ok(values) => values.show(rt, "gives"),
         Err(_) => {
             say_out_of_memory(rt);
-            pairs.show(rt, "lent");
+            pairs.show(rt, "borrowed");
             tell(rt, values_of_pairs(rt.alloc(), pairs));
         }
     }
-    pairs.show(rt, "lent");
+    pairs.show(rt, "borrowed");
     say_end(rt);
 }
 

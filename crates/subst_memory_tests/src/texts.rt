@@ -69,7 +69,7 @@ fn taken(
     }
 }
 
-/// The owned copy of a template, which is taken; the next one is lent by the owner.
+/// The owned copy of a template, which is taken; the next one borrows from the owner.
 fn copied<'a>(
     alloc: Global,
     template: &mut Template<'a>,
@@ -150,11 +150,11 @@ fn copy(rt: &HostRuntime) -> Result<(), Error> {
 fn copy_of(rt: &HostRuntime) -> Result<(), Error> {
     let alloc = rt.alloc();
     let owner = owned(alloc, SENTENCE)?;
-    clone(rt, "Template::clone when lent", owner.as_template());
+    clone(rt, "Template::clone when borrowed", owner.as_template());
     let mut template = Template::from_str(alloc, SENTENCE)?;
     let name = "TemplateBuf::of_template";
     again!(rt, name, [owner], Err(_) => copied(alloc, &mut template, &owner));
-    let name = "TemplateBuf::of_template when lent";
+    let name = "TemplateBuf::of_template when borrowed";
     let mut template = owner.as_template();
     again!(rt, name, [owner], Err(_) => copied(alloc, &mut template, &owner));
     Ok(())

@@ -37,7 +37,7 @@ own_length x = ap length (written_whole (map Own x) x (own_value x))
 module _ {V Seen W First : Type 0} (context : Context V Seen W First) (s : List ℕ) (part : Part) (x : List ℕ)
     (before after : W) (puts : Puts context.holds before x after)
     (long : context.len after ≡ context.len before + length x)
-    (room : context.room before ≤ context.room after) where
+    (capacity : context.capacity before ≤ context.capacity after) where
   -- a part that gives these bytes, whatever the map, writes them
   writes_bytes : ByContext context (λ look. steps_value (part_steps part s look) ≡ Bytes x)
       → FillsMarks context.is_read (steps_value (part_steps part s (marks_of context.look_up))) x
@@ -48,7 +48,7 @@ module _ {V Seen W First : Type 0} (context : Context V Seen W First) (s : List 
     long = λ bytes reads.
         let own = part_steps part s (look_up_of bytes context.look_up) in
         omega (arith, long, ap length (written_whole own x (gives bytes reads)));
-    room = room;
+    capacity = capacity;
   }
 
   -- bytes of the source, or an escaped byte
@@ -85,9 +85,9 @@ writes_nothing context s part output none marked =
 
 module _ {V Seen W First : Type 0} (context : Context V Seen W First) (s : List ℕ) (part : Part) (x : List ℕ)
     (before after : W) (e : AllocError) (puts : Puts context.holds before [] after)
-    (full : context.room before < context.len before + length x)
-    (room : context.room before ≤ context.room after) where
-  -- where there is no room for the bytes that a part gives, writing stops at it
+    (full : context.capacity before < context.len before + length x)
+    (capacity : context.capacity before ≤ context.capacity after) where
+  -- where there is no capacity for the bytes that a part gives, writing stops at it
   stops_full : ByContext context (λ look. steps_value (part_steps part s look) ≡ Bytes x)
       → StopsAtPart context s part (Full e) before after
   stops_full gives = record {
@@ -95,7 +95,7 @@ module _ {V Seen W First : Type 0} (context : Context V Seen W First) (s : List 
     at = λ bytes reads.
         let own = part_steps part s (look_up_of bytes context.look_up) in
         omega (arith, full, ap length (written_whole own x (gives bytes reads)));
-    room = room;
+    capacity = capacity;
   }
 
   -- for bytes of the source, or an escaped byte
@@ -120,5 +120,5 @@ pub stops_missing : {V Seen W First : Type 0} (context : Context V Seen W First)
 stops_missing context s part name output gives marked named = record {
   begins = nothing_appended _ output tt;
   at = (gives, marked, named.0, named.1);
-  room = omega arith;
+  capacity = omega arith;
 }

@@ -3,7 +3,7 @@
 use Rattle.std.proofs.Common.{◌≡◌, ◌≢◌, ℕ, List, [], ◌∷◌, ◌++◌, refl, sym, ◌∙◌, subst, arith}
 use Rattle.std.specs.List.{AllByRecursion}
 use Rattle.std.proofs.lemmas.List.{append-nil}
-use Rattle.subst_language.specs.Language.Bytes.{IsSpecial, closing_brace, dollar, question_mark, backslash, opening_brace}
+use Rattle.subst_language.specs.Language.Bytes.{IsEscapable, closing_brace, dollar, question_mark, backslash, opening_brace}
 use Rattle.subst_language.specs.Language.Name.{IsName, IsNameByte}
 use Rattle.subst_language.specs.Language.BadItem.{IsBad}
 use Rattle.subst_error.specs.Fault.{Fault}
@@ -50,14 +50,14 @@ IsSimple (unclosed n w h i) = ⊥
 IsSimple (inside n w v h b i) = ⊥
 IsSimple _ = Unit {0}
 
--- such a bad item is as bad where the text is cut before a closing brace
+-- a bad item whose fault isn't one of a default is as bad where the text is cut before a closing brace
 cut_bad : {p : ℕ} {r : List ℕ} {f : Fault} (bad : IsBad p r f) → IsSimple bad → (x q : List ℕ)
     → r ≡ x ++ closing_brace ∷ q → IsBad p x f
 cut_bad escape_at_end simple x q e = absurd (uncut (backslash ∷ []) x q (omega arith, tt) e)
 cut_bad (escape {b = b} {c = c} plain beginning) simple x q e =
     let (y, is, f) =
     cut_after (backslash ∷ b ∷ []) x q
-    (omega arith, ((λ brace. plain (subst IsSpecial (sym brace) refl)), tt)) e in
+    (omega arith, ((λ brace. plain (subst IsEscapable (sym brace) refl)), tt)) e in
     rw is (escape plain (front_cut b y q c (rw f at beginning)))
 cut_bad dollar_at_end simple x q e = absurd (uncut (dollar ∷ []) x q (omega arith, tt) e)
 cut_bad {p = p} (dollar_alone {b = b} unbraced unnamed) simple x q e =
@@ -87,6 +87,6 @@ cut_bad (optional_alone {b = b} {c = c} n r named no_close beginning) simple x q
 cut_bad (unclosed n w h i) simple x q e = absurd simple
 cut_bad (inside n w v h b i) simple x q e = absurd simple
 
--- so it is bad wherever a default around it ends
+-- a bad item whose fault isn't one of a default is bad wherever a default around it ends
 pub bad_however : {p : ℕ} {r : List ℕ} {f : Fault} (bad : IsBad p r f) → IsSimple bad → IsBadWhenCut p r f
 bad_however bad simple = record { bad = bad; cut = cut_bad bad simple }

@@ -46,7 +46,7 @@ visited_parts-jump (suc k) i s (part ∷ xs) look =
     ∙ visited_parts-jump k (i + 1) s xs look
     ∙ ap (λ n. visited_parts (drop k xs) n 0 s look) (omega arith)
 
--- the same of the rest of a list
+-- from a later index on, an expansion of the rest of a list visits what it visits of the list from there
 visited_parts-from_jump : (parts : List Part) (i next : ℕ) (s : List ℕ) (look : LookUp) → i ≤ next
     → visited_parts (drop i parts) i next s look ≡ visited_parts (drop next parts) next 0 s look
 visited_parts-from_jump parts i next s look forward =
@@ -97,7 +97,7 @@ goes_on_there {parts = parts} {s = s} {look = look} {at = at} {next = next}
           (visited_parts-from_jump parts (at + 1) next s look (omega arith));
     }
 
--- and in the default, whose name has none
+-- in a default whose name has no value an expansion goes on at the first part
 pub goes_on_inside : {parts : List Part} {s : List ℕ} {look : LookUp} {at next : ℕ} {name : Span}
     {key : List ℕ}
     → IsElementAt parts at (Default name next) → key ≡ span_bytes name s → look key ≡ None

@@ -3,7 +3,7 @@ use Rattle.std.proofs.Common.{◌≡◌, ◌≤◌, ◌<◌, ℕ, ◌+◌, List,
 use Rattle.std.proofs.Math.Seq.{take-append_seam}
 use Rattle.std.specs.Prelude.{vec_capacity, vec_len}
 use Rattle.subst_error.specs.ErrorFault.{expand_into_fault}
-use Rattle.subst_error.specs.declared.lent.ExpandIntoError.{ExpandIntoError}
+use Rattle.subst_error.specs.declared.borrowed.ExpandIntoError.{ExpandIntoError}
 use Rattle.subst_language.specs.Language.Answer.{IsMissing}
 use Rattle.subst_language.specs.Language.Name.{IsName}
 use Rattle.subst_raw.specs.Context.{Context, ByContext, context_of}
@@ -34,7 +34,7 @@ pub record StatesStop {V Seen W First : Type 0} (context : Context V Seen W Firs
     (parts : List Part) (before : W) (e : ExpandIntoError) : Type 0 where
   pub value : ByContext context (λ look. IfSome (expand_into_fault e) (IsMissing (parts_value parts s look)))
   pub full : ByContext context (λ look. IfNone (expand_into_fault e)
-      (context.room before < context.len before + length (parts_written parts s look)))
+      (context.capacity before < context.len before + length (parts_written parts s look)))
   pub missing : IfSome (expand_into_fault e) (IsMissing (parts_value parts s (marks_of context.look_up)))
 
 module _ {V Seen W First : Type 0} (context : Context V Seen W First) (s : List ℕ) (parts : List Part)
@@ -77,7 +77,7 @@ module _ {V Seen : Type 0} (read : V → List ℕ) (is_read : List ℕ → Type 
     missing = tt;
   }
 
-  -- or writing stopped, and the items are as before
+  -- writing stopped, and the items are as before
   pub expanded_until : (stopped : Stop) (e : ExpandIntoError) (items : List ℕ)
       → StopsInParts of_vec s stopped parts before after → expand_into_fault e ≡ fault_of stopped s
       → items ≡ before.items
@@ -101,19 +101,19 @@ module _ {V Seen : Type 0} (read : V → List ℕ) (is_read : List ℕ → Type 
   begun_since : (x : List ℕ) × (written.items ≡ first.output.items ++ x)
       × (vec_capacity first.output ≤ vec_capacity written)
   begun_since =
-      let (begins, room) = begun (into_vec read is_read see look_up) s state first.output now parts
+      let (begins, capacity) = begun (into_vec read is_read see look_up) s state first.output now parts
       held.written in
-      rw same (begins.appended, begins.puts tt first.output.items refl, room)
+      rw same (begins.appended, begins.puts tt first.output.items refl, capacity)
 
-  -- its room only grew
+  -- its capacity only grew
   pub room_since : vec_capacity first.output ≤ vec_capacity written
-  room_since = let (x, begins, room) = begun_since in room
+  room_since = let (x, begins, capacity) = begun_since in capacity
 
   -- cut to its length at first, it is as it was
   pub cut_back : {items : List ℕ} {len : ℕ} → items ≡ take len written.items
       → len ≡ length first.output.items → items ≡ first.output.items
   cut_back is long =
-      let (x, begins, room) = begun_since in
+      let (x, begins, capacity) = begun_since in
       is ∙ rw (begins, long) (take-append_seam first.output.items x)
 
   has_written : HasWritten (into_vec read is_read see first.look_up) first.source state first.output written

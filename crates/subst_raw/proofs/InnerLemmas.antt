@@ -7,16 +7,16 @@ use Rattle.subst_language.specs.Language.Balanced.IsBalanced.{empty, byte}
 use Rattle.subst_raw.specs.ByteRun.{IsRun}
 use Rattle.subst_raw.specs.Inner.{IsInner}
 
--- such a byte is plain
+-- a byte that stands for itself inside a default is plain
 pub inner_plain : (b : ℕ) → IsInner b → IsPlain b
 inner_plain b inner = (λ is. cc, λ is. cc)
 
--- such bytes are plain
+-- bytes that stand for themselves inside a default are plain
 all_plain : (x : List ℕ) → AllByRecursion IsInner x → AllByRecursion IsPlain x
 all_plain [] each = tt
 all_plain (b ∷ x) each = (inner_plain b each.0, all_plain x each.1)
 
--- a run of such bytes is one of plain bytes
+-- a run of bytes that stand for themselves inside a default is one of plain bytes
 pub run_of_inner : {s : List ℕ} {at to : ℕ} → IsRun IsInner s at to → IsRun IsPlain s at to
 run_of_inner run = record {
   run = run.run;
@@ -25,7 +25,7 @@ run_of_inner run = record {
   ends = run.ends;
 }
 
--- such bytes are balanced
+-- bytes that stand for themselves inside a default are balanced
 pub inner_balanced : (x : List ℕ) → AllByRecursion IsInner x → IsBalanced x
 inner_balanced [] each = empty
 inner_balanced (b ∷ x) each =

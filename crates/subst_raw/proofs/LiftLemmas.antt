@@ -142,7 +142,7 @@ find_outermost s (default ∷ inner) outermost depth parts literal_start at with
           (omega (arith, within.braces)) after;
     }
 
--- its name is after a dollar and a brace
+-- the name of the outermost default is after a dollar and a brace
 pub outermost_starts : (s : List ℕ) (inner : List OpenDefault) (outermost : OpenDefault) (depth : ℕ)
     (parts : List Part) (literal_start at : ℕ)
     → StackHoldsFlushed s (inner ++ outermost ∷ []) depth parts literal_start at

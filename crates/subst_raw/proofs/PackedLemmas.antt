@@ -24,7 +24,7 @@ unpacked_at value list {i = i} packed inside reads is =
     element_at
     (slice_get-map (unpacked value) list i ∙ ap (option_map (unpacked value)) read ∙ ap Some (sym is))
 
--- the same of one that was asked for by its index
+-- a packed part that was asked for by its index is there, unpacked
 pub unpacked_read : {O : Type 0} (value : O → ℕ) (list : List (PackedPart O)) {i : ℕ} (packed : PackedPart O)
     {found part : Part} → true ≡ ltb i (length list) → packed ≡ get_or list i packed
     → found ≡ unpacked value packed → found ≡ part → IsElementAt (unpacked_parts value list) i part

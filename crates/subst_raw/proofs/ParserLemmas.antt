@@ -170,7 +170,7 @@ finishes_after {holds = holds} old mid (Ok done) new reads same finishes = λ fi
     (finishes first (reads first reading))
 finishes_after old mid (Err e) new reads same finishes = tt
 
--- the same from the start of a source
+-- the end of a source after what was read from its start
 pub finishes_from : {S First : Type 0} {holds : HoldsFrom S First} {limit : ℕ} (s : List ℕ) (p : Parser S)
     (result : Result (Unit {0}) Halt) (new : Parser S) (Starts : First → Type 0)
     → ((first : First) → Starts first → IsReading (since holds first) limit p) → p.tape.source.now ≡ s
@@ -255,7 +255,7 @@ reading_opened old mid sink defaults name index reading given front counts held 
       omega (arith, front.starts, front.named.ends),
     )
 
--- the same, where the innermost default is known
+-- a default opens, where the innermost default is known
 given_innermost : {S : Type 0} {holds : S → List Part → Type 0} (old mid : Parser S)
     (front : List OpenDefault)
     (innermost : OpenDefault)
@@ -545,7 +545,7 @@ depth_open p outermost reading first =
     let (inner, within) = reading_outermost p outermost reading first in
     holds_some p.tape.source.now inner outermost p.depth reading.parts p.literal_start p.at within
 
--- so some byte has been read
+-- where a default is open, some byte has been read
 pub read_before_open : {S : Type 0} {holds : S → List Part → Type 0} {limit : ℕ} (p : Parser S)
     (outermost : OpenDefault) → IsReading holds limit p
     → slice_get p.defaults.items 0 ≡ Some outermost → 0 < p.at
@@ -651,7 +651,7 @@ literal_fits p first known reading some = record {
   few = omega (arith, reading.few, reading.small, reading.within, some);
 }
 
--- so is the part of the bytes that come next
+-- the part of the bytes that come next is one that a sink can take
 pub part_fits : {S First : Type 0} {holds : HoldsFrom S First} {source : First → List ℕ → Type 0} {limit : ℕ}
     (old mid : Parser S) (part : Part) (end : ℕ) (first : First) → source first old.tape.source.now
     → IsReading (since holds first) limit old → (given : IsFlushed (since holds first) old mid)
@@ -670,7 +670,7 @@ part_fits old mid part end first known reading given fits is within forward = re
   few = omega (arith, given.few, reading.small, within, forward);
 }
 
--- and the part of a default that opens
+-- the part of a default that opens is one that a sink can take
 pub open_fits : {S First : Type 0} {holds : HoldsFrom S First} {source : First → List ℕ → Type 0} {limit : ℕ}
     (old mid : Parser S) (name : Span) (first : First) → source first old.tape.source.now
     → IsReading (since holds first) limit old → (given : IsFlushed (since holds first) old mid)

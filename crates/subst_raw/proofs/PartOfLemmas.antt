@@ -1,7 +1,7 @@
 -- The part of each item of a source.
 use Rattle.std.proofs.Common.{ℕ, ◌+◌, ◌<◌, ◌≤◌, List, length, refl, ap, append-nil, length-drop, arith}
 use Rattle.std.proofs.lemmas.Bool.Decides.{nat_tests}
-use Rattle.subst_language.specs.Language.Bytes.{closing_brace, question_mark, IsSpecial}
+use Rattle.subst_language.specs.Language.Bytes.{closing_brace, question_mark, IsEscapable}
 use Rattle.subst_language.specs.Language.Tree.{Tree, Empty, Then}
 use Rattle.subst_language.specs.Language.Tree as tree
 use Rattle.subst_raw.specs.Span.{span_bytes}
@@ -16,8 +16,8 @@ use Rattle.subst_raw.specs.Parts.{kind_before}
 use Rattle.subst_raw.proofs.TreeAtLemmas.{after_name, escape_tree_at, short_tree_at, braced_tree_at, optional_tree_at}
 
 -- a special byte is a byte
-special_small : (b : ℕ) → IsSpecial b → b < 256
-special_small b special = grind (arith, nat_tests)
+escapable_small : (b : ℕ) → IsEscapable b → b < 256
+escapable_small b special = grind (arith, nat_tests)
 
 -- an escape
 pub escape_part : (s : List ℕ) (at b i : ℕ) → IsEscape s at b → IsPart s at (at + 2) i (Escaped b)
@@ -26,7 +26,7 @@ escape_part s at b i is = record {
   at = escape_tree_at s at b is;
   balanced = escape_balanced b;
   ends = no_plain_ends (tree.Escaped b) refl;
-  mean = mean_escaped s i b at (special_small b is.special);
+  mean = mean_escaped s i b at (escapable_small b is.special);
 }
 
 -- a name after a dollar

@@ -61,7 +61,7 @@ fit_append i end s [] ys fit rest = subst (λ n. AllFit n end s ys) (omega arith
 fit_append i end s (part ∷ xs) ys fit rest =
     (fit.0, fit_append (i + 1) end s xs ys fit.1 (subst (λ n. AllFit n end s ys) (omega arith) rest))
 
--- and each of them fits where both do
+-- each of two lists of parts fits where both, concatenated, do
 pub fit_split : (i end : ℕ) (s : List ℕ) (xs ys : List Part) → AllFit i end s (xs ++ ys)
     → AllFit i end s xs × AllFit (i + length xs) end s ys
 fit_split i end s [] ys fit = (tt, subst (λ n. AllFit n end s ys) (omega arith) fit)
@@ -160,7 +160,7 @@ visited_parts-lands i end from s (part ∷ xs) ys look lands inside above =
           (visited_parts-from part xs i from s look after))
     ]
 
--- the same of parts that fit
+-- of two lists of parts that fit, concatenated, an expansion visits what it visits of each
 pub visited_parts-append : (i end from : ℕ) (s : List ℕ) (xs ys : List Part) (look : LookUp)
     → AllFit i end s xs → end ≤ i + length xs → from ≤ i + length xs
     → visited_parts (xs ++ ys) i from s look

@@ -3,7 +3,7 @@ use Rattle.std.proofs.Common.{◌≡◌, ◌≢◌, ℕ, ◌+◌, ◌≤◌, tru
 use Rattle.std.specs.List.{AllByRecursion}
 use Rattle.std.proofs.lemmas.Bool.{false≢true}
 use Rattle.std.proofs.lemmas.List.{append-nil}
-use Rattle.subst_language.specs.Language.Bytes.{is_special, dollar, opening_brace, backslash, closing_brace, colon, question_mark}
+use Rattle.subst_language.specs.Language.Bytes.{is_escapable, dollar, opening_brace, backslash, closing_brace, colon, question_mark}
 use Rattle.subst_language.specs.Language.Name.{IsName, IsNameByte}
 use Rattle.subst_raw.specs.ByteRun.{IsRun}
 use Rattle.subst_language.specs.Language.Name.{BeginsWithNo}
@@ -21,7 +21,8 @@ use Rattle.subst_raw.proofs.ByteRunLemmas.{slice_of_run}
 
 module _ (s : List ℕ) (at : ℕ) (rest : List ℕ) (begins : drop at s ≡ backslash ∷ rest) where
   -- a backslash before a special byte is an escape
-  pub escape_at : (b : ℕ) → drop (at + 1) s ≡ b ∷ drop (at + 1 + 1) s → is_special b ≡ true → IsEscape s at b
+  pub escape_at : (b : ℕ) → drop (at + 1) s ≡ b ∷ drop (at + 1 + 1) s → is_escapable b ≡ true
+      → IsEscape s at b
   escape_at b second special =
       record {
         special = special;
@@ -29,13 +30,13 @@ module _ (s : List ℕ) (at : ℕ) (rest : List ℕ) (begins : drop at s ≡ bac
             (next_element s at backslash rest begins) second;
       }
 
-  -- a backslash at the end is none
+  -- a backslash at the end is no escape
   pub lone_backslash_at : drop (at + 1) s ≡ [] → IsBadWhenCut at (drop at s) (InvalidEscapeSequence at None)
   lone_backslash_at ends = rw (next_element s at backslash rest begins, ends) (bad_however escape_at_end tt)
 
-  -- nor is a backslash before another byte
+  -- a backslash before another byte is no escape
   pub other_escape_at : (b : ℕ) (c : CharOrByte) → drop (at + 1) s ≡ b ∷ drop (at + 1 + 1) s
-      → is_special b ≡ false
+      → is_escapable b ≡ false
       → IsFrontCharacter (drop (at + 1) s) c → IsBadWhenCut at (drop at s) (InvalidEscapeSequence at (Some c))
   other_escape_at b c second plain front =
       rw (next_element s at backslash rest begins, second)

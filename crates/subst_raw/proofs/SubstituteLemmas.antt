@@ -6,7 +6,7 @@ use Rattle.std.specs.Str.{IsUtf8}
 use Rattle.subst_error.specs.Fault.{Fault}
 use Rattle.subst_error.specs.ErrorFault.{expand_into_fault}
 use Rattle.subst_error.specs.Range.{IsRangeIn, range_of}
-use Rattle.subst_error.specs.declared.lent.ExpandIntoError.{ExpandIntoError}
+use Rattle.subst_error.specs.declared.borrowed.ExpandIntoError.{ExpandIntoError}
 use Rattle.subst_language.specs.Language.Answer.{Answers, Gives, Refuses, IsMissing}
 use Rattle.subst_language.specs.Language.LookUp.{LookUp}
 use Rattle.subst_language.specs.Language.Sentence.{ByTree}
@@ -22,16 +22,16 @@ use Rattle.subst_raw.proofs.TemplateOfLemmas.{template_value, template_written, 
 use Rattle.subst_raw.proofs.PartsLemmas.{same_value}
 
 module _ {V Seen : Type 0} (read : V → List ℕ) (is_read : List ℕ → Type 0) (see : V → Seen)
-    (look_up : List ℕ → Option Seen) (s before after : List ℕ) (room len : ℕ) where
+    (look_up : List ℕ → Option Seen) (s before after : List ℕ) (capacity len : ℕ) where
   -- an expansion that gives bytes
   pub answers : (outcome : Result (Unit {0}) ExpandIntoError) → outcome ≡ Ok tt
-      → IsExpansion read is_read see look_up s before after room len outcome
+      → IsExpansion read is_read see look_up s before after capacity len outcome
       → ByLookUp read see look_up
       (λ look. (x : List ℕ) × Answers s look (Gives x) × (after ≡ before ++ x))
-  answers outcome is expansion = of (subst (IsExpansion read is_read see look_up s before after room len) is
-      expansion)
+  answers outcome is expansion =
+      of (subst (IsExpansion read is_read see look_up s before after capacity len) is expansion)
     where
-      of : IsExpansion read is_read see look_up s before after room len (Ok tt)
+      of : IsExpansion read is_read see look_up s before after capacity len (Ok tt)
           → ByLookUp read see look_up
           (λ look. (x : List ℕ) × Answers s look (Gives x) × (after ≡ before ++ x))
       of done bytes reads =
@@ -41,9 +41,9 @@ module _ {V Seen : Type 0} (read : V → List ℕ) (is_read : List ℕ → Type 
           (x, (template.tree, template.spells, sym (same_value template.mean look) ∙ gives), appended)
 
   module _ (outcome : Result (Unit {0}) ExpandIntoError) (e : ExpandIntoError) (is : outcome ≡ Err e)
-      (expansion : IsExpansion read is_read see look_up s before after room len outcome) where
-    failed : IsExpansion read is_read see look_up s before after room len (Err e)
-    failed = subst (IsExpansion read is_read see look_up s before after room len) is expansion
+      (expansion : IsExpansion read is_read see look_up s before after capacity len outcome) where
+    failed : IsExpansion read is_read see look_up s before after capacity len (Err e)
+    failed = subst (IsExpansion read is_read see look_up s before after capacity len) is expansion
 
     -- one that fails: for what the source is refused
     pub refuses : ByLookUp read see look_up
@@ -55,7 +55,7 @@ module _ {V Seen : Type 0} (read : V → List ℕ) (is_read : List ℕ → Type 
         (λ t spells. subst (λ v. IfSome (expand_into_fault e) (IsMissing v))
         (template_value s failed.parts t look template spells) (failed.expands.value bytes reads))
 
-    -- the same whatever the values are
+    -- one that fails: for what the source is refused, whatever the values are
     pub refuses_by_names : ByNames look_up
         (λ look. IfSome (expand_into_fault e) (λ f. Answers s look (Refuses f)))
     refuses_by_names look names =
@@ -66,9 +66,9 @@ module _ {V Seen : Type 0} (read : V → List ℕ) (is_read : List ℕ → Type 
 
     -- out of memory only with cause
     pub short_room : ByLookUp read see look_up
-        (λ look. ByTree s (λ t. IfNone (expand_into_fault e) (room < len + length (written 0 t look))))
+        (λ look. ByTree s (λ t. IfNone (expand_into_fault e) (capacity < len + length (written 0 t look))))
     short_room bytes reads t spells =
-        subst (λ (x : List ℕ). IfNone (expand_into_fault e) (room < len + length x))
+        subst (λ (x : List ℕ). IfNone (expand_into_fault e) (capacity < len + length x))
         (template_written s failed.parts t (look_up_of bytes look_up) failed.template spells)
         (failed.expands.full bytes reads)
 
@@ -79,11 +79,11 @@ module _ {V Seen : Type 0} (read : V → List ℕ) (is_read : List ℕ → Type 
         failed.expands.missing
 
 -- an error with a name of its own states the same refusal, or that memory ran out
-pub owned_refuses : (s : List ℕ) (look : LookUp) (lent owned : Option Fault)
-    → IfSome owned (λ f. lent ≡ Some f) → IfSome lent (λ f. Answers s look (Refuses f))
+pub owned_refuses : (s : List ℕ) (look : LookUp) (borrowed owned : Option Fault)
+    → IfSome owned (λ f. borrowed ≡ Some f) → IfSome borrowed (λ f. Answers s look (Refuses f))
     → IfSome (option_map Refuses owned) (Answers s look)
-owned_refuses s look lent None same given = tt
-owned_refuses s look lent (Some f) same given =
+owned_refuses s look borrowed None same given = tt
+owned_refuses s look borrowed (Some f) same given =
     subst (λ o. IfSome o (λ g. Answers s look (Refuses g))) same given
 
 -- what was appended to a text is a text, where the values are
@@ -108,7 +108,7 @@ range_in_text s look_up stated is by_names =
     error_in_text s (marks_of look_up) stated is
     (by_names (marks_of look_up) (λ name. found_as_read (λ _. mark ∷ []) (look_up name)))
 
--- the same of an error
+-- the range of an error that states a refusal of a text is in it
 pub ranges_in_text : {Seen T E : Type 0} (fault_of : E → Option Fault) (s : List ℕ)
     (look_up : List ℕ → Option Seen) (result : Result T E) → IsUtf8 s
     → ByNames look_up (λ look. IfErr result (λ e. IfSome (fault_of e) (λ f. Answers s look (Refuses f))))

@@ -53,7 +53,7 @@ template_missing s parts t look_up stated template spells missing =
     missing_by_names t (λ _. mark ∷ []) look_up stated
     (subst (λ v. IfSome stated (IsMissing v)) gives missing)
 
--- so the range of its error ends within the source
+-- the range of the error of an expansion ends within the source
 pub template_range : {Seen : Type 0} (s : List ℕ) (parts : List Part) (look_up : List ℕ → Option Seen)
     (stated : Option Fault) → IsTemplateOf s parts
     → IfSome stated (IsMissing (parts_value parts s (marks_of look_up))) → (range_of stated).end ≤ length s
@@ -62,7 +62,7 @@ template_range s parts look_up stated template missing =
     expand_error_within s template.tree look stated template.spells
     (subst (λ v. IfSome stated (IsMissing v)) (same_value template.mean look) missing)
 
--- the same of each error that a result may have, which states its fault
+-- what the error of a result states as missing in the parts is missing in the source's tree
 pub errors_missing : {Seen T E : Type 0} (fault_of : E → Option Fault) (s : List ℕ) (parts : List Part)
     (t : Tree) (look_up : List ℕ → Option Seen) (result : Result T E) → IsTemplateOf s parts → Spells t s
     → IfErr result (λ e. IfSome (fault_of e) (IsMissing (parts_value parts s (marks_of look_up))))
@@ -71,7 +71,7 @@ errors_missing fault_of s parts t look_up (Ok x) template spells missing look na
 errors_missing fault_of s parts t look_up (Err e) template spells missing look names =
     template_missing s parts t look_up (fault_of e) template spells missing look names
 
--- and of its range
+-- the range of each error of an expansion's result ends within the source
 pub errors_range : {Seen T E : Type 0} (fault_of : E → Option Fault) (s : List ℕ) (parts : List Part)
     (look_up : List ℕ → Option Seen) (result : Result T E) → IsTemplateOf s parts
     → IfErr result (λ e. IfSome (fault_of e) (IsMissing (parts_value parts s (marks_of look_up))))

@@ -9,7 +9,7 @@ use Rattle.subst_raw.specs.Span.{span_bytes}
 use Rattle.subst_raw.specs.Parts.{resume_index, visited_parts}
 use Rattle.subst_raw.specs.Context.{Context, WritesPart, StopsAtPart, jump_of}
 use Rattle.subst_raw.specs.Writer.{AtFirst, HoldsParts}
-use Rattle.subst_raw.specs.Writing.{IsSettled, AllSettled, WritesParts, StopsInParts, IsWriting, IsJumping, HasStopped, HasWritten, PartWritten, WritesOn}
+use Rattle.subst_raw.specs.Writing.{HasJump, AllHaveJumps, WritesParts, StopsInParts, IsWriting, IsJumping, HasStopped, HasWritten, PartWritten, WritesOn}
 use Rattle.subst_raw.specs.declared.expand.Stop.{Stop}
 use Rattle.subst_raw.specs.declared.part.Span.{Span}
 use Rattle.subst_raw.specs.declared.part.Part.{Part}
@@ -25,7 +25,7 @@ record IsInFront (xs ys zs : List Part) (z : Part) (ws : List Part) : Type 0 whe
   front : xs ≡ zs ++ z ∷ own
   after : ws ≡ own ++ ys
 
--- or in the second
+-- a part of two lists concatenated is in the second one
 record IsInBack (xs ys zs : List Part) (z : Part) (ws : List Part) : Type 0 where
   between : List Part
   before : zs ≡ xs ++ between
@@ -62,14 +62,14 @@ closed_at : (end : ℕ) (xs : List Part) (part : Part) (rest : List Part) → Al
     → IsClosed end part
 closed_at end xs part rest closed = (each_parts (IsClosed end) xs (part ∷ rest) closed).1.0
 
--- so an open default isn't among them
+-- an open default isn't among closed parts
 none_open : (end : ℕ) (xs : List Part) (name : Span) (rest : List Part)
     → AllClosed end (xs ++ Default name 0 ∷ rest) → ⊥
 none_open end xs name rest closed = omega (arith, (closed_at end xs (Default name 0) rest closed).0)
 
 -- a closed part is settled
 settled_of : {Seen : Type 0} (look_up : List ℕ → Option Seen) (s : List ℕ) (end : ℕ) (part : Part)
-    → IsClosed end part → IsSettled look_up s end part
+    → IsClosed end part → HasJump look_up s end part
 settled_of look_up s end (Literal span) closed = tt
 settled_of look_up s end (Escaped b) closed = tt
 settled_of look_up s end (Variable name) closed = tt
@@ -97,12 +97,12 @@ module _ {V Seen W First : Type 0} (context : Context V Seen W First) (s : List 
   pub took : (part : Part) (old : State) (first before : W) (found : Bool) (state : State) (now : W)
       (parts : List Part)
       → HasWritten context s old first before parts → WritesOn context s part old before found state now
-      → (old ≡ Writing → state ≡ Writing → IsSettled context.look_up s (length parts + 1) part)
+      → (old ≡ Writing → state ≡ Writing → HasJump context.look_up s (length parts + 1) part)
       → HasWritten context s state first now (parts ++ part ∷ [])
   took part Writing first before found Writing now parts writing written settles =
       let one = count_last parts part in
       record {
-        settled = subst (λ n. AllSettled context.look_up s n (parts ++ part ∷ [])) (sym one)
+        settled = subst (λ n. AllHaveJumps context.look_up s n (parts ++ part ∷ [])) (sym one)
             (settled_append context.look_up s (length parts) (length parts + 1) parts part (omega arith)
             writing.settled (settles refl refl));
         written = writes_part parts part first before now writing written.0;
@@ -182,7 +182,7 @@ module _ {V Seen W First : Type 0} (context : Context V Seen W First) (s : List 
   -- a default whose name has no value is settled before it has its jump
   pub open_settled : (name : Span) (end : ℕ) (before now : W) (found : Bool) → found ≡ false
       → PartWritten context s (Default name 0) before found Writing now
-      → IsSettled context.look_up s end (Default name 0)
+      → HasJump context.look_up s end (Default name 0)
   open_settled name end before now found is written =
       of (jump_of context.look_up s (Default name 0)) written.1
     where
@@ -199,7 +199,7 @@ module _ {V Seen W First : Type 0} (context : Context V Seen W First) (s : List 
       let others = before ++ Default name next ∷ own in
       let none = open_lacks context.look_up s before own name (length parts) writing.settled in
       record {
-        settled = subst (λ n. AllSettled context.look_up s n others) (same_length before own name 0 next)
+        settled = subst (λ n. AllHaveJumps context.look_up s n others) (same_length before own name 0 next)
             (settled_changed context.look_up s before own name (length parts) next none writing.settled);
         written = writes_same context s (λ look. visited_parts parts 0 0 s look)
             (λ look. visited_parts others 0 0 s look)
@@ -235,17 +235,18 @@ module _ {V Seen W First : Type 0} (context : Context V Seen W First) (s : List 
           let others = before ++ Default name next ∷ own in
           let same : jumping.before ≡ before = front ∙ append-nil before in
           let named : jumping.name ≡ name = cc in
-          let settled = subst (λ (ps : List Part). AllSettled context.look_up s (length ps) ps) same
+          let settled = subst (λ (ps : List Part). AllHaveJumps context.look_up s (length ps) ps) same
           jumping.settled in
           let found = subst (λ (n : Span). context.look_up (span_bytes n s) ≡ Some jumping.value) named
           jumping.found in
           let count : next ≡ length before + 1 + length own =
           omega (arith, length-append before (Default name 0 ∷ own)) in
           record {
-            settled = subst (λ n. AllSettled context.look_up s n others) (same_length before own name 0 next)
+            settled = subst (λ n. AllHaveJumps context.look_up s n others)
+                (same_length before own name 0 next)
                 (settled_jump context.look_up s before own name next jumping.value settled
                 (omega (arith, count)) (omega (arith, count))
-                (each_weaker (IsClosed next) (IsSettled context.look_up s next)
+                (each_weaker (IsClosed next) (HasJump context.look_up s next)
                 (settled_of context.look_up s next) own closed));
             written = writes_same context s
                 (λ look. visited_parts (before ++ Default name 0 ∷ []) 0 0 s look)
@@ -314,7 +315,7 @@ module _ {V Seen W First : Type 0} (context : Context V Seen W First) (s : List 
       in_front us front after =
           let old = before ++ Default name 0 ∷ us in
           let new = before ++ Default name next ∷ us in
-          let settled = subst (λ (ps : List Part). AllSettled context.look_up s (length ps) ps) front
+          let settled = subst (λ (ps : List Part). AllHaveJumps context.look_up s (length ps) ps) front
           stops.settled in
           let none = open_lacks context.look_up s before us name (length old) settled in
           record {
@@ -324,7 +325,7 @@ module _ {V Seen W First : Type 0} (context : Context V Seen W First) (s : List 
             splits =
                 ap (λ (ps : List Part). before ++ Default name next ∷ ps) after
                 ∙ sym (append_assoc before (Default name next ∷ us) (stops.part ∷ stops.rest));
-            settled = subst (λ n. AllSettled context.look_up s n new) (same_length before us name 0 next)
+            settled = subst (λ n. AllHaveJumps context.look_up s n new) (same_length before us name 0 next)
                 (settled_changed context.look_up s before us name (length old) next none settled);
             before = stops.before;
             written = writes_same context s (λ look. visited_parts old 0 0 s look)
@@ -473,13 +474,13 @@ module _ {V Seen W First : Type 0} (context : Context V Seen W First) (s : List 
           (λ is. other (ap Jumping is)) closed jumping
       of (Stopped stopped) other stops = closed_stopped stopped first.output now before own name _ stops
 
-  -- whatever came of it, the output begins with what it held, and its room only grew
+  -- whatever came of it, the output begins with what it held, and its capacity only grew
   pub begun : (state : State) (first now : W) (parts : List Part) → HasWritten context s state first now parts
-      → Appended context.holds (λ _. Unit {0}) first now × (context.room first ≤ context.room now)
+      → Appended context.holds (λ _. Unit {0}) first now × (context.capacity first ≤ context.capacity now)
   begun Writing first now parts writing =
-      (same_appended writing.written.filled (λ x fills. tt), writing.written.room)
+      (same_appended writing.written.filled (λ x fills. tt), writing.written.capacity)
   begun (Jumping index) first now parts jumping =
-      (same_appended jumping.written.filled (λ x fills. tt), jumping.written.room)
+      (same_appended jumping.written.filled (λ x fills. tt), jumping.written.capacity)
   begun (Stopped stopped) first now parts stops =
       let whole = stopped_whole stopped first now parts stops in
-      (whole.begins, whole.room)
+      (whole.begins, whole.capacity)

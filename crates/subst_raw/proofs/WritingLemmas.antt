@@ -15,7 +15,7 @@ use Rattle.subst_raw.specs.Output.{Appended}
 use Rattle.subst_raw.specs.Parts.{part_steps, steps_in, if_found, resume_index, visited_parts}
 use Rattle.subst_raw.specs.Span.{span_bytes}
 use Rattle.subst_raw.specs.Context.{Context, StopsAt, Stops, WritesPart, StopsAtPart, jump_of}
-use Rattle.subst_raw.specs.Writing.{IsSettled, AllSettled, WritesVisited}
+use Rattle.subst_raw.specs.Writing.{HasJump, AllHaveJumps, WritesVisited}
 use Rattle.subst_raw.specs.declared.expand.Stop.{Stop}
 use Rattle.subst_raw.specs.declared.expand.Stop.TheVariants.{Full}
 use Rattle.subst_raw.specs.declared.expand.Stop.TheVariants as stop
@@ -28,7 +28,7 @@ use Rattle.subst_raw.proofs.PartsLemmas.{Lands, visited_parts-before, visited_pa
 
 -- a part that is settled goes on no later than its end
 lands_settled : {Seen : Type 0} (look_up : List ℕ → Option Seen) (bytes : Seen → List ℕ) (s : List ℕ)
-    (end : ℕ) (part : Part) → IsSettled look_up s end part
+    (end : ℕ) (part : Part) → HasJump look_up s end part
     → resume_index part s (look_up_of bytes look_up) ≤ end
 lands_settled look_up bytes s end (Literal span) settled = omega arith
 lands_settled look_up bytes s end (Escaped b) settled = omega arith
@@ -41,9 +41,9 @@ lands_settled {Seen} look_up bytes s end (Default name next) settled =
     of (Some v) settled = settled.1
     of None settled = omega arith
 
--- so do all
+-- settled parts go on no later than their end
 lands_all : {Seen : Type 0} (look_up : List ℕ → Option Seen) (bytes : Seen → List ℕ) (s : List ℕ)
-    (end : ℕ) (parts : List Part) → AllSettled look_up s end parts
+    (end : ℕ) (parts : List Part) → AllHaveJumps look_up s end parts
     → Lands end s (look_up_of bytes look_up) parts
 lands_all look_up bytes s end [] settled = tt
 lands_all look_up bytes s end (part ∷ rest) settled =
@@ -51,7 +51,7 @@ lands_all look_up bytes s end (part ∷ rest) settled =
 
 -- a part that is settled up to an end is settled up to a later one
 settled_later : {Seen : Type 0} (look_up : List ℕ → Option Seen) (s : List ℕ) (end later : ℕ) (part : Part)
-    → end ≤ later → IsSettled look_up s end part → IsSettled look_up s later part
+    → end ≤ later → HasJump look_up s end part → HasJump look_up s later part
 settled_later look_up s end later part le settled = of (jump_of look_up s part) settled
   where
     of : (jump : Option ℕ) → IfSome jump (λ next. (0 < next) × (next ≤ end))
@@ -61,24 +61,24 @@ settled_later look_up s end later part le settled = of (jump_of look_up s part) 
 
 -- so are all
 settled_all : {Seen : Type 0} (look_up : List ℕ → Option Seen) (s : List ℕ) (end later : ℕ)
-    (parts : List Part) → end ≤ later → AllSettled look_up s end parts → AllSettled look_up s later parts
+    (parts : List Part) → end ≤ later → AllHaveJumps look_up s end parts → AllHaveJumps look_up s later parts
 settled_all look_up s end later parts le settled =
-    each_weaker (IsSettled look_up s end) (IsSettled look_up s later)
+    each_weaker (HasJump look_up s end) (HasJump look_up s later)
     (λ part. settled_later look_up s end later part le) parts settled
 
 -- with one more part, all are settled up to the new end
 pub settled_append : {Seen : Type 0} (look_up : List ℕ → Option Seen) (s : List ℕ) (end later : ℕ)
-    (parts : List Part) (part : Part) → end ≤ later → AllSettled look_up s end parts
-    → IsSettled look_up s later part
-    → AllSettled look_up s later (parts ++ part ∷ [])
+    (parts : List Part) (part : Part) → end ≤ later → AllHaveJumps look_up s end parts
+    → HasJump look_up s later part
+    → AllHaveJumps look_up s later (parts ++ part ∷ [])
 settled_append look_up s end later parts part le settled last =
-    each_append (IsSettled look_up s later) parts (part ∷ [])
+    each_append (HasJump look_up s later) parts (part ∷ [])
     (settled_all look_up s end later parts le settled) (last, tt)
 
 module _ {Seen : Type 0} (look_up : List ℕ → Option Seen) (bytes : Seen → List ℕ) (s : List ℕ) where
   -- what is visited of settled parts, a part, and more parts
   pub visited_more : (parts : List Part) (part : Part) (rest : List Part)
-      → AllSettled look_up s (length parts) parts
+      → AllHaveJumps look_up s (length parts) parts
       → visited_parts (parts ++ part ∷ rest) 0 0 s (look_up_of bytes look_up)
       ≡ visited_parts parts 0 0 s (look_up_of bytes look_up)
       ++ part ∷ visited_parts rest (length parts + 1) (resume_index part s (look_up_of bytes look_up)) s
@@ -114,7 +114,7 @@ writes_none context s output = record {
   given = λ bytes reads. nothing_appended _ output refl;
   filled = nothing_appended _ output record { marked = []; given = refl; filled = empty };
   long = λ bytes reads. omega arith;
-  room = omega arith;
+  capacity = omega arith;
 }
 
 module _ {V Seen W First : Type 0} (context : Context V Seen W First) (s : List ℕ)
@@ -150,7 +150,7 @@ module _ {V Seen W First : Type 0} (context : Context V Seen W First) (s : List 
           ap length (ap steps_written (steps_next bytes) ∙ all),
           length-append (steps_written (seen xs bytes)) (steps_written (own bytes)),
         );
-    room = omega (arith, so_far.room, next.room);
+    capacity = omega (arith, so_far.capacity, next.capacity);
   }
     where
       steps_next : (bytes : Seen → List ℕ) → seen ys bytes ≡ seen xs bytes ++ own bytes
@@ -172,7 +172,7 @@ module _ {V Seen W First : Type 0} (context : Context V Seen W First) (s : List 
   stops_next rest more stopped next = record {
     begins = more_appended next.begins.appended so_far.filled next.begins.puts (λ x fills. tt);
     at = of stopped next.at;
-    room = omega (arith, so_far.room, next.room);
+    capacity = omega (arith, so_far.capacity, next.capacity);
   }
     where
       steps_next : (bytes : Seen → List ℕ) → seen ys bytes ≡ seen xs bytes ++ (own bytes ++ seen rest bytes)
@@ -193,7 +193,7 @@ module _ {V Seen W First : Type 0} (context : Context V Seen W First) (s : List 
           let all = steps_written-append (seen xs bytes) more _ (so_far.given bytes reads).given in
           omega (
             arith,
-            so_far.room,
+            so_far.capacity,
             full bytes reads,
             so_far.long bytes reads,
             ap length (ap steps_written (steps_next bytes) ∙ all),
@@ -274,17 +274,17 @@ writes_same context s xs ys same first now written = record {
       (same (λ _. mark ∷ [])).steps written.filled;
   long = λ bytes reads. written.long bytes reads
       ∙ ap (λ (steps : List Step). context.len first + length (steps_written steps)) (same bytes).steps;
-  room = written.room;
+  capacity = written.capacity;
 }
 
 module _ {Seen : Type 0} (look_up : List ℕ → Option Seen) (s : List ℕ) (before own : List Part) (name : Span)
   where
     -- the name of an open default that is settled has no value
-    pub open_lacks : (end : ℕ) → AllSettled look_up s end (before ++ Default name 0 ∷ own)
+    pub open_lacks : (end : ℕ) → AllHaveJumps look_up s end (before ++ Default name 0 ∷ own)
         → look_up (span_bytes name s) ≡ None
     open_lacks end settled =
         of (look_up (span_bytes name s)) refl
-        (each_parts (IsSettled look_up s end) before (Default name 0 ∷ own) settled).1.0
+        (each_parts (HasJump look_up s end) before (Default name 0 ∷ own) settled).1.0
       where
         of : (o : Option Seen) → look_up (span_bytes name s) ≡ o
             → IfSome (option_map {U = ℕ} (λ _. 0) o) (λ n. (0 < n) × (n ≤ end))
@@ -294,12 +294,12 @@ module _ {Seen : Type 0} (look_up : List ℕ → Option Seen) (s : List ℕ) (be
 
     -- and stays settled when it gets a jump
     pub settled_changed : (end next : ℕ) → look_up (span_bytes name s) ≡ None
-        → AllSettled look_up s end (before ++ Default name 0 ∷ own)
-        → AllSettled look_up s end (before ++ Default name next ∷ own)
+        → AllHaveJumps look_up s end (before ++ Default name 0 ∷ own)
+        → AllHaveJumps look_up s end (before ++ Default name next ∷ own)
     settled_changed end next none settled =
-        let split = each_parts (IsSettled look_up s end) before (Default name 0 ∷ own) settled in
-        let here : IsSettled look_up s end (Default name next) = rw none tt in
-        each_append (IsSettled look_up s end) before (Default name next ∷ own) split.0 (here, split.1.1)
+        let split = each_parts (HasJump look_up s end) before (Default name 0 ∷ own) settled in
+        let here : HasJump look_up s end (Default name next) = rw none tt in
+        each_append (HasJump look_up s end) before (Default name next ∷ own) split.0 (here, split.1.1)
 
     -- it gives the same, whatever its jump is
     pub changed_parts : (next other : ℕ) → look_up (span_bytes name s) ≡ None → (bytes : Seen → List ℕ)
@@ -310,7 +310,7 @@ module _ {Seen : Type 0} (look_up : List ℕ → Option Seen) (s : List ℕ) (be
         changed s (look_up_of bytes look_up) before own name next other 0 0 (ap (option_map bytes) none)
 
     -- where its name has a value, its own parts are jumped over
-    pub jumped_parts : (next : ℕ) (v : Seen) → AllSettled look_up s (length before) before
+    pub jumped_parts : (next : ℕ) (v : Seen) → AllHaveJumps look_up s (length before) before
         → look_up (span_bytes name s) ≡ Some v → length before + 1 + length own ≤ next
         → (bytes : Seen → List ℕ)
         → GivesSame s (look_up_of bytes look_up)
@@ -337,11 +337,11 @@ same_length before own name next other =
 
 -- parts are settled where a default whose name has a value has its jump to their end
 pub settled_jump : {Seen : Type 0} (look_up : List ℕ → Option Seen) (s : List ℕ) (before own : List Part)
-    (name : Span) (next : ℕ) (v : Seen) → AllSettled look_up s (length before) before
-    → length before ≤ next → 0 < next → AllSettled look_up s next own
-    → AllSettled look_up s next (before ++ Default name next ∷ own)
+    (name : Span) (next : ℕ) (v : Seen) → AllHaveJumps look_up s (length before) before
+    → length before ≤ next → 0 < next → AllHaveJumps look_up s next own
+    → AllHaveJumps look_up s next (before ++ Default name next ∷ own)
 settled_jump {Seen} look_up s before own name next v settled le some after =
-    each_append (IsSettled look_up s next) before (Default name next ∷ own)
+    each_append (HasJump look_up s next) before (Default name next ∷ own)
     (settled_all look_up s (length before) next before le settled) (of (look_up (span_bytes name s)), after)
   where
     of : (o : Option Seen) → IfSome (option_map (λ _. next) o) (λ n. (0 < n) × (n ≤ next))

@@ -18,7 +18,7 @@ use Rattle.subst_raw.specs.declared.part.Part.{Part}
 use Rattle.subst_raw.specs.declared.part.Part.TheVariants.{Default}
 
 -- how a map is asked and its values are read, and what an output holds, how long that is, and for how much
--- there is room
+-- there is capacity
 pub record Context (V Seen W First : Type 0) : Type 1 where
   pub read : V → List ℕ
   pub is_read : List ℕ → Type 0
@@ -26,18 +26,18 @@ pub record Context (V Seen W First : Type 0) : Type 1 where
   pub look_up : List ℕ → Option Seen
   pub holds : W → First → List ℕ → Type 0
   pub len : W → ℕ
-  pub room : W → ℕ
+  pub capacity : W → ℕ
 
 abbrev pub context_of : {V Seen W First : Type 0} → (V → List ℕ) → (List ℕ → Type 0) → (V → Seen)
     → (List ℕ → Option Seen) → (W → First → List ℕ → Type 0) → (W → ℕ) → (W → ℕ) → Context V Seen W First
-context_of read is_read see look_up holds len room = record {
+context_of read is_read see look_up holds len capacity = record {
   read = read;
   is_read = is_read;
   see = see;
   look_up = look_up;
   holds = holds;
   len = len;
-  room = room;
+  capacity = capacity;
 }
 
 -- P holds of the map's look-up of bytes
@@ -53,14 +53,14 @@ pub record Writes {V Seen W First : Type 0} (context : Context V Seen W First) (
       (FillsMarks context.is_read (steps_value (steps (marks_of context.look_up)))) before after
   pub long : ByContext context (λ look.
       context.len after ≡ context.len before + length (steps_written (steps look)))
-  pub room : context.room before ≤ context.room after
+  pub capacity : context.capacity before ≤ context.capacity after
 
--- the same, where writing stopped: the output had no room for what was to be written, or the value is the
+-- the same, where writing stopped: the output had no capacity for what was to be written, or the value is the
 -- variable that is missing
 abbrev pub StopsAt : {V Seen W First : Type 0} → Context V Seen W First → List ℕ → Stop
     → (LookUp → List Step) → W → Type 0
 StopsAt context s (Full e) steps before = ByContext context (λ look.
-    context.room before < context.len before + length (steps_written (steps look)))
+    context.capacity before < context.len before + length (steps_written (steps look)))
 StopsAt context s (stop.Missing name) steps before =
     ByContext context (λ look. steps_value (steps look) ≡ Missing name.start (span_bytes name s))
     × (steps_value (steps (marks_of context.look_up)) ≡ Missing name.start (span_bytes name s))
@@ -70,7 +70,7 @@ pub record Stops {V Seen W First : Type 0} (context : Context V Seen W First) (s
     (steps : LookUp → List Step) (before after : W) : Type 0 where
   pub begins : Appended context.holds (λ _. Unit {0}) before after
   pub at : StopsAt context s stopped steps before
-  pub room : context.room before ≤ context.room after
+  pub capacity : context.capacity before ≤ context.capacity after
 
 -- what the part gives by itself was written
 abbrev pub WritesPart : {V Seen W First : Type 0} → Context V Seen W First → List ℕ → Part → W → W → Type 0

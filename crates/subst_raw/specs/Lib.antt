@@ -10,7 +10,7 @@ pub mod Lanes
 pub mod Output
 pub mod Packed
 pub mod Parsing
-pub mod PartList
+pub mod CountedParts
 pub mod PartLists
 pub mod Parts
 pub mod Placeholder

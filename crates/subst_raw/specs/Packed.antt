@@ -13,7 +13,7 @@ unpacked value (packed.Variable start end) = Variable (record { start = value st
 unpacked value (packed.Default start end next) =
     Default (record { start = value start; end = value end }) (value next)
 
--- the same of each part of a list
+-- the parts that are kept in a list, where value says which number each field is
 abbrev pub unpacked_parts : {O : Type 0} → (O → ℕ) → List (PackedPart O) → List Part
 unpacked_parts value parts = map (unpacked value) parts
 

@@ -69,7 +69,7 @@ StackHolds pending s (default ∷ defaults) depth parts literal_start at =
     IsOpenDefault pending s default depth parts literal_start at
     (λ before position. StackHolds false s defaults default.depth before position position)
 
--- the same, where no plain bytes are pending
+-- the source has been read so, and no plain bytes are pending
 abbrev pub StackHoldsFlushed : List ℕ → List OpenDefault → ℕ → List Part → ℕ → ℕ → Type 0
 StackHoldsFlushed s defaults depth parts literal_start at =
     StackHolds false s defaults depth parts literal_start at

@@ -1,7 +1,7 @@
 -- What is at a position of a source where a dollar or a backslash is.
 use Rattle.std.specs.Prelude.{◌≡◌, ℕ, ◌+◌, List, ◌∷◌, ◌++◌, length, drop, IsSomeAnd}
 use Rattle.subst_error.specs.Fault.{Fault}
-use Rattle.subst_language.specs.Language.Bytes.{dollar, colon, question_mark, backslash, opening_brace, closing_brace, IsSpecial}
+use Rattle.subst_language.specs.Language.Bytes.{dollar, colon, question_mark, backslash, opening_brace, closing_brace, IsEscapable}
 use Rattle.subst_language.specs.Language.Name.{IsName, IsNameByte, BeginsWithNo}
 use Rattle.subst_language.specs.Language.BadItem.{IsBad}
 use Rattle.subst_raw.specs.Halt.{halt_fault}
@@ -13,7 +13,7 @@ use Rattle.subst_raw.specs.declared.item.Placeholder.TheVariants.{Short, Braced,
 
 -- an escape of the byte b is at the position at
 pub record IsEscape (s : List ℕ) (at b : ℕ) : Type 0 where
-  pub special : IsSpecial b
+  pub special : IsEscapable b
   pub spelled : drop at s ≡ backslash ∷ b ∷ drop (at + 2) s
 
 -- the range of the source holds a name
@@ -35,7 +35,7 @@ pub record IsInBraces (s : List ℕ) (at : ℕ) (name : Span) (b : ℕ) : Type 0
   pub starts : name.start ≡ at + 2
   pub spelled : drop at s ≡ dollar ∷ opening_brace ∷ span_bytes name s ++ b ∷ drop (name.end + 1) s
 
--- the same with a question mark, which a closing brace follows
+-- a dollar, an opening brace, a name and a question mark, which a closing brace follows
 pub record IsOptional (s : List ℕ) (at : ℕ) (name : Span) : Type 0 where
   pub head : IsInBraces s at name question_mark
   pub closed : drop (name.end + 1) s ≡ closing_brace ∷ drop (name.end + 2) s

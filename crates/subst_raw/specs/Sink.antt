@@ -11,7 +11,7 @@ use Rattle.subst_raw.specs.declared.part.Part.TheVariants.{Default}
 abbrev pub HoldsFrom : (S First : Type 0) → Type 1
 HoldsFrom S First = S → First → List Part → Type 0
 
--- the same, where what it was at first is known
+-- what a sink holds, where what it was at first is known
 abbrev pub since : {S First : Type 0} → HoldsFrom S First → First → S → List Part → Type 0
 since holds first sink parts = holds sink first parts
 
@@ -23,7 +23,7 @@ HoldsSome holds sink first = (parts : List Part) × holds sink first parts
 abbrev pub IsClosed : ℕ → Part → Type 0
 IsClosed end part = JumpsWithin 0 end part
 
--- the same of each part
+-- each part, which if it is that of a default has its jump, to this index at most
 abbrev pub AllClosed : ℕ → List Part → Type 0
 AllClosed end parts = AllByRecursion (IsClosed end) parts
 

@@ -13,12 +13,12 @@ use Rattle.subst_raw.specs.declared.writer.State.{State}
 use Rattle.subst_raw.specs.declared.writer.State.TheVariants.{Writing, Jumping, Stopped}
 
 -- a part after which an expansion makes no jump, or one forward to this index at most
-abbrev pub IsSettled : {Seen : Type 0} → (List ℕ → Option Seen) → List ℕ → ℕ → Part → Type 0
-IsSettled look_up s end part = IfSome (jump_of look_up s part) (λ next. (0 < next) × (next ≤ end))
+abbrev pub HasJump : {Seen : Type 0} → (List ℕ → Option Seen) → List ℕ → ℕ → Part → Type 0
+HasJump look_up s end part = IfSome (jump_of look_up s part) (λ next. (0 < next) × (next ≤ end))
 
--- the same of each part
-abbrev pub AllSettled : {Seen : Type 0} → (List ℕ → Option Seen) → List ℕ → ℕ → List Part → Type 0
-AllSettled look_up s end parts = AllByRecursion (IsSettled look_up s end) parts
+-- each part, which if it is that of a default whose name has a value has its jump, to this index at most
+abbrev pub AllHaveJumps : {Seen : Type 0} → (List ℕ → Option Seen) → List ℕ → ℕ → List Part → Type 0
+AllHaveJumps look_up s end parts = AllByRecursion (HasJump look_up s end) parts
 
 -- what these parts give, each by itself, was written between two states of an output: those that an expansion
 -- visits
@@ -33,7 +33,7 @@ abbrev pub WritesParts : {V Seen W First : Type 0} → Context V Seen W First �
 WritesParts context s parts before after =
     WritesVisited context s (λ look. visited_parts parts 0 0 s look) before after
 
--- or writing stopped within it
+-- writing stopped within what parts give
 abbrev pub StopsInParts : {V Seen W First : Type 0} → Context V Seen W First → List ℕ → Stop → List Part → W
     → W → Type 0
 StopsInParts context s stopped parts before after =
@@ -55,7 +55,7 @@ pub record AppendsParts {V Seen W First : Type 0} (context : Context V Seen W Fi
 -- all parts were written
 pub record IsWriting {V Seen W First : Type 0} (context : Context V Seen W First) (s : List ℕ) (first now : W)
     (parts : List Part) : Type 0 where
-  pub settled : AllSettled context.look_up s (length parts) parts
+  pub settled : AllHaveJumps context.look_up s (length parts) parts
   pub written : WritesParts context s parts first now
 
 -- The parts up to one that has this index were written: it is that of a default that is open, whose name has
@@ -67,7 +67,7 @@ pub record IsJumping {V Seen W First : Type 0} (context : Context V Seen W First
   pub own : List Part
   pub splits : parts ≡ before ++ Default name 0 ∷ own
   pub is : index ≡ length before
-  pub settled : AllSettled context.look_up s (length before) before
+  pub settled : AllHaveJumps context.look_up s (length before) before
   pub value : Seen
   pub found : context.look_up (span_bytes name s) ≡ Some value
   pub written : WritesParts context s (before ++ Default name 0 ∷ []) first now
@@ -79,7 +79,7 @@ pub record HasStopped {V Seen W First : Type 0} (context : Context V Seen W Firs
   pub part : Part
   pub rest : List Part
   pub splits : parts ≡ done ++ part ∷ rest
-  pub settled : AllSettled context.look_up s (length done) done
+  pub settled : AllHaveJumps context.look_up s (length done) done
   pub before : W
   pub written : WritesParts context s done first before
   pub stops : StopsAtPart context s part stopped before now

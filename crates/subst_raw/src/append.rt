@@ -27,10 +27,10 @@ where
     M::Value: Drop,
     requires { IsInSource source.now part }
     ensures written { let context =
-        context_of R.read R.is_read M.see (M.look_up variables.now) W.holds W.len W.room in
+        context_of R.read R.is_read M.see (M.look_up variables.now) W.holds W.len W.capacity in
         IfOk result (λ found. WritesPart context source.now part output.old output.new) }
     ensures stopped { let context =
-        context_of R.read R.is_read M.see (M.look_up variables.now) W.holds W.len W.room in
+        context_of R.read R.is_read M.see (M.look_up variables.now) W.holds W.len W.capacity in
         IfErr result (λ stop. StopsAtPart context source.now part stop output.old output.new) }
     ensures found { IfOk result
         (λ found. found ≡ is_some (jump_of (M.look_up variables.now) source.now part)) }

@@ -69,7 +69,7 @@ impl VectorClass for PlainBytes {
     }
 }
 
-/// The bytes that mean nothing by themselves inside a default: all but those two and the braces.
+/// The bytes that mean nothing by themselves inside a default: all but `$`, `\` and the braces.
 pub(crate) struct InnerBytes;
 
 impl ByteClass for InnerBytes {
@@ -124,8 +124,8 @@ fn is_inner(b: u8) -> bool
 
 /// Returns whether a backslash escapes the byte.
 #[inline(always)]
-pub(crate) fn is_special(b: u8) -> bool
-    ensures { result ≡ bytes.is_special b }
+pub(crate) fn is_escapable(b: u8) -> bool
+    ensures { result ≡ bytes.is_escapable b }
 {
     b == b'\\' || b == b'$' || b == b'{' || b == b'}' || b == b':'
 }

@@ -19,21 +19,21 @@ ghost use Rattle.subst_raw.specs.Filled.{FillsMarks, marks_of};
 ghost use Rattle.subst_raw.specs.Writing.{AppendsParts};
 ghost use Rattle.subst_raw.specs.declared.expand.Stop.TheVariants as stops;
 
+use crate::counted_parts::CountedParts;
+use crate::counters::Turns;
 use crate::output::{Output, SliceOutput};
 use crate::packed_part::{Offset, PackedPart};
 use crate::part::{Part, Span};
-use crate::part_list::PartList;
 use crate::part_vec::{CowParts, PartSlice};
 use crate::read_value::ReadValue;
-use crate::steps::Turns;
 use std::alloc::{AllocError, Global};
 use std::{mem, str};
 use subst_error::{ExpandError, ExpandIntoError, NoSuchVariableRef};
 use subst_map::VariableMap;
 
-/// For how many bytes more than its source an output has room at first: values are often longer than their
-/// placeholders.
-pub(crate) const MORE_ROOM: usize = 64;
+/// For how many bytes more than its source an output has capacity at first: values are often longer than
+/// their placeholders.
+pub(crate) const MORE_CAPACITY: usize = 64;
 
 /// Why an expansion stopped.
 #[derive(Clone, Copy)]
@@ -86,7 +86,7 @@ where
     ensures missing { IfErr result (λ e. IfSome (expand_fault e)
         (IsMissing (parts_value parts.now source.now (marks_of (M.look_up variables.now))))) }
 {
-    let mut output = Vec::with_capacity(alloc, source.len() + MORE_ROOM)?;
+    let mut output = Vec::with_capacity(alloc, source.len() + MORE_CAPACITY)?;
     match expand_into::<M, R>(source, parts, variables, turns, &mut output) {
         Ok(()) => Ok(output),
         Err(e) => Err(e.into_owned(alloc)),
@@ -182,7 +182,7 @@ where
     M::Value: Drop,
     requires { AllFit 0 (length parts.now) source.now parts.now }
     ensures { let context =
-        context_of R.read R.is_read M.see (M.look_up variables.now) W.holds W.len W.room in
+        context_of R.read R.is_read M.see (M.look_up variables.now) W.holds W.len W.capacity in
         AppendsParts context source.now parts.now result output.old output.new turns.old
         turns.new }
 {
@@ -210,11 +210,11 @@ where
     requires { let parts = unpacked_parts O.value packed.now in
         AllFit 0 (length parts) source.now parts }
     ensures { let context =
-        context_of R.read R.is_read M.see (M.look_up variables.now) W.holds W.len W.room in
+        context_of R.read R.is_read M.see (M.look_up variables.now) W.holds W.len W.capacity in
         AppendsParts context source.now (unpacked_parts O.value packed.now) result output.old
         output.new turns.old turns.new }
 {
-    let mut list = PartList::new(packed, mem::replace(turns, Turns::new()));
+    let mut list = CountedParts::new(packed, mem::replace(turns, Turns::new()));
     let outcome = append_list::<M, R, O, W>(source, &mut list, variables, output);
     *turns = list.into_turns();
     outcome
@@ -225,7 +225,7 @@ where
 #[inline(always)]
 fn append_list<'a, M: VariableMap<'a>, R: ReadValue<M::Value>, O: Offset, W: Output>(
     source: &[u8],
-    list: &mut PartList<'_, O>,
+    list: &mut CountedParts<'_, O>,
     variables: &'a M,
     output: &mut W,
 ) -> Result<(), Stop>
@@ -233,7 +233,7 @@ where
     M::Value: Drop,
     requires { AllFit 0 (length list.old.parts) source.now list.old.parts }
     ensures { let context =
-        context_of R.read R.is_read M.see (M.look_up variables.now) W.holds W.len W.room in
+        context_of R.read R.is_read M.see (M.look_up variables.now) W.holds W.len W.capacity in
         AppendsParts context source.now list.old.parts result output.old output.new list.old.turns
         list.new.turns }
 {

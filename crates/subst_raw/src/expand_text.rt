@@ -15,10 +15,10 @@ ghost use Rattle.subst_language.specs.Language.Written.{written};
 ghost use Rattle.subst_language.specs.Calls.Outcome.{Expands, ExpandsInto, OnOutOfMemory};
 ghost use Rattle.subst_raw.specs.Parts.{IsTemplateOf};
 
+use crate::counters::Turns;
 use crate::expand::{expand, expand_into};
 use crate::part_vec::CowParts;
 use crate::read_value::TextBytes;
-use crate::steps::Turns;
 use std::alloc::Global;
 use std::convert::AsStr;
 use std::mem;
@@ -72,7 +72,7 @@ where
         (string_bytes output.new) (value 0 t look))) }
     ensures kept { OnErr result (string_bytes output.new ≡ string_bytes output.old) }
 
-    // Out of memory only with cause: the room is shorter than what is written.
+    // Out of memory only with cause: the capacity is less than what is written.
     ensures full { ByLookUp M.Value.text M.see (M.look_up variables.now)
         (λ look. ByTree source.now (λ t. OnOutOfMemory expand_into_fault result
         (string_capacity output.old < string_len output.old + length (written 0 t look)))) }
@@ -93,7 +93,7 @@ where
 pub(crate) fn text_of(bytes: Vec<u8>) -> String
     requires { IsUtf8 bytes.items }
     ensures bytes { string_bytes result ≡ bytes.items }
-    ensures room { string_vec result ≡ bytes }
+    ensures vec { string_vec result ≡ bytes }
 {
     unsafe { String::from_utf8_unchecked(bytes) }
 }

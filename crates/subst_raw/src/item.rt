@@ -7,7 +7,7 @@ ghost use Rattle.subst_language.specs.Language.Name.{BeginsWithNo};
 ghost use Rattle.subst_raw.specs.Cost.{GrowsBetween, end_of_name};
 ghost use Rattle.subst_raw.specs.Placeholder.{IsEscape, IsInBraces, IsPlaceholder, StatesBadItem};
 
-use crate::byte_class::is_special;
+use crate::byte_class::is_escapable;
 use crate::halt::Halt;
 use crate::part::Span;
 use crate::tape::Tape;
@@ -37,7 +37,7 @@ pub(crate) fn escape_at(tape: &mut Tape<'_>, at: usize) -> Result<u8, Halt>
 {
     match tape.byte_at(at + 1) {
         None => Err(Halt::EscapeAtEnd { position: at }),
-        Some(byte) if is_special(byte) => Ok(byte),
+        Some(byte) if is_escapable(byte) => Ok(byte),
         Some(_) => Err(Halt::BadEscape {
             position: at,
             character: tape.character_at(at + 1),

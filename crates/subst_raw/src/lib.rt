@@ -2,29 +2,29 @@
 //! crate.
 //!
 //! A source is parsed into one flat list of parts, and a list of parts is expanded in one loop. Both count
-//! their steps by [`steps`].
+//! their steps by [`counters`].
 #![tactic(auto)]
 
 mod append;
-pub mod at_once;
 mod byte_class;
 mod character;
+mod counted_parts;
+pub mod counters;
 pub mod expand;
 pub mod expand_text;
 mod halt;
 mod item;
+pub mod one_pass;
 mod output;
 mod packed_part;
 mod packed_vec;
 pub mod parse;
 mod part;
-mod part_list;
 mod part_vec;
 mod read_value;
 mod scan;
 mod search;
 mod sink;
-pub mod steps;
 mod tape;
 pub mod variables;
 mod writer;

@@ -8,7 +8,7 @@ use std::alloc::AllocError;
 /// An output that bytes are appended to.
 ///
 /// Contracts see which bytes it holds, from whatever it was at first (`holds`), how many these are (`len`),
-/// and how many it has room for (`room`).
+/// and how many it has capacity for (`capacity`).
 pub trait Output {
     ghost First: { Type 0 };
 
@@ -16,19 +16,19 @@ pub trait Output {
 
     ghost len: { Self → ℕ };
 
-    ghost room: { Self → ℕ };
+    ghost capacity: { Self → ℕ };
 
     /// Appends bytes.
     ///
     /// # Errors
     ///
-    /// When the room is too short and can't grow. Nothing is appended then.
+    /// When the capacity is too small and can't grow. Nothing is appended then.
     fn append_bytes(&mut self, bytes: &[u8]) -> Result<(), AllocError>
         ensures ok { OnOk result (Puts holds self.old bytes.now self.new) }
         ensures err { OnErr result (Puts holds self.old [] self.new) }
         ensures len { OnOk result (len self.new ≡ len self.old + length bytes.now) }
-        ensures full { OnErr result (room self.old < len self.old + length bytes.now) }
-        ensures room { room self.old ≤ room self.new };
+        ensures full { OnErr result (capacity self.old < len self.old + length bytes.now) }
+        ensures capacity { capacity self.old ≤ capacity self.new };
 
     /// Appends a byte, as `append_bytes`.
     ///
@@ -39,8 +39,8 @@ pub trait Output {
         ensures ok { OnOk result (Puts holds self.old (byte ∷ []) self.new) }
         ensures err { OnErr result (Puts holds self.old [] self.new) }
         ensures len { OnOk result (len self.new ≡ len self.old + 1) }
-        ensures full { OnErr result (room self.old ≤ len self.old) }
-        ensures room { room self.old ≤ room self.new };
+        ensures full { OnErr result (capacity self.old ≤ len self.old) }
+        ensures capacity { capacity self.old ≤ capacity self.new };
 }
 
 /// Contracts see a `Vec` as its items.
@@ -53,7 +53,7 @@ impl Output for Vec<u8> {
 
     ghost len = { vec_len };
 
-    ghost room = { vec_capacity };
+    ghost capacity = { vec_capacity };
 
     #[inline(always)]
     fn append_bytes(&mut self, bytes: &[u8]) -> Result<(), AllocError> {
@@ -77,16 +77,16 @@ pub struct SliceOutput<'r> {
 /// Contracts see a slice from what it was at first: it begins with what was written, and the rest stays.
 impl<'r> Output for SliceOutput<'r> {
     ghost use Rattle.std.specs.Prelude.{◌-◌, ◌^◌};
-    ghost use Rattle.subst_raw.specs.SliceOutput.{HoldsFrom, SliceAtFirst};
+    ghost use Rattle.subst_raw.specs.SliceOutput.{SliceHolds, SliceAtFirst};
 
     ghost First = { SliceAtFirst };
 
-    ghost holds = { λ output first x. HoldsFrom output.slice.ghost_name output.slice.now
+    ghost holds = { λ output first x. SliceHolds output.slice.ghost_name output.slice.now
         output.written first x };
 
     ghost len = { λ output. output.written };
 
-    ghost room = { λ _. 2 ^ 64 - 1 };
+    ghost capacity = { λ _. 2 ^ 64 - 1 };
 
     fn append_bytes(&mut self, bytes: &[u8]) -> Result<(), AllocError> {
         let Some(end) = self.written.checked_add(bytes.len()) else {

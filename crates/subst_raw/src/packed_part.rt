@@ -63,7 +63,7 @@ pub(crate) enum PackedPart<O> {
     Default { start: O, end: O, next: O },
 }
 
-// Its fields stand in the variants themselves, since a variant with a struct in it would take more.
+// Its fields are in the variants themselves, since a variant with a struct in it would take more.
 const _: () = prove!(size_of::<PackedPart<u32>>() == 16);
 
 impl<O: Offset> PackedPart<O> {

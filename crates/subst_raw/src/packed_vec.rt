@@ -46,7 +46,7 @@ impl<O: Offset> PackedVec<O> {
         Ok(PackedVec { list })
     }
 
-    /// Returns the packed parts, lent.
+    /// Returns the packed parts, borrowed.
     pub(crate) fn as_slice(&self) -> &[PackedPart<O>]
         ensures { unpacked_parts O.value result.now ≡ self.now }
     {
@@ -62,7 +62,7 @@ impl<O: Offset> PackedVec<O> {
         self.list.len()
     }
 
-    /// Makes room for so many more parts.
+    /// Makes space for so many more parts.
     pub fn reserve(&mut self, additional: usize) -> Result<(), AllocError>
         ensures { self.new ≡ self.old }
     {

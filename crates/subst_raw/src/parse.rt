@@ -17,6 +17,7 @@ ghost use Rattle.subst_raw.specs.Parts.{IsTemplateOf};
 ghost use Rattle.subst_raw.specs.Placeholder.{IsInBraces, IsOptional, StatesBadItem};
 ghost use Rattle.subst_raw.specs.Sink.{HoldsSome, since};
 
+use crate::counters::Reads;
 use crate::halt::Halt;
 use crate::item::{Placeholder, escape_at, placeholder_at};
 use crate::packed_part::Offset;
@@ -25,13 +26,12 @@ use crate::part::{Part, Span};
 use crate::part_vec::PartVec;
 use crate::scan::closes_all;
 use crate::sink::Sink;
-use crate::steps::Reads;
 use crate::tape::Tape;
 use std::alloc::{AllocError, Global};
 use std::mem;
 use subst_error::ParseError;
 
-/// For how many parts there is room at first, so that the lists of most templates are allocated once.
+/// For how many parts there is capacity at first, so that the lists of most templates are allocated once.
 const FIRST_PARTS: usize = 16;
 
 /// A default whose closing brace hasn't been read yet.
@@ -213,7 +213,7 @@ impl<'s, S: Sink> Parser<'s, S> {
         ensures answer { StepsOrFails S.holds S.limit self.old result self.new }
         ensures cost { StepReads self.old result self.new }
     {
-        self.at = self.tape.plain_end(self.at);
+        self.at = self.tape.find_special(self.at);
         match self.tape.byte_at(self.at) {
             None => Ok(()),
             Some(b'\\') => self.read_escape(),
@@ -230,7 +230,7 @@ impl<'s, S: Sink> Parser<'s, S> {
         ensures answer { StepsOrFails S.holds S.limit self.old result self.new }
         ensures cost { StepReads self.old result self.new }
     {
-        self.at = self.tape.inner_end(self.at);
+        self.at = self.tape.find_inner(self.at);
         match self.tape.byte_at(self.at) {
             None => Ok(()),
             Some(b'\\') => self.read_escape(),
@@ -440,7 +440,7 @@ impl<'s, S: Sink> Parser<'s, S> {
     }
 }
 
-/// Returns an empty list of parts, with room for a few where some are to come.
+/// Returns an empty list of parts, with capacity for a few where some are to come.
 fn empty_list<O: Offset>(alloc: Global, some: bool) -> PackedVec<O>
     ensures { result ≡ [] }
 {

@@ -1,5 +1,5 @@
-//! Lists of parts as templates keep them, of either width: lent, owned, or one of the two. Contracts see each
-//! as the list of its parts.
+//! Lists of parts as templates keep them, of either width: borrowed, owned, or one of the two. Contracts see
+//! each as the list of its parts.
 
 ghost use Rattle.std.specs.Prelude.{◌≡◌, IfOk};
 
@@ -8,7 +8,7 @@ use crate::packed_vec::PackedVec;
 use std::alloc::{AllocError, Global};
 use std::marker::Model;
 
-/// A list of packed parts that is lent, narrow or wide.
+/// A list of packed parts that is borrowed, narrow or wide.
 #[derive(Clone, Copy)]
 pub(crate) enum PartSlice<'p> {
     Narrow(&'p [PackedPart<u32>]),
@@ -56,7 +56,7 @@ impl PartVec {
         Ok(PartVec { list })
     }
 
-    /// Returns the parts, lent.
+    /// Returns the parts, borrowed.
     pub(crate) fn as_slice(&self) -> PartSlice<'_>
         ensures { slice_parts result ≡ self.now }
     {
@@ -99,13 +99,13 @@ impl Clone for PartVec {
     }
 }
 
-/// A list of parts that is lent or owned. Contracts see it as the list of its parts.
+/// A list of parts that is borrowed or owned. Contracts see it as the list of its parts.
 #[derive(Drop)]
 pub struct CowParts<'a> {
     list: CowList<'a>,
 }
 
-/// The packed parts, lent or owned.
+/// The packed parts, borrowed or owned.
 #[derive(Drop)]
 enum CowList<'a> {
     Borrowed(PartSlice<'a>),
@@ -126,8 +126,8 @@ impl<'a> Model for CowParts<'a> {
 impl<'a> CowParts<'a> {
     ghost use Rattle.subst_raw.specs.PartLists.{slice_parts};
 
-    /// Returns a list that is owned, lent.
-    pub fn lent(parts: &'a PartVec) -> CowParts<'a>
+    /// Returns a borrowed list of the parts of an owned one.
+    pub fn borrowed(parts: &'a PartVec) -> CowParts<'a>
         ensures { result ≡ parts.now }
     {
         CowParts {
@@ -135,14 +135,14 @@ impl<'a> CowParts<'a> {
         }
     }
 
-    /// Returns the same list, owned.
+    /// Returns an owned list of the same parts.
     pub fn to_vec(&self, alloc: Global) -> Result<PartVec, AllocError>
         ensures { IfOk result (λ parts. parts ≡ self.now) }
     {
         PartVec::from_slice(alloc, self.as_slice())
     }
 
-    /// Returns the parts, lent.
+    /// Returns the parts, borrowed.
     pub(crate) fn as_slice(&self) -> PartSlice<'_>
         ensures { slice_parts result ≡ self.now }
     {
@@ -152,7 +152,7 @@ impl<'a> CowParts<'a> {
         }
     }
 
-    /// Returns the same list, owned. Memory is asked for only where it was lent.
+    /// Returns an owned list of the same parts. Memory is asked for only where the parts were borrowed.
     pub fn into_vec(self, alloc: Global) -> Result<PartVec, AllocError>
         ensures { IfOk result (λ parts. parts ≡ self.entry) }
     {

@@ -24,22 +24,22 @@ const FEW: usize = 8;
 /// A class whose runs are searched for.
 pub(crate) trait SearchedClass: ByteClass {
     /// Returns the first offset from `from` on of a byte that isn't in the class, or the end of the source.
-    fn end_from(source: &[u8], from: usize) -> usize
+    fn find_outside(source: &[u8], from: usize) -> usize
         requires { from ≤ length source.now }
         ensures { EndsRun Self.is_in source.now from result };
 }
 
 impl SearchedClass for PlainBytes {
     #[inline(always)]
-    fn end_from(source: &[u8], from: usize) -> usize {
-        end_of_plain(source, from)
+    fn find_outside(source: &[u8], from: usize) -> usize {
+        find_special(source, from)
     }
 }
 
 impl SearchedClass for InnerBytes {
     #[inline(always)]
-    fn end_from(source: &[u8], from: usize) -> usize {
-        end_of_inner(source, from)
+    fn find_outside(source: &[u8], from: usize) -> usize {
+        find_inner(source, from)
     }
 }
 
@@ -50,29 +50,29 @@ pub fn plain_len(source: &[u8]) -> usize
     ensures whole { (result ≡ length source.now) ↔ All IsPlain source.now }
 {
     if source.len() < WIDTH {
-        end_of_far(source, 0)
+        find_special_far(source, 0)
     } else {
-        end_of_plain(source, 0)
+        find_special(source, 0)
     }
 }
 
 /// Returns the first offset from `from` on of a dollar or a backslash, or the end of the source.
 #[inline(always)]
-fn end_of_plain(source: &[u8], from: usize) -> usize
+fn find_special(source: &[u8], from: usize) -> usize
     requires { from ≤ length source.now }
     ensures { EndsRun IsPlain source.now from result }
 {
     let near = source.len().min(from + NEAR);
-    let end = end_of_run::<PlainBytes>(source, from, near);
+    let end = first_outside::<PlainBytes>(source, from, near);
     if end < near || near == source.len() {
         return end;
     }
-    end_of_far(source, near)
+    find_special_far(source, near)
 }
 
-/// Returns the same, by a search that is faster where it is far.
+/// Returns the first offset from `from` on of a `$` or a `\`, or the end of the source, fast where it is far.
 #[inline(never)]
-fn end_of_far(source: &[u8], from: usize) -> usize
+fn find_special_far(source: &[u8], from: usize) -> usize
     requires { from ≤ length source.now }
     ensures { EndsRun IsPlain source.now from result }
 {
@@ -84,21 +84,21 @@ fn end_of_far(source: &[u8], from: usize) -> usize
 
 /// Returns the first offset from `from` on of a backslash, a dollar or a brace, or the end of the source.
 #[inline(always)]
-fn end_of_inner(source: &[u8], from: usize) -> usize
+fn find_inner(source: &[u8], from: usize) -> usize
     requires { from ≤ length source.now }
     ensures { EndsRun IsInner source.now from result }
 {
     let few = source.len().min(from + FEW);
-    let end = end_of_few::<InnerBytes>(source, from, few);
+    let end = first_outside_bytewise::<InnerBytes>(source, from, few);
     if end < few {
         return end;
     }
-    end_of_run::<InnerBytes>(source, few, source.len())
+    first_outside::<InnerBytes>(source, few, source.len())
 }
 
 /// Returns the first offset from `from` on of a byte that isn't in a class, or `to` where all before it are.
 #[inline(always)]
-fn end_of_run<C: VectorClass>(source: &[u8], from: usize, to: usize) -> usize
+fn first_outside<C: VectorClass>(source: &[u8], from: usize, to: usize) -> usize
     requires ordered { from ≤ to }
     requires within { to ≤ length source.now }
     ensures { EndsRunBefore C.is_in source.now from to result }
@@ -111,20 +111,20 @@ fn end_of_run<C: VectorClass>(source: &[u8], from: usize, to: usize) -> usize
         }
         at += WIDTH;
     }
-    end_of_last::<C>(source, at, to)
+    first_outside_tail::<C>(source, at, to)
 }
 
-/// Returns what `end_of_run` does where fewer bytes than a vector has are left: a vector that ends at `to` is
-/// read, of which the first bytes were read before.
+/// Returns the first offset from `from` on of a byte that isn't in a class, or `to`, which is less than a
+/// vector further on: a vector that ends at `to` is read, of which the first bytes were read before.
 #[inline(always)]
-fn end_of_last<C: VectorClass>(source: &[u8], from: usize, to: usize) -> usize
+fn first_outside_tail<C: VectorClass>(source: &[u8], from: usize, to: usize) -> usize
     requires ordered { from ≤ to }
     requires few { to < from + 32 }
     requires within { to ≤ length source.now }
     ensures { EndsRunBefore C.is_in source.now from to result }
 {
     if to < WIDTH {
-        return end_of_few::<C>(source, from, to);
+        return first_outside_bytewise::<C>(source, from, to);
     }
     let marked = outside_before::<C>(source, from, to);
     if marked == 0 {
@@ -134,9 +134,9 @@ fn end_of_last<C: VectorClass>(source: &[u8], from: usize, to: usize) -> usize
     }
 }
 
-/// Returns the same, a byte at a time.
+/// Returns the first offset from `from` on of a byte that isn't in a class, or `to`, a byte at a time.
 #[inline(always)]
-fn end_of_few<C: ByteClass>(source: &[u8], from: usize, to: usize) -> usize
+fn first_outside_bytewise<C: ByteClass>(source: &[u8], from: usize, to: usize) -> usize
     requires ordered { from ≤ to }
     requires within { to ≤ length source.now }
     ensures { EndsRunBefore C.is_in source.now from to result }
@@ -157,7 +157,7 @@ fn outside_at<C: VectorClass>(source: &[u8], at: usize) -> u64
     top_bits(C::outside(load(source, at)))
 }
 
-/// Returns the same of fewer bytes, those up to an offset.
+/// Returns a mask of the bytes from `from` to `to`, under 32, that aren't in a class, as `outside_at`.
 #[inline(always)]
 fn outside_before<C: VectorClass>(source: &[u8], from: usize, to: usize) -> u64
     requires ordered { from ≤ to }
@@ -208,7 +208,7 @@ pub(crate) fn equal_to(bytes: u8x32, byte: u8) -> u8x32
         .select(u8x32::splat(255), u8x32::splat(0))
 }
 
-/// Returns 255 in each lane that has it in one of two vectors.
+/// Returns 255 in each lane that has it in one of two vectors, and 0 in the others.
 #[inline(always)]
 pub(crate) fn either(first: u8x32, second: u8x32) -> u8x32
     ensures { (a b : ℕ → Bool) (bytes : List ℕ)

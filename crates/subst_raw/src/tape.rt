@@ -12,8 +12,8 @@ ghost use Rattle.subst_raw.specs.Inner.{IsInner};
 
 use crate::byte_class::{ByteClass, InnerBytes, NameBytes, PlainBytes};
 use crate::character::front_character;
+use crate::counters::Reads;
 use crate::search::{SearchedClass, rest};
-use crate::steps::Reads;
 use subst_error::CharOrByte;
 
 /// A source that is read one byte at a time, or searched, with the counter of its reads. The parser has no
@@ -63,11 +63,11 @@ impl<'s> Tape<'s> {
 
     /// Returns the first offset from `from` on of a dollar or a backslash, or the end of the source.
     #[inline(always)]
-    pub fn plain_end(&mut self, from: usize) -> usize
+    pub fn find_special(&mut self, from: usize) -> usize
         requires { from < length self.old.source.now }
         ensures { FindsEnd IsPlain self.old from result self.new }
     {
-        self.searched_end::<PlainBytes>(from)
+        self.find_outside::<PlainBytes>(from)
     }
 
     /// Returns the first offset from `from` on of a byte that is no name byte, or the end of the source.
@@ -76,23 +76,23 @@ impl<'s> Tape<'s> {
         requires { from ≤ length self.old.source.now }
         ensures { FindsEnd IsNameByte self.old from result self.new }
     {
-        self.end_of_run::<NameBytes>(from)
+        self.first_outside::<NameBytes>(from)
     }
 
     /// Returns the first offset from `from` on of a backslash, a dollar or a brace, or the end of the source.
     #[inline(always)]
-    pub fn inner_end(&mut self, from: usize) -> usize
+    pub fn find_inner(&mut self, from: usize) -> usize
         requires { from < length self.old.source.now }
         ensures { FindsEnd IsInner self.old from result self.new }
     {
-        self.searched_end::<InnerBytes>(from)
+        self.find_outside::<InnerBytes>(from)
     }
 
     /// Returns the first offset from `from` on of a byte that isn't in a class, or the end of the source.
     /// After an escape or a placeholder it often is one of the first two, so a search begins only after
     /// these.
     #[inline(always)]
-    fn searched_end<C: SearchedClass>(&mut self, from: usize) -> usize
+    fn find_outside<C: SearchedClass>(&mut self, from: usize) -> usize
         requires { from < length self.old.source.now }
         ensures { FindsEnd C.is_in self.old from result self.new }
     {
@@ -106,13 +106,13 @@ impl<'s> Tape<'s> {
         self.search::<C>(next + 1)
     }
 
-    /// Returns the same by a search.
+    /// Searches from `from` on for a byte that isn't in a class, and returns its offset, or the source's end.
     #[inline(never)]
     fn search<C: SearchedClass>(&mut self, from: usize) -> usize
         requires { from ≤ length self.old.source.now }
         ensures { FindsEnd C.is_in self.old from result self.new }
     {
-        let end = C::end_from(self.source, from);
+        let end = C::find_outside(self.source, from);
         self.reads.add((end + 1).min(self.source.len()) - from);
         end
     }
@@ -120,7 +120,7 @@ impl<'s> Tape<'s> {
     /// Returns the first offset from `from` on of a byte that isn't in a class, or the end of the source.
     /// Each turn looks at two bytes, so that fewer instructions go to the loop.
     #[inline(always)]
-    fn end_of_run<C: ByteClass>(&mut self, from: usize) -> usize
+    fn first_outside<C: ByteClass>(&mut self, from: usize) -> usize
         requires { from ≤ length self.old.source.now }
         ensures { FindsEnd C.is_in self.old from result self.new }
     {

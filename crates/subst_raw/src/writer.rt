@@ -17,11 +17,11 @@ use subst_map::VariableMap;
 /// What a writer does with the next part.
 #[derive(Clone, Copy)]
 pub(crate) enum State {
-    /// It writes it.
+    /// The writer writes the part.
     Writing,
-    /// It passes it over: it is inside the default whose part has this index, and whose name has a value.
+    /// The part is passed over: it is inside the default whose part has this index, whose name has a value.
     Jumping(usize),
-    /// It passes it over, since writing stopped.
+    /// The part is passed over, since writing stopped.
     Stopped(Stop),
 }
 
@@ -63,7 +63,7 @@ where
     /// Returns a writer that has written nothing yet.
     pub fn new(source: &'s [u8], variables: &'a M, output: W) -> Self
         ensures { let context = context_of R.read R.is_read M.see (M.look_up result.variables.now)
-            W.holds W.len W.room in
+            W.holds W.len W.capacity in
             let first : AtFirst M.Seen W = record {
               source = source.now;
               look_up = M.look_up variables.now;
@@ -104,7 +104,7 @@ where
         ensures len { self.new.len ≡ self.old.len }
         ensures written { let context = context_of R.read R.is_read M.see
             (M.look_up self.old.variables.now)
-            W.holds W.len W.room in WritesOn context self.old.source.now part self.old.state
+            W.holds W.len W.capacity in WritesOn context self.old.source.now part self.old.state
             self.old.output
             result self.new.state self.new.output }
     {
@@ -133,7 +133,7 @@ where
 
     ghost holds = { λ writer first parts.
         HoldsParts (context_of R.read R.is_read M.see (M.look_up writer.variables.now) W.holds W.len
-        W.room)
+        W.capacity)
         writer.source.now writer.len writer.state writer.output first parts };
 
     ghost source = { λ first s. first.source ≡ s };

@@ -1,4 +1,4 @@
-//! Substitutions into an output that is lent, whose errors take no memory.
+//! Substitutions into an output that is borrowed, whose errors take no memory.
 
 ghost use Rattle.std.specs.Prelude.{◌≡◌, ◌≤◌, IfOk, OnErr};
 ghost use Rattle.std.specs.Prelude.{string_bytes, string_capacity, string_len, vec_capacity, vec_len};
@@ -12,7 +12,7 @@ use std::alloc::Global;
 use std::convert::{AsSlice, AsStr};
 use subst_error::SubstituteIntoError;
 use subst_map::VariableMap;
-use subst_raw::{SliceBytes, at_once, plain_len};
+use subst_raw::{SliceBytes, one_pass, plain_len};
 
 /// Appends what [`substitute_bytes`](crate::substitute_bytes) returns to `output`.
 ///
@@ -24,9 +24,9 @@ use subst_raw::{SliceBytes, at_once, plain_len};
 ///
 /// # Errors
 ///
-/// As [`substitute_bytes`](crate::substitute_bytes), with the name of a missing variable lent from the
+/// As [`substitute_bytes`](crate::substitute_bytes), with the name of a missing variable borrowed from the
 /// source. `Parse` of `OutOfMemory` where the parse runs out of memory; `Expand` of `OutOfMemory` only where
-/// the room that `output` had left is shorter than what is written, which are all the bytes, or those before
+/// the capacity that `output` has left is less than what is written, which are all the bytes, or those before
 /// the missing variable. The items of `output` are then as before.
 pub fn substitute_bytes_into<'s, 'a, M: VariableMap<'a>>(
     alloc: Global,
@@ -41,11 +41,11 @@ where
     ensures answer { ByLookUp M.Value.items M.see (M.look_up variables.now)
         (λ look. SubstitutesInto source.now output.old.items result output.new.items look) }
 
-    // Whatever the map, an error leaves the items as they were, and the room only grows.
+    // Whatever the map, an error leaves the items as they were, and the capacity only grows.
     ensures kept { OnErr result (output.new.items ≡ output.old.items) }
     ensures capacity { vec_capacity output.old ≤ vec_capacity output.new }
 
-    // After the parse, out of memory only with cause: the room is shorter than what is written.
+    // After the parse, out of memory only with cause: the capacity is less than what is written.
     ensures full { ByWritten M.Value.items M.see (M.look_up variables.now) source.now
         (OverflowsParsed (vec_capacity output.old) (vec_len output.old) result) }
 
@@ -58,7 +58,7 @@ where
     ensures range { EndsWithin source.now substitute_into_fault result }
 {
     let plain = plain_len(source);
-    at_once::substitute_into::<M, SliceBytes>(alloc, source, plain, variables, output)
+    one_pass::substitute_into::<M, SliceBytes>(alloc, source, plain, variables, output)
 }
 
 /// Appends what [`substitute`](crate::substitute) returns to `output`.
@@ -86,11 +86,11 @@ where
         (λ look. SubstitutesInto source.now (string_bytes output.old) result
         (string_bytes output.new) look) }
 
-    // Whatever the map, an error leaves the text as it was, and the room only grows.
+    // Whatever the map, an error leaves the text as it was, and the capacity only grows.
     ensures kept { OnErr result (string_bytes output.new ≡ string_bytes output.old) }
     ensures capacity { string_capacity output.old ≤ string_capacity output.new }
 
-    // After the parse, out of memory only with cause: the room is shorter than what is written.
+    // After the parse, out of memory only with cause: the capacity is less than what is written.
     ensures full { ByWritten M.Value.text M.see (M.look_up variables.now) source.now
         (OverflowsParsed (string_capacity output.old) (string_len output.old) result) }
 
@@ -103,5 +103,5 @@ where
     ensures range { IsRangedIn source.now substitute_into_fault result }
 {
     let plain = plain_len(source.as_bytes());
-    at_once::substitute_text_into(alloc, source, plain, variables, output)
+    one_pass::substitute_text_into(alloc, source, plain, variables, output)
 }

@@ -18,16 +18,16 @@ use std::alloc::Global;
 use std::convert::{AsSlice, AsStr};
 use subst_error::Error;
 use subst_map::VariableMap;
-use subst_raw::{SliceBytes, at_once, plain_len};
+use subst_raw::{SliceBytes, one_pass, plain_len};
 pub use template::{ByteTemplate, ByteTemplateBuf, Template, TemplateBuf};
 
 mod into;
 mod owned;
 mod template;
 
-/// For how many bytes more than those of the source there is room at first: most values are longer than their
-/// placeholders.
-const MORE_ROOM: u8 = 64;
+/// For how many bytes more than those of the source there is capacity at first: most values are longer than
+/// their placeholders.
+const MORE_CAPACITY: u8 = 64;
 
 /// Returns the bytes of `source` with its variables filled in from `variables`.
 ///
@@ -72,7 +72,7 @@ where
     if plain == source.len() {
         return Ok(Vec::from_slice(alloc, source)?);
     }
-    at_once::substitute::<M, SliceBytes>(alloc, source, plain, MORE_ROOM, variables)
+    one_pass::substitute::<M, SliceBytes>(alloc, source, plain, MORE_CAPACITY, variables)
 }
 
 /// Returns `source` with its variables filled in from `variables`, whose values are texts.
@@ -114,5 +114,5 @@ where
     if plain == source.len() {
         return Ok(String::from_str(alloc, source)?);
     }
-    at_once::substitute_text(alloc, source, plain, MORE_ROOM, variables)
+    one_pass::substitute_text(alloc, source, plain, MORE_CAPACITY, variables)
 }

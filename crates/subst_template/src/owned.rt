@@ -14,16 +14,16 @@ use std::alloc::Global;
 use std::convert::{AsSlice, AsStr};
 use subst_error::Error;
 use subst_map::VariableMap;
-use subst_raw::{SliceBytes, at_once, plain_len};
+use subst_raw::{SliceBytes, one_pass, plain_len};
 
-/// For how many bytes more than those of the source there is room at first. Outputs of sources that are given
-/// away are often kept, as the strings of a tree.
-const KEPT_ROOM: u8 = 24;
+/// For how many bytes more than those of the source there is capacity at first. Outputs of sources that are
+/// given away are often kept, as the strings of a tree.
+const KEPT_CAPACITY: u8 = 24;
 
 /// Returns whether a source has no dollar and no backslash. It then gives itself, whatever the variables.
 ///
 /// ```rust
-/// let output = format!(in alloc; "{} {}", laws::is_plain(b"{a: b}"), laws::is_plain(b"$a"))?;
+/// let output = format!(in alloc; "{} {}", escape::is_plain(b"{a: b}"), escape::is_plain(b"$a"))?;
 /// // true false
 /// ```
 pub fn is_plain(source: &[u8]) -> bool
@@ -32,8 +32,8 @@ pub fn is_plain(source: &[u8]) -> bool
     plain_len(source) == source.len()
 }
 
-/// Does what [`substitute_bytes`] does, to a source that is given away. A source without dollars and
-/// backslashes is returned as it is, which takes no memory.
+/// Returns the bytes of `source`, which is given away, with its variables filled in, as [`substitute_bytes`].
+/// A source without dollars and backslashes is returned as it is, which takes no memory.
 ///
 /// ```rust
 /// let source = Vec::from_slice(alloc, b"Hello ${name:nobody}!")?;
@@ -71,11 +71,11 @@ where
     if plain == source.len() {
         return Ok(source);
     }
-    at_once::substitute::<M, SliceBytes>(alloc, &source, plain, KEPT_ROOM, variables)
+    one_pass::substitute::<M, SliceBytes>(alloc, &source, plain, KEPT_CAPACITY, variables)
 }
 
-/// Does what [`substitute`] does, to a source that is given away. A source without dollars and backslashes is
-/// returned as it is, which takes no memory.
+/// Returns `source`, which is given away, with its variables filled in, as [`substitute`]. A source without
+/// dollars and backslashes is returned as it is, which takes no memory.
 ///
 /// ```rust
 /// let source = String::from_str(alloc, "Hello ${name:nobody}!")?;
@@ -113,5 +113,5 @@ where
     if plain == source.len() {
         return Ok(source);
     }
-    at_once::substitute_text(alloc, source.as_str(), plain, KEPT_ROOM, variables)
+    one_pass::substitute_text(alloc, source.as_str(), plain, KEPT_CAPACITY, variables)
 }

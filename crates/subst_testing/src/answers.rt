@@ -23,7 +23,7 @@ fn place_of(fault: &Error) -> (usize, usize) {
     }
 }
 
-/// The kind of a fault, and the name or the character that it names, as it stands in the source.
+/// The kind of a fault, and the name or the character that it names, as it is in the source.
 fn told_kind(alloc: Global, fault: &Error) -> Result<String, AllocError> {
     match fault {
         Error::InvalidEscapeSequence(e) => match e.character {
@@ -56,7 +56,7 @@ pub fn told_text(alloc: Global, filled: Result<String, Error>) -> Result<String,
     }
 }
 
-/// The same of bytes.
+/// What a call gives that fills in bytes, or its fault.
 pub fn told_bytes(alloc: Global, filled: Result<Vec<u8>, Error>) -> Result<String, AllocError> {
     match filled {
         Ok(bytes) => told_output(alloc, bytes.as_slice()),
@@ -64,7 +64,7 @@ pub fn told_bytes(alloc: Global, filled: Result<Vec<u8>, Error>) -> Result<Strin
     }
 }
 
-/// The same of bytes that are given; those that aren't UTF-8 in numbers.
+/// The bytes that a call gives; those that aren't UTF-8 in numbers.
 fn told_output(alloc: Global, bytes: &[u8]) -> Result<String, AllocError> {
     match str::from_utf8(bytes) {
         Ok(text) => format!(in alloc; "gives {text}"),

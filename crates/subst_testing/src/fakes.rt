@@ -58,18 +58,18 @@ pub struct Drip {
     pub taken: Vec<u8>,
     pub flushed: usize,
     /// How many bytes it takes: none after these, though it doesn't fail.
-    pub room: usize,
+    pub capacity: usize,
     pub fault: Fault,
 }
 
 impl Drip {
     /// A writer that takes so many bytes, and asks for no memory for the first 128.
-    pub fn new(alloc: Global, room: usize, fault: Fault) -> Result<Self, AllocError> {
+    pub fn new(alloc: Global, capacity: usize, fault: Fault) -> Result<Self, AllocError> {
         let (taken, flushed) = (Vec::with_capacity(alloc, 128)?, 0);
         Ok(Drip {
             taken,
             flushed,
-            room,
+            capacity,
             fault,
         })
     }
@@ -79,7 +79,7 @@ impl Write for Drip {
     fn write(&mut self, buf: &[u8]) -> io::Result<usize> {
         self.fault.count_call()?;
         match buf.first() {
-            Some(first) if self.taken.len() < self.room => {
+            Some(first) if self.taken.len() < self.capacity => {
                 self.taken.push(*first)?;
                 Ok(1)
             }

@@ -20,7 +20,7 @@ pub fn texts<'a>(alloc: Global, pairs: &'a str) -> Result<Texts<'a>, AllocError>
     Ok(variables)
 }
 
-/// The same with values as bytes.
+/// The variables of these pairs, as those of `texts`, with values as bytes.
 pub fn byte_values<'a>(alloc: Global, pairs: &'a str) -> Result<ByteValues<'a>, AllocError> {
     let mut variables = BTreeMap::new(alloc);
     for pair in pairs.split(',') {

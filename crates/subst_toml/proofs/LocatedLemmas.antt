@@ -33,7 +33,7 @@ items_in_three i (x ∷ done) v left =
     ∙ ap (λ k. (first ++ located_items (i + 1) (items_view done))
     ++ (map (below (Index k)) (located (view v)) ++ located_items (k + 1) (items_view left))) same
 
--- those of one item more
+-- the strings of items and one more are theirs and those of that one
 pub one_more_item : (done : List Value) (v : Value)
     → located_items 0 (items_view (done ++ v ∷ []))
     ≡ located_items 0 (items_view done) ++ map (below (Index (length done))) (located (view v))
@@ -53,7 +53,7 @@ members_in_three (x ∷ done) e left =
     ap (λ ys. first ++ ys) (members_in_three done e left)
     ∙ sym (append_assoc first (located_members (members_view done)) _)
 
--- those of one member more
+-- the strings of members and one more are theirs and those of that one
 pub one_more_member : (done : List Entry) (e : Entry)
     → located_members (members_view (done ++ e ∷ []))
     ≡ located_members (members_view done) ++ map (below (Key (string_bytes e.0))) (located (view e.1))

@@ -3,14 +3,14 @@ use Rattle.std.specs.Prelude.{ℕ, List, [], ◌∷◌, ◌++◌, codes}
 use Rattle.std.specs.Fmt.{decimal}
 use Rattle.std.specs.List.{flat_map}
 use Rattle.toml_writer.specs.Text.{key_text}
-use Rattle.subst_walk.specs.Paths.{Step, Key, Index}
+use Rattle.subst_walk.specs.Paths.{PathStep, Key, Index}
 
 -- a step: a key after this dot, bare where it can be and else quoted, or an index in brackets
-abbrev pub step_text : List ℕ → Step → List ℕ
+abbrev pub step_text : List ℕ → PathStep → List ℕ
 step_text dot (Key key) = dot ++ key_text key
 step_text dot (Index i) = codes "[" ++ (decimal i ++ codes "]")
 
 -- a path: its steps, one after the other, with no dot before the first one
-abbrev pub dotted_text : List Step → List ℕ
+abbrev pub dotted_text : List PathStep → List ℕ
 dotted_text [] = []
 dotted_text (step ∷ path) = step_text [] step ++ flat_map (step_text (codes ".")) path

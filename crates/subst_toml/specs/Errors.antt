@@ -29,7 +29,7 @@ HasOwnMemory (Toml e) = ¬ (IsMemory e)
 HasOwnMemory (Subst e) = IsSome (error_fault e)
 HasOwnMemory (OutOfMemory e) = ⊤
 
--- the text of an error, where it is known: those of bytes and of the reader don't tell theirs
+-- the text of an error, where it is known: that of bytes and of the reader's errors isn't
 abbrev pub display_of_toml : Error → Option (List ℕ)
 display_of_toml (InvalidUtf8 e) = None
 display_of_toml (Toml e) = None

@@ -1,11 +1,11 @@
--- Places in a TOML document: of the strings of its tree, and of parts of them.
+-- Spans in a TOML document: of the strings of its tree, and of parts of them.
 use Rattle.std.specs.Prelude.{◌≡◌, ◌⊎◌, ℕ, ◌+◌, ◌-◌, ◌≤◌, ◌&&◌, ◌==◌, if◌then◌else◌, List, [], ◌++◌, length, take, drop, slice_index, slice_range, codes, Some}
 use Rattle.std.specs.declared.ops.Range.{Range}
 use Rattle.toml_parser.specs.Lexical.{carriage_return, line_feed}
 use Rattle.toml.specs.Data.{string, table, Members}
 use Rattle.toml.specs.Parse.{parse_document, parse_value}
 use Rattle.subst_error.specs.Range.{IsRangeIn}
-use Rattle.subst_walk.specs.Paths.{Step}
+use Rattle.subst_walk.specs.Paths.{PathStep}
 use Rattle.subst_toml.specs.Paths.{Leads}
 
 -- the part of a text at a range
@@ -13,24 +13,24 @@ abbrev pub part_at : List ℕ → Range ℕ → List ℕ
 part_at s range = slice_range s range.start range.end
 
 -- the text alone is read as this string
-abbrev pub IsReadAs : List ℕ → List ℕ → Type 0
-IsReadAs token x = parse_value token ≡ Some (string x)
+abbrev pub IsTokenOf : List ℕ → List ℕ → Type 0
+IsTokenOf token x = parse_value token ≡ Some (string x)
 
 -- the text with an empty string in place of a range
 abbrev pub with_empty : List ℕ → Range ℕ → List ℕ
 with_empty s range = take range.start s ++ codes "''" ++ drop range.end s
 
 -- the text is a document, in whose tree the path leads to an empty string
-abbrev pub LeadsToEmpty : List Step → List ℕ → Type 0
+abbrev pub LeadsToEmpty : List PathStep → List ℕ → Type 0
 LeadsToEmpty path s = (ms : Members) × (parse_document s ≡ Some ms) × Leads path (table ms) []
 
--- The text is a document, and the path leads to a string of its tree. The part of the text at the place is
+-- The text is a document, and the path leads to a string of its tree. The part of the text in the span is
 -- read as the same string, alone; and if an empty string is written in its place, the path leads to that.
-abbrev pub IsPlaceOf : List ℕ → List Step → Range ℕ → Type 0
+abbrev pub IsPlaceOf : List ℕ → List PathStep → Range ℕ → Type 0
 IsPlaceOf s path place =
     IsRangeIn s place × (place.start ≤ place.end)
     × ((ms : Members) × (x : List ℕ) × (parse_document s ≡ Some ms) × Leads path (table ms) x
-    × IsReadAs (part_at s place) x)
+    × IsTokenOf (part_at s place) x)
     × LeadsToEmpty path (with_empty s place)
 
 -- the quotes before and after the string of a token: three if it begins with three, else one
@@ -39,10 +39,10 @@ quotes_of token =
     if slice_index token 1 == slice_index token 0 && slice_index token 2 == slice_index token 0
     then take 3 token else take 1 token
 
--- the token at this range would be read as this string if it ended at the place
+-- the token at this range would be read as this string if it ended at the position
 abbrev pub IsReadUpTo : List ℕ → Range ℕ → ℕ → List ℕ → Type 0
 IsReadUpTo s token place x =
-    IsReadAs (slice_range s token.start place ++ quotes_of (part_at s token)) x
+    IsTokenOf (slice_range s token.start place ++ quotes_of (part_at s token)) x
 
 -- the offset is between the two characters of a newline that the string ends with
 abbrev pub IsInNewline : List ℕ → ℕ → Type 0
@@ -50,13 +50,13 @@ IsInNewline x offset =
     (length x ≡ offset + 1) × (slice_index x (offset - 1) ≡ carriage_return)
     × (slice_index x offset ≡ line_feed)
 
--- The place is within the token of a string that has the range. If the token ended where the place begins,
--- its string would end where the range begins. If it ended where the place ends, its string would end where
--- the range ends, or with the newline that the range ends in.
+-- The span is within the token of a string that has the range. If the token ended where the span begins, its
+-- string would end where the range begins. If it ended where the span ends, its string would end where the
+-- range ends, or with the newline that the range ends in.
 abbrev pub IsPlaceIn : List ℕ → Range ℕ → Range ℕ → Range ℕ → Type 0
 IsPlaceIn s token range place =
     IsRangeIn s place × (token.start ≤ place.start) × (place.start ≤ place.end) × (place.end ≤ token.end)
-    × ((x : List ℕ) × IsReadAs (part_at s token) x × (range.end ≤ length x))
+    × ((x : List ℕ) × IsTokenOf (part_at s token) x × (range.end ≤ length x))
     × ((x : List ℕ) × IsReadUpTo s token place.start x × (length x ≡ range.start))
     × ((x : List ℕ) × IsReadUpTo s token place.end x
     × ((length x ≡ range.end) ⊎ IsInNewline x range.end))

@@ -8,7 +8,7 @@
 //! document first, whose tree is a table, and [`from_str`] and [`from_slice`] go on to read a type of the
 //! caller's from it, by `serde`.
 //!
-//! [`place_of`] finds where in a document a string of its tree stands, and [`place_in`] where a part of that
+//! [`place_of`] finds where in a document a string of its tree is, and [`place_in`] where a part of that
 //! string is spelled, as the range of a fault.
 //!
 //! The walk calls itself for each array and table that is inside another one. The reader bounds how deep
@@ -39,7 +39,7 @@ use std::convert::AsStr;
 use std::str::{self, Utf8Error};
 use subst_map::VariableMap;
 use subst_walk::Filler;
-pub use subst_walk::Step;
+pub use subst_walk::PathStep;
 use toml::{Table, Value};
 use typed::FromText;
 
@@ -92,9 +92,9 @@ where
 ///
 /// # Errors
 ///
-/// `Toml` where the source isn't a document, as `toml` decides, whatever its strings are; that error tells
-/// the line. Otherwise `Subst` with the fault of the first string that is refused; positions are byte
-/// offsets in that string. `OutOfMemory` when allocation fails.
+/// `Toml` where the source isn't a document, as `toml` decides, whatever its strings are; that error names
+/// the line. Otherwise `Subst` with the fault of the first string that is refused; positions are byte offsets
+/// in that string. `OutOfMemory` when allocation fails.
 pub fn value_from_str<'a, M: VariableMap<'a>>(
     alloc: Global,
     source: &str,
@@ -121,7 +121,7 @@ where
     Ok(Value::Table(filled_table(alloc, source, variables)?))
 }
 
-/// Does to bytes what [`value_from_str`] does to a text.
+/// Reads a TOML document from bytes, and returns its tree with its strings filled in, as [`value_from_str`].
 ///
 /// # Errors
 ///
@@ -136,7 +136,7 @@ where
     M::Value: AsStr + Drop,
     ensures ok { ReturnsTree M.Value.text M.see (M.look_up variables.now) source.now result }
 
-    // `InvalidUtf8` is returned where the bytes aren't UTF-8, and only there; it tells how far they are.
+    // `InvalidUtf8` is returned where the bytes aren't UTF-8, and only there; it says how far they are.
     ensures utf8 { TellsUtf8 source.now result }
     ensures toml { OnToml result (parse_document source.now ≡ None) }
     ensures span { IfToml result (IsWithin source.now) }
@@ -179,7 +179,7 @@ where
     Ok(T::from_text(alloc, text.as_str())?)
 }
 
-/// Does to bytes what [`from_str`] does to a text.
+/// Reads a TOML document from bytes, fills in its strings, and reads a `T` from the tree, as [`from_str`].
 ///
 /// # Errors
 ///

@@ -8,7 +8,7 @@ ghost use Rattle.subst_toml.specs.Paths.{steps_of};
 
 use std::fmt;
 use std::fmt::Write;
-use subst_walk::{Step, TreePath};
+use subst_walk::{PathStep, TreePath};
 use toml_writer::write_key;
 
 /// The path from a tree to a string of it. It displays as a dotted key, with indices in brackets, as
@@ -16,13 +16,13 @@ use toml_writer::write_key;
 #[derive(Clone, Debug, PartialEq, Eq, Drop)]
 pub struct Path {
     /// The steps, the first one from the root.
-    pub steps: Vec<Step>,
+    pub steps: Vec<PathStep>,
 }
 
 impl TreePath for Path {
     ghost path_steps = { steps_of };
 
-    fn from_steps(steps: Vec<Step>) -> Self {
+    fn from_steps(steps: Vec<PathStep>) -> Self {
         Path { steps }
     }
 }
@@ -42,20 +42,20 @@ impl fmt::Display for Path {
     }
 }
 
-/// Writes a step, of which a key stands after `dot`.
+/// Writes a step: a key after `dot`, or an index in brackets.
 ///
 /// # Errors
 ///
 /// That of the writer, where it fails.
-fn write_step<W: fmt::Write>(f: &mut fmt::Formatter<W>, dot: &str, step: &Step) -> fmt::Result
+fn write_step<W: fmt::Write>(f: &mut fmt::Formatter<W>, dot: &str, step: &PathStep) -> fmt::Result
     ensures { WritesOnOk W.write_str_gives f.old result
         (step_text dot.now (step_of step.now)) f.new }
 {
     match step {
-        Step::Key(key) => {
+        PathStep::Key(key) => {
             f.write_str(dot)?;
             write_key(f, key)
         }
-        Step::Index(index) => write!(f, "[{index}]"),
+        PathStep::Index(index) => write!(f, "[{index}]"),
     }
 }

@@ -1,7 +1,7 @@
-//! Places in a TOML document: where a string of its tree stands, and where a part of that string is spelled.
+//! Spans in a TOML document: that of a string of its tree, and that which spells a part of the string.
 //!
-//! A place is found by a walk over the text. Then the kit's reader is asked whether it is the right one, so
-//! an answer is certain without a proof of the walk.
+//! A span is found by a walk over the text. Then the kit's reader is asked whether it is the right one, so a
+//! result is certain without a proof of the walk.
 
 ghost use Rattle.std.specs.Prelude.{◌≡◌, ◌≤◌, ◌++◌, IfOk, IfSome, IsTrue, map, string_bytes};
 ghost use Rattle.toml.specs.Parse.{parse_document};
@@ -9,19 +9,19 @@ ghost use Rattle.toml.specs.View.{view, table_view};
 ghost use Rattle.subst_error.specs.Range.{IsRangeIn};
 ghost use Rattle.subst_walk.specs.Paths.{step_of};
 ghost use Rattle.subst_toml.specs.Paths.{steps_of, Leads};
-ghost use Rattle.subst_toml.specs.Places.{part_at, quotes_of, with_empty, IsReadAs, IsInNewline, IsPlaceOf, IsPlaceIn, LeadsToEmpty};
+ghost use Rattle.subst_toml.specs.Places.{part_at, quotes_of, with_empty, IsTokenOf, IsInNewline, IsPlaceOf, IsPlaceIn, LeadsToEmpty};
 
 use crate::path::Path;
 use std::alloc::{AllocError, Global};
 use std::ops::Range;
-use subst_walk::Step;
+use subst_walk::PathStep;
 use toml::{Table, Value};
 use toml_parser::bytes::byte_at;
 
 mod search;
 mod spelling;
 
-/// Returns where the string that a path leads to stands in a document: the range of its token, with its
+/// Returns where the string that a path leads to is in a document: the range of its token, with its
 /// quotes, in byte offsets of `source`. It is `None` where `source` isn't a TOML document, or the path leads
 /// to no string of it.
 ///
@@ -66,7 +66,7 @@ fn is_emptied(
     alloc: Global,
     source: &str,
     place: &Range<usize>,
-    steps: &[Step],
+    steps: &[PathStep],
 ) -> Result<bool, AllocError>
     ensures { IfOk result
         (λ is. IsTrue is → LeadsToEmpty (map step_of steps.now) (with_empty source.now place.now)) }
@@ -90,16 +90,16 @@ fn is_emptied(
 
 /// Returns where a part of a string is spelled in its document. `token` is the range of the string's token in
 /// `source`, with its quotes, as [`place_of`] returns it, and `range` is the part, in byte offsets of the
-/// string. The place is in byte offsets of `source`.
+/// string. The result is in byte offsets of `source`.
 ///
 /// It begins where the character at `range.start` begins to be spelled, after what the document leaves out
 /// before it: the newline after the opening quotes of a multi-line string, and a backslash at the end of a
 /// line with the white space and newlines after it. At the end of the string it is at the closing quotes. It
 /// ends where the last character of the part has been spelled; where that is a carriage return before a line
-/// feed, after both. The place of an empty range is empty.
+/// feed, after both. The span of an empty range is empty.
 ///
 /// It is `None` where the token is no string, or an offset is past its end or within a character. It is also
-/// `None` where the range begins between a carriage return and a line feed, which no document can part.
+/// `None` where the range begins between a carriage return and a line feed, which no document can separate.
 ///
 /// # Errors
 ///
@@ -152,7 +152,7 @@ fn read_up_to(
 ) -> Result<Option<String>, AllocError>
     ensures { IfOk result (λ read. IfSome read (λ text.
         (range.now.start ≤ range.now.end) × IsRangeIn source.now range.now
-        × IsReadAs (part_at source.now range.now ++ quotes.now) (string_bytes text))) }
+        × IsTokenOf (part_at source.now range.now ++ quotes.now) (string_bytes text))) }
 {
     let Some(before) = part(source, range) else {
         return Ok(None);
@@ -176,7 +176,7 @@ fn part<'s>(source: &'s str, range: &Range<usize>) -> Option<&'s str>
     }
 }
 
-/// Returns the quotes that a token begins with: three, if the first byte stands there three times, else one.
+/// Returns the quotes that a token begins with: three, if the first byte is there three times, else one.
 fn quotes(token: &str) -> Option<&str>
     ensures { IfSome result (λ quotes. quotes.now ≡ quotes_of token.now) }
 {
@@ -202,7 +202,7 @@ fn is_in_newline(string: &[u8], offset: usize) -> bool
 
 /// Returns the string that a text is read as, if it is read as one.
 fn string_of(alloc: Global, token: &str) -> Result<Option<String>, AllocError>
-    ensures { IfOk result (λ read. IfSome read (λ text. IsReadAs token.now (string_bytes text))) }
+    ensures { IfOk result (λ read. IfSome read (λ text. IsTokenOf token.now (string_bytes text))) }
 {
     let value = match Value::from_str(alloc, token) {
         Ok(value) => value,
@@ -228,12 +228,12 @@ fn table_of(alloc: Global, source: &str) -> Result<Option<Table>, AllocError>
 }
 
 /// Returns the string that the steps lead to from a tree.
-fn string_at<'t>(tree: &'t Value, steps: &[Step]) -> Option<&'t str>
+fn string_at<'t>(tree: &'t Value, steps: &[PathStep]) -> Option<&'t str>
     ensures { IfSome result (λ text. Leads (map step_of steps.now) (view tree.now) text.now) }
 {
     match steps {
         [] => tree.as_str(),
-        [Step::Key(key), rest @ ..] => string_at(tree.get(key.as_str())?, rest),
-        [Step::Index(index), rest @ ..] => string_at(tree.get(*index)?, rest),
+        [PathStep::Key(key), rest @ ..] => string_at(tree.get(key.as_str())?, rest),
+        [PathStep::Index(index), rest @ ..] => string_at(tree.get(*index)?, rest),
     }
 }

@@ -8,7 +8,7 @@ ghost use Rattle.subst_toml.specs.Located.{located, located_items, located_membe
 ghost use Rattle.subst_toml.specs.Paths.{LeadsTo};
 
 use std::alloc::{AllocError, Global};
-use subst_walk::{Fill, Refused, StepRef, Wanted, add_below, refused_string};
+use subst_walk::{Fill, HowMany, PathStepRef, Refused, add_below, refused_string};
 use toml::{Table, Value};
 
 /// Returns those strings of a tree that are refused and wanted.
@@ -17,7 +17,7 @@ pub(crate) fn refused<F: Fill>(
     alloc: Global,
     value: &Value,
     filler: &F,
-    wanted: Wanted,
+    wanted: HowMany,
 ) -> Result<Vec<Refused>, AllocError>
     ensures found { Finds (F.is_look_up filler.now) wanted (located (view value.now)) result }
     ensures leads { EachFound (LeadsTo (view value.now)) result }
@@ -33,13 +33,13 @@ pub(crate) fn refused<F: Fill>(
     }
 }
 
-/// Returns those of an array.
+/// Returns the strings of an array that are refused and wanted.
 #[cycle(walk)]
 fn refused_items<F: Fill>(
     alloc: Global,
     items: &Vec<Value>,
     filler: &F,
-    wanted: Wanted,
+    wanted: HowMany,
 ) -> Result<Vec<Refused>, AllocError>
     ensures found { Finds (F.is_look_up filler.now) wanted
         (located_items 0 (items_view items.now.items)) result }
@@ -49,7 +49,7 @@ fn refused_items<F: Fill>(
     let mut found = Vec::new(alloc);
     for (index, item) in items.iter().enumerate() {
         let part = refused(alloc, item, filler, wanted)?;
-        add_below(alloc, &mut found, part, StepRef::Index(index))?;
+        add_below(alloc, &mut found, part, PathStepRef::Index(index))?;
         if wanted.is_met(&found) {
             return Ok(found);
         }
@@ -57,13 +57,13 @@ fn refused_items<F: Fill>(
     Ok(found)
 }
 
-/// Returns those of a table.
+/// Returns the strings of a table that are refused and wanted.
 #[cycle(walk)]
 fn refused_members<F: Fill>(
     alloc: Global,
     members: &Table,
     filler: &F,
-    wanted: Wanted,
+    wanted: HowMany,
 ) -> Result<Vec<Refused>, AllocError>
     ensures found { Finds (F.is_look_up filler.now) wanted
         (located_members (members_view members.now.entries)) result }
@@ -73,7 +73,7 @@ fn refused_members<F: Fill>(
     let mut found = Vec::new(alloc);
     for (key, member) in members.iter() {
         let part = refused(alloc, member, filler, wanted)?;
-        add_below(alloc, &mut found, part, StepRef::Key(key.as_str()))?;
+        add_below(alloc, &mut found, part, PathStepRef::Key(key.as_str()))?;
         if wanted.is_met(&found) {
             return Ok(found);
         }

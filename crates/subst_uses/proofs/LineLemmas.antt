@@ -1,4 +1,4 @@
--- Lists of words that sources give.
+-- Lists of arguments that sources give.
 use Rattle.std.proofs.Common.{◌≡◌, ℕ, ◌+◌, ◌<◌, List, [], ◌∷◌, ◌++◌, map, take, get_or, length, Option, Some, None, option_map, Result, Ok, Err, IfErr, IfSome, sym, subst, arith}
 use Rattle.std.specs.Result.{IsErrAnd}
 use Rattle.std.proofs.lemmas.List.{get_or-map, length-map, map_more, map_push, take-map}
@@ -10,7 +10,7 @@ use Rattle.subst.specs.Language.LookUp.{LookUp}
 use Rattle.subst.specs.Language.Answer.{Answers, Gives, Refuses}
 use Rattle.subst.specs.Language.Several.{EachGives, IsFirstRefusal, under}
 
--- the word that the source at an index gives, after those of the sources before it
+-- the argument that the source at an index gives, after those of the sources before it
 pub word_added : {X W : Type 0} (look : LookUp) (text : X → List ℕ) (bytes : W → List ℕ)
     (xs : List X) (i : ℕ) (d : X) (line : List W) (w : W) (source : List ℕ) → i < length xs
     → EachGives (under look) (map text (take i xs)) (map bytes line)

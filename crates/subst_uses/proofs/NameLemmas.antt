@@ -12,7 +12,7 @@ all_mapped P f (x ∷ xs) each zero d inside = each 0 x (omega arith)
 all_mapped P f (x ∷ xs) each (suc k) d inside =
     all_mapped P f xs (λ j e l. each (suc j) e (omega arith)) k d (omega arith)
 
--- and what holds of each element of the mapped list holds of what each element is mapped to
+-- what holds of each element of the mapped list holds of what each element is mapped to
 all_unmapped : {X Y : Type 0} (P : Y → Type 0) (f : X → Y) (xs : List X) → All P (map f xs)
     → All (λ x. P (f x)) xs
 all_unmapped P f xs each k d inside =

@@ -1,4 +1,4 @@
--- The variables of a command line whose words are templates.
+-- The variables of a command line whose arguments are templates.
 use Rattle.std.specs.Prelude.{String, string_bytes}
 use Rattle.std.specs.Option.{option_map}
 use Rattle.std.specs.BTreeMap.{BTreeMap, get_by_text}

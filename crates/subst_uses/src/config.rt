@@ -65,8 +65,8 @@ pub fn load_as<T: DeserializeOwned>(
     }
 }
 
-/// Returns the report of a text that isn't JSON, or whose tree is none of a type. Of a tree the reader's
-/// place is none in the file.
+/// Returns the report of a text that isn't JSON, or whose tree is none of a type. For a tree the reader's
+/// position isn't one in the file.
 fn unread(alloc: Global, file: &str, e: &serde_json::Error) -> Result<String, AllocError> {
     if e.is_data() {
         format!(in alloc; "{file}: {e}")
@@ -89,7 +89,7 @@ fn refused(
     }
 }
 
-/// Returns the report of the first string that is refused, with its place in the file.
+/// Returns the report of the first string that is refused, with its position in the file.
 fn placed(
     alloc: Global,
     file: &str,

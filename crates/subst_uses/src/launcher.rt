@@ -1,4 +1,4 @@
-//! A launcher: the command line of a program, whose words are templates.
+//! A launcher: the command line of a program, whose arguments are templates.
 
 ghost use Rattle.std.specs.Prelude.{map, IfOk, IfErr, IfSome};
 ghost use Rattle.subst.specs.ErrorFault.{error_fault};
@@ -10,11 +10,11 @@ use std::alloc::Global;
 use std::collections::BTreeMap;
 use subst::Error;
 
-/// Returns the words of a command line, each filled in from the variables. A value is never split into words.
+/// Returns the arguments of a command line, each filled in from the variables. A value is never split.
 ///
 /// # Errors
 ///
-/// The fault of the first word that is refused. `OutOfMemory` when allocation fails.
+/// The fault of the first argument that is refused. `OutOfMemory` when allocation fails.
 pub fn command_line(
     alloc: Global,
     words: &[&str],

@@ -1,4 +1,4 @@
-//! Lines of a log, each written in a buffer that has room for the longest, so that no line takes memory.
+//! Lines of a log, each written in a buffer that has capacity for the longest, so that no line takes memory.
 
 ghost use Rattle.std.specs.Prelude.{◌≡◌, ◌≤◌, ◌+◌, ◌++◌, ℕ, List, Some, codes, length, IfErr, OnErr, OnOk, vec_capacity, vec_len};
 ghost use Rattle.subst.specs.Fault.{NoSuchVariable};
@@ -18,7 +18,7 @@ pub const LONGEST: usize = 200;
 /// Room for a line: the length of its source, and of a value for each dollar.
 pub const ROOM: usize = LINE.len() + 2 * LONGEST;
 
-/// Appends a line to a log that has room for it.
+/// Appends a line to a log that has capacity for it.
 ///
 /// # Errors
 ///
@@ -30,7 +30,7 @@ pub fn append_line<'t>(
 ) -> Result<(), NoSuchVariableRef<'t>>
     requires line { line.now ≡ codes "$level $message\n" }
     requires longest { (name x : List ℕ) → texts_of fields.now name ≡ Some x → length x ≤ LONGEST }
-    requires room { vec_len log.old + ROOM ≤ vec_capacity log.old }
+    requires capacity { vec_len log.old + ROOM ≤ vec_capacity log.old }
     ensures ok { OnOk result ((x : List ℕ) × Answers line.now (texts_of fields.now) (Gives x)
         × (log.new.items ≡ log.old.items ++ x)) }
     ensures missing { IfErr result (λ e. Answers line.now (texts_of fields.now)

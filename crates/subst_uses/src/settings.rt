@@ -73,7 +73,7 @@ fn refused(
     }
 }
 
-/// Returns the report of the first string that is refused, with its place in the file.
+/// Returns the report of the first string that is refused, with its position in the file.
 fn placed(
     alloc: Global,
     file: &str,

@@ -30,7 +30,7 @@ impl Answer {
         }
     }
 
-    /// Returns its columns. A fault has a line in a source that is a text.
+    /// Returns the columns of the answer. A fault has a line in a source that is a text.
     pub fn columns(&self, alloc: Global, source: Option<&str>) -> Result<String, AllocError> {
         match self {
             Answer::Gives(bytes) => {

@@ -69,7 +69,7 @@ fn asked_by_template(alloc: Global, source: &str) -> (u64, u64) {
     }
 }
 
-/// The same of bytes.
+/// The names that the byte template of a text asks for.
 fn asked_by_byte_template(alloc: Global, source: &str) -> (u64, u64) {
     let variables = Asked::new();
     match ByteTemplate::from_slice(alloc, source.as_bytes()) {

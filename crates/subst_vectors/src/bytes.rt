@@ -11,7 +11,7 @@ use subst::{
     substitute_bytes_owned,
 };
 
-/// Adds all of them.
+/// Adds all ways in which bytes are filled in.
 pub fn ask(
     alloc: Global,
     source: &[u8],
@@ -108,7 +108,7 @@ fn by_owner(
             let filled = template.expand(alloc, values).map_err(Error::from);
             ways.bytes("ByteTemplateBuf::expand", filled)?;
             owner_into(alloc, &template, values, ways)?;
-            lent(alloc, &template, values, ways)?;
+            borrowed(alloc, &template, values, ways)?;
             copies(alloc, &template, values, ways)
         }
         Err(e) => ways.bytes("ByteTemplateBuf::from_vec", Err(Error::from(e))),
@@ -127,8 +127,8 @@ fn owner_into(
     ways.added("ByteTemplateBuf::expand_into", &output, filled)
 }
 
-/// Adds what it lends.
-fn lent(
+/// Adds the ways by templates that an owner lends.
+fn borrowed(
     alloc: Global,
     owner: &ByteTemplateBuf,
     values: &Values,
@@ -142,15 +142,15 @@ fn lent(
     ways.bytes("ByteTemplate::clone", filled.map_err(Error::from))
 }
 
-/// Adds copies that own the source.
+/// Adds the ways by copies that own the source.
 fn copies(
     alloc: Global,
     owner: &ByteTemplateBuf,
     values: &Values,
     ways: &mut Ways,
 ) -> Result<(), AllocError> {
-    let (source, lent) = (owner.source(), owner.as_template());
-    let copy = ByteTemplateBuf::from_template(alloc, &lent);
+    let (source, borrowed) = (owner.source(), owner.as_template());
+    let copy = ByteTemplateBuf::from_template(alloc, &borrowed);
     copied(
         alloc,
         "ByteTemplateBuf::from_template",
@@ -159,7 +159,7 @@ fn copies(
         values,
         ways,
     )?;
-    let copy = ByteTemplateBuf::of_template(alloc, lent);
+    let copy = ByteTemplateBuf::of_template(alloc, borrowed);
     copied(
         alloc,
         "ByteTemplateBuf::of_template",

@@ -46,7 +46,7 @@ impl Prompt for SaysWorld {
 }
 
 #[test]
-fn lent_values_of_each_type(rt: HostRuntime) -> Result<(), AllocError> {
+fn borrowed_values_of_each_type(rt: HostRuntime) -> Result<(), AllocError> {
     let (alloc, source) = (rt.alloc(), SOURCE.as_bytes());
     let variables = named(alloc, "world")?;
     expect_bytes(

@@ -1,4 +1,4 @@
-//! The encoding of the files: texts, in which a byte that can't stand there is `%XX`.
+//! The encoding of the files: texts, in which a byte that can't be there is `%XX`.
 
 use percent_encoding::percent_decode;
 use std::alloc::{AllocError, Global};

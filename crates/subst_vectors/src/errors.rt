@@ -242,13 +242,13 @@ fn is_equal(alloc: Global, position: usize, name: &str) -> Result<bool, AllocErr
     is_clone_equal(absent(alloc, 8, "name")?, absent(alloc, position, name)?)
 }
 
-/// The same of the errors of expansion that they become.
+/// Whether clones of the error of expansion for a missing `name` at 8 are equal to that for this one.
 fn is_equal_in_expansion(alloc: Global, position: usize, name: &str) -> Result<bool, AllocError> {
     let one = ExpandError::from(absent(alloc, 8, "name")?);
     is_clone_equal(one, ExpandError::from(absent(alloc, position, name)?))
 }
 
-/// The same of the errors that they become.
+/// Whether clones of the error for a missing `name` at 8 are equal to that for this one.
 fn is_equal_as_error(alloc: Global, position: usize, name: &str) -> Result<bool, AllocError> {
     let one = Error::from(absent(alloc, 8, "name")?);
     is_clone_equal(one, Error::from(absent(alloc, position, name)?))
@@ -270,15 +270,15 @@ fn equality_and_clones_of_missing_variables(rt: HostRuntime) {
 }
 
 #[test]
-fn lent_names_are_copied(rt: HostRuntime) -> Result<(), Fail> {
+fn borrowed_names_are_copied(rt: HostRuntime) -> Result<(), Fail> {
     let alloc = rt.alloc();
-    let lent = NoSuchVariableRef {
+    let borrowed = NoSuchVariableRef {
         position: 8,
         name: "name",
     };
-    let expansion = ExpandIntoError::NoSuchVariable(lent);
+    let expansion = ExpandIntoError::NoSuchVariable(borrowed);
     let substitution = SubstituteIntoError::Expand(expansion);
-    assert_eq!(rt; lent.into_owned(alloc)?, absent(alloc, 8, "name")?);
+    assert_eq!(rt; borrowed.into_owned(alloc)?, absent(alloc, 8, "name")?);
     let want = ExpandError::from(absent(alloc, 8, "name")?);
     assert_eq!(rt; expansion.into_owned(alloc), want);
     let want = Error::from(absent(alloc, 8, "name")?);

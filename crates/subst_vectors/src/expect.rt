@@ -1,4 +1,4 @@
-//! What tests expect. A failed assertion names what was told of, and shows what came and what was expected.
+//! What tests expect. A failed assertion names what was tested, and shows what came and what was expected.
 
 use std::alloc::{AllocError, AllocGlobal, Global};
 use std::fmt::{Debug, Display};
@@ -9,7 +9,7 @@ pub trait Testing: Abort + AllocGlobal {}
 
 impl<R: Abort + AllocGlobal> Testing for R {}
 
-/// What was told is this text.
+/// What came is this text.
 pub fn expect<E: Debug + Drop>(rt: &impl Testing, of: &str, told: Result<String, E>, want: &str) {
     match told {
         Ok(told) => assert_eq!(rt; told.as_str(), want, "{of:?}"),
@@ -17,7 +17,7 @@ pub fn expect<E: Debug + Drop>(rt: &impl Testing, of: &str, told: Result<String,
     }
 }
 
-/// The bytes that were told are those of this text.
+/// The bytes that came are those of this text.
 pub fn expect_bytes<E: Debug + Drop>(
     rt: &impl Testing,
     of: &str,

@@ -23,7 +23,7 @@ pub fn columns(alloc: Global, fault: &Error, source: Option<&str>) -> Result<Str
 fn said(alloc: Global, fault: &Error) -> Result<String, AllocError> {
     match fault {
         Error::InvalidEscapeSequence(e) => {
-            let detail = escaped(alloc, e.character)?;
+            let detail = escaped_character(alloc, e.character)?;
             format!(in alloc; "InvalidEscapeSequence\t{}\t{detail}\t-", e.position)
         }
         Error::MissingVariableName(e) => {
@@ -45,7 +45,7 @@ fn said(alloc: Global, fault: &Error) -> Result<String, AllocError> {
     }
 }
 
-fn escaped(alloc: Global, escaped: Option<CharOrByte>) -> Result<String, AllocError> {
+fn escaped_character(alloc: Global, escaped: Option<CharOrByte>) -> Result<String, AllocError> {
     match escaped {
         Some(it) => character(alloc, it),
         None => String::from_str(alloc, "none"),

@@ -2,7 +2,7 @@
 
 use crate::expect::expect;
 use std::alloc::Global;
-use subst::{Error, NoSubstitution, laws, substitute, substitute_bytes};
+use subst::{Error, NoSubstitution, foreign, substitute, substitute_bytes};
 use subst_testing::variables::{byte_values, texts};
 
 /// Texts, each with its template, and with what envsubst gives where `a` is 1 and `b_2` is `$a`.
@@ -76,13 +76,13 @@ fn told(alloc: Global, template: String, bytes: Vec<u8>) -> Result<String, Error
 }
 
 fn told_of_envsubst(alloc: Global, text: &str) -> Result<String, Error> {
-    let bytes = laws::bytes_from_envsubst(alloc, text.as_bytes())?;
-    told(alloc, laws::from_envsubst(alloc, text)?, bytes)
+    let bytes = foreign::bytes_from_envsubst(alloc, text.as_bytes())?;
+    told(alloc, foreign::from_envsubst(alloc, text)?, bytes)
 }
 
 fn told_with_only(alloc: Global, names: &[&str], text: &str) -> Result<String, Error> {
-    let bytes = laws::bytes_with_only(alloc, text.as_bytes(), names)?;
-    told(alloc, laws::with_only(alloc, text, names)?, bytes)
+    let bytes = foreign::bytes_with_only(alloc, text.as_bytes(), names)?;
+    told(alloc, foreign::with_only(alloc, text, names)?, bytes)
 }
 
 #[test]
@@ -109,9 +109,9 @@ fn texts_have_templates_with_some_names_only(rt: HostRuntime) {
 #[test]
 fn offsets_in_templates_are_told_in_texts(rt: HostRuntime) {
     for (text, at, place) in PLACES {
-        let template = laws::from_envsubst(rt.alloc(), text).expect(&rt, "memory");
+        let template = foreign::from_envsubst(rt.alloc(), text).expect(&rt, "memory");
         assert_eq!(rt;
-            laws::place_in_text(template.as_bytes(), at),
+            foreign::place_in_text(template.as_bytes(), at),
             place,
             "{text:?} at {at}"
         );
@@ -120,10 +120,10 @@ fn offsets_in_templates_are_told_in_texts(rt: HostRuntime) {
 
 /// Where in a text of envsubst the name is that its template has no value for.
 fn told_of_missing(alloc: Global, text: &str) -> Result<String, Error> {
-    let template = laws::from_envsubst(alloc, text)?;
+    let template = foreign::from_envsubst(alloc, text)?;
     match substitute(alloc, template.as_str(), &NoSubstitution) {
         Err(Error::NoSuchVariable(e)) => {
-            let place = laws::place_in_text(template.as_bytes(), e.position);
+            let place = foreign::place_in_text(template.as_bytes(), e.position);
             Ok(format!(in alloc; "{place}")?)
         }
         Ok(output) => Ok(output),

@@ -11,7 +11,7 @@ use subst::json::{
     Error, all_refusals, first_refusal, substitute_string_values, value_from_slice, value_from_str,
 };
 
-/// Adds all of them.
+/// Adds all ways in which JSON documents are filled in.
 pub fn ask(
     alloc: Global,
     source: &[u8],

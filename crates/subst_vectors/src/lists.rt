@@ -12,7 +12,7 @@ use subst::{
     substitute_bytes,
 };
 
-/// Adds all of them.
+/// Adds all ways in which variables are listed.
 pub fn ask(
     alloc: Global,
     source: &[u8],

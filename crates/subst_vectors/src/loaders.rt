@@ -1,4 +1,4 @@
-//! The loaders of `subst_uses`, and the places that their reports name, of which no contract speaks.
+//! The loaders of `subst_uses`, and the positions that their reports name, of which no contract speaks.
 
 use crate::expect::expect;
 use std::alloc::{AllocError, Global};
@@ -20,7 +20,7 @@ fn named(alloc: Global, name: &str, value: &str) -> Result<Texts, AllocError> {
     Ok(variables)
 }
 
-/// A report of a fault at this place, which is shown so.
+/// A report of a fault at this position, which is shown so.
 fn reported<F: Display + Drop>(
     alloc: Global,
     place: &str,

@@ -1,4 +1,4 @@
-//! Answers rows of files in every way: `subst_vectors FILE..`.
+//! Runs the rows of files in every way: `subst_vectors FILE..`.
 //!
 //! `data/README.md` says what a row is. For each file it prints how many rows hold, or each row that doesn't,
 //! with what was expected, what came, and by which call. Then, and where a row is malformed or a file can't
@@ -6,7 +6,7 @@
 //!
 //! Its tests are of `subst` over its public calls, by subject, where more than a source, its variables and
 //! their answer is needed. The expected answers there were taken from the Rust crate's tests, or worked out
-//! by hand from the rules of the language. An answer is told as a text, as `gives Hello world!` or
+//! by hand from the rules of the language. An answer is shown as a text, as `gives Hello world!` or
 //! `6..7: MissingVariableName`.
 #![tactic(auto)]
 

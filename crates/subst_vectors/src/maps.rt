@@ -70,12 +70,12 @@ fn btree_map_that_owns_its_keys(rt: HostRuntime) -> Result<(), Fail> {
 }
 
 #[test]
-fn btree_map_whose_keys_are_lent(rt: HostRuntime) -> Result<(), Fail> {
+fn btree_map_whose_keys_are_borrowed(rt: HostRuntime) -> Result<(), Fail> {
     let mut variables = BTreeMap::new(rt.alloc());
     variables.insert("name", "world")?;
     expect_world(&rt, &variables);
-    let text = texts::btree_map_of_lent(rt.alloc(), SOURCES[0], &variables);
-    let bytes = bytes::btree_map_of_lent(rt.alloc(), SOURCES[0].as_bytes(), &variables);
+    let text = texts::btree_map_of_borrowed(rt.alloc(), SOURCES[0], &variables);
+    let bytes = bytes::btree_map_of_borrowed(rt.alloc(), SOURCES[0].as_bytes(), &variables);
     expect_callers(&rt, text, bytes, "Hello world!");
     Ok(())
 }
@@ -92,12 +92,12 @@ fn hash_map_that_owns_its_keys(rt: HostRuntime) -> Result<(), Fail> {
 }
 
 #[test]
-fn hash_map_whose_keys_are_lent(rt: HostRuntime) -> Result<(), Fail> {
+fn hash_map_whose_keys_are_borrowed(rt: HostRuntime) -> Result<(), Fail> {
     let mut variables = HashMap::new(rt.alloc());
     variables.insert("name", "world")?;
     expect_world(&rt, &variables);
-    let text = texts::hash_map_of_lent(rt.alloc(), SOURCES[0], &variables);
-    let bytes = bytes::hash_map_of_lent(rt.alloc(), SOURCES[0].as_bytes(), &variables);
+    let text = texts::hash_map_of_borrowed(rt.alloc(), SOURCES[0], &variables);
+    let bytes = bytes::hash_map_of_borrowed(rt.alloc(), SOURCES[0].as_bytes(), &variables);
     expect_callers(&rt, text, bytes, "Hello world!");
     Ok(())
 }
@@ -114,12 +114,12 @@ fn index_map_that_owns_its_keys(rt: HostRuntime) -> Result<(), Fail> {
 }
 
 #[test]
-fn index_map_whose_keys_are_lent(rt: HostRuntime) -> Result<(), Fail> {
+fn index_map_whose_keys_are_borrowed(rt: HostRuntime) -> Result<(), Fail> {
     let mut variables = IndexMap::new(rt.alloc());
     variables.insert("name", "world")?;
     expect_world(&rt, &variables);
-    let text = texts::index_map_of_lent(rt.alloc(), SOURCES[0], &variables);
-    let bytes = bytes::index_map_of_lent(rt.alloc(), SOURCES[0].as_bytes(), &variables);
+    let text = texts::index_map_of_borrowed(rt.alloc(), SOURCES[0], &variables);
+    let bytes = bytes::index_map_of_borrowed(rt.alloc(), SOURCES[0].as_bytes(), &variables);
     expect_callers(&rt, text, bytes, "Hello world!");
     Ok(())
 }

@@ -35,7 +35,7 @@ fn expect_position(
     Ok(())
 }
 
-/// So has the fault of a source without variables.
+/// The fault of a source without variables has this line and column, as `expect_position` has them.
 fn expect_refused(rt: &impl Testing, source: &str, want: &str) -> Result<(), AllocError> {
     match substitute(rt.alloc(), source, &NoSubstitution) {
         Ok(_) => panic!(rt; "no fault: {source:?}"),

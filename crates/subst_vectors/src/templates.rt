@@ -1,11 +1,13 @@
 //! Templates under two maps, those whose original is taken apart, what fits into a slice, how templates are
-//! shown, and texts that are escaped. What else templates give, lent ones and copies too, is asked of each
-//! row.
+//! shown, and texts that are escaped. What else templates give, borrowed ones and copies too, is asked of
+//! each row.
 
 use crate::expect::expect;
 use std::alloc::{AllocError, Global};
 use std::test::Fail;
-use subst::{ByteTemplate, ByteTemplateBuf, Error, NoSubstitution, Template, TemplateBuf, laws};
+use subst::{
+    ByteTemplate, ByteTemplateBuf, Error, NoSubstitution, Template, TemplateBuf, escape, laws,
+};
 use subst_testing::variables::{byte_values, texts};
 
 type Told = Result<String, Error>;
@@ -88,7 +90,7 @@ fn owner_of_bytes(alloc: Global) -> Result<ByteTemplateBuf, Error> {
     Ok(ByteTemplateBuf::from_vec(source)?)
 }
 
-/// What the original and its clone tell, the original first.
+/// What the original and its clone give, with their sources, the original first.
 fn with_clone(alloc: Global) -> Told {
     let original = owner(alloc)?;
     let clone = original.clone()?;
@@ -160,7 +162,7 @@ fn templates_are_shown_as_their_sources(rt: HostRuntime) {
 /// Returns the text before and then the other text escaped.
 fn escaped_after(alloc: Global, before: &str, text: &str) -> Result<String, AllocError> {
     let mut output = String::from_str(alloc, before)?;
-    laws::escape_into(text, &mut output)?;
+    escape::escape_into(text, &mut output)?;
     Ok(output)
 }
 

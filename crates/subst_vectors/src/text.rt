@@ -6,7 +6,7 @@ use crate::ways::{BEFORE, Ways};
 use std::alloc::{AllocError, Global};
 use subst::{Error, Template, TemplateBuf, substitute, substitute_into, substitute_owned};
 
-/// Adds all of them.
+/// Adds all ways in which texts are filled in.
 pub fn ask(
     alloc: Global,
     source: &str,
@@ -70,7 +70,7 @@ fn by_owner(
             let filled = template.expand(alloc, values).map_err(Error::from);
             ways.text("TemplateBuf::expand", filled)?;
             owner_into(alloc, &template, values, ways)?;
-            lent(alloc, &template, values, ways)?;
+            borrowed(alloc, &template, values, ways)?;
             copies(alloc, &template, values, ways)
         }
         Err(e) => ways.text("TemplateBuf::from_string", Err(Error::from(e))),
@@ -89,8 +89,8 @@ fn owner_into(
     ways.added("TemplateBuf::expand_into", output.as_bytes(), filled)
 }
 
-/// Adds what it lends.
-fn lent(
+/// Adds the ways by templates that an owner lends.
+fn borrowed(
     alloc: Global,
     owner: &TemplateBuf,
     values: &Texts<'_>,
@@ -104,15 +104,15 @@ fn lent(
     ways.text("Template::clone", filled.map_err(Error::from))
 }
 
-/// Adds copies that own the source.
+/// Adds the ways by copies that own the source.
 fn copies(
     alloc: Global,
     owner: &TemplateBuf,
     values: &Texts<'_>,
     ways: &mut Ways,
 ) -> Result<(), AllocError> {
-    let (source, lent) = (owner.source(), owner.as_template());
-    let copy = TemplateBuf::from_template(alloc, &lent);
+    let (source, borrowed) = (owner.source(), owner.as_template());
+    let copy = TemplateBuf::from_template(alloc, &borrowed);
     copied(
         alloc,
         "TemplateBuf::from_template",
@@ -121,7 +121,7 @@ fn copies(
         values,
         ways,
     )?;
-    let copy = TemplateBuf::of_template(alloc, lent);
+    let copy = TemplateBuf::of_template(alloc, borrowed);
     copied(
         alloc,
         "TemplateBuf::of_template",

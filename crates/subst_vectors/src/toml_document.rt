@@ -12,7 +12,7 @@ use subst::toml::{
 };
 use toml::{Value, table_from_str};
 
-/// Adds all of them.
+/// Adds all ways in which TOML documents are filled in.
 pub fn ask(
     alloc: Global,
     source: &[u8],

@@ -37,7 +37,7 @@ fn of_json<T: Debug + Drop>(
     }
 }
 
-/// The same of TOML, with `no TOML`.
+/// The text of a value that is read from TOML, or the fault of a string; `no TOML` is an error of the reader.
 fn of_toml<T: Debug + Drop>(
     alloc: Global,
     read: Result<T, filled::Error>,

@@ -25,7 +25,7 @@ pub struct Ways {
 pub const BEFORE: &str = "> ";
 
 impl Ways {
-    /// Returns none yet.
+    /// Returns an empty list of ways.
     pub fn new(alloc: Global) -> Ways {
         Ways {
             alloc,
@@ -56,13 +56,13 @@ impl Ways {
         format!(in self.alloc; "  expected {wanted}{text}")
     }
 
-    /// Adds one.
+    /// Adds a way.
     pub fn add(&mut self, name: &'static str, answer: Answer) -> Result<(), AllocError> {
         self.all.push(Way { name, answer })?;
         Ok(())
     }
 
-    /// Adds one that gives bytes.
+    /// Adds a way that gives bytes.
     pub fn bytes(
         &mut self,
         name: &'static str,
@@ -71,7 +71,7 @@ impl Ways {
         self.add(name, Answer::of(filled)?)
     }
 
-    /// Adds one that gives a text.
+    /// Adds a way that gives a text.
     pub fn text(
         &mut self,
         name: &'static str,
@@ -80,7 +80,7 @@ impl Ways {
         self.bytes(name, filled.map(|text| text.into_bytes()))
     }
 
-    /// Adds one that adds to an output, which held `BEFORE`, or else leaves it as it was.
+    /// Adds a way that adds to an output, which held `BEFORE`, or else leaves it as it was.
     pub fn added(
         &mut self,
         name: &'static str,

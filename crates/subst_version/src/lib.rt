@@ -1,4 +1,4 @@
-//! The version of this project, which stands here alone.
+//! The version of this project, which is here alone.
 #![tactic(auto)]
 
 /// The version: one of its numbers, or its text.

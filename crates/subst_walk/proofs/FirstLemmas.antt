@@ -10,16 +10,16 @@ use Rattle.subst_language.specs.Language.LookUp.{LookUp}
 use Rattle.subst_language.specs.Language.Answer.{Answers, Refuses}
 use Rattle.subst_language.specs.Language.Several.{AreGiven, IsFirstRefusal, under}
 use Rattle.subst_language.proofs.Language.SeveralLemmas.{given_append, refusal_alone, refusal_before, refusal_after}
-use Rattle.subst_walk.specs.Paths.{Step, Located, Refusal, AreRefusals, below}
+use Rattle.subst_walk.specs.Paths.{PathStep, Located, Refusal, AreRefusals, below}
 use Rattle.subst_walk.specs.Refused.{AreFound, IsFirstOf}
-use Rattle.subst_walk.specs.declared.refused.Wanted.TheVariants.{First, All}
+use Rattle.subst_walk.specs.declared.refused.HowMany.TheVariants.{First, All}
 
 -- the string
 abbrev pub text_of : Located → List ℕ
 text_of it = it.text
 
 -- strings that are seen from the part above are the same
-pub texts_below : (step : Step) (strings : List Located)
+pub texts_below : (step : PathStep) (strings : List Located)
     → map text_of (map (below step) strings) ≡ map text_of strings
 texts_below step [] = refl
 texts_below step (it ∷ strings) = ap (λ ss. it.text ∷ ss) (texts_below step strings)
@@ -107,7 +107,7 @@ holds_of_all {X} f P found xs same h =
     each [] h = tt
     each (x ∷ xs) h = (h.0, each xs h.1)
 
--- mapped, a list that is turned round is the mapped list, turned round
+-- a reversed list, mapped, is the mapped list, reversed
 pub map_reverse : {X Y : Type 0} (f : X → Y) (xs : List X) → map f (reverse xs) ≡ reverse (map f xs)
 map_reverse f [] = refl
 map_reverse f (x ∷ xs) =

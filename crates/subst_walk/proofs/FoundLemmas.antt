@@ -9,22 +9,22 @@ use Rattle.subst_language.specs.Language.LookUp.{LookUp}
 use Rattle.subst_language.specs.Language.Answer.{Answers, Gives, Refuses}
 use Rattle.subst_language.proofs.Language.ListLemmas.{each_append}
 use Rattle.subst_language.proofs.Language.SeveralLemmas.{answered}
-use Rattle.subst_walk.specs.Paths.{Step, Located, Refusal, AreRefusals, at_root, below, refusal_below, step_of}
+use Rattle.subst_walk.specs.Paths.{PathStep, Located, Refusal, AreRefusals, at_root, below, refusal_below, step_of}
 use Rattle.subst_walk.specs.Refused.{AreFound, IsMet, refusal_of, wanted_of}
 use Rattle.subst_walk.specs.declared.refused.Refused.{Refused}
-use Rattle.subst_walk.specs.declared.refused.Wanted.{Wanted}
-use Rattle.subst_walk.specs.declared.refused.Wanted.TheVariants.{First, All}
-use Rattle.subst_walk.specs.declared.step.Step as steps
+use Rattle.subst_walk.specs.declared.refused.HowMany.{HowMany}
+use Rattle.subst_walk.specs.declared.refused.HowMany.TheVariants.{First, All}
+use Rattle.subst_walk.specs.declared.path_step.PathStep as steps
 
 -- a string that gives bytes isn't found
-pub found_nothing : (look : LookUp) (s x : List ℕ) → Answers s look (Gives x) → (wanted : Wanted)
+pub found_nothing : (look : LookUp) (s x : List ℕ) → Answers s look (Gives x) → (wanted : HowMany)
     → AreFound look wanted (at_root s ∷ []) []
 found_nothing look s x h First = ([], inl ((x, h), refl), refl)
 found_nothing look s x h All = ([], inl ((x, h), refl), refl)
 
 -- one that is refused is found
 pub found_alone : (look : LookUp) (s : List ℕ) (fault : Option Fault)
-    → IsSomeAnd fault (λ f. Answers s look (Refuses f)) → (wanted : Wanted)
+    → IsSomeAnd fault (λ f. Answers s look (Refuses f)) → (wanted : HowMany)
     → AreFound look wanted (at_root s ∷ []) (record { path = []; text = s; fault = fault } ∷ [])
 found_alone look s None h wanted = absurd h
 found_alone look s (Some f) h First = (_, inr (f, [], h, refl, refl), refl)
@@ -37,7 +37,7 @@ IsRefusal look s refusal = MatchOption refusal ((x : List ℕ) × Answers s look
 
 -- where it returned nothing
 pub nothing_found : (look : LookUp) (s : List ℕ) (refusal : Option Error) (found : List Refused)
-    → IsRefusal look s refusal → refusal ≡ None → found ≡ [] → (wanted : Wanted)
+    → IsRefusal look s refusal → refusal ≡ None → found ≡ [] → (wanted : HowMany)
     → AreFound look wanted (at_root s ∷ []) (map refusal_of found)
 nothing_found look s None found h is none wanted = rw none (found_nothing look s h.0 h.1 wanted)
 nothing_found look s (Some e) found h is none wanted = absurd cc
@@ -46,7 +46,7 @@ nothing_found look s (Some e) found h is none wanted = absurd cc
 pub one_found : (look : LookUp) (s : List ℕ) (refusal : Option Error) (e : Error) (it : Refused)
     (found : List Refused) → IsRefusal look s refusal → refusal ≡ Some e
     → refusal_of it ≡ record { path = []; text = s; fault = error_fault e } → found ≡ it ∷ []
-    → (wanted : Wanted) → AreFound look wanted (at_root s ∷ []) (map refusal_of found)
+    → (wanted : HowMany) → AreFound look wanted (at_root s ∷ []) (map refusal_of found)
 one_found look s None e it found h is same one wanted = absurd cc
 one_found look s (Some x) e it found h is same one wanted =
     let here : x ≡ e = cc in
@@ -71,7 +71,7 @@ refusals_append look (it ∷ strings) more found others (inr (f, rest, refused, 
     )
 
 -- the refusals of some strings, seen from the part above
-pub refusals_below : (look : LookUp) (step : Step) (strings : List Located) (found : List Refusal)
+pub refusals_below : (look : LookUp) (step : PathStep) (strings : List Located) (found : List Refusal)
     → AreRefusals look strings found
     → AreRefusals look (map (below step) strings) (map (refusal_below step) found)
 refusals_below look step [] found h = ap (map (refusal_below step)) h
@@ -85,7 +85,7 @@ refusals_below look step (it ∷ strings) found (inr (f, rest, refused, is, h)) 
       refusals_below look step strings rest h,
     )
 
--- all strings have refusals, since each is answered
+-- all strings have refusals, since each gives bytes or is refused
 pub refusals_of : (look : LookUp) (strings : List Located) → (all : List Refusal)
     × AreRefusals look strings all
 refusals_of look [] = ([], refl)
@@ -100,7 +100,7 @@ refusals_of look (it ∷ strings) =
     ]
 
 -- what is found in a part, seen from the part above
-pub found_below : (look : LookUp) (wanted : Wanted) (step : Step) (strings : List Located)
+pub found_below : (look : LookUp) (wanted : HowMany) (step : PathStep) (strings : List Located)
     (found : List Refusal)
     → AreFound look wanted strings found
     → AreFound look wanted (map (below step) strings) (map (refusal_below step) found)
@@ -110,19 +110,20 @@ found_below look wanted step strings found (all, h, is) = (
   ap (map (refusal_below step)) is ∙ both wanted all,
 )
   where
-    both : (wanted : Wanted) (all : List Refusal)
+    both : (wanted : HowMany) (all : List Refusal)
         → map (refusal_below step) (wanted_of wanted all) ≡ wanted_of wanted (map (refusal_below step) all)
     both First [] = refl
     both First (x ∷ all) = refl
     both All all = refl
 
 -- at first nothing is found, and more is wanted
-pub more_is_wanted : (wanted : Wanted) → ¬ (IsMet wanted [])
+pub more_is_wanted : (wanted : HowMany) → ¬ (IsMet wanted [])
 more_is_wanted First h = h refl
 more_is_wanted All h = h
 
 -- where more is wanted after some strings, all their refusals were found; so after more strings
-pub found_more : (look : LookUp) (wanted : Wanted) (done strings : List Located) (before found : List Refusal)
+pub found_more : (look : LookUp) (wanted : HowMany) (done strings : List Located)
+    (before found : List Refusal)
     → AreRefusals look done before → AreFound look wanted strings found → ¬ (IsMet wanted (before ++ found))
     → AreRefusals look (done ++ strings) (before ++ found)
 found_more look All done strings before found h (all, k, is) more =
@@ -133,7 +134,7 @@ found_more look First done strings [] found h (r ∷ all, k, is) more = absurd (
 found_more look First done strings (b ∷ before) found h (r ∷ all, k, is) more = absurd (more (λ none. cc))
 
 -- where nothing more is wanted, what is found is what is wanted of all strings
-pub found_enough : (look : LookUp) (wanted : Wanted) (done strings rest : List Located)
+pub found_enough : (look : LookUp) (wanted : HowMany) (done strings rest : List Located)
     (before found : List Refusal) → AreRefusals look done before → ¬ (IsMet wanted before)
     → AreFound look wanted strings found → IsMet wanted (before ++ found)
     → AreFound look wanted (done ++ (strings ++ rest)) (before ++ found)
@@ -146,27 +147,27 @@ found_enough look First done strings rest [] found h more (r ∷ all, k, is) eno
     (r ∷ all ++ others, refusals_append look done (strings ++ rest) [] (r ∷ all ++ others) h both, is)
 
 -- where more is wanted after all strings, all that is wanted was found
-pub found_all : (look : LookUp) (wanted : Wanted) (strings : List Located) (found : List Refusal)
+pub found_all : (look : LookUp) (wanted : HowMany) (strings : List Located) (found : List Refusal)
     → AreRefusals look strings found → ¬ (IsMet wanted found) → AreFound look wanted strings found
 found_all look All strings found h more = (found, h, refl)
 found_all look First strings [] h more = ([], h, refl)
 found_all look First strings (r ∷ found) h more = absurd (more (λ none. cc))
 
 -- what holds of each refusal of a part, with what follows from it for the part above
-pub each_below : (step : Step) (P Q : Refusal → Type 0) (found : List Refusal)
+pub each_below : (step : PathStep) (P Q : Refusal → Type 0) (found : List Refusal)
     → ((it : Refusal) → P it → Q (refusal_below step it)) → AllByRecursion P found
     → AllByRecursion Q (map (refusal_below step) found)
 each_below step P Q [] more h = tt
 each_below step P Q (it ∷ found) more h = (more it h.0, each_below step P Q found more h.1)
 
 -- one step more, before those that are kept with the last one first
-pub pushed_step : (kept : List steps.Step) (step : steps.Step)
+pub pushed_step : (kept : List steps.PathStep) (step : steps.PathStep)
     → reverse (map step_of (kept ++ step ∷ [])) ≡ step_of step ∷ reverse (map step_of kept)
 pushed_step kept step =
     ap reverse (map-append step_of kept (step ∷ [])) ∙ reverse-append (map step_of kept) (step_of step ∷ [])
 
 -- one refusal more of a part
-pub one_more_below : (step : Step) (before : List Refusal) (found done : List Refused) (v w : Refused)
+pub one_more_below : (step : PathStep) (before : List Refusal) (found done : List Refused) (v w : Refused)
     → refusal_of w ≡ refusal_below step (refusal_of v)
     → map refusal_of found ≡ before ++ map (refusal_below step) (map refusal_of done)
     → map refusal_of (found ++ w ∷ [])
@@ -183,7 +184,7 @@ one_more_below step before found done v w is h =
     ∙ ap (λ ys. before ++ ys) (sym inner ∙ sym back)
 
 -- what is found in one part more, where more is wanted after it
-pub part_more : (look : LookUp) (wanted : Wanted) (step : Step) (done strings : List Located)
+pub part_more : (look : LookUp) (wanted : HowMany) (step : PathStep) (done strings : List Located)
     (before part found : List Refusal) → AreRefusals look done before → AreFound look wanted strings part
     → found ≡ before ++ map (refusal_below step) part → ¬ (IsMet wanted found)
     → AreRefusals look (done ++ map (below step) strings) found
@@ -194,7 +195,7 @@ part_more look wanted step done strings before part found h k is more =
     (subst (λ (xs : List Refusal). ¬ (IsMet wanted xs)) is more))
 
 -- and where nothing more is wanted
-pub part_enough : (look : LookUp) (wanted : Wanted) (step : Step) (done strings rest : List Located)
+pub part_enough : (look : LookUp) (wanted : HowMany) (step : PathStep) (done strings rest : List Located)
     (before part found : List Refusal) → AreRefusals look done before → ¬ (IsMet wanted before)
     → AreFound look wanted strings part → found ≡ before ++ map (refusal_below step) part
     → IsMet wanted found → AreFound look wanted (done ++ (map (below step) strings ++ rest)) found
@@ -206,7 +207,7 @@ part_enough look wanted step done strings rest before part found h more k is eno
     below_it (subst (IsMet wanted) is enough))
 
 -- what holds of each refusal before, and of each of the part
-pub each_of_part : (step : Step) (P Q : Refusal → Type 0) (before part found : List Refusal)
+pub each_of_part : (step : PathStep) (P Q : Refusal → Type 0) (before part found : List Refusal)
     → ((it : Refusal) → P it → Q (refusal_below step it)) → AllByRecursion Q before → AllByRecursion P part
     → found ≡ before ++ map (refusal_below step) part → AllByRecursion Q found
 each_of_part step P Q before part found more h k is =

@@ -3,22 +3,22 @@ use Rattle.std.specs.Prelude.{◌≡◌, ◌⊎◌, ℕ, List, [], ◌∷◌, Op
 use Rattle.subst_error.specs.Fault.{Fault}
 use Rattle.subst_language.specs.Language.LookUp.{LookUp}
 use Rattle.subst_language.specs.Language.Answer.{Answers, Gives, Refuses}
-use Rattle.subst_walk.specs.declared.step.Step as steps
-use Rattle.subst_walk.specs.declared.step.Step.TheVariants as variants
+use Rattle.subst_walk.specs.declared.path_step.PathStep as steps
+use Rattle.subst_walk.specs.declared.path_step.PathStep.TheVariants as variants
 
 -- a step to the value under a key, or to the item at an index
-pub data Step : Type 0 where
-  Key : List ℕ → Step
-  Index : ℕ → Step
+pub data PathStep : Type 0 where
+  Key : List ℕ → PathStep
+  Index : ℕ → PathStep
 
 -- the step
-abbrev pub step_of : steps.Step → Step
+abbrev pub step_of : steps.PathStep → PathStep
 step_of (variants.Key key) = Key (string_bytes key)
 step_of (variants.Index index) = Index index
 
 -- a string of a tree, and the path that leads to it
 pub record Located : Type 0 where
-  pub path : List Step
+  pub path : List PathStep
   pub text : List ℕ
 
 -- a string that is the tree
@@ -26,17 +26,17 @@ abbrev pub at_root : List ℕ → Located
 at_root s = record { path = []; text = s }
 
 -- a string, seen from a tree from which a step leads to this one
-abbrev pub below : Step → Located → Located
+abbrev pub below : PathStep → Located → Located
 below step it = record { path = step ∷ it.path; text = it.text }
 
 -- a string that is refused, with its path and its fault
 pub record Refusal : Type 0 where
-  pub path : List Step
+  pub path : List PathStep
   pub text : List ℕ
   pub fault : Option Fault
 
 -- that refusal, seen from there
-abbrev pub refusal_below : Step → Refusal → Refusal
+abbrev pub refusal_below : PathStep → Refusal → Refusal
 refusal_below step it = record { path = step ∷ it.path; text = it.text; fault = it.fault }
 
 -- The refusals of those of these strings that are refused, in their order. Each other one gives bytes.

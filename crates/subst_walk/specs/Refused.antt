@@ -7,18 +7,18 @@ use Rattle.subst_error.specs.declared.Error.{Error}
 use Rattle.subst_language.specs.Calls.Outcome.{OnFault}
 use Rattle.subst_language.specs.Language.LookUp.{LookUp}
 use Rattle.subst_language.specs.Language.Several.{IsFirstRefusal}
-use Rattle.subst_walk.specs.Paths.{Step, Key, Index, Located, Refusal, AreRefusals, step_of}
+use Rattle.subst_walk.specs.Paths.{PathStep, Key, Index, Located, Refusal, AreRefusals, step_of}
 use Rattle.subst_walk.specs.declared.refused.Refused.{Refused}
 use Rattle.subst_walk.specs.declared.found.RefusedString.{RefusedString}
-use Rattle.subst_walk.specs.declared.refused.Wanted.{Wanted}
-use Rattle.subst_walk.specs.declared.refused.Wanted.TheVariants.{First, All}
-use Rattle.subst_walk.specs.declared.refused.StepRef.{StepRef}
-use Rattle.subst_walk.specs.declared.refused.StepRef.TheVariants as lent
+use Rattle.subst_walk.specs.declared.refused.HowMany.{HowMany}
+use Rattle.subst_walk.specs.declared.refused.HowMany.TheVariants.{First, All}
+use Rattle.subst_walk.specs.declared.refused.PathStepRef.{PathStepRef}
+use Rattle.subst_walk.specs.declared.refused.PathStepRef.TheVariants as borrowed
 
--- the step that is lent
-abbrev pub lent_step_of : StepRef → Step
-lent_step_of (lent.Key key) = Key key.now
-lent_step_of (lent.Index index) = Index index
+-- the step that is borrowed
+abbrev pub borrowed_step_of : PathStepRef → PathStep
+borrowed_step_of (borrowed.Key key) = Key key.now
+borrowed_step_of (borrowed.Index index) = Index index
 
 -- the refusal, whose steps are kept with the last one first
 abbrev pub refusal_of : Refused → Refusal
@@ -29,7 +29,7 @@ refusal_of it = record {
 }
 
 -- the refusal of a string whose path has these steps
-abbrev pub refusal_with : {P : Type 0} → (P → List Step) → RefusedString P → Refusal
+abbrev pub refusal_with : {P : Type 0} → (P → List PathStep) → RefusedString P → Refusal
 refusal_with steps it = record {
   path = steps it.path;
   text = string_bytes it.text;
@@ -46,22 +46,22 @@ IsFirstOf look strings first =
     (all : List Refusal) × AreRefusals look strings all × (first ≡ slice_get all 0)
 
 -- of all refusals those that are wanted
-abbrev pub wanted_of : Wanted → List Refusal → List Refusal
+abbrev pub wanted_of : HowMany → List Refusal → List Refusal
 wanted_of First all = take 1 all
 wanted_of All all = all
 
 -- of the refusals of these strings, those that are wanted are found
-abbrev pub AreFound : LookUp → Wanted → List Located → List Refusal → Type 0
+abbrev pub AreFound : LookUp → HowMany → List Located → List Refusal → Type 0
 AreFound look wanted strings found =
     (all : List Refusal) × AreRefusals look strings all × (found ≡ wanted_of wanted all)
 
 -- nothing more is wanted
-abbrev pub IsMet : Wanted → List Refusal → Type 0
+abbrev pub IsMet : HowMany → List Refusal → Type 0
 IsMet First found = ¬ (found ≡ [])
 IsMet All found = ⊥
 
 -- under each of these look-ups, what is wanted of the refusals of these strings is found
-abbrev pub Finds : {A E : Type 0} → (LookUp → Type 0) → Wanted → List Located
+abbrev pub Finds : {A E : Type 0} → (LookUp → Type 0) → HowMany → List Located
     → Result (Vec Refused A) E → Type 0
 Finds IsLookUp wanted strings result = (look : LookUp) → IsLookUp look
     → IfOk result (λ found. AreFound look wanted strings (map refusal_of found.items))

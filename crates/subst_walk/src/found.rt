@@ -5,16 +5,16 @@ ghost use Rattle.std.specs.Option.{option_map};
 ghost use Rattle.subst_walk.specs.Paths as paths;
 ghost use Rattle.subst_walk.specs.Refused.{refusal_of, refusal_with};
 
-use crate::{Refused, Step};
+use crate::{PathStep, Refused};
 use std::alloc::{AllocError, Global};
 use subst_error::Error;
 
 /// A path into a tree of some format.
 pub trait TreePath {
-    ghost path_steps: { Self → List paths.Step };
+    ghost path_steps: { Self → List paths.PathStep };
 
     /// Returns the path of these steps, the first one from the root.
-    fn from_steps(steps: Vec<Step>) -> Self
+    fn from_steps(steps: Vec<PathStep>) -> Self
         ensures { path_steps result ≡ map paths.step_of steps.items };
 }
 

@@ -5,7 +5,7 @@
 //! `refused_string` and `add_below` are the steps of the walks that find refused strings, which `first_found`
 //! and `all_found` return with their paths.
 //!
-//! `subst` re-exports `Step` alone, by its modules `json` and `toml`.
+//! `subst` re-exports `PathStep` alone, by its modules `json` and `toml`.
 #![tactic(auto)]
 
 ghost use Rattle.std.specs.Prelude.{◌≡◌, ◌+◌, ◌<◌, IfOk, IfSome, IsSomeAnd, IsTrue, MatchOption, ℕ, List, ◌∷◌, length, string_bytes};
@@ -19,18 +19,18 @@ ghost use Rattle.subst_language.specs.Calls.Outcome.{OnFault};
 ghost use Rattle.subst_walk.specs.Texts.{HasRange};
 
 pub use found::{RefusedString, TreePath, all_found, first_found};
-pub use refused::{Refused, StepRef, Wanted, add_below, refused_string};
+pub use path_step::PathStep;
+pub use refused::{HowMany, PathStepRef, Refused, add_below, refused_string};
 use std::alloc::{AllocError, Global};
 use std::collections::BTreeMap;
 use std::convert::AsStr;
-pub use step::Step;
 use subst_error::Error;
 use subst_map::VariableMap;
 use subst_template::{is_plain, substitute, substitute_owned};
 
 mod found;
+mod path_step;
 mod refused;
-mod step;
 
 /// A way to fill in texts.
 ///

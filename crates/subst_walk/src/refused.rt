@@ -3,9 +3,9 @@
 ghost use Rattle.std.specs.Prelude.{◌≡◌, ◌++◌, [], ◌∷◌, IfOk, OnOk, MatchBool, map};
 ghost use Rattle.subst_language.specs.Language.LookUp.{LookUp};
 ghost use Rattle.subst_walk.specs.Paths.{step_of, at_root, refusal_below};
-ghost use Rattle.subst_walk.specs.Refused.{lent_step_of, refusal_of, AreFound, IsMet, HasRangeInText, EachFound};
+ghost use Rattle.subst_walk.specs.Refused.{borrowed_step_of, refusal_of, AreFound, IsMet, HasRangeInText, EachFound};
 
-use crate::{Fill, Step};
+use crate::{Fill, PathStep};
 use std::alloc::{AllocError, Global};
 use subst_error::Error;
 
@@ -13,7 +13,7 @@ use subst_error::Error;
 #[derive(Debug, Drop)]
 pub struct Refused {
     /// The steps that lead to it from the root, the last one first.
-    pub steps: Vec<Step>,
+    pub steps: Vec<PathStep>,
     /// The string.
     pub text: String,
     /// Why it is refused.
@@ -22,40 +22,40 @@ pub struct Refused {
 
 /// Which of the refused strings a walk looks for.
 #[derive(Clone, Copy)]
-pub enum Wanted {
+pub enum HowMany {
     /// The first one, in the order of the walk.
     First,
-    /// All, in that order.
+    /// All of them, in the order of the walk.
     All,
 }
 
-impl Wanted {
+impl HowMany {
     /// Returns whether nothing more is looked for.
     pub fn is_met(self, found: &Vec<Refused>) -> bool
         ensures { let found = map refusal_of found.now.items in
             MatchBool result (IsMet self found) (¬ (IsMet self found)) }
     {
-        matches!(self, Wanted::First) && !found.is_empty()
+        matches!(self, HowMany::First) && !found.is_empty()
     }
 }
 
-/// A step, whose key is lent.
+/// A step, whose key is borrowed.
 #[derive(Clone, Copy)]
-pub enum StepRef<'t> {
+pub enum PathStepRef<'t> {
     /// To the value under a key.
     Key(&'t str),
     /// To the item at an index, from 0.
     Index(usize),
 }
 
-impl StepRef<'_> {
+impl PathStepRef<'_> {
     /// Returns the step, with a key of its own.
-    fn into_owned(self, alloc: Global) -> Result<Step, AllocError>
-        ensures { IfOk result (λ step. step_of step ≡ lent_step_of self.entry) }
+    fn into_owned(self, alloc: Global) -> Result<PathStep, AllocError>
+        ensures { IfOk result (λ step. step_of step ≡ borrowed_step_of self.entry) }
     {
         match self {
-            StepRef::Key(key) => Ok(Step::Key(String::from_str(alloc, key)?)),
-            StepRef::Index(index) => Ok(Step::Index(index)),
+            PathStepRef::Key(key) => Ok(PathStep::Key(String::from_str(alloc, key)?)),
+            PathStepRef::Index(index) => Ok(PathStep::Index(index)),
         }
     }
 }
@@ -71,7 +71,7 @@ pub fn refused_string<F: Fill>(
     filler: &F,
 ) -> Result<Vec<Refused>, AllocError>
     ensures found { (look : LookUp) → F.is_look_up filler.now look → IfOk result (λ found.
-        (wanted : Wanted) → AreFound look wanted (at_root text.now ∷ [])
+        (wanted : HowMany) → AreFound look wanted (at_root text.now ∷ [])
         (map refusal_of found.items)) }
     ensures text { EachFound (λ it. (it.path ≡ []) × (it.text ≡ text.now)) result }
     ensures range { EachFound HasRangeInText result }
@@ -99,11 +99,11 @@ pub fn add_below(
     alloc: Global,
     found: &mut Vec<Refused>,
     part: Vec<Refused>,
-    step: StepRef<'_>,
+    step: PathStepRef<'_>,
 ) -> Result<(), AllocError>
     ensures found { OnOk result (map refusal_of found.new.items
         ≡ map refusal_of found.old.items
-        ++ map (refusal_below (lent_step_of step.entry)) (map refusal_of part.items)) }
+        ++ map (refusal_below (borrowed_step_of step.entry)) (map refusal_of part.items)) }
 {
     for mut refused in part {
         refused.steps.push(step.into_owned(alloc)?)?;

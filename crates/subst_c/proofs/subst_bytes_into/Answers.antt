@@ -2,19 +2,19 @@
 use Rattle.std.proofs.Common.{List, ℕ, subst}
 use Rattle.subst_language.specs.Language.Answer.{Answers, Gives, Refuses}
 use Rattle.subst_c.specs.Fault.{IsToldOf}
-use Rattle.subst_c.specs.Pairs.{first_value}
-use Rattle.subst_c.specs.Room.{IsTooLong}
+use Rattle.subst_c.specs.Pairs.{pair_value}
+use Rattle.subst_c.specs.Buffer.{IsTooLong}
 use Rattle.subst_c.proofs.subst_bytes_into.Goals as goal
 
 pub returns-in-Ok-clause-refused : goal.returns-in-Ok-clause-refused
 returns-in-Ok-clause-refused c refused =
-    let look = first_value c.args.pairs.now in
-    subst (λ (s : List ℕ). IsToldOf (λ f. Answers s look (Refuses f)) c.expand_into_room.new.fault)
-    c.in-Ok.ensures.ok.1 (c.expand_into_room.ensures.refused refused)
+    let look = pair_value c.args.pairs.now in
+    subst (λ (s : List ℕ). IsToldOf (λ f. Answers s look (Refuses f)) c.expand_into_buffer.new.fault)
+    c.in-Ok.ensures.ok.1 (c.expand_into_buffer.ensures.refused refused)
 
 pub returns-in-Ok-clause-too_small : goal.returns-in-Ok-clause-too_small
 returns-in-Ok-clause-too_small c short =
-    let look = first_value c.args.pairs.now in
-    let needed = c.expand_into_room.new.needed in
-    subst (λ (s : List ℕ). IsTooLong (λ x. Answers s look (Gives x)) needed c.args.room.now)
-    c.in-Ok.ensures.ok.1 (c.expand_into_room.ensures.too_small short)
+    let look = pair_value c.args.pairs.now in
+    let needed = c.expand_into_buffer.new.needed in
+    subst (λ (s : List ℕ). IsTooLong (λ x. Answers s look (Gives x)) needed c.args.buffer.now)
+    c.in-Ok.ensures.ok.1 (c.expand_into_buffer.ensures.too_small short)

@@ -14,7 +14,7 @@ use crate::device::{ByteInput, ByteOutput};
 use crate::run_error::RunError;
 use std::alloc::Global;
 use std::convert::AsStr;
-use subst::laws::is_plain;
+use subst::escape::is_plain;
 use subst::{Error, VariableMap, substitute};
 
 /// Reads the source from `input` to its end, fills its variables in from `variables`, whose values are texts,
@@ -43,7 +43,7 @@ where
         (λ look. IfSome (I.left input.old) (λ source. RunAnswers source look
         result (O.written output.old) (O.written output.new))) }
 
-    // The source is UTF-8, or is told not to be, unless reading failed or memory ran out.
+    // The source is UTF-8, or is reported not to be, unless reading failed or memory ran out.
     ensures text { IfSome (I.left input.old) (TellsText result) }
 
     // The source was read to its end, unless reading failed or memory ran out.

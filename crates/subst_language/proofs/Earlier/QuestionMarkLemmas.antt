@@ -8,24 +8,24 @@ use Rattle.subst_language.specs.Language.Bytes.{dollar, colon, question_mark, op
 abbrev pub HasNoQuestionMark : List ℕ → Type 0
 HasNoQuestionMark s = ¬ (Contains s question_mark)
 
--- nor has a prefix of it
+-- a prefix of a text without a question mark has none
 pub no_mark_in_prefix : (x y : List ℕ) → HasNoQuestionMark (x ++ y) → HasNoQuestionMark x
 no_mark_in_prefix x y none marked = none (Contains-append_left x y question_mark marked)
 
--- nor has the rest of it
+-- what follows a prefix of a text without a question mark has none
 pub no_mark_in_rest : (x y : List ℕ) → HasNoQuestionMark (x ++ y) → HasNoQuestionMark y
 no_mark_in_rest x y none marked = none (Contains-append_right x y question_mark marked)
 
--- its first byte is none
+-- the first byte of a text without a question mark is none
 pub no_mark_first : (b : ℕ) (x : List ℕ) → HasNoQuestionMark (b ∷ x) → b ≢ question_mark
 no_mark_first b x none is = none (0, omega arith, is)
 
--- nor is there one after a name in braces
+-- in a text without a question mark there is none after a name in braces
 pub no_mark_after_name : (n x : List ℕ) → HasNoQuestionMark (dollar ∷ opening_brace ∷ n ++ x)
     → HasNoQuestionMark x
 no_mark_after_name n x = no_mark_in_rest (dollar ∷ opening_brace ∷ n) x
 
--- nor in a default
+-- in a text without a question mark there is none in a default
 pub no_mark_in_default : (n w x : List ℕ)
     → HasNoQuestionMark (dollar ∷ opening_brace ∷ n ++ (colon ∷ w ++ x)) → HasNoQuestionMark w
 no_mark_in_default n w x none =

@@ -23,7 +23,7 @@ variables = looking_up ((codes "a", codes "1") ∷ [])
 abbrev literal : EarlierTree
 literal = earlier.Then (earlier.Short (codes "a")) (earlier.Then (earlier.Plain question_mark) earlier.Empty)
 
--- its question mark was literal
+-- the question mark of `$a?` was literal
 pub literal_before : EarlierAnswers (codes "$a?") variables (Gives (codes "1?"))
 literal_before = (
   literal,
@@ -31,7 +31,7 @@ literal_before = (
   refl,
 )
 
--- and is
+-- the question mark of `$a?` is literal
 pub literal_now : Answers (codes "$a?") variables (Gives (codes "1?"))
 literal_now = (
   extended literal,
@@ -55,7 +55,7 @@ mark_refused x =
 pub optional_before : (look : LookUp) → EarlierAnswers (codes "${a?}") look (Refuses (refusal question_mark))
 optional_before look = inl (mark_refused (codes "}"))
 
--- and gives nothing where its name has no value
+-- `${a?}` gives nothing where its name has no value
 pub optional_now : Answers (codes "${a?}") nothing (Gives [])
 optional_now =
     (Then (Optional (codes "a")) Empty, record { well_formed = ((refl, tt), tt); spelled = refl }, refl)
@@ -65,7 +65,7 @@ pub mark_at_end_before : (look : LookUp)
     → EarlierAnswers (codes "${a?") look (Refuses (refusal question_mark))
 mark_at_end_before look = inl (mark_refused [])
 
--- and is, for another fault
+-- `${a?` is refused, for another fault
 pub mark_at_end_now : (look : LookUp) → Answers (codes "${a?") look (Refuses (MissingClosingBrace 1))
 mark_at_end_now look = inl (fault_after Empty tt (optional_at_end (codes "a") (refl, tt)))
 
@@ -76,7 +76,7 @@ bracket_before look =
     inl (HasEarlierFault.fault_after earlier.Empty tt
     (IsEarlierBad.name_alone (codes "a") [] (refl, tt) (λ h. cc) (omega arith) (omega arith) here))
 
--- and is, with another message
+-- `${a)` is refused, with another message
 pub bracket_now : (look : LookUp)
     → Answers (codes "${a)") look (Refuses (UnexpectedCharacter 3 (Char 0x29) after_name))
 bracket_now look =

@@ -38,7 +38,7 @@ joined s look a b (inl (t, h, e)) (inr (f, k, d)) = absurd (exclusive s t 0 f h 
 joined s look a b (inr (f, h, e)) (inl (t, k, d)) = absurd (exclusive s t 0 f k h)
 joined s look a b (inr (f, h, e)) (inr (g, k, d)) = sym e ∙ ap Refuses (fault_unique s 0 f g h k) ∙ d
 
--- so it has one answer at most
+-- a source has one answer at most
 pub answer_unique : (s : List ℕ) (look : LookUp) (a b : Answer) → Answers s look a → Answers s look b → a ≡ b
 answer_unique s look a b h k = joined s look a b (which s look a h) (which s look b k)
 
@@ -48,7 +48,7 @@ pub refused_for : (s : List ℕ) (t : Tree) (look : LookUp) → Spells t s → (
 refused_for s t look spells None missing = tt
 refused_for s t look spells (Some f) missing = inr (t, spells, missing)
 
--- so it is by each error that states that
+-- where the error of a result states what a sentence's tree is missing, the sentence is refused for that
 pub refused_into : {T E : Type 0} (fault_of : E → Option Fault) (s : List ℕ) (look : LookUp) (r : Result T E)
     → IsSentence s → ByTree s (λ t. OnFault fault_of r (IsMissing (value 0 t look)))
     → OnFault fault_of r (λ f. Answers s look (Refuses f))

@@ -3,7 +3,7 @@
 use Rattle.std.proofs.Common.{◌≡◌, ◌≢◌, ◌⊎◌, ◌==◌, ℕ, ◌+◌, ◌<◌, Bool, IsTrue, IsFalse, cond, List, [], ◌∷◌, ◌++◌, length, Some, None, refl, sym, ap, ◌∙◌, subst, inl, inr, append_assoc, append-nil, ne_eqb}
 use Rattle.std.proofs.lemmas.Bool.{cond-true, cond-false, cond_both, eqb-true, eqb-false, false≢true, false_from_ne_true}
 use Rattle.std.specs.List.{AllByRecursion}
-use Rattle.subst_language.specs.Language.Bytes.{dollar, colon, question_mark, backslash, opening_brace, closing_brace, is_special}
+use Rattle.subst_language.specs.Language.Bytes.{dollar, colon, question_mark, backslash, opening_brace, closing_brace, is_escapable}
 use Rattle.subst_language.specs.Language.Name.{IsNameByte, IsName}
 use Rattle.subst_language.specs.Language.Name.{BeginsWithNo}
 use Rattle.subst_language.specs.Language.Tree.{Item, Plain, Escaped, Short, Braced, Optional, Default, Tree, Empty, Then, item_text, text}
@@ -42,7 +42,7 @@ BeginsSo s (Bad f) = (p : ℕ) → IsBad p s (f p)
 abbrev BeginningOf : Type 0 → List ℕ → Type 0
 BeginningOf H s = (k : Beginning) × (H → BeginsSo s k)
 
--- the same of an equal text, where something that is enough holds
+-- what the text s begins with, where H holds, by what an equal text begins with, where K holds
 abbrev given : {H K : Type 0} {s t : List ℕ} → s ≡ t → (H → K) → BeginningOf K t → BeginningOf H s
 given e f k = (k.0, λ h. subst (λ u. BeginsSo u k.0) (sym e) (k.1 (f h)))
 
@@ -79,7 +79,7 @@ abbrev after_backslash : (x : List ℕ) → BeginningOf (Unit {0}) (backslash �
 after_backslash [] = (Bad (λ p. InvalidEscapeSequence p None), λ h p. escape_at_end)
 after_backslash (b ∷ x) =
     let c = front_character b x in
-    by_test (is_special b) (Simple (Escaped b) x, λ h. (h.1, tt, refl)) (
+    by_test (is_escapable b) (Simple (Escaped b) x, λ h. (h.1, tt, refl)) (
       Bad (λ p. InvalidEscapeSequence p (Some c.0)),
       λ h p. escape (λ special. false≢true (sym h.1 ∙ special)) c.1,
     )
@@ -160,7 +160,7 @@ found (b ∷ x) =
 abbrev pub beginning : List ℕ → Beginning
 beginning s = (found s).0
 
--- it begins so
+-- a text begins as `beginning` says
 pub begins : (s : List ℕ) → BeginsSo s (beginning s)
 begins s = (found s).1 tt
 
@@ -222,7 +222,7 @@ pub beginning-item : (item : Item) (rest : Tree) (x : List ℕ) → IsItem item 
     → IsFollowed (Then item Empty) x
     → beginning (item_text item ++ x) ≡ item_beginning item x
 beginning-item (Plain b) rest x i f = rw (ne_eqb b backslash i.1, ne_eqb b dollar i.0) refl
-beginning-item (Escaped b) rest x i f = cond-true (is_special b) _ _ i
+beginning-item (Escaped b) rest x i f = cond-true (is_escapable b) _ _ i
 beginning-item (Short []) rest x i f = absurd i.0
 beginning-item (Short (b ∷ n)) rest x i f =
     beginning-short b (n ++ x) (b ∷ n) x (name_byte_differs b opening_brace i.0.0 opening_no_name) refl i.0 f
@@ -246,8 +246,8 @@ pub beginning-bad : {p : ℕ} {r : List ℕ} {f : Fault} → IsBad p r f
 beginning-bad escape_at_end = refl
 beginning-bad {p = p} (escape {b = b} {x = x} {c = c} n h) =
     let k = front_character b x in
-    rw (cond-false (is_special b) (Simple (Escaped b) x) (Bad (λ p. InvalidEscapeSequence p (Some k.0)))
-    (false_from_ne_true (is_special b) n))
+    rw (cond-false (is_escapable b) (Simple (Escaped b) x) (Bad (λ p. InvalidEscapeSequence p (Some k.0)))
+    (false_from_ne_true (is_escapable b) n))
     (ap (λ c. InvalidEscapeSequence p (Some c)) (character_unique (b ∷ x) c k.0 h k.1))
 beginning-bad dollar_at_end = refl
 beginning-bad (dollar_alone {b = b} {x = x} o f) = rw (beginning-short b x [] (b ∷ x) o refl tt f) refl

@@ -139,7 +139,7 @@ completes_byte (suc d) v b no_slash no_open no_close done =
     let (x, y, inner, e, rest) = done in
     (b ∷ x, y, byte no_slash no_open no_close inner, ap (λ (w : List ℕ). b ∷ w) e, rest)
 
--- so may an escape
+-- an escape may be before a text that completes braces
 pub completes_escape : (d : ℕ) (v : List ℕ) (b : ℕ) → Completes d v → Completes d (backslash ∷ b ∷ v)
 completes_escape zero v b inner = escape inner
 completes_escape (suc d) v b done =

@@ -41,7 +41,7 @@ pub ends_plain-apart : (after : Bool) (t : Tree) → HasNoPlainEnds t → ends_p
 ends_plain-apart after Empty ends = absurd ends
 ends_plain-apart after (Then item rest) ends = ends.1
 
--- its parts are counted alike, whatever it comes after
+-- the parts of a tree with no plain ends are counted alike, whatever it comes after
 pub visited_count_after-apart : (after : Bool) (t : Tree) (look : LookUp) → HasNoPlainEnds t
     → visited_count_after after t look ≡ visited_count t look
 visited_count_after-apart after Empty look ends = absurd ends

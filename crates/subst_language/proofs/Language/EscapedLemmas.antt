@@ -1,15 +1,15 @@
 -- Escaped texts: their trees, and what they give.
-use Rattle.std.proofs.Common.{◌≡◌, ◌≢◌, ℕ, ◌+◌, true, false, IsFalse, List, [], ◌∷◌, ◌++◌, length, None, refl, sym, ap, ◌∙◌, subst, append-nil}
+use Rattle.std.proofs.Common.{◌≡◌, ◌≢◌, ℕ, ◌+◌, true, false, IsFalse, IsTrue, List, [], ◌∷◌, ◌++◌, length, None, refl, sym, ap, ◌∙◌, subst, append-nil}
 use Rattle.std.specs.Prelude.{if◌then◌else◌}
 use Rattle.std.proofs.lemmas.Bool.{cond_both, false≢true}
-use Rattle.subst_language.specs.Language.Bytes.{dollar, colon, backslash, opening_brace, closing_brace, is_special, IsSpecial}
+use Rattle.subst_language.specs.Language.Bytes.{dollar, colon, backslash, opening_brace, closing_brace}
 use Rattle.subst_language.specs.Language.Name.{IsName}
 use Rattle.subst_language.specs.Language.Tree.{Item, Plain, Escaped, Default, Tree, Empty, Then, item_text, text}
 use Rattle.subst_language.specs.Language.Balanced.{IsBalanced}
 use Rattle.subst_language.specs.Language.Balanced.IsBalanced.{empty, byte, escape}
 use Rattle.subst_language.specs.Language.WellFormed.{IsItem, IsWellFormed}
 use Rattle.subst_language.specs.Language.Sentence.{Spells}
-use Rattle.subst_language.specs.Language.Escaped.{escaped_byte, escaped}
+use Rattle.subst_language.specs.Language.Escaped.{is_special, escaped_byte, escaped}
 use Rattle.subst_language.specs.Language.LookUp.{LookUp}
 use Rattle.subst_language.specs.Language.Value.{Bytes, found_or, joined, item_value, value}
 use Rattle.subst_language.specs.Language.Answer.{Answers, Gives}
@@ -25,7 +25,7 @@ escapes [] = Empty
 escapes (b ∷ x) = Then (escape_item b) (escapes x)
 
 -- a byte that isn't special is none that is
-not_special_differs : (b c : ℕ) → IsFalse (is_special b) → IsSpecial c → b ≢ c
+not_special_differs : (b c : ℕ) → IsFalse (is_special b) → IsTrue (is_special c) → b ≢ c
 not_special_differs b c not_special special e = false≢true (sym not_special ∙ ap is_special e ∙ special)
 
 -- the item of a byte is written as the escaped byte
@@ -88,7 +88,7 @@ escaped_balanced (b ∷ x) = escaped_byte_balanced b (escaped x) (escaped_balanc
 pub escaped_spells : (x : List ℕ) → Spells (escapes x) (escaped x)
 escaped_spells x = record { well_formed = well_formed_escapes x; spelled = sym (text-escapes x) }
 
--- it gives the text under every look-up
+-- an escaped text gives the text under every look-up
 pub escaped_gives : (x : List ℕ) (look : LookUp) → Answers (escaped x) look (Gives x)
 escaped_gives x look = (escapes x, escaped_spells x, value-escapes 0 x look)
 
@@ -96,14 +96,14 @@ escaped_gives x look = (escapes x, escaped_spells x, value-escapes 0 x look)
 abbrev with_default : List ℕ → List ℕ → Tree
 with_default n x = Then (Default n (escapes x)) Empty
 
--- its text
+-- the text of a variable whose default is an escaped text
 text-with_default : (n x : List ℕ)
     → text (with_default n x) ≡ dollar ∷ opening_brace ∷ n ++ (colon ∷ escaped x ++ closing_brace ∷ [])
 text-with_default n x =
     append-nil (item_text (Default n (escapes x)))
     ∙ ap (λ y. dollar ∷ opening_brace ∷ n ++ (colon ∷ y ++ closing_brace ∷ [])) (text-escapes x)
 
--- what it gives where the name has no value
+-- what a variable whose default is an escaped text gives where the name has no value
 value-with_default : (n x : List ℕ) (look : LookUp) → look n ≡ None
     → value 0 (with_default n x) look ≡ Bytes x
 value-with_default n x look none =

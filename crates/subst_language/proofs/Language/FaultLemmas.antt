@@ -23,7 +23,7 @@ begins_no_name escape_at_end = backslash_no_name
 begins_no_name (escape n h) = backslash_no_name
 begins_no_name _ = dollar_no_name
 
--- so a bad item may follow each tree
+-- a bad item may follow each tree
 followed_by_bad : {p : ℕ} {r : List ℕ} {f : Fault} (t : Tree) → IsBad p r f → IsFollowed t r
 followed_by_bad {r = r} t b = followed_by_no_name t r (begins_no_name b)
 
@@ -40,12 +40,12 @@ pub record FaultParts (p : ℕ) (s : List ℕ) (f : Fault) : Type 0 where
   pub bad : IsBad (p + length (text before)) after f
   pub parts : s ≡ text before ++ after
 
--- each fault has such parts
+-- each text with a fault has such parts
 pub fault_parts : {p : ℕ} {s : List ℕ} {f : Fault} → HasFault p s f → FaultParts p s f
 fault_parts (fault_after {r = r} t w b) =
     record { before = t; after = r; well_formed = w; bad = b; parts = refl }
 
--- and such parts make a fault
+-- a text with such parts has the fault
 pub fault_from_parts : {p : ℕ} {s : List ℕ} {f : Fault} → FaultParts p s f → HasFault p s f
 fault_from_parts {p = p} {f = f} q =
     subst (λ x. HasFault p x f) (sym q.parts) (fault_after q.before q.well_formed q.bad)

@@ -25,7 +25,7 @@ balanced_after_byte b v no_slash no_open (byte _ _ _ inner) e = subst IsBalanced
 balanced_after_byte b v no_slash no_open (escaping inner) e = absurd (no_slash (sym (first_same e)))
 balanced_after_byte b v no_slash no_open (braces inner more) e = absurd (no_open (sym (first_same e)))
 
--- so is one without the escape that it begins with
+-- a balanced text without the escape that it begins with is balanced
 balanced_after_escape : (b : ℕ) (v : List ℕ) {x : List ℕ} → IsBalanced x → x ≡ backslash ∷ b ∷ v
     → IsBalanced v
 balanced_after_escape b v empty e = cc
@@ -33,21 +33,21 @@ balanced_after_escape b v (byte no_slash _ _ inner) e = absurd (no_slash (first_
 balanced_after_escape b v (escaping inner) e = subst IsBalanced (rest_same (rest_same e)) inner
 balanced_after_escape b v (braces inner more) e = absurd (omega (arith, first_same e))
 
--- one that begins with an opening brace closes it
+-- a balanced text that begins with an opening brace closes it
 balanced_after_opening : (v : List ℕ) {x : List ℕ} → IsBalanced x → x ≡ opening_brace ∷ v → Completes 1 v
 balanced_after_opening v empty e = absurd cc
 balanced_after_opening v (byte _ no_open _ inner) e = absurd (no_open (first_same e))
 balanced_after_opening v (escaping inner) e = absurd (omega (arith, first_same e))
 balanced_after_opening v (braces {x = x} {y = y} inner more) e = (x, y, inner, sym (rest_same e), more)
 
--- none begins with a closing brace
+-- no balanced text begins with a closing brace
 closing_not_balanced : (v : List ℕ) {x : List ℕ} → IsBalanced x → ¬ (x ≡ closing_brace ∷ v)
 closing_not_balanced v empty e = cc
 closing_not_balanced v (byte _ _ no_close inner) e = no_close (first_same e)
 closing_not_balanced v (escaping inner) e = omega (arith, first_same e)
 closing_not_balanced v (braces inner more) e = omega (arith, first_same e)
 
--- none is a backslash alone
+-- no balanced text is a backslash alone
 backslash_not_balanced : {x : List ℕ} → IsBalanced x → ¬ (x ≡ backslash ∷ [])
 backslash_not_balanced empty e = cc
 backslash_not_balanced (byte no_slash _ _ inner) e = no_slash (first_same e)
@@ -61,21 +61,21 @@ drop_byte zero v b no_slash no_open no_close done = balanced_after_byte b v no_s
 drop_byte (suc d) v b no_slash no_open no_close (x, y, inner, e, rest) =
     after_byte (Completes d) v b no_slash no_open no_close inner y e rest
 
--- and without the escape that it begins with
+-- a text that completes braces does so without the escape that it begins with
 drop_escape : (d : ℕ) (v : List ℕ) (b : ℕ) → Completes d (backslash ∷ b ∷ v) → Completes d v
 drop_escape zero v b done = balanced_after_escape b v done refl
 drop_escape (suc d) v b (x, y, inner, e, rest) = after_escape (Completes d) v b inner y e rest
 
--- without the opening brace that it begins with it completes one more
+-- without the opening brace that it begins with a text completes one brace more
 drop_opening : (d : ℕ) (v : List ℕ) → Completes d (opening_brace ∷ v) → Completes (suc d) v
 drop_opening zero v done = balanced_after_opening v done refl
 drop_opening (suc d) v (x, y, inner, e, rest) = after_opening (Completes d) v inner y e rest
 
--- and without the closing brace that it begins with one less
+-- without the closing brace that it begins with a text completes one brace less
 drop_closing : (d : ℕ) (v : List ℕ) → Completes (suc d) (closing_brace ∷ v) → Completes d v
 drop_closing d v (x, y, inner, e, rest) = after_closing (Completes d) v inner y e rest
 
--- it completes as many without the balanced text that it begins with
+-- a text completes as many braces without the balanced text that it begins with
 drop_balanced : (d : ℕ) (v : List ℕ) {x : List ℕ} → IsBalanced x → Completes d (x ++ v) → Completes d v
 drop_balanced d v empty done = done
 drop_balanced d v (byte {b = b} {x = x} no_slash no_open no_close inner) done =
@@ -102,7 +102,7 @@ after_plain closes v no_slash zero done = absurd (closing_not_balanced v done re
 after_plain closes v no_slash (suc d) done = (d, drop_closing d v done)
 after_plain (counts_not {b = b} n o c) v no_slash d done = (d, drop_byte d v b n o c done)
 
--- so does what is after an item
+-- what is after an item completes some, where the item and that do
 after_item : (item : Item) (next : Tree) (d : ℕ) (v : List ℕ) → IsItem item next
     → Completes d (item_text item ++ v)
     → CompletesSome v
@@ -114,7 +114,7 @@ after_item (Optional n) next d v fits done = (d, drop_balanced d v (optional_bal
 after_item (Default n t) next d v fits done =
     (d, drop_balanced d v (default_balanced n (text t) fits.0 fits.2) done)
 
--- and what is after a tree
+-- what is after a tree completes some, where the tree and that do
 after_tree : (t : Tree) (d : ℕ) (v : List ℕ) → IsWellFormed t → Completes d (text t ++ v) → CompletesSome v
 after_tree Empty d v formed done = (d, done)
 after_tree (Then item rest) d v formed done =
@@ -132,7 +132,7 @@ IsLate _ = ⊥
 nothing_completes : (d : ℕ) → ¬ (Completes (suc d) [])
 nothing_completes d = λ (x, y, inner, e, rest). no_element closing_brace x y e
 
--- nor does a backslash alone, nor is it balanced
+-- a backslash alone completes no brace, and isn't balanced
 backslash_completes_none : (d : ℕ) → ¬ (Completes d (backslash ∷ []))
 backslash_completes_none zero done = backslash_not_balanced done refl
 backslash_completes_none (suc d) (x, y, inner, e, rest) = closes_lone_backslash 0 (x, y, inner, e, tt)

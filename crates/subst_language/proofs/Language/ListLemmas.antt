@@ -13,7 +13,7 @@ use Rattle.std.specs.Option.{MatchOption, option_eq}
 pub first_same : {X : Type 0} {a b : X} {x y : List X} → a ∷ x ≡ b ∷ y → a ≡ b
 first_same e = cc
 
--- and the same elements after those
+-- equal lists have the same elements after the first ones
 pub rest_same : {X : Type 0} {a b : X} {x y : List X} → a ∷ x ≡ b ∷ y → x ≡ y
 rest_same e = cc
 
@@ -28,7 +28,7 @@ pub each_append : {X : Type 0} (P : X → Type 0) (x y : List X) → AllByRecurs
 each_append P [] y h k = k
 each_append P (a ∷ x) y h k = (h.0, each_append P x y h.1 k)
 
--- and what holds of each element of both holds of each of the first list, and of each of the second
+-- what holds of each element of two lists concatenated holds of each of the first, and of each of the second
 pub each_parts : {X : Type 0} (P : X → Type 0) (x y : List X) → AllByRecursion P (x ++ y)
     → AllByRecursion P x × AllByRecursion P y
 each_parts P [] y h = (tt, h)
@@ -52,7 +52,7 @@ mapped_by_recursion : {X Y : Type 0} (f : X → Y) (P : Y → Type 0) (x : List 
 mapped_by_recursion f P [] each = tt
 mapped_by_recursion f P (a ∷ x) each = (each.0, mapped_by_recursion f P x each.1)
 
--- the same of the list that a list is mapped to
+-- what holds of each element of a mapped list holds of what each element is mapped to
 pub each_mapped : {X Y : Type 0} (f : X → Y) (P : Y → Type 0) (x : List X) {y : List Y} → map f x ≡ y
     → AllByRecursion P y → All (λ a. P (f a)) x
 each_mapped f P x is each =

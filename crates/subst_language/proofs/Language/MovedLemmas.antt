@@ -39,7 +39,7 @@ mutual
   bad_moved {p = p} n q at (inside m w v named balanced fault) =
       inside m w v named balanced (fault_moved n (q + 3 + length m) (omega arith) fault)
 
-  -- so has a text
+  -- a text n bytes further on has its fault there
   pub fault_moved : {p : ℕ} {s : List ℕ} {f : Fault} (n q : ℕ) → p + n ≡ q → HasFault p s f
       → HasFault q s (moved n f)
   fault_moved n q at (fault_after t formed bad) =
@@ -55,13 +55,13 @@ pub moved_bytes : (n : ℕ) (v : Value) (x : List ℕ) → moved_value n v ≡ B
 moved_bytes n (Bytes y) x is = is
 moved_bytes n (Missing position name) x is = absurd cc
 
--- of values joined
+-- moved values joined are the joined value, moved
 joined_moved : (n : ℕ) (v w : Value) → joined (moved_value n v) (moved_value n w) ≡ moved_value n (joined v w)
 joined_moved n (Bytes x) (Bytes y) = refl
 joined_moved n (Bytes x) (Missing position name) = refl
 joined_moved n (Missing position name) w = refl
 
--- of what was found, or of what is there instead
+-- what was found, or else a moved value, is what was found, or else the value, moved
 found_moved : (n : ℕ) (found : Option (List ℕ)) (v w : Value) → w ≡ moved_value n v
     → found_or found w ≡ moved_value n (found_or found v)
 found_moved n (Some x) v w e = refl
@@ -82,7 +82,7 @@ mutual
       found_moved n (look m) _ _
       (value_moved t (p + 3 + length m) n (q + 3 + length m) look (omega arith))
 
-  -- so has a tree
+  -- a tree n bytes further on has its value there
   pub value_moved : (t : Tree) (p n q : ℕ) (look : LookUp) → p + n ≡ q
       → value q t look ≡ moved_value n (value p t look)
   value_moved Empty p n q look at = refl

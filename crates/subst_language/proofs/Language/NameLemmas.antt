@@ -24,23 +24,23 @@ name_byte_differs b c h n e = n (subst IsNameByte e h)
 pub backslash_no_name : ¬ (IsNameByte backslash)
 backslash_no_name h = cc
 
--- nor is a dollar
+-- a dollar is no name byte
 pub dollar_no_name : ¬ (IsNameByte dollar)
 dollar_no_name h = cc
 
--- nor an opening brace
+-- an opening brace is no name byte
 pub opening_no_name : ¬ (IsNameByte opening_brace)
 opening_no_name h = cc
 
--- nor a closing brace
+-- a closing brace is no name byte
 pub closing_no_name : ¬ (IsNameByte closing_brace)
 closing_no_name h = cc
 
--- nor a colon
+-- a colon is no name byte
 pub colon_no_name : ¬ (IsNameByte colon)
 colon_no_name h = cc
 
--- nor a question mark
+-- a question mark is no name byte
 pub question_mark_no_name : ¬ (IsNameByte question_mark)
 question_mark_no_name h = cc
 

@@ -22,7 +22,7 @@ module _ (a b : LookUp) where
     item_same p (Optional n) h = rw h.0 refl
     item_same p (Default n t) h = rw (h.0, tree_same (p + 3 + length n) t h.1) refl
 
-    -- so has a tree
+    -- where they have the same for the names in a tree, it has one value
     tree_same : (p : ℕ) (t : Tree) → Agree (names_in t) → value p t a ≡ value p t b
     tree_same p Empty h = refl
     tree_same p (Then item rest) h =

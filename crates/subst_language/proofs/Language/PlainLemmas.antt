@@ -12,17 +12,17 @@ abbrev pub plains : List ℕ → Tree
 plains [] = Empty
 plains (b ∷ x) = Then (Plain b) (plains x)
 
--- such a tree is written as the bytes
+-- the tree of such a run is written as the bytes
 pub text-plains : (x : List ℕ) → text (plains x) ≡ x
 text-plains [] = refl
 text-plains (b ∷ x) = ap (λ y. b ∷ y) (text-plains x)
 
--- and gives the bytes
+-- the tree of such a run gives the bytes
 pub value-plains : (p : ℕ) (x : List ℕ) (look : LookUp) → value p (plains x) look ≡ Bytes x
 value-plains p [] look = refl
 value-plains p (b ∷ x) look = ap (joined (Bytes (b ∷ []))) (value-plains (p + 1) x look)
 
--- it is well-formed where the bytes are plain
+-- the tree of a run of plain bytes is well-formed
 pub well_formed_plains : (x : List ℕ) → AllByRecursion IsPlain x → IsWellFormed (plains x)
 well_formed_plains [] each = tt
 well_formed_plains (b ∷ x) each = (each.0, well_formed_plains x each.1)

@@ -94,11 +94,11 @@ begins_with_some b x (c ∷ cs, (scalars, e)) = (c, ((and_parts _ _ scalars).0, 
 backslash_text : IsUtf8 (backslash ∷ [])
 backslash_text = ascii_alone backslash (omega arith)
 
--- and a dollar
+-- a dollar alone is UTF-8
 dollar_text : IsUtf8 (dollar ∷ [])
 dollar_text = ascii_alone dollar (omega arith)
 
--- and an opening brace
+-- an opening brace alone is UTF-8
 opening_text : IsUtf8 (opening_brace ∷ [])
 opening_text = ascii_alone opening_brace (omega arith)
 
@@ -163,7 +163,7 @@ bad_begins escape_at_end = (backslash, _, omega arith, refl)
 bad_begins (escape n h) = (backslash, _, omega arith, refl)
 bad_begins _ = (dollar, _, omega arith, refl)
 
--- so where it is after other bytes, in UTF-8, it is UTF-8
+-- a bad item that is after other bytes, in UTF-8, is UTF-8
 pub bad_is_text : {p : ℕ} {r : List ℕ} {f : Fault} (x : List ℕ) → IsBad p r f → IsUtf8 (x ++ r) → IsUtf8 r
 bad_is_text {r = r} x bad is = of (bad_begins bad)
   where
@@ -310,7 +310,7 @@ pub error_in_text : (s : List ℕ) (look : LookUp) (o : Option Fault) → IsUtf8
 error_in_text s look None is h = let start = IsCharBoundary-start s is in (start, start)
 error_in_text s look (Some f) is h = refusal_in_text s look f is h
 
--- so does one of parsing
+-- an error of parsing a text has its range in the text
 pub parse_result_in_text : {T : Type 0} (s : List ℕ) (r : Result T ParseError) → IsUtf8 s
     → OnFault parse_fault r (HasFault 0 s) → IfErr r (λ e. IsRangeIn s (range_of (parse_fault e)))
 parse_result_in_text s (Ok x) is h = tt
@@ -320,7 +320,7 @@ parse_result_in_text s (Err e) is h = of (parse_fault e) h
     of None h = error_in_text s (λ name. None) None is tt
     of (Some f) h = error_in_text s (λ name. None) (Some f) is (inl h)
 
--- and one of expansion
+-- an error of expanding a text has its range in the text
 pub expand_error_in_text : (s : List ℕ) (t : Tree) (look : LookUp) (o : Option Fault) → IsUtf8 s → Spells t s
     → IfSome o (IsMissing (value 0 t look)) → IsRangeIn s (range_of o)
 expand_error_in_text s t look None is spells h = error_in_text s look None is tt

@@ -79,7 +79,7 @@ mutual
             (tree_within t q),
       )
 
-  -- and those of a tree's, within the tree's text
+  -- the names of a tree's variables end within its text
   tree_within : (t : Tree) (p : ℕ) → AllByRecursion (EndsBy (p + length (text t))) (variables_of p t)
   tree_within Empty p = tt
   tree_within (Then item rest) p =
@@ -104,7 +104,7 @@ refusal_within s look f (inr (t, spells, (position, name, missing, same))) =
     rw same (first_among (λ v. (name_range v).end ≤ length s) 0 position t look name missing
     (variables_within s t spells))
 
--- so has an error of parsing; where memory ran out it is the empty range at the source's start
+-- an error of parsing has a range that ends within the source
 pub parse_result_within : {T : Type 0} (s : List ℕ) (r : Result T ParseError)
     → OnFault parse_fault r (HasFault 0 s) → IfErr r (λ e. (range_of (parse_fault e)).end ≤ length s)
 parse_result_within s (Ok x) h = tt
@@ -114,7 +114,7 @@ parse_result_within s (Err e) h = of (parse_fault e) h
     of None h = omega arith
     of (Some f) h = refusal_within s (λ name. None) f (inl h)
 
--- and one of expansion
+-- an error of expansion has a range that ends within the source
 pub expand_error_within : (s : List ℕ) (t : Tree) (look : LookUp) (o : Option Fault) → Spells t s
     → IfSome o (IsMissing (value 0 t look)) → (range_of o).end ≤ length s
 expand_error_within s t look None spells h = omega arith

@@ -27,7 +27,7 @@ after_name_more : (n x more : List ℕ)
     → dollar ∷ opening_brace ∷ n ++ (x ++ more) ≡ (dollar ∷ opening_brace ∷ n ++ x) ++ more
 after_name_more n x more = sym (append_assoc (dollar ∷ opening_brace ∷ n) x more)
 
--- and after the default
+-- what is after a default, with more after it
 after_default_more : (n w v more : List ℕ)
     → dollar ∷ opening_brace ∷ n ++ (colon ∷ w ++ closing_brace ∷ (v ++ more))
     ≡ (dollar ∷ opening_brace ∷ n ++ (colon ∷ w ++ closing_brace ∷ v)) ++ more
@@ -70,7 +70,7 @@ fault_stays {p = p} {f = f} more (fault_after {r = r} t formed bad) is settled =
     (fault_after t formed
     (bad_stays more bad (bad_is_text (text t) bad is) (subst (λ end. IsSettled end f) ends settled)))
 
--- the same, in the order of the law
+-- a settled fault of a text is its fault with more after it, in the order of the law
 pub settled_stays : (p : ℕ) (s more : List ℕ) (f : Fault) → IsUtf8 s → HasFault p s f
     → IsSettled (p + length s) f → HasFault p (s ++ more) f
 settled_stays p s more f is fault settled = fault_stays more fault is settled

@@ -77,7 +77,7 @@ refusal_before look xs more f (i, h) = (
   },
 )
 
--- it is that of these with sources before them that give bytes
+-- the first refusal of some sources is that of these with sources before them that give bytes
 pub refusal_after : (look : LookUp) (xs more : List (List ℕ)) (f : Fault) → AreGiven (under look) xs
     → IsFirstRefusal look more f → IsFirstRefusal look (xs ++ more) f
 refusal_after look xs more f given (i, h) = (

@@ -33,7 +33,7 @@ mutual
   bad_is_known position name (inside n w v named balanced fault) e = fault_is_known position name fault e
   bad_is_known position name _ e = cc
 
-  -- nor is a source's fault
+  -- no source's fault is a missing variable
   pub fault_is_known : {p : ℕ} {s : List ℕ} {f : Fault} (position : ℕ) (name : List ℕ) → HasFault p s f
       → ¬ (f ≡ NoSuchVariable position name)
   fault_is_known position name (fault_after t formed bad) e = bad_is_known position name bad e
@@ -84,7 +84,7 @@ closable = by_length (λ w. (d : ℕ) → IsClosable d w) step
     step (b ∷ y) shorter zero = ([], IsUtf8-nil, tt)
     step (b ∷ y) shorter (suc d) = closable_step (brace_kind b) d y shorter
 
--- a text after which the source s hasn't the fault f at position p
+-- a text after which the source s doesn't have the fault f at position p
 abbrev IsMended : ℕ → List ℕ → Fault → Type 0
 IsMended p s f = (more : List ℕ) × IsUtf8 more × (¬ (HasFault p (s ++ more) f))
 

@@ -6,7 +6,7 @@ use Rattle.std.proofs.lemmas.Str.{IsUtf8-take, IsUtf8-drop, IsUtf8-append, IsUtf
 use Rattle.std.proofs.lemmas.Str.Ascii.{IsAscii-nil, IsAscii-cons}
 use Rattle.std.specs.List.{AllByRecursion}
 use Rattle.std.specs.Str.{IsUtf8}
-use Rattle.subst_language.specs.Language.Bytes.{dollar, colon, question_mark, backslash, opening_brace, closing_brace, IsSpecial}
+use Rattle.subst_language.specs.Language.Bytes.{dollar, colon, question_mark, backslash, opening_brace, closing_brace, IsEscapable}
 use Rattle.subst_language.specs.Language.Name.{IsName, IsNameByte}
 use Rattle.subst_language.specs.Language.Tree.{Item, Plain, Escaped, Short, Braced, Optional, Default, Tree, Empty, Then, item_text, text}
 use Rattle.subst_language.specs.Language.WellFormed.{IsItem, IsWellFormed}
@@ -49,8 +49,8 @@ in_braces u n x w named is =
     (before, after_name n (x ++ w) named (subst IsUtf8 (append_assoc n x w) inside))
 
 -- a special byte is ASCII
-pub special_ascii : (b : ℕ) → IsSpecial b → b < 128
-special_ascii b is = grind (arith, nat_tests)
+pub escapable_ascii : (b : ℕ) → IsEscapable b → b < 128
+escapable_ascii b is = grind (arith, nat_tests)
 
 -- an ASCII byte alone is UTF-8
 pub ascii_alone : (b : ℕ) → b < 128 → IsUtf8 (b ∷ [])
@@ -86,7 +86,7 @@ mutual
       (subst IsUtf8 (append_assoc u (b ∷ []) z) (goes_on (u ++ b ∷ []) ends))
   item_filled (Escaped b) next p look u w y z fits texts is gives goes_on =
       let same : b ∷ [] ≡ y = cc in
-      let ascii = special_ascii b fits in
+      let ascii = escapable_ascii b fits in
       let (before, escaped) = cut_at u (b ∷ w) backslash (omega arith) is in
       let after = goes_on [] (after_ascii w b ascii escaped) in
       between u y z before (subst IsUtf8 same (ascii_alone b ascii)) after

@@ -121,7 +121,7 @@ mutual
         dollars-append (text t) (closing_brace ∷ []),
       )
 
-  -- nor has a tree
+  -- a tree has no more names than its text has dollars
   names_at_most : (t : Tree) → length (names_in t) ≤ dollars (text t)
   names_at_most Empty = omega arith
   names_at_most (Then item rest) =
@@ -158,7 +158,7 @@ value_length_within s t look longest spells short =
     mul-le-mul_right longest (names_at_most t) in
     rw spells.spelled (omega (arith, bound, values, each, names))
 
--- so is an output
+-- an output is at most as long as its source and `longest` for each dollar, where no value is longer
 pub output_at_most : (s x : List ℕ) (look : LookUp) (longest : ℕ)
     → ((name y : List ℕ) → look name ≡ Some y → length y ≤ longest) → Answers s look (Gives x)
     → length x ≤ length s + count_by (λ b. b == dollar) s * longest

@@ -21,7 +21,7 @@ mutual
   item_names p (Optional n) = refl
   item_names p (Default n t) = ap (λ names. n ∷ names) (variable_names (p + 3 + length n) t)
 
-  -- so are those of a tree's
+  -- the names of a tree's variables are the names in it
   pub variable_names : (p : ℕ) (t : Tree) → map name_of (variables_of p t) ≡ names_in t
   variable_names p Empty = refl
   variable_names p (Then item rest) =

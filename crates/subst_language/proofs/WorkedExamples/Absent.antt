@@ -14,7 +14,7 @@ absent =
     missing _ _ _ _ (plain (codes "Hello ") (Then (Short (codes "name")) (only_plain (codes "!")))) refl refl
     refl
 
--- nor of the opening brace
+-- the position is that of the name, and not of the opening brace
 pub absent_in_braces : Answers (codes "Hello ${name}!") nothing (Refuses (NoSuchVariable 8 (codes "name")))
 absent_in_braces =
     missing _ _ _ _ (plain (codes "Hello ") (Then (Braced (codes "name")) (only_plain (codes "!")))) refl refl

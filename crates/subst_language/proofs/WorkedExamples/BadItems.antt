@@ -1,7 +1,7 @@
 -- The bad items whose kind a test decides, so that an example of one is short.
 use Rattle.std.proofs.Common.{ℕ, ◌+◌, not, ◌&&◌, ◌==◌, IsTrue, List, [], ◌∷◌, ◌++◌, length, Some}
 use Rattle.std.proofs.lemmas.Bool.{and_parts, not-true}
-use Rattle.subst_language.specs.Language.Bytes.{dollar, colon, question_mark, backslash, opening_brace, closing_brace, is_special}
+use Rattle.subst_language.specs.Language.Bytes.{dollar, colon, question_mark, backslash, opening_brace, closing_brace, is_escapable}
 use Rattle.subst_language.specs.Language.Name.{is_name_byte}
 use Rattle.subst_error.specs.Fault.{Fault, InvalidEscapeSequence, MissingVariableName, UnexpectedCharacter, MissingClosingBrace}
 use Rattle.subst_language.specs.Language.Character.{IsFrontCharacter}
@@ -13,8 +13,8 @@ use Rattle.subst_language.proofs.WorkedExamples.Forms.{is_name, name_from_test, 
 
 -- `\` before a byte that isn't special
 pub backslash_before : {p : ℕ} (b : ℕ) (x : List ℕ) (c : CharOrByte) → IsFrontCharacter (b ∷ x) c
-    → IsTrue (not (is_special b)) → IsBad p (backslash ∷ b ∷ x) (InvalidEscapeSequence p (Some c))
-backslash_before b x c k h = escape (not_from_test (is_special b) h) k
+    → IsTrue (not (is_escapable b)) → IsBad p (backslash ∷ b ∷ x) (InvalidEscapeSequence p (Some c))
+backslash_before b x c k h = escape (not_from_test (is_escapable b) h) k
 
 -- `$` before a byte that is neither an opening brace nor of a name
 pub dollar_before : {p : ℕ} (b : ℕ) (x : List ℕ) → IsTrue (not (b == opening_brace) && not (is_name_byte b))

@@ -1,4 +1,4 @@
--- What one look along a text tells of its braces: enough to see that a text is balanced, or that it never
+-- What one pass over a text shows of its braces: enough to see that a text is balanced, or that it never
 -- closes.
 use Rattle.std.proofs.Common.{◌≡◌, ◌≢◌, ℕ, zero, suc, Bool, true, false, cond, ◌==◌, IsTrue, List, [], ◌∷◌, ◌++◌, refl, sym, ap, subst, ◌∙◌, append_assoc, append-nil, true≢false, IsFalse}
 use Rattle.std.proofs.lemmas.Bool.{ne_eqb}
@@ -137,6 +137,6 @@ closes w = is_closed (standing_after (Open 0) w)
 pub never_closes : (w : List ℕ) → IsFalse (closes w) → ¬ (Closes w)
 never_closes w h c = true≢false (ap is_closed (sym (closes_seen w c)) ∙ h)
 
--- nor does a balanced text close
+-- a balanced text doesn't close
 pub balanced_never_closes : (x : List ℕ) → IsBalanced x → ¬ (Closes x)
 balanced_never_closes x h c = true≢false (ap is_closed (sym (closes_seen x c) ∙ leaves_none h))

@@ -30,7 +30,7 @@ nest_text (suc n) =
     ap (λ l. codes "${a:" ++ (l ++ codes "}")) (nest_text n)
     ∙ sym (append-nil (item_text (Default (codes "a") (nested_tree n))))
 
--- its braces match
+-- the braces of such a text match
 nest_balanced : (n : ℕ) → IsBalanced (nest n)
 nest_balanced zero = empty
 nest_balanced (suc n) =
@@ -42,7 +42,7 @@ nest_balanced (suc n) =
     (other_byte colon closing_brace refl) (nest_balanced n)))
     empty)
 
--- so the tree is well-formed
+-- the tree of such a text is well-formed
 nest_well_formed : (n : ℕ) → IsWellFormed (nested_tree n)
 nest_well_formed zero = tt
 nest_well_formed (suc n) = (

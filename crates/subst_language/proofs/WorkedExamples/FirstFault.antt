@@ -1,4 +1,4 @@
--- Worked examples of sources in which several things are wrong: which of them is answered.
+-- Worked examples of sources in which several things are wrong: which of them is the answer.
 use Rattle.std.proofs.Common.{[], codes, Some, refl}
 use Rattle.std.specs.List.{range_with_len}
 use Rattle.subst_language.specs.Language.Tree.{Short, Default, Empty}
@@ -25,13 +25,13 @@ pub unclosed_before_escape : (look : LookUp)
 unclosed_before_escape look =
     refused _ (codes "${a:\\x") _ look Empty refl refl (never_closed (codes "a") (codes "\\x") refl)
 
--- and a placeholder, which takes the only closing brace
+-- an outermost placeholder that never closes comes before a placeholder that takes the only closing brace
 pub unclosed_before_placeholder : (look : LookUp)
     → Answers (codes "${a:${b)}") look (Refuses (MissingClosingBrace 1))
 unclosed_before_placeholder look =
     refused _ (codes "${a:${b)}") _ look Empty refl refl (never_closed (codes "a") (codes "${b)}") refl)
 
--- so does a placeholder without a name, whose closing brace is escaped
+-- an outermost placeholder that never closes comes before one without a name, whose brace is escaped
 pub unclosed_before_nameless : (look : LookUp)
     → Answers (codes "${a:${\\}}") look (Refuses (MissingClosingBrace 1))
 unclosed_before_nameless look =
@@ -61,7 +61,7 @@ escape_after_bare_brace look = refused _ (codes "${a:{${b:\\x}}}") _ look Empty 
     (fault_after_tree 9 _ (codes "\\x") _ Empty refl refl
     (backslash_before 120 [] (Char 120) (ascii_in_front 120 [] refl) refl)) refl)) refl)
 
--- the outermost placeholder is answered, and none in it
+-- the fault of the outermost placeholder is the answer, and none in it
 pub unclosed_at_each_depth : (look : LookUp)
     → Answers (codes "${a:${b:{}") look (Refuses (MissingClosingBrace 1))
 unclosed_at_each_depth look =
@@ -81,7 +81,7 @@ escape_before_unclosed look = refused _ (codes "${a:\\x}${b:") _ look Empty refl
     (fault_after_tree 4 _ (codes "\\x") _ Empty refl refl
     (backslash_before 120 [] (Char 120) (ascii_in_front 120 [] refl) refl)) refl)
 
--- and before one on the top level
+-- a fault in a closed default comes before one on the top level
 pub dollar_before_escape : (look : LookUp)
     → Answers (codes "${a:$}\\x") look (Refuses (MissingVariableName 4 1))
 dollar_before_escape look = refused _ (codes "${a:$}\\x") _ look Empty refl refl

@@ -2,7 +2,7 @@
 use Rattle.std.proofs.Common.{◌≡◌, ◌≢◌, ℕ, ◌+◌, Bool, true, false, not, ◌&&◌, ◌==◌, IsTrue, List, [], ◌∷◌, ◌++◌, length, refl, sym, subst, inl, inr, true≢false}
 use Rattle.std.proofs.lemmas.Bool.{and_parts, eqb-false, not-true}
 use Rattle.std.specs.List.{AllByRecursion}
-use Rattle.subst_language.specs.Language.Bytes.{dollar, backslash, is_special}
+use Rattle.subst_language.specs.Language.Bytes.{dollar, backslash, is_escapable}
 use Rattle.subst_language.specs.Language.Name.{is_name_byte, IsNameByte, IsName}
 use Rattle.subst_language.specs.Language.Tree.{Item, Plain, Escaped, Short, Braced, Optional, Default, Tree, Empty, Then, text}
 use Rattle.subst_language.specs.Language.WellFormed.{EndsName, IsItem, IsWellFormed}
@@ -32,7 +32,7 @@ abbrev mutual
   -- a test for an item, and the items that follow it
   pub is_item : Item → Tree → Bool
   is_item (Plain b) next = not (b == dollar) && not (b == backslash)
-  is_item (Escaped b) next = is_special b
+  is_item (Escaped b) next = is_escapable b
   is_item (Short n) next = is_name n && ends_name next
   is_item (Braced n) next = is_name n
   is_item (Optional n) next = is_name n
@@ -62,7 +62,7 @@ pub not_from_test : (b : Bool) → IsTrue (not b) → ¬ (IsTrue b)
 not_from_test true h = λ _. true≢false (sym h)
 not_from_test false h = λ e. true≢false (sym e)
 
--- two bytes that a test tells apart
+-- two bytes that a test distinguishes
 pub other_byte : (b c : ℕ) → IsTrue (not (b == c)) → b ≢ c
 other_byte b c h = eqb-false b c (not-true (b == c) h)
 

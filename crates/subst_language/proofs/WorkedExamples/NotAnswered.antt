@@ -20,7 +20,7 @@ use Rattle.subst_language.proofs.WorkedExamples.Words.{nothing, looking_up, only
 pub name_cut_short : ¬ (IsWellFormed (Then (Short (codes "a")) (only_plain (codes "b"))))
 name_cut_short h = h.0.1 refl
 
--- and isn't answered so
+-- and doesn't give what these would
 pub name_not_cut_short : ¬
     (Answers (codes "$ab") (looking_up ((codes "a", codes "1") ∷ (codes "ab", codes "2") ∷ []))
     (Gives (codes "1b")))
@@ -31,11 +31,11 @@ pub brace_in_default : (text (only (Default (codes "a") (only_plain (codes "}"))
     × ¬ (IsWellFormed (only (Default (codes "a") (only_plain (codes "}")))))
 brace_in_default = (refl, λ h. unbalanced_from_test (codes "}") refl h.0.2)
 
--- it isn't answered by nothing
+-- its output isn't empty
 pub brace_not_swallowed : ¬ (Answers (codes "${a:}}") nothing (Gives []))
 brace_not_swallowed = not_given (Gives (codes "}")) _ _ _ brace_after_default (λ e. cc)
 
--- nor is it refused, as a name without a default would be
+-- it isn't refused, as a name without a default would be
 pub empty_default_counts : ¬ (Answers (codes "${a:}}") nothing (Refuses (NoSuchVariable 2 (codes "a"))))
 empty_default_counts = not_refused (Gives (codes "}")) _ _ _ brace_after_default (λ e. cc)
 
@@ -55,12 +55,12 @@ value_not_read = not_refused (Gives (codes "$b\\}")) _ _ _ value_verbatim (λ e.
 pub absent_not_empty : ¬ (Answers (codes "Hello $name!") nothing (Gives (codes "Hello !")))
 absent_not_empty = not_given (Refuses (NoSuchVariable 7 (codes "name"))) _ _ _ absent (λ e. cc)
 
--- and isn't missed at the dollar
+-- a name that has no value isn't missed at the dollar
 pub absent_not_at_dollar : ¬
     (Answers (codes "Hello $name!") nothing (Refuses (NoSuchVariable 6 (codes "name"))))
 absent_not_at_dollar = not_refused (Refuses (NoSuchVariable 7 (codes "name"))) _ _ _ absent (λ e. cc)
 
--- nor where the source has a fault after it
+-- a name that has no value isn't missed where the source has a fault after it
 pub absent_name_before_fault : (look : LookUp)
     → ¬ (Answers (codes "$x${") look (Refuses (NoSuchVariable 1 (codes "x"))))
 absent_name_before_fault look =
@@ -70,25 +70,25 @@ absent_name_before_fault look =
 pub dollar_not_plain : (look : LookUp) → ¬ (Answers (codes "$") look (Gives (codes "$")))
 dollar_not_plain look = not_given (Refuses (MissingVariableName 0 1)) _ _ _ (lone_dollar look) (λ e. cc)
 
--- nor does a backslash stand for the byte after it, where that has no meaning
+-- a backslash doesn't stand for the byte after it, where that has no meaning
 pub letter_not_escaped : (look : LookUp) → ¬ (Answers (codes "\\x") look (Gives (codes "x")))
 letter_not_escaped look =
     not_given (Refuses (InvalidEscapeSequence 0 (Some (Char 120)))) _ _ _ (backslash_before_letter look)
     (λ e. cc)
 
--- the fault in a default that never closes isn't answered: an escape
+-- the fault in a default that never closes isn't the answer: an escape
 pub escape_not_before_unclosed : (look : LookUp)
     → ¬ (Answers (codes "${a:\\x") look (Refuses (InvalidEscapeSequence 4 (Some (Char 120)))))
 escape_not_before_unclosed look =
     not_refused (Refuses (MissingClosingBrace 1)) _ _ _ (unclosed_before_escape look) (λ e. cc)
 
--- and a placeholder
+-- the fault in a default that never closes isn't the answer: a placeholder
 pub placeholder_not_before_unclosed : (look : LookUp)
     → ¬ (Answers (codes "${a:${b)}") look (Refuses (UnexpectedCharacter 7 (Char 41) after_name)))
 placeholder_not_before_unclosed look =
     not_refused (Refuses (MissingClosingBrace 1)) _ _ _ (unclosed_before_placeholder look) (λ e. cc)
 
--- nor is an inner placeholder that never closes
+-- an inner placeholder that never closes isn't the answer
 pub inner_unclosed_not_answered : (look : LookUp)
     → ¬ (Answers (codes "${a:${b:{}") look (Refuses (MissingClosingBrace 5)))
 inner_unclosed_not_answered look =
@@ -106,7 +106,7 @@ pub byte_is_no_character : (look : LookUp)
 byte_is_no_character look =
     not_refused (Refuses (InvalidEscapeSequence 0 (Some (Byte 0x80)))) _ _ _ (escaped_stray look) (λ e. cc)
 
--- nor is a character its first byte
+-- a character isn't its first byte
 pub character_is_no_byte : (look : LookUp)
     → ¬ (Answers (codes "\\" ++ 0xE2 ∷ 0x9D ∷ 0xA4 ∷ []) look
     (Refuses (InvalidEscapeSequence 0 (Some (Byte 0xE2)))))

@@ -43,7 +43,7 @@ pub name_goes_on : Answers (codes "$a" ++ codes "b") (looking_up ((codes "a", co
     (Refuses (NoSuchVariable 1 (codes "ab")))
 name_goes_on = missing _ 1 (codes "ab") _ (only (Short (codes "ab"))) refl refl refl
 
--- so `b` may not follow the tree
+-- `b` may not follow the tree of `$a`
 pub name_not_followed : ¬ (IsFollowed short_a (codes "b"))
 name_not_followed h = h refl
 
@@ -51,7 +51,7 @@ name_not_followed h = h refl
 pub fault_after_sentence : HasFault 0 (codes "a" ++ codes "$") (moved 1 (MissingVariableName 0 1))
 fault_after_sentence = fault_after_tree 0 _ (codes "$") _ (only_plain (codes "a")) refl refl dollar_at_end
 
--- so has a missing variable
+-- a missing variable after `a` has its position moved
 pub missing_after_sentence : Answers (codes "a" ++ codes "$b") nothing
     (Refuses (moved 1 (NoSuchVariable 1 (codes "b"))))
 missing_after_sentence =
@@ -99,7 +99,7 @@ dollar_not_settled = (
   (short_a, spells (codes "$a") short_a refl refl),
 )
 
--- nor is the fault of a source that isn't UTF-8: with the byte A9 after it, C3 is a character
+-- the fault of a source that isn't UTF-8 isn't settled: with the byte A9 after it, C3 is a character
 pub byte_not_settled : (look : LookUp)
     → Answers (codes "\\" ++ 0xC3 ∷ []) look (Refuses (InvalidEscapeSequence 0 (Some (Byte 0xC3))))
     × Answers (codes "\\" ++ 0xC3 ∷ 0xA9 ∷ []) look (Refuses (InvalidEscapeSequence 0 (Some (Char 0xE9))))
@@ -120,7 +120,7 @@ two_of_c =
     plain (codes "a") (Then (Escaped dollar)
     (Then (Default (codes "b") (only (Braced (codes "c")))) (only (Short (codes "c")))))
 
--- it gives two bytes of its own, and the value of `c` twice; a value of `b` has the place of the first
+-- it gives two bytes of its own, and the value of `c` twice; a value of `b` replaces the first
 pub lengths_of_values :
     (value_length two_of_c (looking_up ((codes "c", codes "xyz") ∷ [])) ≡ 8)
     × (visited_length two_of_c (looking_up ((codes "c", codes "xyz") ∷ [])) ≡ 6)

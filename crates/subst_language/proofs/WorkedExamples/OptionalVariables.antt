@@ -33,16 +33,16 @@ pub optional_with_empty_value : Answers (codes "a${x?}b") (looking_up ((codes "x
     (Gives (codes "ab"))
 optional_with_empty_value = gives _ _ _ between refl refl refl
 
--- it is one part, which is visited with and without a value
+-- an optional variable is one part, which is visited with and without a value
 pub optional_parts : (part_count between ≡ 3) × (visited_count between nothing ≡ 3)
     × (visited_count between (looking_up ((codes "x", codes "1") ∷ [])) ≡ 3)
 optional_parts = (refl, refl, refl)
 
--- it is never missing
+-- an optional variable is never missing
 pub optional_not_missing : ¬ (Answers (codes "a${x?}b") nothing (Refuses (NoSuchVariable 3 (codes "x"))))
 optional_not_missing = not_refused (Gives (codes "ab")) _ _ _ optional_without_value (λ e. cc)
 
--- the same name without the question mark is
+-- a name without the question mark is missing, also after an optional variable of that name
 pub braced_missing_after_optional : Answers (codes "${x?}${x}") nothing
     (Refuses (NoSuchVariable 7 (codes "x")))
 braced_missing_after_optional =
@@ -52,7 +52,7 @@ braced_missing_after_optional =
 pub optional_in_default : Answers (codes "${a:${b?}}") nothing (Gives [])
 optional_in_default = gives _ _ _ (only (Default (codes "a") (only (Optional (codes "b"))))) refl refl refl
 
--- or its value
+-- in a default that is needed an optional variable gives its value, if it has one
 pub optional_in_default_with_value : Answers (codes "${a:${b?}}") (looking_up ((codes "b", codes "1") ∷ []))
     (Gives (codes "1"))
 optional_in_default_with_value =
@@ -63,7 +63,7 @@ pub plain_question_marks : Answers (codes "$x?{?}") (looking_up ((codes "x", cod
     (Gives (codes "1?{?}"))
 plain_question_marks = gives _ _ _ (Then (Short (codes "x")) (only_plain (codes "?{?}"))) refl refl refl
 
--- so it does in a default, also at its start
+-- a question mark stands for itself in a default, also at its start
 pub question_mark_in_default : Answers (codes "${a:?}") nothing (Gives (codes "?"))
 question_mark_in_default = gives _ _ _ (only (Default (codes "a") (only_plain (codes "?")))) refl refl refl
 
@@ -72,7 +72,7 @@ pub brace_after_optional : Answers (codes "${x?}}") (looking_up ((codes "x", cod
     (Gives (codes "1}"))
 brace_after_optional = gives _ _ _ (Then (Optional (codes "x")) (only_plain (codes "}"))) refl refl refl
 
--- it does so where there is no value too
+-- the first closing brace ends the placeholder where there is no value too
 pub brace_after_optional_without_value : Answers (codes "${x?}}") nothing (Gives (codes "}"))
 brace_after_optional_without_value =
     gives _ _ _ (Then (Optional (codes "x")) (only_plain (codes "}"))) refl refl refl
@@ -108,14 +108,14 @@ no_default_after_question_mark =
     not_given (Refuses (UnexpectedCharacter 4 (Char 121) after_question_mark)) _ _ _
     (byte_after_question_mark nothing) (λ e. cc)
 
--- nor may it have one after a colon
+-- an optional variable may not have a default after a colon
 pub colon_after_question_mark : (look : LookUp)
     → Answers (codes "${x?:d}") look (Refuses (UnexpectedCharacter 4 (Char 58) after_question_mark))
 colon_after_question_mark look =
     refused _ (codes "${x?:d}") _ look Empty refl refl
     (optional_before (codes "x") colon (codes "d}") (Char 58) (ascii_in_front colon (codes "d}") refl) refl)
 
--- nor a second question mark
+-- an optional variable may not have a second question mark
 pub second_question_mark : (look : LookUp)
     → Answers (codes "${x??}") look (Refuses (UnexpectedCharacter 4 (Char 63) after_question_mark))
 second_question_mark look =
@@ -130,7 +130,7 @@ pub unclosed_around_optional : (look : LookUp)
 unclosed_around_optional look =
     refused _ (codes "${a:${b?}") _ look Empty refl refl (never_closed (codes "a") (codes "${b?}") refl)
 
--- and a bad one
+-- a default that never closes comes before a bad optional variable in it
 pub unclosed_before_bad_optional : (look : LookUp)
     → Answers (codes "${a:${b?c}") look (Refuses (MissingClosingBrace 1))
 unclosed_before_bad_optional look =

@@ -1,8 +1,8 @@
--- Worked examples of faults at bytes past ASCII: a character is told from a byte with which none begins.
+-- Worked examples of faults at bytes past ASCII: a character differs from a byte with which none begins.
 use Rattle.std.proofs.Common.{ℕ, not, IsTrue, List, [], ◌∷◌, ◌++◌, codes, Some, refl}
 use Rattle.std.specs.Char.{encode_utf8}
 use Rattle.std.specs.Str.{chars}
-use Rattle.subst_language.specs.Language.Bytes.{backslash, is_special}
+use Rattle.subst_language.specs.Language.Bytes.{backslash, is_escapable}
 use Rattle.subst_language.specs.Language.Tree.{Empty}
 use Rattle.subst_language.specs.Language.LookUp.{LookUp}
 use Rattle.subst_error.specs.Fault.{InvalidEscapeSequence, UnexpectedCharacter}
@@ -17,7 +17,7 @@ use Rattle.subst_language.proofs.WorkedExamples.Forms.{refused}
 use Rattle.subst_language.proofs.WorkedExamples.Words.{only_plain}
 
 -- a backslash at the front of the source, and the character after it
-escaped : (look : LookUp) (b : ℕ) (x : List ℕ) (c : CharOrByte) → IsTrue (not (is_special b))
+escaped : (look : LookUp) (b : ℕ) (x : List ℕ) (c : CharOrByte) → IsTrue (not (is_escapable b))
     → IsFrontCharacter (b ∷ x) c → Answers (backslash ∷ b ∷ x) look
     (Refuses (InvalidEscapeSequence 0 (Some c)))
 escaped look b x c h k = refused _ (backslash ∷ b ∷ x) _ look Empty refl refl (backslash_before b x c k h)
@@ -49,7 +49,7 @@ unfolding encode_utf8
 escaped_three_bytes look =
     escaped look 0xE2 (0x9D ∷ 0xA4 ∷ []) (Char 0x2764) refl (char_in_front 0x2764 _ [] refl refl)
 
--- and what follows it doesn't matter
+-- what follows U+2764 doesn't matter
 pub escaped_three_bytes_and_more : (look : LookUp)
     → Answers (codes "\\" ++ 0xE2 ∷ 0x9D ∷ 0xA4 ∷ codes "ll" ++ 0xE2 ∷ 0x9D ∷ 0xA4 ∷ []) look
     (Refuses (InvalidEscapeSequence 0 (Some (Char 0x2764))))
@@ -87,7 +87,7 @@ unfolding encode_utf8 chars
 escaped_stray_and_more look =
     escaped look 0x80 (codes "llo") (Byte 0x80) refl (byte_in_front 0x80 (codes "llo") refl)
 
--- nor with the second byte of U+2764
+-- no character begins with the second byte of U+2764
 pub escaped_second_byte : (look : LookUp)
     → Answers (codes "\\" ++ 0x9D ∷ 0xA4 ∷ codes "ll") look
     (Refuses (InvalidEscapeSequence 0 (Some (Byte 0x9D))))
@@ -95,14 +95,14 @@ unfolding encode_utf8 chars
 escaped_second_byte look =
     escaped look 0x9D (0xA4 ∷ codes "ll") (Byte 0x9D) refl (byte_in_front 0x9D (0xA4 ∷ codes "ll") refl)
 
--- nor with its third
+-- no character begins with the third byte of U+2764
 pub escaped_third_byte : (look : LookUp)
     → Answers (codes "\\" ++ 0xA4 ∷ codes "ll") look (Refuses (InvalidEscapeSequence 0 (Some (Byte 0xA4))))
 unfolding encode_utf8 chars
 escaped_third_byte look =
     escaped look 0xA4 (codes "ll") (Byte 0xA4) refl (byte_in_front 0xA4 (codes "ll") refl)
 
--- of its first two bytes the third is wanting
+-- of its first two bytes the third is missing
 pub escaped_cut : (look : LookUp)
     → Answers (codes "\\" ++ 0xE2 ∷ 0x9D ∷ []) look (Refuses (InvalidEscapeSequence 0 (Some (Byte 0xE2))))
 unfolding encode_utf8 chars

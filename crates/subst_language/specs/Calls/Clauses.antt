@@ -8,8 +8,8 @@ use Rattle.subst_error.specs.Fault.{Fault}
 use Rattle.subst_error.specs.ErrorFault.{expand_into_fault, parse_fault}
 use Rattle.subst_error.specs.Range.{range_of, IsRangeIn}
 use Rattle.subst_error.specs.declared.NoSuchVariable.{NoSuchVariable}
-use Rattle.subst_error.specs.declared.lent.ExpandIntoError.{ExpandIntoError}
-use Rattle.subst_error.specs.declared.lent.SubstituteIntoError.{SubstituteIntoError}
+use Rattle.subst_error.specs.declared.borrowed.ExpandIntoError.{ExpandIntoError}
+use Rattle.subst_error.specs.declared.borrowed.SubstituteIntoError.{SubstituteIntoError}
 use Rattle.subst_language.specs.Language.Answer.{Answers, Refuses, IsMissing}
 use Rattle.subst_language.specs.Language.BadItem.{HasFault}
 use Rattle.subst_language.specs.Language.Sentence.{ByTree, IsSentence}

@@ -1,5 +1,5 @@
--- What a call returns, unless memory runs out. An error that states no fault says that memory ran
--- out. `bytes_of` tells the bytes of an output: of a `Vec` its items, of a `String` its bytes.
+-- What a call returns, unless memory runs out. An error that states no fault says that memory ran out.
+-- `bytes_of` gives the bytes of an output: of a `Vec` its items, of a `String` its bytes.
 use Rattle.std.specs.Prelude.{◌≡◌, ◌≤◌, ℕ, List, ◌++◌, drop, length, Option, Some, None, Result, Ok, Err, IfErr, IfNone, IfSome}
 use Rattle.std.specs.Option.{option_map}
 use Rattle.subst_error.specs.Fault.{Fault}
@@ -7,14 +7,14 @@ use Rattle.subst_error.specs.ErrorFault.{error_fault, expand_fault, expand_into_
 use Rattle.subst_error.specs.declared.Error.{Error}
 use Rattle.subst_error.specs.declared.ExpandError.{ExpandError}
 use Rattle.subst_error.specs.declared.ParseError.{ParseError}
-use Rattle.subst_error.specs.declared.lent.ExpandIntoError.{ExpandIntoError}
-use Rattle.subst_error.specs.declared.lent.SubstituteIntoError.{SubstituteIntoError}
-use Rattle.subst_error.specs.declared.lent.SubstituteIntoError.TheVariants.{Parse, Expand}
+use Rattle.subst_error.specs.declared.borrowed.ExpandIntoError.{ExpandIntoError}
+use Rattle.subst_error.specs.declared.borrowed.SubstituteIntoError.{SubstituteIntoError}
+use Rattle.subst_error.specs.declared.borrowed.SubstituteIntoError.TheVariants.{Parse, Expand}
 use Rattle.subst_language.specs.Language.Value.{Value, Bytes}
 use Rattle.subst_language.specs.Language.LookUp.{LookUp}
 use Rattle.subst_language.specs.Language.Answer.{Answer, Answers, Gives, Refuses, IsMissing}
 
--- P holds of the fault that an error states, where `fault_of` tells it
+-- P holds of the fault that an error states, where `fault_of` gives it
 abbrev pub OnFault : {T E : Type 0} → (E → Option Fault) → Result T E → (Fault → Type 0) → Type 0
 OnFault fault_of result P = IfErr result (λ e. IfSome (fault_of e) P)
 

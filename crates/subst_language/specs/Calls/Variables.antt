@@ -1,4 +1,4 @@
--- What the variables that a template tells, and the errors of those that are missing, say.
+-- What the variables that a template lists, and the errors of those that are missing, say.
 use Rattle.std.specs.Prelude.{ℕ, string_bytes}
 use Rattle.std.specs.declared.ops.Range.{Range}
 use Rattle.subst_error.specs.declared.NoSuchVariable as errors
@@ -13,7 +13,7 @@ kind_of Required = variables.Required
 kind_of Optional = variables.OrNothing
 kind_of WithDefault = variables.OrDefault
 
--- the variable
+-- the variable that the code's record of one states
 abbrev pub variable_of : Variable → variables.Variable
 variable_of it = record { position = it.position; name = it.name.now; kind = kind_of it.kind }
 
@@ -21,10 +21,10 @@ variable_of it = record { position = it.position; name = it.name.now; kind = kin
 abbrev pub missing_variable : errors.NoSuchVariable → variables.Variable
 missing_variable e = variables.required e.position (string_bytes e.name)
 
--- the range of its name in the source
+-- the range of a variable's name in the source
 abbrev pub variable_range : Variable → Range ℕ
 variable_range it = variables.name_range (variable_of it)
 
--- and of the name of one that is missing
+-- the range of the name of a variable that is missing
 abbrev pub missing_range : errors.NoSuchVariable → Range ℕ
 missing_range e = variables.name_range (missing_variable e)

@@ -2,7 +2,7 @@
 use Rattle.std.specs.Prelude.{◌≢◌, ℕ, ◌+◌, List, [], ◌∷◌, ◌++◌, length, Some, None, codes}
 use Rattle.subst_error.specs.Fault.{Fault, InvalidEscapeSequence, MissingVariableName, UnexpectedCharacter, MissingClosingBrace}
 use Rattle.subst_error.specs.declared.CharOrByte.{CharOrByte}
-use Rattle.subst_language.specs.Language.Bytes.{dollar, colon, question_mark, backslash, opening_brace, closing_brace, IsSpecial}
+use Rattle.subst_language.specs.Language.Bytes.{dollar, colon, question_mark, backslash, opening_brace, closing_brace, IsEscapable}
 use Rattle.subst_language.specs.Language.Name.{IsName, IsNameByte}
 use Rattle.subst_language.specs.Language.Character.{IsFrontCharacter}
 use Rattle.subst_language.specs.Language.Tree.{Tree, text}
@@ -23,7 +23,7 @@ mutual
     -- a backslash at the end
     escape_at_end : {p : ℕ} → IsBad p (backslash ∷ []) (InvalidEscapeSequence p None)
     -- a backslash before a byte that isn't special
-    escape : {p b : ℕ} {x : List ℕ} {c : CharOrByte} → ¬ (IsSpecial b) → IsFrontCharacter (b ∷ x) c
+    escape : {p b : ℕ} {x : List ℕ} {c : CharOrByte} → ¬ (IsEscapable b) → IsFrontCharacter (b ∷ x) c
         → IsBad p (backslash ∷ b ∷ x) (InvalidEscapeSequence p (Some c))
     -- a dollar at the end
     dollar_at_end : {p : ℕ} → IsBad p (dollar ∷ []) (MissingVariableName p 1)

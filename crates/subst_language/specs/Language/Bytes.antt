@@ -25,12 +25,12 @@ opening_brace = 123
 abbrev pub closing_brace : ℕ
 closing_brace = 125
 
--- one of the five bytes that a backslash escapes: \ $ { } :
-abbrev pub is_special : ℕ → Bool
-is_special b = b == backslash || b == dollar || b == opening_brace || b == closing_brace || b == colon
+-- one of the five bytes that a backslash may precede: \ $ { } :
+abbrev pub is_escapable : ℕ → Bool
+is_escapable b = b == backslash || b == dollar || b == opening_brace || b == closing_brace || b == colon
 
-abbrev pub IsSpecial : ℕ → Type 0
-IsSpecial b = IsTrue (is_special b)
+abbrev pub IsEscapable : ℕ → Type 0
+IsEscapable b = IsTrue (is_escapable b)
 
 -- the byte begins neither a placeholder nor an escape
 abbrev pub IsPlain : ℕ → Type 0

@@ -1,6 +1,10 @@
 -- Texts in which each special byte is escaped.
-use Rattle.std.specs.Prelude.{ℕ, List, [], ◌∷◌, ◌++◌, if◌then◌else◌}
-use Rattle.subst_language.specs.Language.Bytes.{backslash, is_special}
+use Rattle.std.specs.Prelude.{ℕ, ◌==◌, Bool, ◌||◌, List, [], ◌∷◌, ◌++◌, if◌then◌else◌}
+use Rattle.subst_language.specs.Language.Bytes.{dollar, colon, backslash, opening_brace, closing_brace}
+
+-- one of the five bytes that get a backslash
+abbrev pub is_special : ℕ → Bool
+is_special b = b == backslash || b == dollar || b == opening_brace || b == closing_brace || b == colon
 
 -- the byte, after a backslash if it is special
 abbrev pub escaped_byte : ℕ → List ℕ

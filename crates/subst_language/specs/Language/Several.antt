@@ -1,5 +1,5 @@
 -- The answers of several sources, one after the other, each under a look-up. A list may hold anything: `ask`
--- tells the source and the look-up of each element.
+-- gives the source and the look-up of each element.
 use Rattle.std.specs.Prelude.{◌≡◌, ⊤, ℕ, List, [], ◌∷◌, ◌++◌, length}
 use Rattle.subst_error.specs.Fault.{Fault}
 use Rattle.subst_language.specs.Language.LookUp.{LookUp}
@@ -13,7 +13,7 @@ Question = List ℕ × LookUp
 abbrev pub under : LookUp → List ℕ → Question
 under look s = (s, look)
 
--- it is the answer of the source under the look-up
+-- an answer of the source under the look-up
 abbrev pub HasAnswer : Question → Answer → Type 0
 HasAnswer question = Answers question.0 question.1
 

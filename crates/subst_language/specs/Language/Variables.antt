@@ -28,11 +28,11 @@ pub record Variable : Type 0 where
 abbrev pub required : ℕ → List ℕ → Variable
 required position name = record { position = position; name = name; kind = Required }
 
--- its name
+-- the name of a variable
 abbrev pub name_of : Variable → List ℕ
 name_of variable = variable.name
 
--- the range of its name, in bytes
+-- the range of a variable's name, in bytes
 abbrev pub name_range : Variable → Range ℕ
 name_range variable = range_at variable.position (length variable.name)
 

@@ -1,5 +1,5 @@
 -- Well-formed trees.
-use Rattle.subst_language.specs.Language.Bytes.{IsPlain, IsSpecial}
+use Rattle.subst_language.specs.Language.Bytes.{IsPlain, IsEscapable}
 use Rattle.subst_language.specs.Language.Name.{IsName, IsNameByte}
 use Rattle.subst_language.specs.Language.Tree.{Item, Plain, Escaped, Short, Braced, Optional, Default, Tree, Empty, Then, text}
 use Rattle.subst_language.specs.Language.Balanced.{IsBalanced}
@@ -15,7 +15,7 @@ abbrev mutual
   -- and its braces match.
   pub IsItem : Item → Tree → Type 0
   IsItem (Plain b) next = IsPlain b
-  IsItem (Escaped b) next = IsSpecial b
+  IsItem (Escaped b) next = IsEscapable b
   IsItem (Short n) next = IsName n × EndsName next
   IsItem (Braced n) next = IsName n
   IsItem (Optional n) next = IsName n

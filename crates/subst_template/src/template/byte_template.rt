@@ -1,4 +1,4 @@
-//! Templates over byte sources that they borrow: a source, and its parts, owned or lent. Only a sentence
+//! Templates over byte sources that they borrow: a source, and its parts, owned or borrowed. Only a sentence
 //! has a template, and it expands to the value of the source's tree. Contracts bound the reads of a parse
 //! and count the turns of an expansion.
 
@@ -22,9 +22,9 @@ use std::marker::Model;
 use subst_error::{ExpandError, ExpandIntoError, NoSuchVariable, ParseError};
 use subst_language::Variable;
 use subst_map::VariableMap;
+use subst_raw::counters::{Reads, Turns};
 use subst_raw::expand::{expand, expand_into, expand_into_slice};
 use subst_raw::parse::parse;
-use subst_raw::steps::{Reads, Turns};
 use subst_raw::variables::{missing, variables};
 use subst_raw::{CowParts, SliceBytes};
 
@@ -159,7 +159,7 @@ impl<'a> ByteTemplate<'a> {
     }
 
     /// Appends the bytes of the source with its variables filled in from `variables` to `output`. Where
-    /// `output` has room for them, this takes no memory, also where a variable is missing.
+    /// `output` has capacity for them, this takes no memory, also where a variable is missing.
     ///
     /// ```rust
     /// let template = ByteTemplate::from_slice(alloc, b"Dear ${name:friend},")?;
@@ -170,9 +170,9 @@ impl<'a> ByteTemplate<'a> {
     ///
     /// # Errors
     ///
-    /// As `expand`, with the name of a missing variable lent from the source. `OutOfMemory` only where the
-    /// room that `output` had left is shorter than what is written, which are all the bytes, or those before
-    /// the missing variable. The items of `output` are then as before.
+    /// As `expand`, with the name of a missing variable borrowed from the source. `OutOfMemory` only where
+    /// the capacity that `output` has left is less than what is written, which are all the bytes, or those
+    /// before the missing variable. The items of `output` are then as before.
     pub fn expand_into<'b, M: VariableMap<'b>>(
         &self,
         output: &mut Vec<u8>,
@@ -183,11 +183,11 @@ impl<'a> ByteTemplate<'a> {
         ensures value { ByValue M.Value.items M.see (M.look_up variables.now) self.now
             (ExpandsInto output.old.items result output.new.items) }
 
-        // Whatever the map, an error leaves the items as they were, and the room only grows.
+        // Whatever the map, an error leaves the items as they were, and the capacity only grows.
         ensures kept { OnErr result (output.new.items ≡ output.old.items) }
         ensures capacity { vec_capacity output.old ≤ vec_capacity output.new }
 
-        // Out of memory only with cause: the room is shorter than what is written.
+        // Out of memory only with cause: the capacity is less than what is written.
         ensures full { ByWritten M.Value.items M.see (M.look_up variables.now) self.now
             (Overflows (vec_capacity output.old) (vec_len output.old) result) }
         ensures sentence { IsSentence self.now }
@@ -261,7 +261,7 @@ impl<'a> ByteTemplate<'a> {
     }
 }
 
-/// A copy has the same source. It allocates unless the template was lent.
+/// A copy has the same source. It allocates unless the template was borrowed.
 impl<'a> Clone for ByteTemplate<'a> {
     ghost use Rattle.std.specs.Prelude.{◌≡◌};
 

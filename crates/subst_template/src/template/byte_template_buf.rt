@@ -19,8 +19,8 @@ use std::marker::Model;
 use subst_error::{ExpandError, ExpandIntoError, NoSuchVariable, ParseError};
 use subst_language::Variable;
 use subst_map::VariableMap;
+use subst_raw::counters::Reads;
 use subst_raw::parse::parse;
-use subst_raw::steps::Reads;
 use subst_raw::{CowParts, PartVec};
 
 /// A template that owns its byte source. Contracts see it as its source.
@@ -84,13 +84,13 @@ impl ByteTemplateBuf {
         Ok(ByteTemplateBuf { source, parts })
     }
 
-    /// Returns the template over the same source, lent. It takes no memory.
+    /// Returns the template over the same source, borrowed. It takes no memory.
     pub fn as_template(&self) -> ByteTemplate<'_>
         ensures template { result ≡ self.now }
     {
         ByteTemplate {
             source: &self.source,
-            parts: CowParts::lent(&self.parts),
+            parts: CowParts::borrowed(&self.parts),
         }
     }
 
@@ -150,11 +150,11 @@ impl ByteTemplateBuf {
         ensures value { ByValue M.Value.items M.see (M.look_up variables.now) self.now
             (ExpandsInto output.old.items result output.new.items) }
 
-        // Whatever the map, an error leaves the items as they were, and the room only grows.
+        // Whatever the map, an error leaves the items as they were, and the capacity only grows.
         ensures kept { OnErr result (output.new.items ≡ output.old.items) }
         ensures capacity { vec_capacity output.old ≤ vec_capacity output.new }
 
-        // Out of memory only with cause: the room is shorter than what is written.
+        // Out of memory only with cause: the capacity is less than what is written.
         ensures full { ByWritten M.Value.items M.see (M.look_up variables.now) self.now
             (Overflows (vec_capacity output.old) (vec_len output.old) result) }
         ensures sentence { IsSentence self.now }
@@ -210,11 +210,11 @@ impl Clone for ByteTemplateBuf {
     }
 }
 
-/// The lent template has the same source.
+/// The borrowed template has the same source.
 impl<'a> From<&'a ByteTemplateBuf> for ByteTemplate<'a> {
     ghost use Rattle.std.specs.Prelude.{◌≡◌};
 
-    ghost from_gives = { λ template lent. lent ≡ template.now };
+    ghost from_gives = { λ template borrowed. borrowed ≡ template.now };
 
     fn from(template: &'a ByteTemplateBuf) -> Self {
         template.as_template()

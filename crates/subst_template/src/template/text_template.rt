@@ -17,9 +17,9 @@ use subst_error::{ExpandError, ExpandIntoError, NoSuchVariable, ParseError};
 use subst_language::Variable;
 use subst_map::VariableMap;
 use subst_raw::CowParts;
+use subst_raw::counters::Reads;
 use subst_raw::expand_text::{expand_text, expand_text_into};
 use subst_raw::parse::parse;
-use subst_raw::steps::Reads;
 use subst_raw::variables::{missing, variables};
 
 /// A template over a text that it borrows. Contracts see it as the bytes of its source.
@@ -101,7 +101,7 @@ impl<'a> Template<'a> {
     }
 
     /// Appends the source with its variables filled in from `variables`, whose values are texts, to `output`.
-    /// Where `output` has room for it, this takes no memory, also where a variable is missing.
+    /// Where `output` has capacity for it, this takes no memory, also where a variable is missing.
     ///
     /// ```rust
     /// let template = Template::from_str(alloc, "Dear ${name:friend},")?;
@@ -112,8 +112,8 @@ impl<'a> Template<'a> {
     ///
     /// # Errors
     ///
-    /// As `expand`, with the name of a missing variable lent from the source. `OutOfMemory` only where the
-    /// room that `output` had left is shorter than what is written, which is all the text, or what comes
+    /// As `expand`, with the name of a missing variable borrowed from the source. `OutOfMemory` only where
+    /// the capacity that `output` has left is less than what is written, which is all the text, or what comes
     /// before the missing variable. The text in `output` is then as before.
     pub fn expand_into<'b, M: VariableMap<'b>>(
         &self,
@@ -125,11 +125,11 @@ impl<'a> Template<'a> {
         ensures value { ByValue M.Value.text M.see (M.look_up variables.now) self.now
             (ExpandsInto (string_bytes output.old) result (string_bytes output.new)) }
 
-        // Whatever the map, an error leaves the text as it was, and the room only grows.
+        // Whatever the map, an error leaves the text as it was, and the capacity only grows.
         ensures kept { OnErr result (string_bytes output.new ≡ string_bytes output.old) }
         ensures capacity { string_capacity output.old ≤ string_capacity output.new }
 
-        // Out of memory only with cause: the room is shorter than what is written.
+        // Out of memory only with cause: the capacity is less than what is written.
         ensures full { ByWritten M.Value.text M.see (M.look_up variables.now) self.now
             (Overflows (string_capacity output.old) (string_len output.old) result) }
         ensures sentence { IsSentence self.now }
@@ -194,7 +194,7 @@ impl<'a> Template<'a> {
     }
 }
 
-/// A copy has the same source. It allocates unless the template was lent.
+/// A copy has the same source. It allocates unless the template was borrowed.
 impl<'a> Clone for Template<'a> {
     ghost use Rattle.std.specs.Prelude.{◌≡◌};
 

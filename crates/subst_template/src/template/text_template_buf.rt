@@ -17,8 +17,8 @@ use std::marker::Model;
 use subst_error::{ExpandError, ExpandIntoError, NoSuchVariable, ParseError};
 use subst_language::Variable;
 use subst_map::VariableMap;
+use subst_raw::counters::Reads;
 use subst_raw::parse::parse;
-use subst_raw::steps::Reads;
 use subst_raw::{CowParts, PartVec};
 
 /// A template that owns its text. Contracts see it as the bytes of its source.
@@ -91,13 +91,13 @@ impl TemplateBuf {
         Ok(TemplateBuf { source, parts })
     }
 
-    /// Returns the template over the same source, lent. It takes no memory.
+    /// Returns the template over the same source, borrowed. It takes no memory.
     pub fn as_template(&self) -> Template<'_>
         ensures template { result ≡ self.now }
     {
         Template {
             source: &self.source,
-            parts: CowParts::lent(&self.parts),
+            parts: CowParts::borrowed(&self.parts),
         }
     }
 
@@ -157,11 +157,11 @@ impl TemplateBuf {
         ensures value { ByValue M.Value.text M.see (M.look_up variables.now) self.now
             (ExpandsInto (string_bytes output.old) result (string_bytes output.new)) }
 
-        // Whatever the map, an error leaves the text as it was, and the room only grows.
+        // Whatever the map, an error leaves the text as it was, and the capacity only grows.
         ensures kept { OnErr result (string_bytes output.new ≡ string_bytes output.old) }
         ensures capacity { string_capacity output.old ≤ string_capacity output.new }
 
-        // Out of memory only with cause: the room is shorter than what is written.
+        // Out of memory only with cause: the capacity is less than what is written.
         ensures full { ByWritten M.Value.text M.see (M.look_up variables.now) self.now
             (Overflows (string_capacity output.old) (string_len output.old) result) }
         ensures sentence { IsSentence self.now }
@@ -217,11 +217,11 @@ impl Clone for TemplateBuf {
     }
 }
 
-/// The lent template has the same source.
+/// The borrowed template has the same source.
 impl<'a> From<&'a TemplateBuf> for Template<'a> {
     ghost use Rattle.std.specs.Prelude.{◌≡◌};
 
-    ghost from_gives = { λ template lent. lent ≡ template.now };
+    ghost from_gives = { λ template borrowed. borrowed ≡ template.now };
 
     fn from(template: &'a TemplateBuf) -> Self {
         template.as_template()

@@ -5,7 +5,7 @@ ghost use Rattle.std.specs.Prelude.{◌<◌, ◌≤◌, IfOk, length};
 
 use std::alloc::{AllocError, Global};
 use std::ops::Range;
-use subst_walk::Step;
+use subst_walk::PathStep;
 use toml_parser::text::{byte_at, first, skip, skip_blank, skip_ws};
 use toml_parser::{ErrorKind, Key, ParseError, dotted_key, quoted, starts_string, unquoted};
 
@@ -16,23 +16,23 @@ struct Token<'s> {
     rest: &'s str,
 }
 
-/// What the headers have told of the tables below a path.
+/// What the headers have said of the tables below a path.
 #[derive(Drop)]
 struct Headers<'p> {
     /// The path.
-    path: &'p [Step],
+    path: &'p [PathStep],
     /// How many elements each array of tables on the path has had so far, by how many steps of the path are
     /// left below an element of it.
     elements: Vec<usize>,
     /// The steps from the table of the last header on, if the path leads through it.
-    section: Option<&'p [Step]>,
+    section: Option<&'p [PathStep]>,
 }
 
 /// Returns the range of the token of the string at a path, in byte offsets of the document.
 pub(super) fn token_range(
     alloc: Global,
     source: &str,
-    path: &[Step],
+    path: &[PathStep],
 ) -> Result<Option<Range<usize>>, AllocError> {
     let token = match token_at(alloc, source, path) {
         Ok(Some(token)) => token,
@@ -48,7 +48,7 @@ pub(super) fn token_range(
 fn token_at<'s>(
     alloc: Global,
     source: &'s str,
-    path: &[Step],
+    path: &[PathStep],
 ) -> Result<Option<Token<'s>>, ParseError> {
     let mut headers = Headers {
         path,
@@ -89,7 +89,7 @@ impl<'p> Headers<'p> {
 
     /// Returns the steps from the table of a header on, if the path leads through it. A header in double
     /// brackets adds an element to an array of tables.
-    fn table(&mut self, key: &Key, is_array: bool) -> Option<&'p [Step]> {
+    fn table(&mut self, key: &Key, is_array: bool) -> Option<&'p [PathStep]> {
         let mut left = self.path;
         for part in &key.path {
             left = self.in_last_element(below(left, part.as_str())?)?;
@@ -102,8 +102,8 @@ impl<'p> Headers<'p> {
     }
 
     /// Counts one element more of the array of tables from which these steps lead on.
-    fn add_element(&mut self, steps: &[Step]) {
-        if let [Step::Index(_), rest @ ..] = steps
+    fn add_element(&mut self, steps: &[PathStep]) {
+        if let [PathStep::Index(_), rest @ ..] = steps
             && let Some(count) = self.elements.get_mut(rest.len())
         {
             *count = count.saturating_add(1);
@@ -112,8 +112,8 @@ impl<'p> Headers<'p> {
 
     /// Returns the steps below the last element of an array of tables, if the path leads through that. From a
     /// table these are the same steps.
-    fn in_last_element(&self, steps: &'p [Step]) -> Option<&'p [Step]> {
-        let [Step::Index(index), rest @ ..] = steps else {
+    fn in_last_element(&self, steps: &'p [PathStep]) -> Option<&'p [PathStep]> {
+        let [PathStep::Index(index), rest @ ..] = steps else {
             return Some(steps);
         };
         match self.elements.get(rest.len()) {
@@ -124,15 +124,15 @@ impl<'p> Headers<'p> {
 }
 
 /// Returns the steps below a key of a table, if the path leads through it.
-fn below<'p>(steps: &'p [Step], part: &str) -> Option<&'p [Step]> {
+fn below<'p>(steps: &'p [PathStep], part: &str) -> Option<&'p [PathStep]> {
     match steps {
-        [Step::Key(key), rest @ ..] if key.as_str() == part => Some(rest),
+        [PathStep::Key(key), rest @ ..] if key.as_str() == part => Some(rest),
         _ => None,
     }
 }
 
-/// The same of a key with dots.
-fn below_key<'p>(steps: &'p [Step], key: &Key) -> Option<&'p [Step]> {
+/// Returns the steps below a dotted key of a table, if the path leads through it.
+fn below_key<'p>(steps: &'p [PathStep], key: &Key) -> Option<&'p [PathStep]> {
     let mut left = steps;
     for part in &key.path {
         left = below(left, part.as_str())?;
@@ -141,9 +141,9 @@ fn below_key<'p>(steps: &'p [Step], key: &Key) -> Option<&'p [Step]> {
 }
 
 /// Returns the steps below an item of an array, if the path leads through it.
-fn below_index(steps: Option<&[Step]>, item: usize) -> Option<&[Step]> {
+fn below_index(steps: Option<&[PathStep]>, item: usize) -> Option<&[PathStep]> {
     match steps {
-        Some([Step::Index(index), rest @ ..]) if *index == item => Some(rest),
+        Some([PathStep::Index(index), rest @ ..]) if *index == item => Some(rest),
         _ => None,
     }
 }
@@ -154,7 +154,7 @@ fn below_index(steps: Option<&[Step]>, item: usize) -> Option<&[Step]> {
 fn pair<'s>(
     alloc: Global,
     text: &'s str,
-    steps: Option<&[Step]>,
+    steps: Option<&[PathStep]>,
     found: &mut Option<Token<'s>>,
 ) -> Result<&'s str, ParseError>
     ensures shorter { IfOk result (λ rest. length rest.now < length text.now) }
@@ -170,7 +170,7 @@ fn pair<'s>(
 fn value<'s>(
     alloc: Global,
     text: &'s str,
-    steps: Option<&[Step]>,
+    steps: Option<&[PathStep]>,
     found: &mut Option<Token<'s>>,
 ) -> Result<&'s str, ParseError>
     ensures shorter { IfOk result (λ rest. length rest.now < length text.now) }
@@ -194,7 +194,7 @@ fn value<'s>(
 fn array<'s>(
     alloc: Global,
     text: &'s str,
-    steps: Option<&[Step]>,
+    steps: Option<&[PathStep]>,
     found: &mut Option<Token<'s>>,
 ) -> Result<&'s str, ParseError>
     ensures shorter { IfOk result (λ rest. length rest.now < length text.now) }
@@ -216,7 +216,7 @@ fn array<'s>(
 fn inline_table<'s>(
     alloc: Global,
     text: &'s str,
-    steps: Option<&[Step]>,
+    steps: Option<&[PathStep]>,
     found: &mut Option<Token<'s>>,
 ) -> Result<&'s str, ParseError>
     ensures shorter { IfOk result (λ rest. length rest.now < length text.now) }

@@ -15,8 +15,8 @@ use std::convert::AsSlice;
 use std::hash::BuildHasher;
 use subst::{Env, Error, NoSubstitution, substitute_bytes};
 
-/// Returns bytes filled in from a `BTreeMap` whose keys are lent.
-pub fn btree_map_of_lent<V: AsSlice<u8>>(
+/// Returns bytes filled in from a `BTreeMap` whose keys are borrowed.
+pub fn btree_map_of_borrowed<V: AsSlice<u8>>(
     alloc: Global,
     source: &[u8],
     variables: &BTreeMap<&str, V>,
@@ -40,8 +40,8 @@ pub fn hash_map<V: AsSlice<u8>, S: BuildHasher>(
     substitute_bytes(alloc, source, variables)
 }
 
-/// Returns bytes filled in from a `HashMap` whose keys are lent.
-pub fn hash_map_of_lent<V: AsSlice<u8>, S: BuildHasher>(
+/// Returns bytes filled in from a `HashMap` whose keys are borrowed.
+pub fn hash_map_of_borrowed<V: AsSlice<u8>, S: BuildHasher>(
     alloc: Global,
     source: &[u8],
     variables: &HashMap<&str, V, S>,
@@ -65,8 +65,8 @@ pub fn index_map<V: AsSlice<u8>, S: BuildHasher>(
     substitute_bytes(alloc, source, variables)
 }
 
-/// Returns bytes filled in from an `IndexMap` whose keys are lent.
-pub fn index_map_of_lent<V: AsSlice<u8>, S: BuildHasher>(
+/// Returns bytes filled in from an `IndexMap` whose keys are borrowed.
+pub fn index_map_of_borrowed<V: AsSlice<u8>, S: BuildHasher>(
     alloc: Global,
     source: &[u8],
     variables: &IndexMap<&str, V, S>,

@@ -27,8 +27,8 @@ pub fn btree_map<V: AsStr>(
     substitute(alloc, source, variables)
 }
 
-/// Returns a text filled in from a `BTreeMap` whose keys are lent.
-pub fn btree_map_of_lent<V: AsStr>(
+/// Returns a text filled in from a `BTreeMap` whose keys are borrowed.
+pub fn btree_map_of_borrowed<V: AsStr>(
     alloc: Global,
     source: &str,
     variables: &BTreeMap<&str, V>,
@@ -52,8 +52,8 @@ pub fn hash_map<V: AsStr, S: BuildHasher>(
     substitute(alloc, source, variables)
 }
 
-/// Returns a text filled in from a `HashMap` whose keys are lent.
-pub fn hash_map_of_lent<V: AsStr, S: BuildHasher>(
+/// Returns a text filled in from a `HashMap` whose keys are borrowed.
+pub fn hash_map_of_borrowed<V: AsStr, S: BuildHasher>(
     alloc: Global,
     source: &str,
     variables: &HashMap<&str, V, S>,
@@ -77,8 +77,8 @@ pub fn index_map<V: AsStr, S: BuildHasher>(
     substitute(alloc, source, variables)
 }
 
-/// Returns a text filled in from an `IndexMap` whose keys are lent.
-pub fn index_map_of_lent<V: AsStr, S: BuildHasher>(
+/// Returns a text filled in from an `IndexMap` whose keys are borrowed.
+pub fn index_map_of_borrowed<V: AsStr, S: BuildHasher>(
     alloc: Global,
     source: &str,
     variables: &IndexMap<&str, V, S>,

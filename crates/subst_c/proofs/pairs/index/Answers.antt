@@ -1,9 +1,9 @@
 -- One more pair gives its value, unless one before it has the name.
 use Rattle.std.proofs.Common.{sym, ◌∙◌}
-use Rattle.subst_c.proofs.IndexLemmas.{first_value-take}
+use Rattle.subst_c.proofs.IndexLemmas.{pair_value-take}
 use Rattle.subst_c.proofs.pairs.index.Goals as goal
 
 pub loop-pair-preserved : goal.loop-pair-preserved
 loop-pair-preserved c = λ name.
     let added = rw (c.loop-pair.invariant name) at (c.in_ok-insert_if_new.ensures name) in
-    added ∙ sym (first_value-take c.args.pairs.now c.loop-pair.pair-index _ name c.loop-pair-test.true)
+    added ∙ sym (pair_value-take c.args.pairs.now c.loop-pair.pair-index _ name c.loop-pair-test.true)

@@ -1,7 +1,7 @@
--- The room begins with the records so far, and the rest of it is as it was.
+-- The buffer begins with the records so far, and the rest of it is as it was.
 use Rattle.std.proofs.Common.{◌≡◌, ◌++◌, drop, map, take}
 use Rattle.subst_c.proofs.variables.deliver.Given as goal
 
 abbrev pub invariant-loop-i : goal.invariant-loop-i
 invariant-loop-i g l =
-    l.room ≡ map g.T.Recorded.recorded (take l.i l.list) ++ drop l.i l.initial.room
+    l.buffer ≡ map g.T.Recorded.recorded (take l.i l.list) ++ drop l.i l.initial.buffer

@@ -1,4 +1,4 @@
--- A word has a name and a value just if some byte of it is `=`.
+-- An argument has a name and a value just if some byte of it is `=`.
 use Rattle.std.proofs.Common.{lit<}
 use Rattle.std.proofs.lemmas.Str.Pattern.{split_once_first}
 use Rattle.subst_filter_lib.specs.Words.{equals_sign, is_equals_sign}

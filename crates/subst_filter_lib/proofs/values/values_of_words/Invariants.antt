@@ -1,4 +1,4 @@
--- The map has what the words so far give.
+-- The map has what the arguments so far give.
 use Rattle.std.proofs.Common.{◌≡◌, ℕ, List, take}
 use Rattle.subst_filter_lib.specs.Words.{last_value, value_under}
 use Rattle.subst_filter_lib.proofs.values.values_of_words.Given as goal

@@ -1,7 +1,7 @@
 use Rattle.std.proofs.Common.{◌≡◌, ◌≤◌, ◌++◌, ◌∷◌, ◌+◌, ◌-◌, [], take, drop, length, ap, subst, arith, rules}
 use Rattle.std.specs.Prelude.{string_bytes, slice_range}
 use Rattle.std.proofs.lemmas.List.{length-take}
-use Rattle.subst_json.specs.Places.{Spells}
+use Rattle.subst_json.specs.Places.{IsTokenOf}
 use Rattle.subst_json.proofs.PlaceLemmas.{spelled_until}
 use Rattle.subst_json.proofs.place.place_in.Goals as goal
 
@@ -15,11 +15,11 @@ returns c =
     let start = c.in-Some-3.start in
     let end = c.in-Some-4.end in
     let is_text : text ≡ slice_range s token.start token.end = search rules in
-    let is_string : Spells text x = search rules in
+    let is_string : IsTokenOf text x = search rules in
     let start_is : (start ≤ length text) × (range.start ≤ length x)
-    × Spells (take start text ++ 34 ∷ []) (take range.start x) = search rules in
+    × IsTokenOf (take start text ++ 34 ∷ []) (take range.start x) = search rules in
     let end_is : (end ≤ length text) × (range.end ≤ length x)
-    × Spells (take end text ++ 34 ∷ []) (take range.end x) = search rules in
+    × IsTokenOf (take end text ++ 34 ∷ []) (take range.end x) = search rules in
     let forwards : token.start ≤ token.end = search rules in
     let text_len : length text + token.start ≤ token.end =
     omega (arith, forwards, ap length is_text, length-take (token.end - token.start) (drop token.start s)) in
@@ -29,7 +29,7 @@ returns c =
       forwards = search rules;
       before_end = omega (arith, text_len, end_is.0);
       text = x;
-      spells = subst (λ t. Spells t x) is_text is_string;
+      spells = subst (λ t. IsTokenOf t x) is_text is_string;
       start_within = start_is.1;
       end_within = end_is.1;
       start_spelled = spelled_until s text _ token.start token.end start _ is_text

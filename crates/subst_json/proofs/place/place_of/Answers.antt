@@ -6,7 +6,7 @@ use Rattle.serde_json.specs.View.{view}
 use Rattle.serde_json.specs.declared.value.Value as json
 use Rattle.subst_error.specs.Range.{IsRangeIn}
 use Rattle.subst_json.specs.Paths.{steps_of}
-use Rattle.subst_json.specs.Places.{value_at, IsQuoted, Spells}
+use Rattle.subst_json.specs.Places.{value_at, HasQuotes, IsTokenOf}
 use Rattle.subst_json.proofs.JsonTreeLemmas.{view-String}
 use Rattle.subst_json.proofs.PlaceLemmas.{leads_to_value}
 use Rattle.subst_json.proofs.place.place_of.Goals as goal
@@ -25,8 +25,8 @@ returns c =
     found ∙ ap Some (view-String c.in-Some-String.text) in
     let is_part : c.in-Some-slice.token.now ≡ part = search rules in
     let within : IsRangeIn s place = search rules in
-    let spelled : Spells part text = search rules in
-    let quoted : IsQuoted part = search rules in
+    let spelled : IsTokenOf part text = search rules in
+    let quoted : HasQuotes part = search rules in
     record {
       within = within;
       forwards = search rules;

@@ -21,7 +21,7 @@ invariant-refused_items-loop-index g l =
     (map refusal_of l.found.items)
     × AllByRecursion HasRangeInText (map refusal_of l.found.items)
 
--- so are those of the members so far
+-- all refusals of the members so far are found, and more is wanted
 abbrev pub invariant-refused_members-loop-key : goal.invariant-refused_members-loop-key
 invariant-refused_members-loop-key g l = (done : List Entry)
     × (l.members.entries ≡ done ++ l.key-iterator)

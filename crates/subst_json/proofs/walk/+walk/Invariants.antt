@@ -16,7 +16,7 @@ invariant-filled_items-loop-item g l = (done : List Value)
     × ((look : LookUp) → g.F.Fill.is_look_up l.filler look
     → AreMapped look (items_view done) (items_view l.trees.items))
 
--- so are the values so far
+-- the values of the members so far are mapped
 abbrev pub invariant-filled_members-loop-member : goal.invariant-filled_members-loop-member
 invariant-filled_members-loop-member g l = (done : List Value)
     × (values_of l.fn.members.entries ≡ done ++ values_mut_rest l.member-iterator)

@@ -6,7 +6,7 @@ use Rattle.subst_language.proofs.laws.law_2.Goals as goal
 pub returns-clause-tree : goal.returns-clause-tree
 returns-clause-tree c = spells_join
 
--- and give what the two give
+-- two sentences one after the other give what the two give
 pub returns-clause-bytes : goal.returns-clause-bytes
 returns-clause-bytes c = joined_gives
 
@@ -14,10 +14,10 @@ returns-clause-bytes c = joined_gives
 pub returns-clause-fault : goal.returns-clause-fault
 returns-clause-fault c = joined_fault
 
--- so is a missing variable of the second sentence, where the first gives bytes
+-- a missing variable of the second sentence is that of the whole, where the first gives bytes
 pub returns-clause-missing : goal.returns-clause-missing
 returns-clause-missing c = joined_missing
 
--- and one of the first
+-- a missing variable of the first sentence is that of the whole
 pub returns-clause-missing_before : goal.returns-clause-missing_before
 returns-clause-missing_before c = missing_before

@@ -5,7 +5,7 @@ use Rattle.subst_language.proofs.laws.outputs_are_bounded.Goals as goal
 pub returns-clause-exact : goal.returns-clause-exact
 returns-clause-exact c = value_length_exact
 
--- it is at most that of the source and of the values
+-- the length is at most that of the source and of the values
 pub returns-clause-bound : goal.returns-clause-bound
 returns-clause-bound c = value_length_at_most
 

@@ -11,7 +11,7 @@ pub returns-in_ok-append_bytes-in-Literal-clause-written :
     goal.returns-in_ok-append_bytes-in-Literal-clause-written
 returns-in_ok-append_bytes-in-Literal-clause-written g c =
     let appended = c.in_ok-append_bytes-in-Literal.ensures in
-    writes_own _ _ c.args.part c.bytes_at.result.now _ _ appended.ok appended.len appended.room
+    writes_own _ _ c.args.part c.bytes_at.result.now _ _ appended.ok appended.len appended.capacity
     (λ look. rw c.in-Literal.is (ap (map Own) (sym c.bytes_at.ensures)))
 
 -- as many bytes are written as the range has
@@ -23,7 +23,7 @@ pub returns-in_ok-append_byte-in-Escaped-clause-written :
     goal.returns-in_ok-append_byte-in-Escaped-clause-written
 returns-in_ok-append_byte-in-Escaped-clause-written g c =
     let appended = c.in_ok-append_byte-in-Escaped.ensures in
-    writes_own _ _ c.args.part (c.in-Escaped.byte ∷ []) _ _ appended.ok appended.len appended.room
+    writes_own _ _ c.args.part (c.in-Escaped.byte ∷ []) _ _ appended.ok appended.len appended.capacity
     (λ look. rw c.in-Escaped.is refl)
 
 pub returns-in_ok-append_bytes-in-Variable-clause-written :
@@ -31,7 +31,7 @@ pub returns-in_ok-append_bytes-in-Variable-clause-written :
 returns-in_ok-append_bytes-in-Variable-clause-written g c =
     let appended = c.in_ok-append_bytes-in-Variable.ensures in
     let look_up = g.M.VariableMap.look_up c.args.variables.now in
-    writes_value _ _ c.args.part c.bytes_of.result.now _ _ appended.ok appended.len appended.room
+    writes_value _ _ c.args.part c.bytes_of.result.now _ _ appended.ok appended.len appended.capacity
     (λ bytes reads. rw (
       c.in-Variable.is,
       ← c.name_at.ensures,
@@ -46,7 +46,8 @@ pub returns-in_ok-append_bytes-in-Default-clause-written :
 returns-in_ok-append_bytes-in-Default-clause-written g c =
     let appended = c.in_ok-append_bytes-in-Default.ensures in
     let look_up = g.M.VariableMap.look_up c.args.variables.now in
-    writes_value _ _ c.args.part c.bytes_of-in-Default.result.now _ _ appended.ok appended.len appended.room
+    writes_value _ _ c.args.part c.bytes_of-in-Default.result.now _ _ appended.ok appended.len
+    appended.capacity
     (λ bytes reads. rw (
       c.in-Default.is,
       ← c.name_at-in-Default.ensures,

@@ -47,7 +47,7 @@ loop-part-preserved-in-Literal g c =
       visited =
           visits_next _ _ _ c.loop-part.invariant.visited _ _ _ here (fits_there _ _ c.requires here)
           (writes_own _ c.args.source.now (Literal c.in-Literal.span)
-          c.bytes_at.result.now _ _ appended.ok appended.len appended.room
+          c.bytes_at.result.now _ _ appended.ok appended.len appended.capacity
           (λ look. ap (map Own) (sym c.bytes_at.ensures)))
           refl c.in-Some.ensures.counted;
     }
@@ -65,7 +65,7 @@ returns-in_err-append_bytes-in-Literal g c =
     let failed = c.in_err-append_bytes-in-Literal.ensures in
     rw (is, gives_error) (visits_until _ _ _ c.loop-part.invariant.visited _ _ _ here
     (stops_at_own _ c.args.source.now (Literal c.in-Literal.span) c.bytes_at.result.now _ _ _ failed.err
-    failed.full failed.room (λ look. ap (map Own) (sym c.bytes_at.ensures))) c.in-Some.ensures.counted)
+    failed.full failed.capacity (λ look. ap (map Own) (sym c.bytes_at.ensures))) c.in-Some.ensures.counted)
 
 pub loop-part-preserved-in-Escaped : goal.loop-part-preserved-in-Escaped
 loop-part-preserved-in-Escaped g c =
@@ -77,7 +77,7 @@ loop-part-preserved-in-Escaped g c =
       visited =
           visits_next _ _ _ c.loop-part.invariant.visited _ _ _ here (fits_there _ _ c.requires here)
           (writes_own _ c.args.source.now (Escaped c.in-Escaped.byte) (c.in-Escaped.byte ∷ []) _ _
-          appended.ok appended.len appended.room (λ look. refl))
+          appended.ok appended.len appended.capacity (λ look. refl))
           refl c.in-Some.ensures.counted;
     }
 
@@ -94,7 +94,7 @@ returns-in_err-append_byte-in-Escaped g c =
     let failed = c.in_err-append_byte-in-Escaped.ensures in
     rw (is, gives_error) (visits_until _ _ _ c.loop-part.invariant.visited _ _ _ here
     (stops_at_own _ c.args.source.now (Escaped c.in-Escaped.byte) (c.in-Escaped.byte ∷ []) _ _ _ failed.err
-    (omega (arith, failed.full)) failed.room (λ look. refl)) c.in-Some.ensures.counted)
+    (omega (arith, failed.full)) failed.capacity (λ look. refl)) c.in-Some.ensures.counted)
 
 pub loop-part-preserved-in-Variable : goal.loop-part-preserved-in-Variable
 loop-part-preserved-in-Variable g c =
@@ -107,7 +107,7 @@ loop-part-preserved-in-Variable g c =
       visited =
           visits_next _ _ _ c.loop-part.invariant.visited _ _ _ here (fits_there _ _ c.requires here)
           (writes_value _ c.args.source.now (Variable c.in-Variable.name) c.bytes_of.result.now _ _
-          appended.ok appended.len appended.room (found_gives g.R.ReadValue.read g.M.VariableMap.see
+          appended.ok appended.len appended.capacity (found_gives g.R.ReadValue.read g.M.VariableMap.see
           look_up c.in-Some-get.value _ c.name_at.ensures c.in-Some-get.ensures.value
           c.bytes_of.ensures.bytes)
           (rw (← c.name_at.ensures, has_mark look_up c.in-Some-get.ensures.value) refl)
@@ -129,7 +129,7 @@ returns-in_err-append_bytes-in-Variable g c =
     let failed = c.in_err-append_bytes-in-Variable.ensures in
     rw (is, gives_error) (visits_until _ _ _ c.loop-part.invariant.visited _ _ _ here
     (stops_at_value _ c.args.source.now (Variable c.in-Variable.name) c.bytes_of.result.now _ _ _ failed.err
-    failed.full failed.room (found_gives g.R.ReadValue.read g.M.VariableMap.see look_up
+    failed.full failed.capacity (found_gives g.R.ReadValue.read g.M.VariableMap.see look_up
     c.in-Some-get.value _ c.name_at.ensures c.in-Some-get.ensures.value c.bytes_of.ensures.bytes))
     c.in-Some.ensures.counted)
 
@@ -154,7 +154,7 @@ loop-part-preserved-in-Some-get-2 g c =
       visited =
           visits_next _ _ _ c.loop-part.invariant.visited _ _ _ here (fits_there _ _ c.requires here)
           (writes_value _ c.args.source.now (Default c.in-Default.name c.in-Default.next)
-          c.bytes_of-in-Some-get-2.result.now _ _ appended.ok appended.len appended.room (found_gives
+          c.bytes_of-in-Some-get-2.result.now _ _ appended.ok appended.len appended.capacity (found_gives
           g.R.ReadValue.read g.M.VariableMap.see look_up c.in-Some-get-2.value _
           c.name_at-in-Default.ensures c.in-Some-get-2.ensures.value
           c.bytes_of-in-Some-get-2.ensures.bytes)
@@ -178,7 +178,7 @@ returns-in_err-append_bytes-in-Some-get-2 g c =
     let failed = c.in_err-append_bytes-in-Some-get-2.ensures in
     rw (is, gives_error) (visits_until _ _ _ c.loop-part.invariant.visited _ _ _ here
     (stops_at_value _ c.args.source.now (Default c.in-Default.name c.in-Default.next)
-    c.bytes_of-in-Some-get-2.result.now _ _ _ failed.err failed.full failed.room (found_gives
+    c.bytes_of-in-Some-get-2.result.now _ _ _ failed.err failed.full failed.capacity (found_gives
     g.R.ReadValue.read g.M.VariableMap.see look_up c.in-Some-get-2.value _ c.name_at-in-Default.ensures
     c.in-Some-get-2.ensures.value c.bytes_of-in-Some-get-2.ensures.bytes)) c.in-Some.ensures.counted)
 

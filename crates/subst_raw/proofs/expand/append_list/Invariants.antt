@@ -7,7 +7,7 @@ use Rattle.subst_raw.proofs.expand.append_list.Given as goal
 abbrev pub invariant-loop-part : goal.invariant-loop-part
 invariant-loop-part g l =
     let context = context_of g.R.ReadValue.read g.R.ReadValue.is_read g.M.VariableMap.see
-    (g.M.VariableMap.look_up l.variables) g.W.Output.holds g.W.Output.len g.W.Output.room in
+    (g.M.VariableMap.look_up l.variables) g.W.Output.holds g.W.Output.len g.W.Output.capacity in
     let parts = l.initial.list.parts in
     record {
       same : l.list.parts ≡ parts;

@@ -32,14 +32,14 @@ returns-clause-value g c bytes reads t spells =
     rw (
       ← c.replace.ensures.value,
       ← c.into_bytes-bytes.ensures.value,
-      c.text_of.ensures.room,
+      c.text_of.ensures.vec,
       ← gives,
       ← same,
     ) (c.expand_into-outcome.ensures.expands.value bytes reads)
 
 pub returns-clause-kept : goal.returns-clause-kept
 returns-clause-kept g c =
-    rw (← c.replace.ensures.value, ← c.into_bytes-bytes.ensures.value, c.text_of.ensures.room)
+    rw (← c.replace.ensures.value, ← c.into_bytes-bytes.ensures.value, c.text_of.ensures.vec)
     c.expand_into-outcome.ensures.expands.kept
 
 pub returns-clause-full : goal.returns-clause-full

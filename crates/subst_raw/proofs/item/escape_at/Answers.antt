@@ -1,4 +1,4 @@
--- One lemma for each thing that may stand after the backslash.
+-- One lemma for each thing that may be after the backslash.
 use Rattle.std.proofs.Common.{sym, ◌∙◌}
 use Rattle.subst_raw.proofs.PlaceholderLemmas.{escape_at, lone_backslash_at, other_escape_at}
 use Rattle.subst_raw.proofs.item.escape_at.Goals as goal
@@ -11,11 +11,11 @@ pub returns-in-Some-clause-ok : goal.returns-in-Some-clause-ok
 returns-in-Some-clause-ok c =
     escape_at c.args.tape.now.source.now c.args.at c.requires.0 c.requires.1 c.in-Some.byte
     c.in-Some.ensures.byte
-    (sym c.is_special.ensures ∙ c.if-is_special.true)
+    (sym c.is_escapable.ensures ∙ c.if-is_escapable.true)
 
 pub returns-in-Some-2-clause-err : goal.returns-in-Some-2-clause-err
 returns-in-Some-2-clause-err c =
     other_escape_at c.args.tape.now.source.now c.args.at c.requires.0 c.requires.1 c.in-Some.byte
     c.character_at.result c.in-Some.ensures.byte
-    (sym c.is_special.ensures ∙ c.if-is_special.false)
+    (sym c.is_escapable.ensures ∙ c.if-is_escapable.false)
     (rw c.in-Some.ensures.same at c.character_at.ensures.answer)

@@ -1,4 +1,4 @@
--- The log has room for the longest line, so it isn't too short.
+-- The log has capacity for the longest line, so it isn't too short.
 use Rattle.std.proofs.Common.{◌≤◌, ◌+◌, ◌*◌, ◌==◌, length, count_by, refl, string_bytes, vec_capacity, vec_len}
 use Rattle.subst.specs.Language.Bytes.{dollar}
 use Rattle.subst.proofs.Calling.{given_into, missed_into, never_full}
@@ -10,10 +10,10 @@ pub unreachable-requires : goal.unreachable-requires
 unreachable-requires c =
     let source = c.args.line.now in
     let expands = c.expand_into.ensures in
-    let room : vec_len c.args.log.now + (length source + count_by (λ b. b == dollar) source * LONGEST)
-    ≤ vec_capacity c.args.log.now = rw c.requires.line c.requires.room in
+    let capacity : vec_len c.args.log.now + (length source + count_by (λ b. b == dollar) source * LONGEST)
+    ≤ vec_capacity c.args.log.now = rw c.requires.line c.requires.capacity in
     let never = never_full source (texts_of c.args.fields.now) LONGEST (vec_len c.args.log.now)
-    (vec_capacity c.args.log.now) c.expand_into.result expands.sentence c.requires.longest room
+    (vec_capacity c.args.log.now) c.expand_into.result expands.sentence c.requires.longest capacity
     (expands.full (λ v. string_bytes v) (λ v. refl)) in
     rw c.in-Err-OutOfMemory.field-0-is at (rw c.in-Err-OutOfMemory.is at never)
 

@@ -2,7 +2,7 @@
 use Rattle.std.proofs.Common.{◌≡◌, [], ◌∷◌, ◌++◌, length, refl, sym, ap, ◌∙◌, append_assoc, arith}
 use Rattle.std.specs.Vec.Iter.{into_iter_items}
 use Rattle.subst_walk.specs.Paths.{refusal_below}
-use Rattle.subst_walk.specs.Refused.{lent_step_of, refusal_of}
+use Rattle.subst_walk.specs.Refused.{borrowed_step_of, refusal_of}
 use Rattle.subst_walk.specs.declared.refused.Refused.{Refused}
 use Rattle.subst_walk.proofs.FoundLemmas.{one_more_below, pushed_step}
 use Rattle.subst_walk.proofs.refused.add_below.Goals as goal
@@ -15,7 +15,7 @@ loop-refused-preserved c =
     let left = into_iter_items c.next.new.self in
     let steps : into_iter_items l.refused-iterator ≡ v ∷ left = c.in-Some.ensures.steps.0 in
     let w : Refused = record { steps = c.push.new.self; text = v.text; error = v.error } in
-    let step = lent_step_of c.args.step in
+    let step = borrowed_step_of c.args.step in
     let pushed = pushed_step v.steps.items c.in_ok-into_owned.field-0 in
     let here : refusal_of w ≡ refusal_below step (refusal_of v) =
     rw (c.in_ok-push.ensures.items, pushed, c.in_ok-into_owned.ensures) refl in

@@ -6,38 +6,38 @@ use Rattle.subst_raw.proofs.parse.Parser.read_at_top.Goals as goal
 
 pub read_escape-requires-clause-reading : goal.read_escape-requires-clause-reading
 read_escape-requires-clause-reading g c =
-    let found = c.plain_end-self.ensures in
+    let found = c.find_special-self.ensures in
     let p = c.args.self.now in
     let (first, known, reading) = c.requires.reading in (
       first,
       rw (c.byte_at.ensures.same ∙ found.same) known,
-      reading_with (record p { at = c.plain_end-self.result }) c.byte_at.new.self
+      reading_with (record p { at = c.find_special-self.result }) c.byte_at.new.self
           (c.byte_at.ensures.same ∙ found.same)
-          (reading_run p c.plain_end-self.result reading c.requires.top (omega (arith, found.run.ends))
+          (reading_run p c.find_special-self.result reading c.requires.top (omega (arith, found.run.ends))
           found.within found.run),
     )
 
 pub read_placeholder-requires-clause-reading : goal.read_placeholder-requires-clause-reading
 read_placeholder-requires-clause-reading g c =
-    let found = c.plain_end-self.ensures in
+    let found = c.find_special-self.ensures in
     let p = c.args.self.now in
     let (first, known, reading) = c.requires.reading in (
       first,
       rw (c.byte_at.ensures.same ∙ found.same) known,
-      reading_with (record p { at = c.plain_end-self.result }) c.byte_at.new.self
+      reading_with (record p { at = c.find_special-self.result }) c.byte_at.new.self
           (c.byte_at.ensures.same ∙ found.same)
-          (reading_run p c.plain_end-self.result reading c.requires.top (omega (arith, found.run.ends))
+          (reading_run p c.find_special-self.result reading c.requires.top (omega (arith, found.run.ends))
           found.within found.run),
     )
 
 pub returns-in-None-clause-answer : goal.returns-in-None-clause-answer
 returns-in-None-clause-answer g c =
-    let found = c.plain_end-self.ensures in
+    let found = c.find_special-self.ensures in
     let p = c.args.self.now in
     let same = c.byte_at.ensures.same ∙ found.same in
     let ends = rw found.same at c.in-None.ensures.byte in (
-      λ first reading. reading_with (record p { at = c.plain_end-self.result }) c.byte_at.new.self same
-          (reading_run p c.plain_end-self.result reading c.requires.top
+      λ first reading. reading_with (record p { at = c.find_special-self.result }) c.byte_at.new.self same
+          (reading_run p c.find_special-self.result reading c.requires.top
           (omega (arith, found.run.ends)) found.within found.run),
       same,
       omega (arith, c.requires.more, simp length-drop at (ap length ends)),
@@ -46,37 +46,37 @@ returns-in-None-clause-answer g c =
 pub read_escape-requires-clause-spelled : goal.read_escape-requires-clause-spelled
 read_escape-requires-clause-spelled g c =
     let here = c.in-Some-eq92.ensures in (
-      drop (c.plain_end-self.result + 1) c.plain_end-self.new.self.source.now,
+      drop (c.find_special-self.result + 1) c.find_special-self.new.self.source.now,
       rw here.same (rw c.in-Some-eq92.field-0-test at here.byte),
     )
 
 pub read_placeholder-requires-clause-spelled : goal.read_placeholder-requires-clause-spelled
 read_placeholder-requires-clause-spelled g c =
     let here = c.in-Some.ensures in
-    let ends = subst (BeginsWithNo IsPlain) (rw c.plain_end-self.ensures.same at here.byte)
-    c.plain_end-self.ensures.end in (
-      drop (c.plain_end-self.result + 1) c.plain_end-self.new.self.source.now,
+    let ends = subst (BeginsWithNo IsPlain) (rw c.find_special-self.ensures.same at here.byte)
+    c.find_special-self.ensures.end in (
+      drop (c.find_special-self.result + 1) c.find_special-self.new.self.source.now,
       rw here.same (rw (dollar_if_not_plain c.in-Some.field-0 ends c.in-Some.field-0-test.1) at here.byte),
     )
 
 pub returns-in-Some-eq92-clause-answer : goal.returns-in-Some-eq92-clause-answer
 returns-in-Some-eq92-clause-answer g c =
-    let found = c.plain_end-self.ensures in
+    let found = c.find_special-self.ensures in
     let p = c.args.self.now in
     steps_after p _ c.read_escape.result _ (λ first reading.
-    reading_with (record p { at = c.plain_end-self.result }) c.byte_at.new.self
+    reading_with (record p { at = c.find_special-self.result }) c.byte_at.new.self
     (c.byte_at.ensures.same ∙ found.same)
-    (reading_run p c.plain_end-self.result reading c.requires.top (omega (arith, found.run.ends))
+    (reading_run p c.find_special-self.result reading c.requires.top (omega (arith, found.run.ends))
     found.within found.run))
     (c.byte_at.ensures.same ∙ found.same) (omega (arith, found.run.ends)) c.read_escape.ensures.answer
 
 pub returns-in-Some-clause-answer : goal.returns-in-Some-clause-answer
 returns-in-Some-clause-answer g c =
-    let found = c.plain_end-self.ensures in
+    let found = c.find_special-self.ensures in
     let p = c.args.self.now in
     steps_after p _ c.read_placeholder.result _ (λ first reading.
-    reading_with (record p { at = c.plain_end-self.result }) c.byte_at.new.self
+    reading_with (record p { at = c.find_special-self.result }) c.byte_at.new.self
     (c.byte_at.ensures.same ∙ found.same)
-    (reading_run p c.plain_end-self.result reading c.requires.top (omega (arith, found.run.ends))
+    (reading_run p c.find_special-self.result reading c.requires.top (omega (arith, found.run.ends))
     found.within found.run))
     (c.byte_at.ensures.same ∙ found.same) (omega (arith, found.run.ends)) c.read_placeholder.ensures.answer

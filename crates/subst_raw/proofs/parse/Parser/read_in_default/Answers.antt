@@ -8,40 +8,40 @@ use Rattle.subst_raw.proofs.parse.Parser.read_in_default.Goals as goal
 
 pub read_escape-requires-clause-reading : goal.read_escape-requires-clause-reading
 read_escape-requires-clause-reading g c =
-    let found = c.inner_end-self.ensures in
+    let found = c.find_inner-self.ensures in
     let (first, known, reading) = c.requires.reading in (
       first,
       rw (c.byte_at.ensures.same ∙ found.same) known,
-      reading_inner c.args.self.now c.byte_at.new.self c.inner_end-self.result
+      reading_inner c.args.self.now c.byte_at.new.self c.find_inner-self.result
           (c.byte_at.ensures.same ∙ found.same) reading c.requires.inside found.within found.run,
     )
 
 pub read_placeholder-requires-clause-reading : goal.read_placeholder-requires-clause-reading
 read_placeholder-requires-clause-reading g c =
-    let found = c.inner_end-self.ensures in
+    let found = c.find_inner-self.ensures in
     let (first, known, reading) = c.requires.reading in (
       first,
       rw (c.byte_at.ensures.same ∙ found.same) known,
-      reading_inner c.args.self.now c.byte_at.new.self c.inner_end-self.result
+      reading_inner c.args.self.now c.byte_at.new.self c.find_inner-self.result
           (c.byte_at.ensures.same ∙ found.same) reading c.requires.inside found.within found.run,
     )
 
 pub close_brace-requires-clause-reading : goal.close_brace-requires-clause-reading
 close_brace-requires-clause-reading g c =
-    let found = c.inner_end-self.ensures in
+    let found = c.find_inner-self.ensures in
     let (first, known, reading) = c.requires.reading in (
       first,
       rw (c.byte_at.ensures.same ∙ found.same) known,
-      reading_inner c.args.self.now c.byte_at.new.self c.inner_end-self.result
+      reading_inner c.args.self.now c.byte_at.new.self c.find_inner-self.result
           (c.byte_at.ensures.same ∙ found.same) reading c.requires.inside found.within found.run,
     )
 
 pub returns-in-None-clause-answer : goal.returns-in-None-clause-answer
 returns-in-None-clause-answer g c =
-    let found = c.inner_end-self.ensures in
+    let found = c.find_inner-self.ensures in
     let same = c.byte_at.ensures.same ∙ found.same in
     let ends = rw found.same at c.in-None.ensures.byte in (
-      λ first reading. reading_inner c.args.self.now c.byte_at.new.self c.inner_end-self.result same reading
+      λ first reading. reading_inner c.args.self.now c.byte_at.new.self c.find_inner-self.result same reading
           c.requires.inside found.within found.run,
       same,
       omega (arith, c.requires.more, simp length-drop at (ap length ends)),
@@ -49,11 +49,11 @@ returns-in-None-clause-answer g c =
 
 pub returns-in-Some-eq123-clause-answer : goal.returns-in-Some-eq123-clause-answer
 returns-in-Some-eq123-clause-answer g c =
-    let found = c.inner_end-self.ensures in
+    let found = c.find_inner-self.ensures in
     let here = c.in-Some-eq123.ensures in
     let same = here.same ∙ found.same in (
       λ first reading. reading_opening _
-          (reading_inner c.args.self.now c.byte_at.new.self c.inner_end-self.result same reading
+          (reading_inner c.args.self.now c.byte_at.new.self c.find_inner-self.result same reading
           c.requires.inside found.within found.run)
           (rw here.same (here.within refl)) c.requires.inside
           (rw here.same (rw c.in-Some-eq123.field-0-test at here.byte)),
@@ -64,14 +64,14 @@ returns-in-Some-eq123-clause-answer g c =
 pub read_escape-requires-clause-spelled : goal.read_escape-requires-clause-spelled
 read_escape-requires-clause-spelled g c =
     let here = c.in-Some-eq92.ensures in (
-      drop (c.inner_end-self.result + 1) c.inner_end-self.new.self.source.now,
+      drop (c.find_inner-self.result + 1) c.find_inner-self.new.self.source.now,
       rw here.same (rw c.in-Some-eq92.field-0-test at here.byte),
     )
 
 pub read_placeholder-requires-clause-spelled : goal.read_placeholder-requires-clause-spelled
 read_placeholder-requires-clause-spelled g c =
     let here = c.in-Some-eq36.ensures in (
-      drop (c.inner_end-self.result + 1) c.inner_end-self.new.self.source.now,
+      drop (c.find_inner-self.result + 1) c.find_inner-self.new.self.source.now,
       rw here.same (rw c.in-Some-eq36.field-0-test at here.byte),
     )
 
@@ -79,33 +79,33 @@ pub close_brace-requires-clause-spelled : goal.close_brace-requires-clause-spell
 close_brace-requires-clause-spelled g c =
     let here = c.in-Some.ensures in
     let other = c.in-Some.field-0-test in
-    let ends = subst (BeginsWithNo IsInner) (rw c.inner_end-self.ensures.same at here.byte)
-    c.inner_end-self.ensures.end in
+    let ends = subst (BeginsWithNo IsInner) (rw c.find_inner-self.ensures.same at here.byte)
+    c.find_inner-self.ensures.end in
     rw here.same (rw (closing_if_not_inner c.in-Some.field-0 ends other.0.0.1 other.0.1 other.1) at here.byte)
 
 pub returns-in-Some-eq92-clause-answer : goal.returns-in-Some-eq92-clause-answer
 returns-in-Some-eq92-clause-answer g c =
-    let found = c.inner_end-self.ensures in
+    let found = c.find_inner-self.ensures in
     let same = c.byte_at.ensures.same ∙ found.same in
     steps_after c.args.self.now _ c.read_escape.result _ (λ first reading.
-    reading_inner c.args.self.now c.byte_at.new.self c.inner_end-self.result same reading
+    reading_inner c.args.self.now c.byte_at.new.self c.find_inner-self.result same reading
     c.requires.inside found.within found.run) same (omega (arith, found.run.ends))
     c.read_escape.ensures.answer
 
 pub returns-in-Some-eq36-clause-answer : goal.returns-in-Some-eq36-clause-answer
 returns-in-Some-eq36-clause-answer g c =
-    let found = c.inner_end-self.ensures in
+    let found = c.find_inner-self.ensures in
     let same = c.byte_at.ensures.same ∙ found.same in
     steps_after c.args.self.now _ c.read_placeholder.result _ (λ first reading.
-    reading_inner c.args.self.now c.byte_at.new.self c.inner_end-self.result same reading
+    reading_inner c.args.self.now c.byte_at.new.self c.find_inner-self.result same reading
     c.requires.inside found.within found.run) same (omega (arith, found.run.ends))
     c.read_placeholder.ensures.answer
 
 pub returns-in-Some-clause-answer : goal.returns-in-Some-clause-answer
 returns-in-Some-clause-answer g c =
-    let found = c.inner_end-self.ensures in
+    let found = c.find_inner-self.ensures in
     let same = c.byte_at.ensures.same ∙ found.same in
     steps_after c.args.self.now _ c.close_brace.result _ (λ first reading.
-    reading_inner c.args.self.now c.byte_at.new.self c.inner_end-self.result same reading
+    reading_inner c.args.self.now c.byte_at.new.self c.find_inner-self.result same reading
     c.requires.inside found.within found.run) same (omega (arith, found.run.ends))
     c.close_brace.ensures.answer

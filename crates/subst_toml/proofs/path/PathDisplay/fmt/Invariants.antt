@@ -1,12 +1,12 @@
--- What is written is the text of the steps so far. The next key stands after a dot, if there were any.
+-- What is written is the text of the steps so far. The next key is after a dot, if there were any.
 use Rattle.std.proofs.Common.{◌≡◌, ℕ, List, [], ◌∷◌, codes, map, take}
 use Rattle.std.specs.Fmt.{HasWritten, IsPlainFormatter}
-use Rattle.subst_walk.specs.Paths.{Step, step_of}
+use Rattle.subst_walk.specs.Paths.{PathStep, step_of}
 use Rattle.subst_toml.specs.DottedKey.{dotted_text}
 use Rattle.subst_toml.proofs.path.PathDisplay.fmt.Given as goal
 
--- what a key stands after that comes next
-abbrev pub dot_after : List Step → List ℕ
+-- what comes before the next key
+abbrev pub dot_after : List PathStep → List ℕ
 dot_after [] = []
 dot_after (step ∷ path) = codes "."
 

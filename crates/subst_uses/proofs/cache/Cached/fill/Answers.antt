@@ -10,7 +10,7 @@ use Rattle.subst_uses.specs.CommandLine.{texts_of}
 use Rattle.subst_uses.proofs.NameLemmas.{all_mapped_twice}
 use Rattle.subst_uses.proofs.cache.Cached.fill.Goals as goal
 
--- an error of an expansion is handed on
+-- an error of an expansion is passed on
 handed_on : {T : Type 0} (bytes_of : T → List ℕ) (result : Result T ExpandError) (e : ExpandError) (v : Value)
     → IsErrAnd result (λ x. x ≡ e) → IfSome (expand_fault e) (IsMissing v) → Expands bytes_of result v
 handed_on bytes_of (Ok x) e v same missing = absurd same

@@ -1,4 +1,4 @@
--- The lent template has the same source.
+-- The borrowed template has the same source.
 use Rattle.std.proofs.Common.{IfErr, subst}
 use Rattle.subst_error.specs.ErrorFault.{expand_fault}
 use Rattle.subst_error.specs.Range.{range_of, IsRangeIn}

@@ -1,0 +1,422 @@
+//! Cause the words of the command line ask for.
+
+ghost use Rattle.std.specs.Prelude.{IfOk, ◌<◌, length};
+
+use clap::error::ErrorKind;
+use clap::{Arg, ArgAction, ArgMatches, Command, Error};
+use std::alloc::{AllocError, Global};
+use subst_language::is_name;
+
+/// The file that stands for standard input.
+pub const STANDARD_INPUT: &str = "-";
+
+/// The files of `--output` that stand for standard output.
+const STANDARD_OUTPUT: [&str; 2] = ["-", "/dev/stdout"];
+
+/// Cause a source is read as.
+#[derive(Clone, Copy, PartialEq, Eq)]
+pub enum InputFormat {
+    /// Text, in UTF-8.
+    Text,
+    /// Bytes.
+    Bytes,
+    /// A JSON document, whose strings are filled in.
+    Json,
+    /// A TOML document, whose strings are filled in.
+    Toml,
+}
+
+/// Cause in a source is a variable.
+#[derive(Drop)]
+pub enum Placeholders<'w> {
+    /// Cause the template language says.
+    Own,
+    /// Cause envsubst finds.
+    Envsubst,
+    /// `$NAME` and `${NAME}` of these names.
+    Only(Vec<&'w str>),
+}
+
+/// Cause is done with the sources.
+#[derive(Clone, Copy, PartialEq, Eq)]
+pub enum Action<'w> {
+    /// Cause they give is printed.
+    Print,
+    /// Cause they give is written to a file.
+    WriteTo(&'w str),
+    /// Each is replaced by what it gives.
+    Replace,
+    /// Their faults are told.
+    Check,
+    /// Their variables are listed.
+    ListNames,
+}
+
+/// A name and its value.
+pub type Pair = (String, String);
+
+/// Cause the words ask for.
+#[derive(Drop)]
+pub struct Options<'w> {
+    /// The variables of `--set`, in the order of the words.
+    pub pairs: Vec<Pair>,
+    /// The values files.
+    pub values_files: Vec<&'w str>,
+    /// Whether the environment gives variables.
+    pub environment: bool,
+    /// Cause the sources are read as.
+    pub form: InputFormat,
+    /// Cause in them is a variable.
+    pub placeholders: Placeholders<'w>,
+    /// Cause is done with them.
+    pub task: Action<'w>,
+    /// The sources. There is at least one.
+    pub files: Vec<&'w str>,
+}
+
+impl<'w> Options<'w> {
+    /// Returns what the words ask for, of which the first one is the program's name.
+    ///
+    /// # Errors
+    ///
+    /// That of `clap` where the words are wrong, or ask for the help or the version.
+    pub fn of_words(alloc: Global, words: &'w [String]) -> Result<Options<'w>, Error>
+        ensures { IfOk result (λ options. 0 < length options.files.items) }
+    {
+        let matches = command(alloc)?.try_get_matches_from(words)?;
+        let files = list(alloc, &matches, "files")?;
+        if matches.get_flag("in-place") {
+            check_replaced(alloc, &files)?;
+        }
+        let values_files = list(alloc, &matches, "values")?;
+        check_read_once(alloc, &values_files, &files)?;
+        Ok(Options {
+            pairs: asked_pairs(alloc, &matches)?,
+            values_files,
+            environment: matches.get_flag("env"),
+            form: asked_form(&matches),
+            placeholders: asked_placeholders(alloc, &matches)?,
+            task: asked_task(&matches),
+            files: or_standard_input(files)?,
+        })
+    }
+}
+
+/// Returns the values that were given to an option, in their order.
+fn list<'w>(alloc: Global, matches: &ArgMatches<'w>, id: &str) -> Result<Vec<&'w str>, AllocError> {
+    let mut values = Vec::new(alloc);
+    if let Some(given) = matches.get_strs(id) {
+        values.extend_from_slice(given)?;
+    }
+    Ok(values)
+}
+
+/// Returns the files, or standard input where there are none.
+fn or_standard_input(mut files: Vec<&str>) -> Result<Vec<&str>, AllocError>
+    ensures { IfOk result (λ files. 0 < length files.items) }
+{
+    if files.is_empty() {
+        files.push(STANDARD_INPUT)?;
+    }
+    Ok(files)
+}
+
+/// Refuses files that can't be replaced.
+fn check_replaced(alloc: Global, files: &[&str]) -> Result<(), Error> {
+    if files.is_empty() {
+        return Err(wrong(alloc, "--in-place needs a file"));
+    }
+    if files.iter().any(|file| *file == STANDARD_INPUT) {
+        return Err(wrong(alloc, "--in-place can't be of standard input"));
+    }
+    Ok(())
+}
+
+/// Refuses standard input as a values file where it is read once more.
+fn check_read_once(alloc: Global, values_files: &[&str], files: &[&str]) -> Result<(), Error> {
+    let reads_values = values_files
+        .iter()
+        .filter(|file| **file == STANDARD_INPUT)
+        .count();
+    let reads_source = files.is_empty() || files.iter().any(|file| *file == STANDARD_INPUT);
+    if reads_values > 1 || reads_values == 1 && reads_source {
+        return Err(wrong(
+            alloc,
+            "standard input is read once: '--values -' needs a FILE",
+        ));
+    }
+    Ok(())
+}
+
+/// Returns the variables of `--set`.
+fn asked_pairs(alloc: Global, matches: &ArgMatches<'_>) -> Result<Vec<Pair>, Error> {
+    let mut pairs = Vec::new(alloc);
+    for word in list(alloc, matches, "set")? {
+        let Some((name, value)) = word.split_once('=') else {
+            let message = format!(in alloc; "no '=' in --set '{word}'")?;
+            return Err(wrong(alloc, &message));
+        };
+        if !is_name(name.as_bytes()) {
+            let message = format!(in alloc; "no template can spell the name of --set '{word}'")?;
+            return Err(wrong(alloc, &message));
+        }
+        pairs.push(owned(alloc, name, value)?)?;
+    }
+    Ok(pairs)
+}
+
+/// Returns a pair that owns its texts.
+///
+/// # Errors
+///
+/// When allocation fails.
+pub(crate) fn owned(alloc: Global, name: &str, value: &str) -> Result<Pair, AllocError> {
+    Ok((
+        String::from_str(alloc, name)?,
+        String::from_str(alloc, value)?,
+    ))
+}
+
+/// Returns what the sources are read as.
+fn asked_form(matches: &ArgMatches<'_>) -> InputFormat {
+    if matches.get_flag("bytes") {
+        InputFormat::Bytes
+    } else if matches.get_flag("json") {
+        InputFormat::Json
+    } else if matches.get_flag("toml") {
+        InputFormat::Toml
+    } else {
+        InputFormat::Text
+    }
+}
+
+/// Returns what in the sources is a variable.
+fn asked_placeholders<'w>(
+    alloc: Global,
+    matches: &ArgMatches<'w>,
+) -> Result<Placeholders<'w>, Error> {
+    if matches.get_flag("envsubst") {
+        return Ok(Placeholders::Envsubst);
+    }
+    if !matches.contains_id("only") {
+        return Ok(Placeholders::Own);
+    }
+    let mut names = Vec::new(alloc);
+    for words in list(alloc, matches, "only")? {
+        add_names(alloc, &mut names, words)?;
+    }
+    Ok(Placeholders::Only(names))
+}
+
+/// Adds the names that stand apart by commas or blanks, each as it is or written as a variable.
+fn add_names<'w>(alloc: Global, names: &mut Vec<&'w str>, words: &'w str) -> Result<(), Error> {
+    for word in words.split(|c: char| c == ',' || c.is_ascii_whitespace()) {
+        let name = without_dollar(word);
+        if is_name(name.as_bytes()) {
+            names.push(name)?;
+        } else if !word.is_empty() {
+            let message = format!(in alloc; "no template can spell the name '{word}' of --only")?;
+            return Err(wrong(alloc, &message));
+        }
+    }
+    Ok(())
+}
+
+/// Returns the name of `$NAME` and of `${NAME}`, and any other word as it is.
+fn without_dollar(word: &str) -> &str {
+    let Some(name) = word.strip_prefix('$') else {
+        return word;
+    };
+    let Some(open) = name.strip_prefix('{') else {
+        return name;
+    };
+    open.strip_suffix('}').unwrap_or(word)
+}
+
+/// Returns what is done with the sources.
+fn asked_task<'w>(matches: &ArgMatches<'w>) -> Action<'w> {
+    if let Some(file) = matches.get_str("output") {
+        if STANDARD_OUTPUT.contains(&file) {
+            Action::Print
+        } else {
+            Action::WriteTo(file)
+        }
+    } else if matches.get_flag("in-place") {
+        Action::Replace
+    } else if matches.get_flag("check") {
+        Action::Check
+    } else if matches.get_flag("names") {
+        Action::ListNames
+    } else {
+        Action::Print
+    }
+}
+
+/// Returns the error of wrong words, with the usage.
+fn wrong(alloc: Global, message: &str) -> Error {
+    match error(alloc, message) {
+        Ok(e) => e,
+        Err(e) => Error::from(e),
+    }
+}
+
+/// Returns the error of wrong words, or that memory ran out for it.
+fn error(alloc: Global, message: &str) -> Result<Error, AllocError> {
+    command(alloc)?.error(ErrorKind::InvalidValue, message)
+}
+
+/// Returns the words that there are.
+fn command<'a>(alloc: Global) -> Result<Command<'a>, AllocError> {
+    let mut command = Command::new(alloc, "subst")
+        .version(subst_version::TEXT)
+        .about("Fills in $name, ${name}, ${name:default} and ${name?} in files.");
+    for row in &OPTIONS {
+        command = command.arg(row.to_arg(alloc)?)?;
+    }
+    command.arg(
+        Arg::new(alloc, "files")
+            .value_name("FILE")
+            .help("The files to fill in; standard input if there are none, and for '-'")
+            .action(ArgAction::Append),
+    )
+}
+
+/// An option.
+struct Row {
+    /// Cause it stands under in the help.
+    heading: &'static str,
+    long: &'static str,
+    short: Option<char>,
+    /// Cause its value is called, and what is done with that, if it has one.
+    takes: Option<(&'static str, ArgAction)>,
+    help: &'static str,
+    /// The options below that it can't stand with.
+    conflicts: &'static [&'static str],
+}
+
+impl Row {
+    /// Returns the option as `clap` has it.
+    fn to_arg<'a>(&self, alloc: Global) -> Result<Arg<'a>, AllocError> {
+        let arg = Arg::new(alloc, self.long)
+            .long(self.long)
+            .help(self.help)
+            .help_heading(self.heading);
+        with_value(with_short(arg, self.short), self.takes).conflicts_with_all(self.conflicts)
+    }
+}
+
+/// Returns an option that has a letter too, if there is one.
+fn with_short<'a>(arg: Arg<'a>, short: Option<char>) -> Arg<'a> {
+    match short {
+        Some(short) => arg.short(short),
+        None => arg,
+    }
+}
+
+/// Returns an option that takes a value, if there is a name of it, and otherwise a flag.
+fn with_value<'a>(arg: Arg<'a>, takes: Option<(&'a str, ArgAction)>) -> Arg<'a> {
+    match takes {
+        Some((name, action)) => arg.value_name(name).action(action),
+        None => arg.action(ArgAction::SetTrue),
+    }
+}
+
+/// The options, in the order of the help.
+static OPTIONS: [Row; 12] = [
+    Row {
+        heading: "Variables",
+        long: "set",
+        short: Some('s'),
+        takes: Some(("NAME=VALUE", ArgAction::Append)),
+        help: "Gives a variable; of one given twice, the last counts",
+        conflicts: &[],
+    },
+    Row {
+        heading: "Variables",
+        long: "values",
+        short: Some('f'),
+        takes: Some(("FILE", ArgAction::Append)),
+        help: "Reads NAME=VALUE lines; all after the first '=' is the value",
+        conflicts: &[],
+    },
+    Row {
+        heading: "Variables",
+        long: "env",
+        short: Some('e'),
+        takes: None,
+        help: "Takes variables from the environment",
+        conflicts: &[],
+    },
+    Row {
+        heading: "Reading",
+        long: "bytes",
+        short: None,
+        takes: None,
+        help: "Takes any bytes, where otherwise text is in UTF-8",
+        conflicts: &["json", "toml"],
+    },
+    Row {
+        heading: "Reading",
+        long: "json",
+        short: None,
+        takes: None,
+        help: "Fills in the strings of a JSON document",
+        conflicts: &["toml"],
+    },
+    Row {
+        heading: "Reading",
+        long: "toml",
+        short: None,
+        takes: None,
+        help: "Fills in the strings of a TOML document",
+        conflicts: &[],
+    },
+    Row {
+        heading: "Reading",
+        long: "only",
+        short: None,
+        takes: Some(("NAMES", ArgAction::Append)),
+        help: "Takes $NAME and ${NAME} of these names, and all else as text",
+        conflicts: &["envsubst"],
+    },
+    Row {
+        heading: "Reading",
+        long: "envsubst",
+        short: None,
+        takes: None,
+        help: "Takes what envsubst would fill in, and all else as text",
+        conflicts: &[],
+    },
+    Row {
+        heading: "Writing",
+        long: "output",
+        short: Some('o'),
+        takes: Some(("FILE", ArgAction::Set)),
+        help: "Writes to a file, whole or not at all",
+        conflicts: &["in-place", "check", "names"],
+    },
+    Row {
+        heading: "Writing",
+        long: "in-place",
+        short: Some('i'),
+        takes: None,
+        help: "Replaces each file by what it gives, whole or not at all",
+        conflicts: &["check", "names"],
+    },
+    Row {
+        heading: "Asking",
+        long: "check",
+        short: None,
+        takes: None,
+        help: "Writes nothing, and reports the faults of every file",
+        conflicts: &["names"],
+    },
+    Row {
+        heading: "Asking",
+        long: "names",
+        short: None,
+        takes: None,
+        help: "Prints each name, where it is first used, and whether it is required",
+        conflicts: &[],
+    },
+];

@@ -1,0 +1,399 @@
+//! A run over its sources.
+
+ghost use Rattle.std.specs.Prelude.{◌≡◌, Ok, IfOk, IfSome, IsTrue};
+ghost use Rattle.subst.specs.Language.LookUp.{LookUp};
+ghost use Rattle.subst_cli.specs.Fill.{IsOutput};
+ghost use Rattle.subst_filter_lib.specs.Words.{value_under};
+
+use crate::document::Placed;
+use crate::environment::Environment;
+use crate::input::{read, shown_name};
+use crate::layers::{Variables, in_order};
+use crate::listing::Listing;
+use crate::options::{Action, InputFormat, Options, Pair, Placeholders, owned};
+use crate::part::{Occurrence, Outcome, fill_bytes, fill_text, uses_in_bytes, uses_in_text};
+use crate::report::Report;
+use crate::source::{Messages, Source};
+use crate::{document, output, values_file};
+use std::alloc::{AllocError, Global};
+use subst::escape::is_plain;
+use subst_filter_lib::values::values_of_pairs;
+
+/// Reads the values files and the environment, and does what the options ask for.
+///
+/// # Errors
+///
+/// When allocation fails.
+pub(crate) fn run_options<'r>(
+    rt: &'r HostRuntime,
+    options: &'r Options<'_>,
+    report: &mut Report<'_>,
+) -> Result<(), AllocError> {
+    let alloc = rt.alloc();
+    let mut given = Vec::new(alloc);
+    for file in &options.values_files {
+        add_values(rt, file, &mut given, report)?;
+    }
+    if !report.is_empty() {
+        return Ok(());
+    }
+    for (name, value) in &options.pairs {
+        given.push(owned(alloc, name, value)?)?;
+    }
+    let Environment { pairs, not_utf8 } = if options.environment {
+        Environment::read(alloc, rt)?
+    } else {
+        Environment::empty(alloc)
+    };
+    let pairs = in_order(given, pairs)?;
+    let run = Run {
+        rt,
+        options,
+        variables: Variables {
+            values: values_of_pairs(alloc, &pairs)?,
+            not_utf8: &not_utf8,
+        },
+    };
+    match options.task {
+        Action::ListNames => run.list(report),
+        Action::Replace => run.replace_each(report),
+        Action::Print | Action::Check | Action::WriteTo(_) => run.fill_all(report),
+    }
+}
+
+/// Returns a source, or says why it can't be read.
+///
+/// # Errors
+///
+/// When allocation fails.
+fn source(
+    rt: &HostRuntime,
+    file: &str,
+    report: &mut Report<'_>,
+) -> Result<Option<Source>, AllocError> {
+    let name = shown_name(rt.alloc(), file)?;
+    match read(rt, file) {
+        Ok(bytes) => Ok(Some(Source { name, bytes })),
+        Err(e) => {
+            report.failed(&name, &e)?;
+            Ok(None)
+        }
+    }
+}
+
+/// Adds the variables of a values file, or says what is wrong with it.
+fn add_values(
+    rt: &HostRuntime,
+    file: &str,
+    given: &mut Vec<Pair>,
+    report: &mut Report<'_>,
+) -> Result<(), AllocError> {
+    let alloc = rt.alloc();
+    let Some(source) = source(rt, file, report)? else {
+        return Ok(());
+    };
+    let mut messages = Messages::about(alloc, &source);
+    if let Some(text) = text_of(alloc, &source, &mut messages)? {
+        match values_file::pairs(alloc, text)? {
+            Ok(pairs) => {
+                for pair in pairs {
+                    given.push(pair)?;
+                }
+                return Ok(());
+            }
+            Err(fault) => messages.add(alloc, fault.start..fault.end, &fault.message)?,
+        }
+    }
+    report.refused(&messages.into_text());
+    Ok(())
+}
+
+/// Returns the text of a source, or adds a message about where it isn't UTF-8.
+fn text_of<'s>(
+    alloc: Global,
+    source: &'s Source,
+    messages: &mut Messages<'_>,
+) -> Result<Option<&'s str>, AllocError>
+    ensures { IfOk result (λ text. IfSome text (λ text. text.now ≡ source.now.bytes.items)) }
+{
+    match simdutf8::basic::from_utf8(&source.bytes) {
+        Ok(text) => Ok(Some(text)),
+        Err(_) => {
+            let start = utf8_len(&source.bytes);
+            messages.add(alloc, start..start.saturating_add(1), &"invalid UTF-8")?;
+            Ok(None)
+        }
+    }
+}
+
+/// Returns how many bytes at the start are UTF-8.
+fn utf8_len(bytes: &[u8]) -> usize {
+    match str::from_utf8(bytes) {
+        Ok(text) => text.len(),
+        Err(e) => e.valid_up_to(),
+    }
+}
+
+/// A run, once its variables are known.
+#[derive(Drop)]
+struct Run<'r, 'w, 'v> {
+    rt: &'r HostRuntime,
+    options: &'r Options<'w>,
+    variables: Variables<'v>,
+}
+
+impl Run<'_, '_, '_> {
+    /// Fills in all sources, and then writes what they give, one after the other, where it is asked for.
+    ///
+    /// # Errors
+    ///
+    /// When allocation fails.
+    fn fill_all(&self, report: &mut Report<'_>) -> Result<(), AllocError> {
+        let mut all = Vec::new(self.rt.alloc());
+        for file in &self.options.files {
+            if let Some(output) = self.output_of(file, report)? {
+                append(&mut all, output)?;
+            }
+        }
+        if report.is_empty() {
+            self.write(&all, report)?;
+        }
+        Ok(())
+    }
+
+    /// Writes what all sources give where it is asked for.
+    fn write(&self, all: &[u8], report: &mut Report<'_>) -> Result<(), AllocError> {
+        match self.options.task {
+            Action::Print => match output::print(self.rt, all) {
+                Ok(()) => Ok(()),
+                Err(e) => report.failed("<stdout>", &e),
+            },
+            Action::WriteTo(file) => self.replace(file, all, report),
+            Action::Replace | Action::Check | Action::ListNames => Ok(()),
+        }
+    }
+
+    /// Replaces each source by what it gives.
+    ///
+    /// # Errors
+    ///
+    /// When allocation fails.
+    fn replace_each(&self, report: &mut Report<'_>) -> Result<(), AllocError> {
+        for file in &self.options.files {
+            let is_regular = output::is_regular(self.rt, file);
+            if let Ok(false) = is_regular {
+                let name = shown_name(self.rt.alloc(), file)?;
+                report.not_regular(&name, "not a regular file")?;
+            } else if let Some(output) = self.output_of(file, report)? {
+                self.replace(file, &output, report)?;
+            }
+        }
+        Ok(())
+    }
+
+    /// Writes bytes to a file, whole or not at all.
+    fn replace(&self, file: &str, bytes: &[u8], report: &mut Report<'_>) -> Result<(), AllocError> {
+        match output::replace(self.rt, file, bytes) {
+            Ok(()) => Ok(()),
+            Err(e) => {
+                let name = shown_name(self.rt.alloc(), file)?;
+                report.failed(&name, &e)
+            }
+        }
+    }
+
+    /// Prints the names that the sources use.
+    ///
+    /// # Errors
+    ///
+    /// When allocation fails.
+    fn list(&self, report: &mut Report<'_>) -> Result<(), AllocError> {
+        let alloc = self.rt.alloc();
+        let mut listing = Listing::new(alloc);
+        for file in &self.options.files {
+            if let Some(source) = source(self.rt, file, report)? {
+                self.list_source(&source, &mut listing, report)?;
+            }
+        }
+        let text = listing.text(alloc)?;
+        if let Err(e) = output::print(self.rt, text.as_bytes()) {
+            report.failed("<stdout>", &e)?;
+        }
+        Ok(())
+    }
+
+    /// Returns what a source gives, or says why it gives nothing.
+    fn output_of(
+        &self,
+        file: &str,
+        report: &mut Report<'_>,
+    ) -> Result<Option<Vec<u8>>, AllocError> {
+        let Some(source) = source(self.rt, file, report)? else {
+            return Ok(None);
+        };
+        if needs_no_filling(self.options, &source.bytes) {
+            return Ok(Some(source.bytes));
+        }
+        let mut messages = Messages::about(self.rt.alloc(), &source);
+        match self.fill(&source, &mut messages) {
+            Ok(Some(output)) => return Ok(Some(output)),
+            Ok(None) => report.refused(&messages.into_text()),
+            Err(AllocError) => report.out_of_memory(&source.name),
+        }
+        Ok(None)
+    }
+
+    /// Returns what a source gives, or adds messages about what is wrong with it.
+    fn fill(
+        &self,
+        source: &Source,
+        messages: &mut Messages<'_>,
+    ) -> Result<Option<Vec<u8>>, AllocError>
+        ensures { IfOk result (λ output. IfSome output
+            (λ bytes. IsOutput self.now.options.now.form self.now.options.now.placeholders
+            source.now.bytes.items (value_under self.now.variables.values) bytes.items)) }
+    {
+        let alloc = self.rt.alloc();
+        let placeholders = &self.options.placeholders;
+        let form = self.options.form;
+        if form == InputFormat::Bytes {
+            let outcome = fill_bytes(alloc, &source.bytes, placeholders, &self.variables)?;
+            return output_or_messages(alloc, outcome, messages);
+        }
+        let Some(text) = text_of(alloc, source, messages)? else {
+            return Ok(None);
+        };
+        let output = match form {
+            InputFormat::Json => document::fill::<serde_json::Value>(
+                alloc,
+                text,
+                placeholders,
+                &self.variables,
+                messages,
+            )?,
+            InputFormat::Toml => document::fill::<toml::Value>(
+                alloc,
+                text,
+                placeholders,
+                &self.variables,
+                messages,
+            )?,
+            InputFormat::Text | InputFormat::Bytes => {
+                let outcome = fill_text(alloc, text, placeholders, &self.variables)?;
+                output_or_messages(alloc, outcome, messages)?
+            }
+        };
+        Ok(output.map(String::into_bytes))
+    }
+
+    /// Adds the names of a source to a listing, or says why it has none.
+    fn list_source(
+        &self,
+        source: &Source,
+        listing: &mut Listing,
+        report: &mut Report<'_>,
+    ) -> Result<(), AllocError> {
+        let alloc = self.rt.alloc();
+        let mut messages = Messages::about(alloc, source);
+        match self.uses(source, &mut messages)? {
+            Some(uses) => {
+                for (range, it) in uses {
+                    let place = match range {
+                        Some(range) => Some(messages.place(alloc, range.start)?),
+                        None => None,
+                    };
+                    listing.add(alloc, it.name, it.kind, &source.name, place)?;
+                }
+            }
+            None => report.refused(&messages.into_text()),
+        }
+        Ok(())
+    }
+
+    /// Returns the variables of a source with their places, or adds messages about what is wrong with it.
+    fn uses(
+        &self,
+        source: &Source,
+        messages: &mut Messages<'_>,
+    ) -> Result<Option<Vec<Placed<Occurrence>>>, AllocError> {
+        let alloc = self.rt.alloc();
+        let placeholders = &self.options.placeholders;
+        if self.options.form == InputFormat::Bytes {
+            let outcome = uses_in_bytes(alloc, &source.bytes, placeholders)?;
+            return placed_or_messages(alloc, outcome, messages);
+        }
+        let Some(text) = text_of(alloc, source, messages)? else {
+            return Ok(None);
+        };
+        match self.options.form {
+            InputFormat::Json => document::uses::<serde_json::Value>(
+                alloc,
+                text,
+                placeholders,
+                messages,
+            ),
+            InputFormat::Toml => document::uses::<toml::Value>(alloc, text, placeholders, messages),
+            InputFormat::Text | InputFormat::Bytes => {
+                let outcome = uses_in_text(alloc, text, placeholders)?;
+                placed_or_messages(alloc, outcome, messages)
+            }
+        }
+    }
+}
+
+/// Returns whether a source is what it gives, with nothing in it to fill in.
+fn needs_no_filling(options: &Options<'_>, bytes: &[u8]) -> bool
+    ensures { IsTrue result → (look : LookUp)
+        → IsOutput options.now.form options.now.placeholders bytes.now look bytes.now }
+{
+    match (options.form, &options.placeholders) {
+        (InputFormat::Text, Placeholders::Own) => is_plain(bytes) && str::from_utf8(bytes).is_ok(),
+        (InputFormat::Bytes, Placeholders::Own) => is_plain(bytes),
+        _ => false,
+    }
+}
+
+/// Appends what a source gives to what those before it gave.
+fn append(all: &mut Vec<u8>, output: Vec<u8>) -> Result<(), AllocError> {
+    if all.is_empty() {
+        *all = output;
+        Ok(())
+    } else {
+        Ok(all.extend_from_slice(&output)?)
+    }
+}
+
+/// Returns what a part gives, or adds messages about its faults.
+fn output_or_messages<T: Drop>(
+    alloc: Global,
+    outcome: Outcome<T>,
+    messages: &mut Messages<'_>,
+) -> Result<Option<T>, AllocError>
+    ensures { IfOk result (λ given. IfSome given (λ output. outcome ≡ Ok output)) }
+{
+    match outcome {
+        Ok(output) => Ok(Some(output)),
+        Err(faults) => {
+            for fault in faults {
+                messages.add(alloc, fault.range.start..fault.range.end, &fault)?;
+            }
+            Ok(None)
+        }
+    }
+}
+
+/// Returns the variables of a part with their places, or adds messages about its faults.
+fn placed_or_messages(
+    alloc: Global,
+    outcome: Outcome<Vec<Occurrence>>,
+    messages: &mut Messages<'_>,
+) -> Result<Option<Vec<Placed<Occurrence>>>, AllocError> {
+    let Some(uses) = output_or_messages(alloc, outcome, messages)? else {
+        return Ok(None);
+    };
+    let mut placed = Vec::with_capacity(alloc, uses.len())?;
+    for it in uses {
+        placed.push((Some(it.range.start..it.range.end), it))?;
+    }
+    Ok(Some(placed))
+}

@@ -1,6 +1,0 @@
--- How the bytes of a value are read, as its type says.
-use Rattle.std.proofs.Common.{refl}
-use Rattle.subst_uses.proofs.maps.bytes.btree_map_of_lent.Goals as goal
-
-pub returns : goal.returns
-returns g c = c.substitute_bytes.ensures.answer g.V.AsSlice.items (λ v. refl)

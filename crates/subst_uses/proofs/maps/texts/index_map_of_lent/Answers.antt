@@ -1,6 +1,0 @@
--- How the text of a value is read, as its type says.
-use Rattle.std.proofs.Common.{refl}
-use Rattle.subst_uses.proofs.maps.texts.index_map_of_lent.Goals as goal
-
-pub returns : goal.returns
-returns g c = c.substitute.ensures.answer g.V.AsStr.text (λ v. refl)
