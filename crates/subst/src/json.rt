@@ -5,10 +5,18 @@
 //! caller's from it, by `serde`. Keys stay as they are, and no value of a variable can break out of its
 //! string.
 //!
+//! [`fill_in`] and [`fill_in_slice`] fill in a text where its strings stand, and each other byte of it stays.
+//! [`strings`] and [`refusals_in`] list the strings of a text, or those that are refused, with where they
+//! stand.
+//!
 //! [`first_refusal`] and [`all_refusals`] return refused strings of a tree with their paths; [`place_of`] and
-//! [`place_in`] return where they are in the document that was read.
+//! [`place_in`] return where they are in the document that was read, and [`places_in`] where many ranges of
+//! one string are. [`fill_in_by`] and [`refusals_by`] take a [`Fill`], a way to fill in a string, which by a
+//! map is [`Filler`]. [`reader_stop`] returns where a text that is no JSON goes wrong.
 
 pub use subst_json::{
-    Error, Path, PathStep, RefusedString, all_refusals, first_refusal, from_slice, from_str,
-    place_in, place_of, substitute_string_values, value_from_slice, value_from_str,
+    Error, Fill, Filler, Path, PathStep, ReaderStop, RefusalAt, RefusedString, StringAt,
+    all_refusals, fill_in, fill_in_by, fill_in_slice, first_refusal, from_slice, from_str,
+    place_in, place_of, places_in, reader_stop, refusals_by, refusals_in, strings,
+    substitute_string_values, value_from_slice, value_from_str,
 };

@@ -1,8 +1,11 @@
 pub mod Errors
+pub mod Filled
 pub mod Laws
+pub mod Listed
 pub mod Located
 pub mod Mapped
 pub mod Outcome
 pub mod Paths
+pub mod Pieces
 pub mod Places
 pub mod Pointer

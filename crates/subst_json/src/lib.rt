@@ -7,6 +7,9 @@
 //! [`substitute_string_values`] fills in a tree in place, [`value_from_str`] and [`value_from_slice`] read a
 //! tree first, and [`from_str`] and [`from_slice`] go on to read a type of the caller's from it, by `serde`.
 //!
+//! [`fill_in`], [`fill_in_slice`] and [`fill_in_by`] fill in a text where its strings stand, and each other
+//! byte of it stays. [`strings`] lists the strings of a text, and [`refusals_in`] those that are refused.
+//!
 //! The walk calls itself for each array and object that is inside another one. The reader refuses what is
 //! nested more than 127 deep; a deeper tree, which a caller has built, takes as much more of the stack.
 #![tactic(auto)]
@@ -24,24 +27,33 @@ ghost use Rattle.subst_json.specs.Mapped.{strings, IsMapped};
 ghost use Rattle.subst_json.specs.Errors.{HasOwnMemory};
 ghost use Rattle.subst_json.specs.Outcome.{ReadsAsTree, IsReadFilledIn, IfJson, OnJson, OnSubst, ReturnsTree, ReadsType, StatesFirst};
 
+pub use document::{fill_in, fill_in_by, fill_in_slice};
 pub use error::Error;
+pub use listing::{RefusalAt, refusals_by, refusals_in, strings};
 pub use path::Path;
 pub use place::{place_in, place_of};
+pub use places::places_in;
 pub use refusals::{RefusedString, all_refusals, first_refusal};
 use serde_json::Value;
 use std::alloc::Global;
 use std::convert::AsStr;
+pub use stop::{ReaderStop, reader_stop};
 use subst_map::VariableMap;
-use subst_walk::Filler;
-pub use subst_walk::PathStep;
+pub use subst_walk::{Fill, Filler, PathStep, StringAt};
 use typed::FromTree;
 
+mod compared;
+mod document;
 mod error;
 pub mod laws;
+mod listing;
 mod path;
 mod place;
+mod places;
 mod refusals;
 mod refused;
+mod stop;
+mod tokens;
 mod typed;
 mod walk;
 

@@ -3,20 +3,20 @@
 //! A span is looked for in the text, and then made certain by the reader: one that the reader doesn't confirm
 //! is never returned.
 
-ghost use Rattle.std.specs.Prelude.{◌≡◌, ◌++◌, ◌<◌, ◌≤◌, ◌∷◌, [], length, map, option_map, slice_range, string_bytes, take, IfOk, IfSome, IsTrue, MatchOption, None, Some};
+ghost use Rattle.std.specs.Prelude.{◌≡◌, ◌++◌, ◌<◌, ◌≤◌, ◌∷◌, [], length, map, option_map, string_bytes, take, IfOk, IfSome, IsTrue, MatchOption, None, Some};
 ghost use Rattle.serde_json.specs.Read.{read};
 ghost use Rattle.serde_json.specs.View.{view};
-ghost use Rattle.subst_error.specs.Range.{IsRangeIn};
 ghost use Rattle.subst_walk.specs.Paths.{step_of};
 ghost use Rattle.subst_json.specs.Paths.{steps_of};
-ghost use Rattle.subst_json.specs.Places.{value_at, with_null, IsPlaceIn, IsPlaceOf, HasQuotes, LeadsToNull, IsTokenOf};
+ghost use Rattle.subst_json.specs.Places.{value_at, with_null, IsPlaceIn, IsPlaceOf, LeadsToNull, IsTokenOf};
 
 use crate::path::Path;
+use crate::tokens::JsonStrings;
 use json::{MAX_DEPTH, Reader, Scratch, Token};
 use serde_json::Value;
 use std::alloc::{AllocError, Global};
 use std::ops::Range;
-use subst_walk::PathStep;
+use subst_walk::{PathStep, StringFormat, slice};
 
 /// Returns the byte range in `source`, a JSON text, of the string that a path leads to, with its quotes.
 ///
@@ -47,7 +47,8 @@ pub fn place_of(
     let Some(token) = slice(source, &place) else {
         return Ok(None);
     };
-    if !is_token_of(alloc, token, text)? || !is_replaced(alloc, source, &place, &path.steps)? {
+    let mut format = JsonStrings::new(alloc);
+    if !format.spells(alloc, token, text)? || !is_replaced(alloc, source, &place, &path.steps)? {
         return Ok(None);
     }
     Ok(Some(place))
@@ -91,21 +92,6 @@ pub fn place_in(
     Ok(Some(place))
 }
 
-/// Returns a range of a text, or `None` where the text has no such range.
-fn slice<'a>(text: &'a str, range: &Range<usize>) -> Option<&'a str>
-    ensures { IfSome result
-        (λ part. IsRangeIn text.now range.now × (range.now.start ≤ range.now.end)
-        × (part.now ≡ slice_range text.now range.now.start range.now.end)) }
-{
-    let (start, end) = (range.start, range.end);
-    let within = start <= end && text.is_char_boundary(start) && text.is_char_boundary(end);
-    if within {
-        Some(&text[start..end])
-    } else {
-        None
-    }
-}
-
 /// Returns the tree that a text is read as, or `None` where it isn't JSON.
 fn read_tree(alloc: Global, text: &str) -> Result<Option<Value>, AllocError>
     ensures { IfOk result
@@ -120,7 +106,7 @@ fn read_tree(alloc: Global, text: &str) -> Result<Option<Value>, AllocError>
 }
 
 /// Returns the string that a text is read as, or `None` where it is none.
-fn read_string(alloc: Global, text: &str) -> Result<Option<String>, AllocError>
+pub(crate) fn read_string(alloc: Global, text: &str) -> Result<Option<String>, AllocError>
     ensures { IfOk result
         (λ read. IfSome read (λ string. IsTokenOf text.now (string_bytes string))) }
 {
@@ -143,20 +129,6 @@ fn value_at<'a>(tree: &'a Value, steps: &[PathStep]) -> Option<&'a Value>
         };
     }
     Some(value)
-}
-
-/// Returns whether a text is this string between quotes.
-fn is_token_of(alloc: Global, text: &str, string: &str) -> Result<bool, AllocError>
-    ensures { IfOk result
-        (λ is. IsTrue is → HasQuotes text.now × IsTokenOf text.now string.now) }
-{
-    let [b'"', .., b'"'] = text.as_bytes() else {
-        return Ok(false);
-    };
-    let Some(read) = read_string(alloc, text)? else {
-        return Ok(false);
-    };
-    Ok(read.as_str() == string)
 }
 
 /// Returns whether these steps lead to a null once `null` is written in place of a range of a text.
@@ -305,7 +277,7 @@ fn spelled_until(
 }
 
 /// Counts the bytes of a token, with its opening quote, that spell the first `offset` bytes of its string.
-fn spelling_len(token: &[u8], offset: usize) -> usize {
+pub(crate) fn spelling_len(token: &[u8], offset: usize) -> usize {
     let mut len = 1;
     let mut spelled = 0;
     while spelled < offset && len < token.len() {

@@ -1,3 +1,5 @@
+pub mod Edits
 pub mod Paths
+pub mod Pieces
 pub mod Refused
 pub mod Texts

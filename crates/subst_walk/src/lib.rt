@@ -2,6 +2,8 @@
 //! fill in texts, and `Filler` is that by a map: it returns the answer of a text, and a text without `$`
 //! and `\` as it is. `put_values` puts values into a map, whose keys stay.
 //!
+//! `fill_in_string` fills in a string where it stands in a text, whose format is a `StringFormat`.
+//!
 //! `refused_string` and `add_below` are the steps of the walks that find refused strings, which `first_found`
 //! and `all_found` return with their paths.
 //!
@@ -18,8 +20,12 @@ ghost use Rattle.subst_language.specs.Language.LookUp.{LookUp};
 ghost use Rattle.subst_language.specs.Calls.Outcome.{OnFault};
 ghost use Rattle.subst_walk.specs.Texts.{HasRange};
 
+pub use edits::{
+    Cut, StringAt, StringFormat, changed, cut_round, fill_in_string, slice, string_at,
+};
 pub use found::{RefusedString, TreePath, all_found, first_found};
 pub use path_step::PathStep;
+pub use pieces::{Pieces, Position, spans};
 pub use refused::{HowMany, PathStepRef, Refused, add_below, refused_string};
 use std::alloc::{AllocError, Global};
 use std::collections::BTreeMap;
@@ -28,8 +34,10 @@ use subst_error::Error;
 use subst_map::VariableMap;
 use subst_template::{is_plain, substitute, substitute_owned};
 
+mod edits;
 mod found;
 mod path_step;
+mod pieces;
 mod refused;
 
 /// A way to fill in texts.

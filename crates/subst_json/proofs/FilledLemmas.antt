@@ -1,0 +1,227 @@
+-- Tokens that are filled in, and the trees that they are read as.
+use Rattle.std.proofs.Common.{◌≡◌, ℕ, suc, ◌≤◌, max, List, [], ◌∷◌, ◌++◌, Option, Some, None, Ordering, Less, Equal, Greater, option_map, option_and_then, refl, sym, ap, ap₂, ◌∙◌, subst, arith, append_assoc}
+use Rattle.std.specs.Cmp.Lexicographic.{slice_cmp}
+use Rattle.std.specs.Ordering.{match_ordering, nat_cmp}
+use Rattle.json.specs.Json as json
+use Rattle.json.specs.Lex.{tokens}
+use Rattle.json.specs.Token.{Token}
+use Rattle.json.specs.Tree as tree
+use Rattle.json.specs.Tree.{json_tokens, items_tokens, members_tokens}
+use Rattle.json.proofs.Nesting.{value-depth}
+use Rattle.json.proofs.Printed.Trees.{value-json_tokens}
+use Rattle.json.proofs.Unique.Spelling.{value-json_tokens_back}
+use Rattle.serde_json.specs.Data.{Data, null, boolean, number, string, array, object, Items, no_items, item, Members, no_members, member, put}
+use Rattle.serde_json.specs.Read.{of_json, of_items, of_members, max_depth, read}
+use Rattle.subst_language.specs.Language.LookUp.{LookUp}
+use Rattle.subst_language.specs.Language.Answer.{Answers, Gives}
+use Rattle.subst_json.specs.Filled.{AreFilled}
+use Rattle.subst_json.specs.Mapped.{IsMapped, AreMapped, HasMappedMembers}
+use Rattle.subst_json.specs.Outcome.{ReadsAsTree}
+use Rattle.subst_json.specs.Places.{IsTokenOf}
+
+-- what a text is read as, once its tokens are known
+read_as : (text : List ℕ) (j : json.Json) (d : Data)
+    → json.value max_depth (tokens text) ≡ Some (j, []) → of_json j ≡ Some d → read text ≡ Some d
+read_as text j d e f = ap (λ o. option_and_then of_json (option_and_then (λ p. json.if_last p.0 p.1) o)) e ∙ f
+
+-- a text whose one token is a string is read as that string
+pub token_alone : (text x : List ℕ) → tokens text ≡ Token.string x ∷ [] → IsTokenOf text x
+token_alone text x e =
+    read_as text (json.string x) (string x)
+    (ap (json.value max_depth) e ∙ value-json_tokens (json.string x) max_depth [] (omega arith)) refl
+
+by_order : (look : LookUp) (o : Ordering) (a b c d e f : Members) → HasMappedMembers look a d
+    → HasMappedMembers look b e → HasMappedMembers look c f
+    → HasMappedMembers look (match_ordering o a b c) (match_ordering o d e f)
+by_order look Less a b c d e f p q r = p
+by_order look Equal a b c d e f p q r = q
+by_order look Greater a b c d e f p q r = r
+
+-- members stay mapped with one more of them
+put_mapped : (look : LookUp) (k : List ℕ) (d e : Data) (ms ns : Members) → IsMapped look d e
+    → HasMappedMembers look ms ns → HasMappedMembers look (put k d ms) (put k e ns)
+put_mapped look k d e no_members no_members p h = (refl, p, tt)
+put_mapped look k d e no_members (member m g ns) p h = absurd h
+put_mapped look k d e (member l f ms) no_members p h = absurd h
+put_mapped look k d e (member l f ms) (member m g ns) p h =
+    subst (λ m'. HasMappedMembers look (put k d (member l f ms)) (put k e (member m' g ns))) h.0
+    (by_order look (slice_cmp nat_cmp k l) (member k d (member l f ms)) (member l d ms)
+    (member l f (put k d ms)) (member k e (member l g ns)) (member l e ns) (member l g (put k e ns))
+    (refl, p, (refl, h.1, h.2)) (refl, p, h.2) (refl, h.1, put_mapped look k d e ms ns p h.2))
+
+-- Of tokens that are filled in, those of a value are the tokens of a value, which is read as what the first
+-- one is read as, filled in.
+record FilledValue (look : LookUp) (Becomes : List ℕ → List ℕ → Type 0) (j : json.Json)
+    (rest us : List Token) : Type 0 where
+  filled : json.Json
+  more : List Token
+  is : us ≡ json_tokens filled ++ more
+  deep : tree.depth filled ≡ tree.depth j
+  before : Data
+  after : Data
+  reads : of_json j ≡ Some before
+  reads_filled : of_json filled ≡ Some after
+  mapped : IsMapped look before after
+  rest_filled : AreFilled Becomes rest more
+
+record FilledItems (look : LookUp) (Becomes : List ℕ → List ℕ → Type 0) (js : json.Items)
+    (rest us : List Token) : Type 0 where
+  filled : json.Items
+  more : List Token
+  is : us ≡ items_tokens filled ++ more
+  deep : tree.items_depth filled ≡ tree.items_depth js
+  before : Items
+  after : Items
+  reads : of_items js ≡ Some before
+  reads_filled : of_items filled ≡ Some after
+  mapped : AreMapped look before after
+  rest_filled : AreFilled Becomes rest more
+
+-- of members that are put into others
+record FilledMembers (look : LookUp) (Becomes : List ℕ → List ℕ → Type 0) (ms : json.Members)
+    (found found_filled : Members) (rest us : List Token) : Type 0 where
+  filled : json.Members
+  more : List Token
+  is : us ≡ members_tokens filled ++ more
+  deep : tree.members_depth filled ≡ tree.members_depth ms
+  before : Members
+  after : Members
+  reads : of_members ms found ≡ Some before
+  reads_filled : of_members filled found_filled ≡ Some after
+  mapped : HasMappedMembers look before after
+  rest_filled : AreFilled Becomes rest more
+
+-- a value that the reader passes is one that it reads
+passed : (o : Option (json.Json × List Token)) (rest : List Token) → option_map (λ p. p.1) o ≡ Some rest
+    → (j : json.Json) × (o ≡ Some (j, rest))
+passed None rest e = absurd cc
+passed (Some (j, ts)) rest e = let same : ts ≡ rest = cc in (j, ap (λ r. Some (j, r)) same)
+
+module _ (look : LookUp) (Becomes : List ℕ → List ℕ → Type 0)
+    (gives : (x y : List ℕ) → Becomes x y → Answers x look (Gives y)) where
+  -- a value of one token
+  alone : (j k : json.Json) (d e : Data) (rest us more : List Token) → us ≡ json_tokens k ++ more
+      → tree.depth k ≡ tree.depth j → of_json j ≡ Some d → of_json k ≡ Some e → IsMapped look d e
+      → AreFilled Becomes rest more → FilledValue look Becomes j rest us
+  alone j k d e rest us more is deep reads reads_filled mapped h = record {
+    filled = k;
+    more = more;
+    is = is;
+    deep = deep;
+    before = d;
+    after = e;
+    reads = reads;
+    reads_filled = reads_filled;
+    mapped = mapped;
+    rest_filled = h;
+  }
+
+  mutual
+    filled_value : (j : json.Json) (rest us : List Token) → AreFilled Becomes (json_tokens j ++ rest) us
+        → FilledValue look Becomes j rest us
+    filled_value json.null rest us (u, more, is, same, h) =
+        alone json.null json.null null null rest us more (is ∙ ap (λ t. t ∷ more) same) refl refl refl tt h
+    filled_value (json.boolean b) rest us (u, more, is, same, h) =
+        alone (json.boolean b) (json.boolean b) (boolean b) (boolean b) rest us more
+        (is ∙ ap (λ t. t ∷ more) same) refl refl refl refl h
+    filled_value (json.number s) rest us (u, more, is, (same, n, known), h) =
+        alone (json.number s) (json.number s) (number n) (number n) rest us more
+        (is ∙ ap (λ t. t ∷ more) same) refl (ap (option_map number) known)
+        (ap (option_map number) known) refl h
+    filled_value (json.string s) rest us (u, more, is, (x, same, becomes), h) =
+        alone (json.string s) (json.string x) (string s) (string x) rest us more
+        (is ∙ ap (λ t. t ∷ more) same) refl refl refl (gives s x becomes) h
+    filled_value (json.array js) rest us (u, more, is, same, h) =
+        let i = filled_items js rest more h in
+        alone (json.array js) (json.array i.filled) (array i.before) (array i.after) rest us i.more
+        (is ∙ ap₂ (λ t ts. t ∷ ts) same i.is) (ap suc i.deep) (ap (option_map array) i.reads)
+        (ap (option_map array) i.reads_filled) i.mapped i.rest_filled
+    filled_value (json.object ms) rest us (u, more, is, same, h) =
+        let m = filled_members ms no_members no_members rest more tt h in
+        alone (json.object ms) (json.object m.filled) (object m.before) (object m.after) rest us m.more
+        (is ∙ ap₂ (λ t ts. t ∷ ts) same m.is) (ap suc m.deep) (ap (option_map object) m.reads)
+        (ap (option_map object) m.reads_filled) m.mapped m.rest_filled
+
+    filled_items : (js : json.Items) (rest us : List Token) → AreFilled Becomes (items_tokens js ++ rest) us
+        → FilledItems look Becomes js rest us
+    filled_items json.no_items rest us (u, more, is, same, h) = record {
+      filled = json.no_items;
+      more = more;
+      is = is ∙ ap (λ t. t ∷ more) same;
+      deep = refl;
+      before = no_items;
+      after = no_items;
+      reads = refl;
+      reads_filled = refl;
+      mapped = tt;
+      rest_filled = h;
+    }
+    filled_items (json.item j js) rest us h =
+        let v = filled_value j (items_tokens js ++ rest) us
+        (subst (λ ts. AreFilled Becomes ts us) (append_assoc (json_tokens j) (items_tokens js) rest) h) in
+        let i = filled_items js rest v.more v.rest_filled in record {
+          filled = json.item v.filled i.filled;
+          more = i.more;
+          is = v.is ∙ ap (λ ts. json_tokens v.filled ++ ts) i.is
+              ∙ sym (append_assoc (json_tokens v.filled) (items_tokens i.filled) i.more);
+          deep = ap₂ max v.deep i.deep;
+          before = item v.before i.before;
+          after = item v.after i.after;
+          reads = ap (option_and_then (λ d. option_map (item d) (of_items js))) v.reads
+              ∙ ap (option_map (item v.before)) i.reads;
+          reads_filled = ap (option_and_then (λ d. option_map (item d) (of_items i.filled))) v.reads_filled
+              ∙ ap (option_map (item v.after)) i.reads_filled;
+          mapped = (v.mapped, i.mapped);
+          rest_filled = i.rest_filled;
+        }
+
+    filled_members : (ms : json.Members) (found found_filled : Members) (rest us : List Token)
+        → HasMappedMembers look found found_filled → AreFilled Becomes (members_tokens ms ++ rest) us
+        → FilledMembers look Becomes ms found found_filled rest us
+    filled_members json.no_members found found_filled rest us mapped (u, more, is, same, h) = record {
+      filled = json.no_members;
+      more = more;
+      is = is ∙ ap (λ t. t ∷ more) same;
+      deep = refl;
+      before = found;
+      after = found_filled;
+      reads = refl;
+      reads_filled = refl;
+      mapped = mapped;
+      rest_filled = h;
+    }
+    filled_members (json.member k j ms) found found_filled rest us mapped (u, more, is, same, h) =
+        let v = filled_value j (members_tokens ms ++ rest) more
+        (subst (λ ts. AreFilled Becomes ts more) (append_assoc (json_tokens j) (members_tokens ms) rest) h) in
+        let m = filled_members ms (put k v.before found) (put k v.after found_filled) rest v.more
+        (put_mapped look k v.before v.after found found_filled v.mapped mapped) v.rest_filled in record {
+          filled = json.member k v.filled m.filled;
+          more = m.more;
+          is = is ∙ ap₂ (λ t ts. t ∷ ts) same (v.is ∙ ap (λ ts. json_tokens v.filled ++ ts) m.is
+              ∙ sym (append_assoc (json_tokens v.filled) (members_tokens m.filled) m.more));
+          deep = ap₂ max v.deep m.deep;
+          before = m.before;
+          after = m.after;
+          reads = ap (option_and_then (λ d. of_members ms (put k d found))) v.reads ∙ m.reads;
+          reads_filled = ap (option_and_then (λ d. of_members m.filled (put k d found_filled))) v.reads_filled
+              ∙ m.reads_filled;
+          mapped = m.mapped;
+          rest_filled = m.rest_filled;
+        }
+
+  -- a text is read, and so is a text whose tokens are those of the first one, filled in
+  pub filled_document : (source output : List ℕ) → json.skip_value max_depth (tokens source) ≡ Some []
+      → AreFilled Becomes (tokens source) (tokens output)
+      → ReadsAsTree source (λ d. ReadsAsTree output (IsMapped look d))
+  filled_document source output e h =
+      let (j, is) = passed (json.value max_depth (tokens source)) [] e in
+      let v = filled_value j [] (tokens output) (subst (λ ts. AreFilled Becomes ts (tokens output))
+      (value-json_tokens_back max_depth (tokens source) [] j is) h) in
+      let nests : tree.depth v.filled ≤ max_depth =
+      subst (λ n. n ≤ max_depth) (sym v.deep) (value-depth max_depth (tokens source) [] j is) in
+      let filled_is = ap (json.value max_depth) (v.is ∙ ap (λ ts. json_tokens v.filled ++ ts) v.rest_filled)
+      ∙ value-json_tokens v.filled max_depth [] nests in (
+        v.before,
+        read_as source j v.before is v.reads,
+        (v.after, read_as output v.filled v.after filled_is v.reads_filled, v.mapped),
+      )

@@ -1,0 +1,27 @@
+-- Spans of many ranges of one string, each piece of whose token is read alone.
+use Rattle.std.specs.Prelude.{◌≡◌, ◌<◌, ◌≤◌, ◌+◌, ℕ, List, [], ◌∷◌, ◌++◌, slice_range}
+use Rattle.std.specs.declared.ops.Range.{Range}
+use Rattle.subst_error.specs.Range.{IsRangeIn}
+use Rattle.subst_walk.specs.Pieces.{position, ArePiecesFrom}
+use Rattle.subst_walk.specs.declared.pieces.Position.{Position}
+use Rattle.subst_json.specs.Places.{HasQuotes, IsTokenOf}
+
+-- From one position of a token to another, its text reads between quotes as that part of its string.
+pub record IsPiece (s : List ℕ) (token : Range ℕ) (x : List ℕ) (from to : Position) : Type 0 where
+  pub within : IsRangeIn s (record { start = from.place; end = to.place })
+  pub forwards : from.place ≤ to.place
+  pub before_end : to.place < token.end
+  pub range : IsRangeIn x (record { start = from.offset; end = to.offset })
+  pub in_order : from.offset ≤ to.offset
+  pub spells : IsTokenOf (34 ∷ slice_range s from.place to.place ++ 34 ∷ [])
+      (slice_range x from.offset to.offset)
+
+-- The spans are where the text spells these ranges of the string that the token is, from its opening quote
+-- on.
+pub record ArePlacesIn (s : List ℕ) (token : Range ℕ) (ranges places : List (Range ℕ)) : Type 0 where
+  pub within : IsRangeIn s token
+  pub forwards : token.start ≤ token.end
+  pub text : List ℕ
+  pub spells : IsTokenOf (slice_range s token.start token.end) text
+  pub quoted : HasQuotes (slice_range s token.start token.end)
+  pub pieces : ArePiecesFrom (IsPiece s token text) (position (token.start + 1) 0) ranges places

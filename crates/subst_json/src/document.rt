@@ -1,0 +1,219 @@
+//! JSON texts whose strings are filled in where they stand: each other byte stays.
+
+ghost use Rattle.std.specs.Prelude.{◌≡◌, ⊤, [], IfErr, IfOk, IfSome, IsTrue, IsUtf8, None, OnOk, Some, string_bytes};
+ghost use Rattle.json.specs.Json.{skip_value};
+ghost use Rattle.json.specs.Lex.{tokens};
+ghost use Rattle.serde_json.specs.Errors.{IsOfText};
+ghost use Rattle.serde_json.specs.Read.{max_depth, read};
+ghost use Rattle.subst_error.specs.ErrorFault.{error_fault};
+ghost use Rattle.subst_language.specs.Calls.VariableMap.{ByLookUp};
+ghost use Rattle.subst_language.specs.Language.Answer.{Answers, Gives};
+ghost use Rattle.subst_language.specs.Language.LookUp.{LookUp};
+ghost use Rattle.subst_language.specs.Language.Several.{IsFirstRefusal};
+ghost use Rattle.subst_walk.specs.Edits.{GivesUnder};
+ghost use Rattle.subst_walk.specs.Texts.{HasRange};
+ghost use Rattle.subst_json.specs.Errors.{HasOwnMemory};
+ghost use Rattle.subst_json.specs.Filled.{strings_in, IsFilledJson};
+ghost use Rattle.subst_json.specs.Mapped.{IsMapped};
+ghost use Rattle.subst_json.specs.Outcome.{ReadsAsTree, IfJson, OnJson, OnSubst};
+
+use crate::Error;
+use crate::compared::is_filled;
+use crate::tokens::filled_in;
+use json::{Reader, Scratch};
+use serde_json::Value;
+use std::alloc::{AllocError, Global};
+use std::convert::AsStr;
+use std::str::from_utf8;
+use subst_map::VariableMap;
+use subst_walk::{Fill, Filler};
+
+/// How deep arrays and objects may nest, as the reader of trees has it.
+const MAX_DEPTH: usize = 127;
+
+/// Returns a JSON text with its strings filled in from `variables`, whose values are texts. Each other byte
+/// stays: white space, keys and their order, equal keys, the form of numbers, and the spelling of each string
+/// that gives itself. A string that changes is written as `serde_json` writes it. Of members with equal keys
+/// the string of each one is filled in.
+///
+/// ```rust
+/// let source = r#"{ "$home": "${home:/root}/.config", "scale": 1.50 }"#;
+/// let output = json::fill_in(alloc, source, &NoSubstitution)?;
+/// // { "$home": "/root/.config", "scale": 1.50 }
+/// ```
+///
+/// The output is read and compared with the source before it is returned. It is `None` where it isn't
+/// confirmed so; no text is known for which that happens.
+///
+/// # Errors
+///
+/// `Json` where the source isn't JSON, as `serde_json` decides, whatever its strings are; that error names
+/// the line. Otherwise `Subst` with the fault of the first string that is refused, in the order of the text;
+/// positions are byte offsets in that string. `OutOfMemory` when allocation fails.
+pub fn fill_in<'a, M: VariableMap<'a>>(
+    alloc: Global,
+    source: &str,
+    variables: &'a M,
+) -> Result<Option<String>, Error>
+where
+    M::Value: AsStr + Drop,
+
+    // It reads as the tree that the source is read as, with its strings filled in.
+    ensures mapped { ByLookUp M.Value.text M.see (M.look_up variables.now)
+        (λ look. IfOk result (λ output. IfSome output (λ output. ReadsAsTree source.now
+        (λ d. ReadsAsTree (string_bytes output) (IsMapped look d))))) }
+
+    // It is the source, but for the strings that change.
+    ensures kept { ByLookUp M.Value.text M.see (M.look_up variables.now)
+        (λ look. IfOk result (λ output. IfSome output (λ output.
+        IsFilledJson (λ x y. Answers x look (Gives y)) source.now (string_bytes output)))) }
+    ensures json { OnJson result (read source.now ≡ None) }
+
+    // What the error says is of a text that is no tree, and not of a type.
+    ensures kind { IfJson result IsOfText }
+    ensures subst { ByLookUp M.Value.text M.see (M.look_up variables.now)
+        (λ look. OnSubst result (λ f. ReadsAsTree source.now
+        (λ _. IsFirstRefusal look (strings_in (tokens source.now)) f))) }
+    ensures range { OnSubst result HasRange }
+
+    // Neither `Json` nor `Subst` says that memory ran out.
+    ensures memory { IfErr result HasOwnMemory }
+{
+    fill_in_by(alloc, source, &Filler { variables })
+}
+
+/// Returns a JSON text with its strings filled in, from bytes, as [`fill_in`].
+///
+/// # Errors
+///
+/// As [`fill_in`]; it is `Json` too where the bytes aren't UTF-8.
+pub fn fill_in_slice<'a, M: VariableMap<'a>>(
+    alloc: Global,
+    source: &[u8],
+    variables: &'a M,
+) -> Result<Option<String>, Error>
+where
+    M::Value: AsStr + Drop,
+    ensures mapped { ByLookUp M.Value.text M.see (M.look_up variables.now)
+        (λ look. IfOk result (λ output. IfSome output (λ output. ReadsAsTree source.now
+        (λ d. ReadsAsTree (string_bytes output) (IsMapped look d))))) }
+    ensures kept { ByLookUp M.Value.text M.see (M.look_up variables.now)
+        (λ look. IfOk result (λ output. IfSome output (λ output.
+        IsFilledJson (λ x y. Answers x look (Gives y)) source.now (string_bytes output)))) }
+
+    // The strings are filled in only where the bytes are UTF-8, and one is refused only there.
+    ensures utf8 { OnOk result (IsUtf8 source.now) }
+    ensures refused_utf8 { OnSubst result (λ f. IsUtf8 source.now) }
+    ensures json { OnJson result (IsUtf8 source.now → read source.now ≡ None) }
+    ensures kind { IfJson result IsOfText }
+    ensures subst { ByLookUp M.Value.text M.see (M.look_up variables.now)
+        (λ look. OnSubst result (λ f. ReadsAsTree source.now
+        (λ _. IsFirstRefusal look (strings_in (tokens source.now)) f))) }
+    ensures range { OnSubst result HasRange }
+    ensures memory { IfErr result HasOwnMemory }
+{
+    match from_utf8(source) {
+        Ok(text) => fill_in(alloc, text, variables),
+        Err(_) => {
+            Value::from_slice(alloc, source)?;
+            Ok(None)
+        }
+    }
+}
+
+/// Returns a JSON text with its strings filled in by `filler`, as [`fill_in`]. A string without `$` and `\`
+/// gives itself, and `filler` isn't asked.
+///
+/// # Errors
+///
+/// As [`fill_in`].
+pub fn fill_in_by<F: Fill>(alloc: Global, source: &str, filler: &F) -> Result<Option<String>, Error>
+    ensures mapped { (look : LookUp) → F.is_look_up filler.now look
+        → IfOk result (λ output. IfSome output (λ output. ReadsAsTree source.now
+        (λ d. ReadsAsTree (string_bytes output) (IsMapped look d)))) }
+    ensures kept { IfOk result (λ output. IfSome output (λ output.
+        IsFilledJson (GivesUnder (F.is_look_up filler.now)) source.now (string_bytes output))) }
+    ensures json { OnJson result (read source.now ≡ None) }
+    ensures kind { IfJson result IsOfText }
+    ensures subst { (look : LookUp) → F.is_look_up filler.now look
+        → OnSubst result (λ f. ReadsAsTree source.now
+        (λ _. IsFirstRefusal look (strings_in (tokens source.now)) f)) }
+    ensures range { OnSubst result HasRange }
+    ensures memory { IfErr result HasOwnMemory }
+{
+    match filled_in(alloc, source, filler) {
+        Ok(Some(output)) => confirmed(alloc, source, output, filler),
+        Ok(None) => unconfirmed(alloc, source),
+        Err(e) => refused(alloc, source, e),
+    }
+}
+
+/// Returns a text that was filled in, or `None` where the reader doesn't confirm it.
+///
+/// # Errors
+///
+/// `Json` where the source isn't JSON. `OutOfMemory` when allocation fails.
+fn confirmed<F: Fill>(
+    alloc: Global,
+    source: &str,
+    output: String,
+    filler: &F,
+) -> Result<Option<String>, Error>
+    ensures same { IfOk result (λ confirmed. IfSome confirmed (λ confirmed. confirmed ≡ output)) }
+    ensures mapped { (look : LookUp) → F.is_look_up filler.now look
+        → IfOk result (λ output. IfSome output (λ output. ReadsAsTree source.now
+        (λ d. ReadsAsTree (string_bytes output) (IsMapped look d)))) }
+    ensures json { OnJson result (read source.now ≡ None) }
+    ensures kind { IfJson result IsOfText }
+    ensures subst { OnSubst result (λ _. ⊥) }
+    ensures memory { IfErr result HasOwnMemory }
+{
+    if nests(alloc, source)? && is_filled(alloc, source, output.as_str(), filler)? {
+        Ok(Some(output))
+    } else {
+        unconfirmed(alloc, source)
+    }
+}
+
+/// Returns whether the values of a text nest as deep as the reader allows, and it ends after one.
+fn nests(alloc: Global, source: &str) -> Result<bool, AllocError>
+    ensures { IfOk result
+        (λ is. IsTrue is → skip_value max_depth (tokens source.now) ≡ Some []) }
+{
+    let mut scratch = Scratch::new(alloc);
+    let mut reader = Reader::new(source, &mut scratch)?;
+    Ok(reader.skip_value(MAX_DEPTH).is_ok() && reader.next().is_none())
+}
+
+/// Returns nothing for a text that isn't confirmed.
+///
+/// # Errors
+///
+/// `Json` where the source isn't JSON. `OutOfMemory` when allocation fails.
+fn unconfirmed(alloc: Global, source: &str) -> Result<Option<String>, Error>
+    ensures none { IfOk result (λ output. output ≡ None) }
+    ensures json { OnJson result (read source.now ≡ None) }
+    ensures kind { IfJson result IsOfText }
+    ensures subst { OnSubst result (λ _. ⊥) }
+    ensures memory { IfErr result HasOwnMemory }
+{
+    Value::from_str(alloc, source)?;
+    Ok(None)
+}
+
+/// Returns the error for a text of which a string is refused.
+///
+/// # Errors
+///
+/// `Json` where the source isn't JSON, and that of the string otherwise.
+fn refused(alloc: Global, source: &str, e: subst_error::Error) -> Result<Option<String>, Error>
+    ensures never { IfOk result (λ _. ⊥) }
+    ensures json { OnJson result (read source.now ≡ None) }
+    ensures kind { IfJson result IsOfText }
+    ensures subst { OnSubst result
+        (λ f. (error_fault e ≡ Some f) × ReadsAsTree source.now (λ _. ⊤)) }
+    ensures memory { IfErr result HasOwnMemory }
+{
+    Value::from_str(alloc, source)?;
+    Err(e.into())
+}

@@ -1,0 +1,105 @@
+//! Spans of many ranges of one string: each piece of its token is read alone between quotes, and what the
+//! reader doesn't confirm is never returned.
+
+ghost use Rattle.std.specs.Prelude.{◌≡◌, ◌++◌, ◌∷◌, [], IfOk, IfSome, IsTrue};
+ghost use Rattle.subst_json.specs.Places.{IsTokenOf};
+ghost use Rattle.subst_json.specs.Pieces.{ArePlacesIn};
+
+use crate::place::{read_string, spelling_len};
+use std::alloc::{AllocError, Global};
+use std::ops::Range;
+use subst_walk::{Pieces, Position, slice, spans};
+
+/// A token of a string.
+#[derive(Clone, Copy)]
+struct Token<'t> {
+    source: &'t str,
+    /// Its byte range in the source.
+    span: &'t Range<usize>,
+    string: &'t str,
+}
+
+impl Pieces for Token<'_> {
+    ghost use Rattle.subst_json.specs.Pieces.{IsPiece};
+
+    ghost is_piece = { λ token. IsPiece token.source.now token.span.now token.string.now };
+
+    fn piece_end(
+        &self,
+        alloc: Global,
+        from: Position,
+        offset: usize,
+        _is_start: bool,
+    ) -> Result<Option<Position>, AllocError> {
+        let Some(part) = slice(self.string, &(from.offset..offset)) else {
+            return Ok(None);
+        };
+        let before = from.place.saturating_sub(1);
+        let rest = self.source.as_bytes().get(before..).unwrap_or(&[]);
+        let place = before.saturating_add(spelling_len(rest, part.len()));
+        let Some(spelled) = slice(self.source, &(from.place..place)) else {
+            return Ok(None);
+        };
+        if place < self.span.end && reads_as(alloc, spelled, part)? {
+            Ok(Some(Position { place, offset }))
+        } else {
+            Ok(None)
+        }
+    }
+}
+
+/// Returns the byte ranges in `source`, a JSON text, that spell these ranges of a string of it.
+///
+/// `token` is the byte range in `source` of the string with its quotes. `ranges` are in byte offsets of the
+/// string, and none begins before the end of the one before it. Each is spelled where `place_in` returns it,
+/// and the token is passed over once for all. It is `None` where the token is no string between quotes, where
+/// an end of a range is past the string's end or within a character, or where the ranges overlap.
+///
+/// # Errors
+///
+/// That an allocation failed.
+pub fn places_in(
+    alloc: Global,
+    source: &str,
+    token: Range<usize>,
+    ranges: &[Range<usize>],
+) -> Result<Option<Vec<Range<usize>>>, AllocError>
+    ensures { IfOk result (λ places. IfSome places
+        (λ places. ArePlacesIn source.now token ranges.now places.items)) }
+{
+    let Some(text) = slice(source, &token) else {
+        return Ok(None);
+    };
+    let [b'"', .., b'"'] = text.as_bytes() else {
+        return Ok(None);
+    };
+    let Some(string) = read_string(alloc, text)? else {
+        return Ok(None);
+    };
+    let first = Position {
+        place: token.start + 1,
+        offset: 0,
+    };
+    let token = Token {
+        source,
+        span: &token,
+        string: &string,
+    };
+    let Some(places) = spans(alloc, &token, first, ranges)? else {
+        return Ok(None);
+    };
+    Ok(Some(places))
+}
+
+/// Returns whether a text between quotes is read as this string.
+fn reads_as(alloc: Global, text: &str, string: &str) -> Result<bool, AllocError>
+    ensures { IfOk result (λ is. IsTrue is → IsTokenOf (34 ∷ text.now ++ 34 ∷ []) string.now) }
+{
+    let mut quoted = String::from_str(alloc, "\"")?;
+    quoted.push_str(text)?;
+    quoted.push('"')?;
+    match read_string(alloc, &quoted)? {
+        Some(read) => Ok(read.as_str() == string),
+        None => Ok(false),
+    }
+}
