@@ -5,10 +5,17 @@
 //! caller's from its tree, by `serde`. Keys stay as they are, and no value of a variable can break out of its
 //! string.
 //!
+//! [`fill_in`] and [`fill_in_slice`] return the document's own text with its strings filled in: comments,
+//! keys and layout stay. [`strings`] returns its strings with their places in the text, and [`refusals_in`]
+//! those that are refused.
+//!
 //! [`first_refusal`] and [`all_refusals`] return refused strings of a tree with their paths; [`place_of`] and
-//! [`place_in`] return where they are in the document that was read.
+//! [`place_in`] return where they are in the document that was read, and [`places_in`] where many ranges of
+//! one string are. [`fill_in_by`] and [`refusals_by`] take a [`Fill`], a way to fill in a string, which by a
+//! map is [`Filler`].
 
 pub use subst_toml::{
-    Error, Path, PathStep, RefusedString, all_refusals, first_refusal, from_slice, from_str,
-    place_in, place_of, substitute_string_values, value_from_slice, value_from_str,
+    Error, Fill, Filler, Path, PathStep, RefusalAt, RefusedString, StringAt, all_refusals, fill_in,
+    fill_in_by, fill_in_slice, first_refusal, from_slice, from_str, place_in, place_of, places_in,
+    refusals_by, refusals_in, strings, substitute_string_values, value_from_slice, value_from_str,
 };

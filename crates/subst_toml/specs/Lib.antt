@@ -1,8 +1,10 @@
 pub mod DottedKey
 pub mod Errors
+pub mod Filled
 pub mod Laws
 pub mod Located
 pub mod Mapped
 pub mod Outcome
 pub mod Paths
+pub mod Pieces
 pub mod Places

@@ -11,15 +11,16 @@ ghost use Rattle.subst_walk.specs.Paths.{step_of};
 ghost use Rattle.subst_toml.specs.Paths.{steps_of, Leads};
 ghost use Rattle.subst_toml.specs.Places.{part_at, quotes_of, with_empty, IsTokenOf, IsInNewline, IsPlaceOf, IsPlaceIn, LeadsToEmpty};
 
+use crate::document::numbered::{number_at, with_numbers};
+use crate::document::tokens::strings_in;
 use crate::path::Path;
 use std::alloc::{AllocError, Global};
 use std::ops::Range;
-use subst_walk::PathStep;
+use subst_walk::{PathStep, slice};
 use toml::{Table, Value};
 use toml_parser::bytes::byte_at;
 
-mod search;
-mod spelling;
+pub(crate) mod spelling;
 
 /// Returns where the string that a path leads to is in a document: the range of its token, with its
 /// quotes, in byte offsets of `source`. It is `None` where `source` isn't a TOML document, or the path leads
@@ -43,10 +44,10 @@ pub fn place_of(
     let Some(text) = string_at(&tree, steps) else {
         return Ok(None);
     };
-    let Some(place) = search::token_range(alloc, source, steps)? else {
+    let Some(place) = span_at(alloc, source, steps)? else {
         return Ok(None);
     };
-    let Some(token) = part(source, &place) else {
+    let Some(token) = slice(source, &place) else {
         return Ok(None);
     };
     match string_of(alloc, token)? {
@@ -58,6 +59,27 @@ pub fn place_of(
             }
         }
         _ => Ok(None),
+    }
+}
+
+/// Returns the range of the token of the string at a path.
+fn span_at(
+    alloc: Global,
+    source: &str,
+    steps: &[PathStep],
+) -> Result<Option<Range<usize>>, AllocError> {
+    let Some(found) = strings_in(alloc, source)? else {
+        return Ok(None);
+    };
+    let Some(numbered) = with_numbers(alloc, source, &found)? else {
+        return Ok(None);
+    };
+    let Some(members) = table_of(alloc, numbered.as_str())? else {
+        return Ok(None);
+    };
+    match number_at(&Value::Table(members), steps) {
+        Some(number) => Ok(found.get(number).map(|it| it.span.start..it.span.end)),
+        None => Ok(None),
     }
 }
 
@@ -112,7 +134,7 @@ pub fn place_in(
 ) -> Result<Option<Range<usize>>, AllocError>
     ensures { IfOk result (λ place. IfSome place (IsPlaceIn source.now token range)) }
 {
-    let Some(text) = part(source, &token) else {
+    let Some(text) = slice(source, &token) else {
         return Ok(None);
     };
     let Some(whole) = string_of(alloc, text)? else {
@@ -144,7 +166,7 @@ pub fn place_in(
 
 /// Returns the string that a token would be read as if it ended at the end of the range, with these closing
 /// quotes after it.
-fn read_up_to(
+pub(crate) fn read_up_to(
     alloc: Global,
     source: &str,
     range: &Range<usize>,
@@ -154,7 +176,7 @@ fn read_up_to(
         (range.now.start ≤ range.now.end) × IsRangeIn source.now range.now
         × IsTokenOf (part_at source.now range.now ++ quotes.now) (string_bytes text))) }
 {
-    let Some(before) = part(source, range) else {
+    let Some(before) = slice(source, range) else {
         return Ok(None);
     };
     let mut closed = String::from_str(alloc, before)?;
@@ -162,22 +184,8 @@ fn read_up_to(
     string_of(alloc, closed.as_str())
 }
 
-/// Returns the part of a text at a range, where that is one and its ends are character boundaries.
-fn part<'s>(source: &'s str, range: &Range<usize>) -> Option<&'s str>
-    ensures range { IfSome result (λ _.
-        (range.now.start ≤ range.now.end) × IsRangeIn source.now range.now) }
-    ensures part { IfSome result (λ part. part.now ≡ part_at source.now range.now) }
-{
-    let (start, end) = (range.start, range.end);
-    if start <= end && source.is_char_boundary(start) && source.is_char_boundary(end) {
-        Some(&source[start..end])
-    } else {
-        None
-    }
-}
-
 /// Returns the quotes that a token begins with: three, if the first byte is there three times, else one.
-fn quotes(token: &str) -> Option<&str>
+pub(crate) fn quotes(token: &str) -> Option<&str>
     ensures { IfSome result (λ quotes. quotes.now ≡ quotes_of token.now) }
 {
     let bytes = token.as_bytes();
@@ -201,7 +209,7 @@ fn is_in_newline(string: &[u8], offset: usize) -> bool
 }
 
 /// Returns the string that a text is read as, if it is read as one.
-fn string_of(alloc: Global, token: &str) -> Result<Option<String>, AllocError>
+pub(crate) fn string_of(alloc: Global, token: &str) -> Result<Option<String>, AllocError>
     ensures { IfOk result (λ read. IfSome read (λ text. IsTokenOf token.now (string_bytes text))) }
 {
     let value = match Value::from_str(alloc, token) {
@@ -216,7 +224,7 @@ fn string_of(alloc: Global, token: &str) -> Result<Option<String>, AllocError>
 }
 
 /// Returns the table that a document is, if it is one.
-fn table_of(alloc: Global, source: &str) -> Result<Option<Table>, AllocError>
+pub(crate) fn table_of(alloc: Global, source: &str) -> Result<Option<Table>, AllocError>
     ensures { IfOk result (λ read. IfSome read
         (λ members. parse_document source.now ≡ Some (table_view members))) }
 {
@@ -228,7 +236,7 @@ fn table_of(alloc: Global, source: &str) -> Result<Option<Table>, AllocError>
 }
 
 /// Returns the string that the steps lead to from a tree.
-fn string_at<'t>(tree: &'t Value, steps: &[PathStep]) -> Option<&'t str>
+pub(crate) fn string_at<'t>(tree: &'t Value, steps: &[PathStep]) -> Option<&'t str>
     ensures { IfSome result (λ text. Leads (map step_of steps.now) (view tree.now) text.now) }
 {
     match steps {

@@ -16,11 +16,21 @@ struct Piece<'s> {
 
 /// How the string of a token is spelled.
 #[derive(Clone, Copy)]
-struct Style {
+pub(crate) struct Style {
     /// Whether a backslash begins an escape.
     has_escapes: bool,
     /// Whether it may have several lines.
     is_multi_line: bool,
+}
+
+impl Style {
+    /// Returns that of a token with these quotes.
+    pub(crate) fn of(quotes: &str) -> Self {
+        Style {
+            has_escapes: first(quotes) == b'"',
+            is_multi_line: quotes.len() == 3,
+        }
+    }
 }
 
 /// Returns where a part of a string is spelled, by byte offsets of the document that has `text`, a token, at
@@ -32,10 +42,7 @@ pub(super) fn place(
     token: &Range<usize>,
     range: &Range<usize>,
 ) -> Option<Range<usize>> {
-    let style = Style {
-        has_escapes: first(text) == b'"',
-        is_multi_line: quotes == 3,
-    };
+    let style = Style::of(text.get(..quotes)?);
     let content = text.get(quotes..text.len().checked_sub(quotes)?)?;
     let start = after_left_out(
         after_spelling(without_newline(content, style), range.start, style)?,
@@ -47,7 +54,7 @@ pub(super) fn place(
 }
 
 /// Returns what follows the newline that is left out after opening quotes.
-fn without_newline(content: &str, style: Style) -> &str {
+pub(crate) fn without_newline(content: &str, style: Style) -> &str {
     match content.strip_prefix('\n') {
         Some(rest) if style.is_multi_line => rest,
         _ => match content.strip_prefix("\r\n") {
@@ -58,7 +65,7 @@ fn without_newline(content: &str, style: Style) -> &str {
 }
 
 /// Returns what follows where this many bytes of the string have been spelled.
-fn after_spelling(text: &str, len: usize, style: Style) -> Option<&str> {
+pub(crate) fn after_spelling(text: &str, len: usize, style: Style) -> Option<&str> {
     let mut rest = text;
     let mut left = len;
     'pieces: while left > 0 {
@@ -70,7 +77,7 @@ fn after_spelling(text: &str, len: usize, style: Style) -> Option<&str> {
 }
 
 /// Returns what follows what is left out.
-fn after_left_out(text: &str, style: Style) -> &str {
+pub(crate) fn after_left_out(text: &str, style: Style) -> &str {
     let mut rest = text;
     'pieces: while let Some(
         Piece {

@@ -1,0 +1,6 @@
+-- The filler's look-up is that of the map.
+use Rattle.std.proofs.Common.{refl}
+use Rattle.subst_toml.proofs.document.listing.refusals_in.Goals as goal
+
+pub returns-clause-all : goal.returns-clause-all
+returns-clause-all g c = λ bytes reads. c.refusals_by.ensures.all _ (bytes, reads, refl)

@@ -1,0 +1,161 @@
+-- The strings of a TOML text that are values, and the text with its strings filled in.
+use Rattle.std.specs.Prelude.{◌≡◌, ◌≤◌, ◌⊎◌, true, ℕ, zero, suc, ◌-◌, ◌==◌, if◌then◌else◌, List, [], ◌∷◌, ◌++◌, length, take, drop, map, slice_get, Option, Some, None, option_map, option_and_then, string_bytes}
+use Rattle.std.specs.declared.ops.Range.{Range}
+use Rattle.toml_parser.specs.Lexical.{Read, left_bracket, right_bracket, left_brace, right_brace, comma, first, skip_blank}
+use Rattle.toml_parser.specs.Numbers.{unquoted}
+use Rattle.toml_parser.specs.Strings.{quoted, starts_string}
+use Rattle.toml.specs.Data.{Data}
+use Rattle.toml.specs.Parse.{after_byte, header_key, key_equals, skip_bom}
+use Rattle.toml_writer.specs.Text.{string_text}
+use Rattle.subst_error.specs.ErrorFault.{error_fault}
+use Rattle.subst_error.specs.Fault.{Fault}
+use Rattle.subst_error.specs.Range.{range_of, IsRangeIn}
+use Rattle.subst_language.specs.Language.Answer.{Answers, Gives, Refuses}
+use Rattle.subst_language.specs.Language.LookUp.{LookUp}
+use Rattle.subst_walk.specs.Edits.{IsFilledText}
+use Rattle.subst_walk.specs.declared.edits.StringAt.{StringAt}
+use Rattle.subst_toml.specs.Paths.{steps_of, Leads}
+use Rattle.subst_toml.specs.Places.{part_at, IsTokenOf}
+use Rattle.subst_toml.specs.declared.document.listing.RefusalAt.{RefusalAt}
+use Rattle.subst_toml.specs.declared.document.tokens.Bracket.{Bracket}
+use Rattle.subst_toml.specs.declared.document.tokens.Bracket.TheVariants.{Array, InlineTable}
+use Rattle.subst_toml.specs.declared.document.tokens.Progress as code
+
+-- the text alone is read as this string, and begins with its quote
+abbrev pub IsQuotedToken : List ℕ → List ℕ → Type 0
+IsQuotedToken token x = (starts_string token ≡ true) × IsTokenOf token x
+
+-- a string of a text, and the range that spells it
+pub record Spelled : Type 0 where
+  pub text : List ℕ
+  pub span : Range ℕ
+
+-- the string that is found
+abbrev pub spelled_of : StringAt → Spelled
+spelled_of it = record { text = string_bytes it.text; span = it.span }
+
+-- What has been read of a text of this length: the brackets that are open, the innermost one last, and the
+-- strings so far.
+pub record Progress : Type 0 where
+  pub len : ℕ
+  pub brackets : List Bracket
+  pub found : List Spelled
+
+-- one bracket more is open
+abbrev pub opened : Bracket → Progress → Progress
+opened bracket p = record { len = p.len; brackets = p.brackets ++ bracket ∷ []; found = p.found }
+
+-- the innermost bracket is closed
+abbrev pub closed : Progress → Progress
+closed p = record { len = p.len; brackets = take (length p.brackets - 1) p.brackets; found = p.found }
+
+-- one string more is found, between what is left of the text at it and after it
+abbrev pub with_string : Progress → List ℕ → List ℕ → List ℕ → Progress
+with_string p x text rest = record {
+  len = p.len;
+  brackets = p.brackets;
+  found = p.found ++ record {
+    text = x;
+    span = record { start = p.len - length text; end = p.len - length rest };
+  } ∷ [];
+}
+
+-- at a value, of which an array and an inline table are read up to their opening bracket
+abbrev pub value : Progress → List ℕ → Read Progress
+value p text =
+    if starts_string text then option_map (λ r. (with_string p r.0 text r.1, r.1)) (quoted text)
+    else if first text == left_bracket then Some (opened Array p, drop 1 text)
+    else if first text == left_brace then Some (opened InlineTable p, drop 1 text)
+    else option_map (λ r. (p, r.1)) (unquoted text)
+
+-- at a key with its value
+abbrev pub pair : Progress → List ℕ → Read Progress
+pair p text = option_and_then (λ k. value p k.1) (key_equals text)
+
+-- after the first bracket of a header, or of one in double brackets
+abbrev pub header : List ℕ → Option (List ℕ)
+header text =
+    if first text == left_bracket
+    then option_and_then (λ k. after_byte right_bracket k.1) (header_key (drop 1 text))
+    else option_map (λ k. k.1) (header_key text)
+
+-- what is next where this bracket is the innermost one: an item of an array, a member of an inline table, or
+-- else a line
+abbrev pub step_in : Option Bracket → Progress → List ℕ → Read Progress
+step_in None p text =
+    if first text == left_bracket then option_map (λ rest. (p, rest)) (header (drop 1 text)) else pair p text
+step_in (Some Array) p text =
+    if first text == comma then Some (p, drop 1 text)
+    else if first text == right_bracket then Some (closed p, drop 1 text)
+    else value p text
+step_in (Some InlineTable) p text =
+    if first text == comma then Some (p, drop 1 text)
+    else if first text == right_brace then Some (closed p, drop 1 text)
+    else pair p text
+
+abbrev pub step : Progress → List ℕ → Read Progress
+step p text = step_in (slice_get p.brackets (length p.brackets - 1)) p text
+
+-- the strings after at most n steps more
+unfoldable pub strings_from : ℕ → Progress → List ℕ → Option (List Spelled)
+strings_from zero p text = None
+strings_from (suc n) p text =
+    let start = skip_blank text in
+    if length start == 0 then Some p.found
+    else option_and_then (λ s. strings_from n s.0 s.1) (step p start)
+
+-- The strings of a document that are values, in the order of the text. Keys are none of them.
+abbrev pub strings_in : List ℕ → Option (List Spelled)
+strings_in text =
+    strings_from (suc (length text)) (record { len = length text; brackets = []; found = [] }) (skip_bom text)
+
+-- what has been read
+abbrev pub progress_of : code.Progress → Progress
+progress_of p = record {
+  len = p.source_len;
+  brackets = p.brackets.items;
+  found = map spelled_of p.found.items;
+}
+
+-- The second text is the first one with its strings filled in: each becomes one of which `Becomes` holds.
+abbrev pub IsFilledIn : (List ℕ → List ℕ → Type 0) → List ℕ → List ℕ → Type 0
+IsFilledIn Becomes source output =
+    (found : List Spelled) × (strings_in source ≡ Some found)
+    × IsFilledText IsQuotedToken string_text Becomes (map (λ it. it.text) found) source output
+
+-- the part of the text at this span is the string's token
+abbrev pub IsSpelledAt : List ℕ → Range ℕ → List ℕ → Type 0
+IsSpelledAt s span x = IsRangeIn s span × (span.start ≤ span.end) × IsQuotedToken (part_at s span) x
+
+-- a string that is refused, with its span and its fault
+pub record RefusalIn : Type 0 where
+  pub text : List ℕ
+  pub span : Range ℕ
+  pub fault : Option Fault
+
+-- the refusal, without its path
+abbrev pub refusal_in : RefusalAt → RefusalIn
+refusal_in it = record { text = string_bytes it.text; span = it.span; fault = error_fault it.error }
+
+-- the range of its fault is in its string
+abbrev pub HasFaultInText : RefusalIn → Type 0
+HasFaultInText it = IsRangeIn it.text (range_of it.fault)
+
+-- The refusals of those of these strings that are refused, in their order. Each other one gives bytes.
+abbrev pub AreRefusalsIn : LookUp → List Spelled → List RefusalIn → Type 0
+AreRefusalsIn look [] refusals = refusals ≡ []
+AreRefusalsIn look (it ∷ found) refusals =
+    (((x : List ℕ) × Answers it.text look (Gives x)) × AreRefusalsIn look found refusals)
+    ⊎ ((f : Fault) × (more : List RefusalIn) × Answers it.text look (Refuses f)
+    × (refusals ≡ record { text = it.text; span = it.span; fault = Some f } ∷ more)
+    × AreRefusalsIn look found more)
+
+-- they are all refusals of the strings of the text
+abbrev pub AreAllRefusals : LookUp → List ℕ → List RefusalIn → Type 0
+AreAllRefusals look s refusals =
+    (found : List Spelled) × (strings_in s ≡ Some found) × AreRefusalsIn look found refusals
+
+-- its path leads to its string in the tree, and the text has its token at its span
+abbrev pub IsFound : List ℕ → Data → RefusalAt → Type 0
+IsFound s d it = Leads (steps_of it.path) d (string_bytes it.text)
+    × IsSpelledAt s it.span (string_bytes it.text)

@@ -1,0 +1,207 @@
+//! Documents whose strings are filled in where they are: comments, keys, the order of lines and all else
+//! between strings stay as they are.
+//!
+//! A walk over the text finds its strings, and each that changes is written anew. Then the kit's reader is
+//! asked whether the text is read as the tree with its strings filled in.
+
+ghost use Rattle.std.specs.Prelude.{◌≡◌, [], ◌∷◌, None, Some, IfErr, IfOk, IfSome, IsTrue, string_bytes};
+ghost use Rattle.toml.specs.Errors.{IsWithin};
+ghost use Rattle.toml.specs.Parse.{parse_document};
+ghost use Rattle.toml.specs.View.{table_view};
+ghost use Rattle.toml_writer.specs.Text.{string_text};
+ghost use Rattle.subst_language.specs.Calls.VariableMap.{ByLookUp};
+ghost use Rattle.subst_language.specs.Language.Answer.{Answers, Gives};
+ghost use Rattle.subst_language.specs.Language.LookUp.{LookUp};
+ghost use Rattle.subst_language.specs.Language.Several.{IsFirstRefusal};
+ghost use Rattle.subst_walk.specs.Edits.{GivesUnder, IsFilledUpTo, text_at};
+ghost use Rattle.subst_walk.specs.Texts.{HasRange};
+ghost use Rattle.subst_toml.specs.Errors.{HasOwnMemory};
+ghost use Rattle.subst_toml.specs.Filled.{IsFilledIn, IsQuotedToken};
+ghost use Rattle.subst_toml.specs.Mapped.{strings, IsMapped};
+ghost use Rattle.subst_toml.specs.Outcome.{ReadsAsTree, IfToml, OnToml, OnSubst, TellsUtf8, StatesFirst};
+
+use crate::error::Error;
+use crate::{text_of, walk};
+use same::is_same_table;
+use std::alloc::{AllocError, Global};
+use std::convert::AsStr;
+use subst_map::VariableMap;
+use subst_walk::{Fill, Filler, StringAt, fill_in_string};
+use token::Quoted;
+use toml::Table;
+
+pub(crate) mod listing;
+pub(crate) mod numbered;
+mod same;
+pub(crate) mod token;
+pub(crate) mod tokens;
+
+/// Reads a TOML document, and returns its text with its strings filled in from `variables`, whose values are
+/// texts. Each other byte of the text stays. So does a string that becomes itself; another one is written as
+/// `toml` prints it.
+///
+/// ```rust
+/// let output = fill_in(alloc, "home = '${home:/root}' # where it is\n", &NoSubstitution)?;
+/// // Some("home = \"/root\" # where it is\n")
+/// ```
+///
+/// The result is `None` where the text with its strings filled in isn't read as the tree with its strings
+/// filled in, which was never seen.
+///
+/// # Errors
+///
+/// Those of [`value_from_str`](crate::value_from_str).
+pub fn fill_in<'a, M: VariableMap<'a>>(
+    alloc: Global,
+    source: &str,
+    variables: &'a M,
+) -> Result<Option<String>, Error>
+where
+    M::Value: AsStr + Drop,
+
+    // It is read as the tree that the source is read as, with its strings filled in.
+    ensures mapped { ByLookUp M.Value.text M.see (M.look_up variables.now)
+        (λ look. IfOk result (λ output. IfSome output (λ output. ReadsAsTree source.now
+        (λ d. ReadsAsTree (string_bytes output) (IsMapped look d))))) }
+
+    // It is the source, but for the strings that change.
+    ensures kept { ByLookUp M.Value.text M.see (M.look_up variables.now)
+        (λ look. IfOk result (λ output. IfSome output (λ output.
+        IsFilledIn (λ x y. Answers x look (Gives y)) source.now (string_bytes output)))) }
+    ensures utf8 { TellsUtf8 source.now result }
+    ensures toml { OnToml result (parse_document source.now ≡ None) }
+    ensures span { IfToml result (IsWithin source.now) }
+    ensures subst { StatesFirst M.Value.text M.see (M.look_up variables.now) source.now result }
+    ensures range { OnSubst result HasRange }
+    ensures memory { IfErr result HasOwnMemory }
+{
+    fill_in_by(alloc, source, &Filler { variables })
+}
+
+/// Reads a TOML document from bytes, and returns its text with its strings filled in, as [`fill_in`].
+///
+/// # Errors
+///
+/// Those of [`value_from_slice`](crate::value_from_slice).
+pub fn fill_in_slice<'a, M: VariableMap<'a>>(
+    alloc: Global,
+    source: &[u8],
+    variables: &'a M,
+) -> Result<Option<String>, Error>
+where
+    M::Value: AsStr + Drop,
+    ensures mapped { ByLookUp M.Value.text M.see (M.look_up variables.now)
+        (λ look. IfOk result (λ output. IfSome output (λ output. ReadsAsTree source.now
+        (λ d. ReadsAsTree (string_bytes output) (IsMapped look d))))) }
+    ensures kept { ByLookUp M.Value.text M.see (M.look_up variables.now)
+        (λ look. IfOk result (λ output. IfSome output (λ output.
+        IsFilledIn (λ x y. Answers x look (Gives y)) source.now (string_bytes output)))) }
+    ensures utf8 { TellsUtf8 source.now result }
+    ensures toml { OnToml result (parse_document source.now ≡ None) }
+    ensures span { IfToml result (IsWithin source.now) }
+    ensures subst { StatesFirst M.Value.text M.see (M.look_up variables.now) source.now result }
+    ensures range { OnSubst result HasRange }
+    ensures memory { IfErr result HasOwnMemory }
+{
+    fill_in(alloc, text_of(source)?, variables)
+}
+
+/// Reads a TOML document, and returns its text with its strings filled in by `filler`, as [`fill_in`].
+///
+/// # Errors
+///
+/// As [`fill_in`].
+pub fn fill_in_by<F: Fill>(alloc: Global, source: &str, filler: &F) -> Result<Option<String>, Error>
+    ensures mapped { (look : LookUp) → F.is_look_up filler.now look
+        → IfOk result (λ output. IfSome output (λ output. ReadsAsTree source.now
+        (λ d. ReadsAsTree (string_bytes output) (IsMapped look d)))) }
+    ensures kept { IfOk result (λ output. IfSome output (λ output.
+        IsFilledIn (GivesUnder (F.is_look_up filler.now)) source.now (string_bytes output))) }
+    ensures utf8 { TellsUtf8 source.now result }
+    ensures toml { OnToml result (parse_document source.now ≡ None) }
+    ensures span { IfToml result (IsWithin source.now) }
+    ensures subst { (look : LookUp) → F.is_look_up filler.now look
+        → OnSubst result (λ f. ReadsAsTree source.now (λ d. IsFirstRefusal look (strings d) f)) }
+    ensures range { OnSubst result HasRange }
+    ensures memory { IfErr result HasOwnMemory }
+{
+    let table = toml::table_from_str(alloc, source)?;
+    let filled = walk::filled_members(alloc, table, filler)?;
+    let Some(output) = written(alloc, source, filler)? else {
+        return Ok(None);
+    };
+    if is_read_as(alloc, output.as_str(), &filled)? {
+        Ok(Some(output))
+    } else {
+        Ok(None)
+    }
+}
+
+/// Returns a document with its strings filled in, or nothing where one of them is refused.
+fn written<F: Fill>(alloc: Global, source: &str, filler: &F) -> Result<Option<String>, AllocError>
+    ensures { IfOk result (λ output. IfSome output (λ output.
+        IsFilledIn (GivesUnder (F.is_look_up filler.now)) source.now (string_bytes output))) }
+{
+    let Some(found) = tokens::strings_in(alloc, source)? else {
+        return Ok(None);
+    };
+    let mut output = String::with_capacity(alloc, source.len())?;
+    let mut rest = source;
+    for it in found.iter() {
+        match next(alloc, source.len(), rest, it, filler, &mut output)? {
+            Some(after) => rest = after,
+            None => return Ok(None),
+        }
+    }
+    output.push_str(rest)?;
+    Ok(Some(output))
+}
+
+/// Appends what is before a string and what it becomes to the output, and returns what follows it. A string
+/// that becomes itself stays in what follows. It is nothing where the string is refused.
+fn next<'s, F: Fill>(
+    alloc: Global,
+    source_len: usize,
+    rest: &'s str,
+    it: &StringAt,
+    filler: &F,
+    output: &mut String,
+) -> Result<Option<&'s str>, AllocError>
+    ensures { IfOk result (λ left. IfSome left (λ left.
+        IsFilledUpTo IsQuotedToken string_text (GivesUnder (F.is_look_up filler.now))
+        (text_at it.now ∷ []) rest.now left.now (string_bytes output.old)
+        (string_bytes output.new))) }
+{
+    let done = source_len.saturating_sub(rest.len());
+    let (Some(start), Some(end)) = (
+        it.span.start.checked_sub(done),
+        it.span.end.checked_sub(done),
+    ) else {
+        return Ok(None);
+    };
+    match fill_in_string(
+        alloc,
+        rest,
+        &(start..end),
+        it.text.as_str(),
+        &mut Quoted,
+        filler,
+        output,
+    ) {
+        Ok(left) => Ok(left),
+        Err(subst_error::Error::OutOfMemory(e)) => Err(e),
+        Err(_) => Ok(None),
+    }
+}
+
+/// Returns whether a text is read as this table.
+fn is_read_as(alloc: Global, text: &str, table: &Table) -> Result<bool, AllocError>
+    ensures { IfOk result
+        (λ is. IsTrue is → parse_document text.now ≡ Some (table_view table.now)) }
+{
+    match toml::table_from_str(alloc, text) {
+        Ok(read) => Ok(is_same_table(&read, table)),
+        Err(e) if e.is_memory() => Err(AllocError),
+        Err(_) => Ok(false),
+    }
+}

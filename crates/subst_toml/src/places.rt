@@ -1,0 +1,166 @@
+//! Spans of many ranges of one string: each piece of its token is read alone between its quotes, and what the
+//! reader doesn't confirm is never returned.
+
+ghost use Rattle.std.specs.Prelude.{◌≡◌, ◌++◌, ◌∷◌, [], IfOk, IfSome, IsTrue, string_bytes};
+ghost use Rattle.subst_toml.specs.Places.{IsTokenOf};
+ghost use Rattle.subst_toml.specs.Pieces.{ArePlacesIn, between};
+
+use crate::place::spelling::{Style, after_left_out, after_spelling, without_newline};
+use crate::place::{quotes, read_up_to, string_of};
+use std::alloc::{AllocError, Global};
+use std::ops::Range;
+use subst_walk::{Pieces, Position, slice, spans};
+
+/// A token of a string.
+#[derive(Clone, Copy)]
+struct Token<'t> {
+    source: &'t str,
+    /// Its byte range in the source.
+    span: &'t Range<usize>,
+    quotes: &'t str,
+    string: &'t str,
+}
+
+impl Token<'_> {
+    /// Returns how its string is spelled.
+    fn style(&self) -> Style {
+        Style::of(self.quotes)
+    }
+
+    /// Returns what its closing quotes end, from an offset in the text on.
+    fn content(&self, from: usize) -> Option<&str> {
+        let end = self.span.end.checked_sub(self.quotes.len())?;
+        self.source.get(from..end)
+    }
+
+    /// Returns the offset in the text of what is left of the content.
+    fn place_of(&self, rest: &str) -> Option<usize> {
+        let end = self.span.end.checked_sub(self.quotes.len())?;
+        end.checked_sub(rest.len())
+    }
+
+    /// Returns where its content begins.
+    fn start(&self) -> Option<usize> {
+        let opened = self.span.start.checked_add(self.quotes.len())?;
+        self.place_of(without_newline(self.content(opened)?, self.style()))
+    }
+
+    /// Returns where this many bytes have been spelled from an offset in the text on; if a range begins
+    /// there, after what is left out.
+    fn place_after(&self, from: usize, len: usize, is_start: bool) -> Option<usize> {
+        let rest = after_spelling(self.content(from)?, len, self.style())?;
+        if is_start {
+            self.place_of(after_left_out(rest, self.style()))
+        } else {
+            self.place_of(rest)
+        }
+    }
+}
+
+impl Pieces for Token<'_> {
+    ghost use Rattle.subst_toml.specs.Pieces.{IsPiece};
+
+    ghost is_piece = { λ token.
+        IsPiece token.source.now token.span.now token.quotes.now token.string.now };
+
+    fn piece_end(
+        &self,
+        alloc: Global,
+        from: Position,
+        offset: usize,
+        is_start: bool,
+    ) -> Result<Option<Position>, AllocError> {
+        let Some(string) = slice(self.string, &(from.offset..offset)) else {
+            return Ok(None);
+        };
+        let Some(place) = self.place_after(from.place, string.len(), is_start) else {
+            return Ok(None);
+        };
+        let Some(spelled) = slice(self.source, &(from.place..place)) else {
+            return Ok(None);
+        };
+        if place <= self.span.end && reads_as(alloc, self.quotes, spelled, string)? {
+            Ok(Some(Position { place, offset }))
+        } else {
+            Ok(None)
+        }
+    }
+}
+
+/// Returns the ranges in `source`, in byte offsets, that spell these ranges of a string of it.
+///
+/// `token` is the range in `source` of the string's token, with its quotes. `ranges` are in byte offsets of
+/// the string, and none begins before the end of the one before it. Each is spelled where `place_in` returns
+/// it, and the token is passed over once for all. It is `None` where the token is no string, where an end of
+/// a range is past the string's end, within a character or between a carriage return and a line feed, or
+/// where the ranges overlap.
+///
+/// # Errors
+///
+/// An allocation failed.
+pub fn places_in(
+    alloc: Global,
+    source: &str,
+    token: Range<usize>,
+    ranges: &[Range<usize>],
+) -> Result<Option<Vec<Range<usize>>>, AllocError>
+    ensures { IfOk result (λ places. IfSome places
+        (λ places. ArePlacesIn source.now token ranges.now places.items)) }
+{
+    let Some(text) = slice(source, &token) else {
+        return Ok(None);
+    };
+    let Some(string) = string_of(alloc, text)? else {
+        return Ok(None);
+    };
+    let Some(quotes) = quotes(text) else {
+        return Ok(None);
+    };
+    let token = Token {
+        source,
+        span: &token,
+        quotes,
+        string: &string,
+    };
+    let Some(start) = token.start() else {
+        return Ok(None);
+    };
+    let Some(empty) = read_up_to(alloc, source, &(token.span.start..start), quotes)? else {
+        return Ok(None);
+    };
+    if !empty.is_empty() {
+        return Ok(None);
+    }
+    let first = Position {
+        place: start,
+        offset: 0,
+    };
+    let Some(places) = spans(alloc, &token, first, ranges)? else {
+        return Ok(None);
+    };
+    Ok(Some(places))
+}
+
+/// Returns whether a text between quotes is read as this string.
+fn reads_as(alloc: Global, quotes: &str, text: &str, string: &str) -> Result<bool, AllocError>
+    ensures { IfOk result
+        (λ is. IsTrue is → IsTokenOf (between quotes.now text.now) string.now) }
+{
+    let token = quoted(alloc, quotes, text)?;
+    match string_of(alloc, token.as_str())? {
+        Some(read) => Ok(read.as_str() == string),
+        None => Ok(false),
+    }
+}
+
+/// Returns a text between quotes; after three of them is a newline, which is left out there.
+fn quoted(alloc: Global, quotes: &str, text: &str) -> Result<String, AllocError>
+    ensures { IfOk result (λ token. string_bytes token ≡ between quotes.now text.now) }
+{
+    let newline = if quotes.len() == 3 { "\n" } else { "" };
+    let mut token = String::from_str(alloc, quotes)?;
+    token.push_str(newline)?;
+    token.push_str(text)?;
+    token.push_str(quotes)?;
+    Ok(token)
+}
