@@ -8,7 +8,7 @@ run. Each test prints a line, and the last line is 'N passed, M failed, K skippe
 """
 import errno
 import functools
-import json
+import os
 import re
 import resource
 import shutil
@@ -20,13 +20,7 @@ import command_files
 from command_running import (NO_NAME, PROGRAM, expect_fault, expect_file, expect_files, failed, missing, subst,
                              tests_of, told, write, wrong_words)
 from faults import invalid_escape, missing_brace, no_such_variable, unexpected
-from running import TOP, Skipped, expect, expect_that, need, run_tests, shown, version
-
-try:
-    import tomllib
-except ImportError:
-    tomllib = None
-    print('Python has no tomllib before 3.11: what needs it is skipped')
+from running import TOP, expect, expect_that, need, run_tests, shown, version
 
 TEMPLATES = TOP / 'tests/data/templates'
 
@@ -243,19 +237,29 @@ def test_text_that_is_not_utf8():
             expect_fault(subst(words, source), told(f'<stdin>:{place}', 'invalid UTF-8', line, carets))
 
 
-DOCUMENT = {'b': ['${A}', {'$A': '$A', 'n': [1, 1.5, True, None]}], 'a': '\\$A', '\u00e4': {}, 'E': []}
-FILLED = {'b': ['"\n\\', {'$A': '"\n\\', 'n': [1, 1.5, True, None]}], 'a': '$A', '\u00e4': {}, 'E': []}
+# A JSON document, and what it gives where A is a quote, a line feed and a backslash.
+JSON = (b'{ "$A" : "$A",\r\n\t"b":[1.50, -0, 1E30,"\\u0024A",null ],"b": "\\/\\u0041", "c":{"a":["${A}\\n"]}}\r\n')
+FILLED_JSON = (b'{ "$A" : "\\"\\n\\\\",\r\n\t"b":[1.50, -0, 1E30,"\\"\\n\\\\",null ],"b": "\\/\\u0041", '
+               b'"c":{"a":["\\"\\n\\\\\\n"]}}\r\n')
 
 
 def test_json():
-    source = json.dumps(DOCUMENT).encode()
-    output = json.dumps(FILLED, ensure_ascii=False, indent=2, sort_keys=True) + '\n'
-    expect(subst(['--json', '-sA="\n\\'], source), 0, output.encode())
-    for text, output in ((b' "$A" ', b'"1"\n'), (b'{}', b'{}\n'), (b'[\r\n]', b'[]\n'), (b'null', b'null\n')):
+    expect(subst(['--json', '-sA="\n\\'], JSON), 0, FILLED_JSON)
+    for text, output in ((b' "$A" ', b' "1" '), (b'{}', b'{}'), (b'[\r\n]', b'[\r\n]'), (b'null', b'null'),
+                         (b'{"k":"$A","k":"\\u0031"}\n', b'{"k":"1","k":"\\u0031"}\n')):
         expect(subst(['--json', '-sA=1'], text), 0, output)
     text = b'["\\\\d $A ${A} ${A:-x} \\u0024B"]'
-    expect(subst(['--json', '--envsubst', '-sA=1', '-sB=2'], text), 0, b'[\n  "\\\\d 1 1 ${A:-x} 2"\n]\n')
-    expect(subst(['--json', '--only=B', '-sB=2'], text), 0, b'[\n  "\\\\d $A ${A} ${A:-x} 2"\n]\n')
+    expect(subst(['--json', '--envsubst', '-sA=1', '-sB=2'], text), 0, b'["\\\\d 1 1 ${A:-x} 2"]')
+    expect(subst(['--json', '--only=B', '-sB=2'], text), 0, b'["\\\\d $A ${A} ${A:-x} 2"]')
+
+
+def test_placeholders_of_strings_that_are_nested():
+    for option, text in (('--json', b'{"a":{"b":["$S ${H}",{"c":"$H"}]}}'),
+                         ('--toml', b'[t.u]\na = [["$S ${H}"], {b.c = "$H"}]\n')):
+        only = text.replace(b'${H}', b'h').replace(b'$H', b'h')
+        expect(subst([option, '--only=H', '-sH=h', '-sS=s'], text), 0, only)
+        for words in ([], ['--envsubst']):
+            expect(subst([option, *words, '-sH=h', '-sS=s'], text), 0, only.replace(b'$S', b's'))
 
 
 def test_faults_of_json():
@@ -264,9 +268,10 @@ def test_faults_of_json():
                  missing('x', '<stdin>:2:17: /a', line, '                ^'),
                  told('<stdin>:2:37', f'/b~1~0/1: {missing_brace()}', line, ' ' * 36 + '^'),
                  missing('x', '<stdin>:2:55: /c/', line, ' ' * 54 + '^'))
-    # Of a key that is there twice, the last string counts.
+    # Of a key that is there twice, each string is filled in.
     line = '{"a": "$x", "a": "$y"}'
-    expect_fault(subst(['--json'], line.encode()), missing('y', '<stdin>:1:20: /a', line, ' ' * 19 + '^'))
+    expect_fault(subst(['--json'], line.encode()), missing('x', '<stdin>:1:9: /a', line, ' ' * 8 + '^'),
+                 missing('y', '<stdin>:1:20: /a', line, ' ' * 19 + '^'))
     expect_fault(subst(['--json', '--envsubst'], br'["\\ \\$a \u0024b"]'),
                  missing('a', '<stdin>:1:9: /0', r'["\\ \\$a \u0024b"]', '        ^'),
                  missing('b', '<stdin>:1:17: /0', r'["\\ \\$a \u0024b"]', '                ^'))
@@ -274,13 +279,6 @@ def test_faults_of_json():
 
 def test_fault_of_a_document_that_is_a_string():
     expect_fault(subst(['--json'], b'"$x"'), missing('x', '<stdin>:1:3', '"$x"', '  ^'))
-
-
-def test_faults_of_documents_are_told_in_the_order_of_their_places():
-    lines = '{"b": "$x",', '"a": "$y"}'
-    expect_fault(subst(['--json'], '\n'.join(lines).encode()),
-                 missing('x', '<stdin>:1:9: /b', lines[0], '        ^'),
-                 missing('y', '<stdin>:2:8: /a', lines[1], '       ^'))
 
 
 # Texts that are no documents, with their fault.
@@ -303,22 +301,17 @@ def test_texts_that_are_no_documents():
             expect_fault(subst([option, '--names'], source), message)
 
 
+# A TOML document, and what it gives where A is 1.
+TOML = (b'# "$A"\r\nb   =\t\'$A\' # $A\r\n"$A" = +1_000\n[t]\nd = 1979-05-27\nn = ["${A}", 1.50,\n  """\n$A""",]\n'
+        b'\'a\' = """\nb\\\n  c"""\n')
+FILLED_TOML = (b'# "$A"\r\nb   =\t"1" # $A\r\n"$A" = +1_000\n[t]\nd = 1979-05-27\nn = ["1", 1.50,\n  "1",]\n'
+               b'\'a\' = """\nb\\\n  c"""\n')
+
+
 def test_toml():
-    text = b'# lost\nb = "$A"\n"$A" = 1\n[t]\nd = 1979-05-27\nn = ["${A}", 1.5]\n'
-    end = subst(['--toml', '-sA=1'], text)
-    expect(end, 0, b'"$A" = 1\nb = "1"\n\n[t]\nd = 1979-05-27\nn = ["1", 1.5]\n')
+    expect(subst(['--toml', '-sA=1'], TOML), 0, FILLED_TOML)
     expect(subst(['--toml', '--envsubst', '-sA=1'], b"a = '\\$A$1'\n"), 0, b"a = '\\1$1'\n")
     expect(subst(['--toml'], b''), 0)
-
-
-def test_toml_is_read_again():
-    if tomllib is None:
-        raise Skipped('Python has no tomllib')
-    for value in ('"', "'", '\n', '\\', '"""', "'''", ']\n[x]', '\u00e4'):
-        end = subst(['--toml', f'-sA={value}'], b'a = "$A"\n[t]\nb = ["\\\\$A"]\n')
-        expect(end._replace(output=b''), 0)
-        filled = tomllib.loads(end.output.decode())
-        expect_that(filled == {'a': value, 't': {'b': ['$A']}}, f'{value!r} gives {filled}')
 
 
 def test_faults_of_toml():
@@ -428,6 +421,22 @@ def test_wrong_words():
     expect(subst([b'\xff']), 2, errors=b"error: a word of the command line isn't UTF-8\n")
     expect(subst(['-i']), 2, errors=wrong_words('--in-place needs a file'))
     expect(subst(['-i', 'a', '-']), 2, errors=wrong_words("--in-place can't be of standard input"))
+
+
+# What is filled in as itself, with arguments.
+SAME = (([], b'a\n'), (['-sA=$A'], b'$A'), (['--bytes'], b'\xff'), (['--bytes', '--only=A'], b'\xff$'),
+        (['--envsubst'], b'\\$1\n'), (['--json'], b'{"b": 1.50,\r\n "a" :"1" }'), (['--json', '-sA=$A'], b'"$A"'),
+        (['--toml'], b'# $A\nb=1\na= \'b\'\n'))
+
+
+def test_in_place_of_what_gives_itself():
+    for words, data in SAME:
+        write('a', data)
+        os.utime('a', ns=(1, 1))
+        node = os.stat('a').st_ino
+        expect(subst(['-i', *words, 'a']), 0)
+        expect_file('a', data)
+        expect_that((os.stat('a').st_ino, os.stat('a').st_mtime_ns) == (node, 1), f'{words}: the file was written')
 
 
 # Tests of faults
@@ -547,9 +556,26 @@ def test_names_of_documents():
     expect_fault(subst(['--json', '--names'], b'["$a", "$"]'), message)
 
 
-def test_names_of_documents_are_printed_in_the_order_of_their_places():
-    expect(subst(['--json', '--names'], b'{"b": "$x", "a": "$y $x"}'), 0,
-           b'x\t<stdin>:1:9\trequired\ny\t<stdin>:1:20\trequired\n')
+def test_places_of_many_faults():
+    for option, start, between, end in (('--json', b'["', b' ', b'"]'), ('--json', b'["', b'","', b'"]'),
+                                        ('--toml', b'a = """\n', b'\\\n ', b'"""\n'),
+                                        ('--toml', b'a = ["', b'",\n"', b'"]\n')):
+        source = start + between.join([b'$' + b'n' * 24] * 40000) + end
+        ended = subst([option], source)
+        heads = [line for line in ended.errors.splitlines() if line.startswith(b'<stdin>:')]
+        last = source.rindex(b'$') + 1
+        place = b'<stdin>:%d:%d: ' % (source.count(b'\n', 0, last) + 1, last - source.rfind(b'\n', 0, last))
+        expect_that(ended.status == 1 and len(heads) == 40000, f'{option}: {ended.status}, {len(heads)} faults')
+        expect_that(heads[-1].startswith(place), f'{option}: {shown(heads[-1])}')
+
+
+def test_names_of_large_documents():
+    source = b'["$x", "' + b'a' * (9 << 20) + b'", "$y $x"]'
+    expect(subst(['--json', '--names'], source), 0,
+           f'x\t<stdin>:1:4\trequired\ny\t<stdin>:1:{source.index(b"$y") + 2}\trequired\n'.encode())
+    members = b','.join(b'\n"k%05d": "$n%05d"' % (at, at) for at in range(40000, 0, -1))
+    wanted = b''.join(b'n%05d\t<stdin>:%d:13\trequired\n' % (at, 40002 - at) for at in range(40000, 0, -1))
+    expect(subst(['--json', '--names'], b'{' + members + b'}'), 0, wanted)
 
 
 # Tests of time

@@ -124,7 +124,7 @@ def test_output_that_cannot_be_written():
 def test_files_and_folders_of_another_user():
     options = by_another_user()
     os.mkdir('folder')
-    write('folder/file', b'a')
+    write('folder/file', b'${a:b}')
     write('secret', b'a', 0)
     os.chmod('folder', 0o555)
     denied = functools.partial(failed, number=errno.EACCES)
@@ -136,7 +136,7 @@ def test_files_and_folders_of_another_user():
     expect(subst(['-i', 'secret', 'folder/file'], **options), 3, errors=denied('secret') + denied('folder/file'))
     os.chmod('folder', 0o755)
     expect_files('file', folder='folder')
-    expect_file('folder/file', b'a')
+    expect_file('folder/file', b'${a:b}')
 
 
 # Tests of --in-place
@@ -158,7 +158,7 @@ def test_in_place():
     expect_fault(subst(['--in-place', 'b', 'a']), told('b:1:3', NO_NAME, '$A$', '  ^'))
     write('e', b'["$A"]')
     expect(subst(['--in-place', '--json', '-sA="', 'e']), 0)
-    expect_file('e', b'[\n  "\\""\n]\n')
+    expect_file('e', b'["\\""]')
 
 
 def test_in_place_of_links():

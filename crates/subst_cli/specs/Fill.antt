@@ -1,8 +1,10 @@
--- Cause a source gives: it is a template itself, or one stands for it, by what in it is a variable.
-use Rattle.std.specs.Prelude.{◌≡◌, ⊤, ℕ, List}
+-- What a source gives: it is a template itself, or one stands for it, by what in it is a variable.
+use Rattle.std.specs.Prelude.{◌≡◌, ⊤, ℕ, List, [], IsSomeAnd}
 use Rattle.subst.specs.Foreign.{IsTemplateFor, IsShellName, IsListed}
 use Rattle.subst.specs.Language.Answer.{Answer, Answers, Gives}
 use Rattle.subst.specs.Language.LookUp.{LookUp}
+use Rattle.subst_filter_lib.specs.Words.{value_under}
+use Rattle.subst_cli.specs.declared.document.filler.StringFiller.{StringFiller}
 use Rattle.subst_cli.specs.declared.options.InputFormat.{InputFormat}
 use Rattle.subst_cli.specs.declared.options.InputFormat.TheVariants.{Text, Bytes, Json, Toml}
 use Rattle.subst_cli.specs.declared.options.Placeholders.{Placeholders}
@@ -25,3 +27,10 @@ IsOutput Text placeholders s look output = AnswersFor placeholders s look (Gives
 IsOutput Bytes placeholders s look output = AnswersFor placeholders s look (Gives output)
 IsOutput Json placeholders s look output = ⊤
 IsOutput Toml placeholders s look output = ⊤
+
+-- the look-up by which each string of a document is filled in: that of the values, where the placeholders are
+-- the language's own and each value is UTF-8
+abbrev pub IsLookUpOf : StringFiller → LookUp → Type 0
+IsLookUpOf filler look = (filler.placeholders.now ≡ Own)
+    × IsSomeAnd filler.variables (λ variables. (variables.now.not_utf8.now ≡ [])
+    × (look ≡ value_under variables.now.values))

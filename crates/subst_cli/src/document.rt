@@ -1,300 +1,218 @@
-//! Documents: trees of strings, each of which is filled in by itself.
+//! Documents: texts whose strings are filled in where they are.
 
-use crate::fault::Fault;
-use crate::layers::Variables;
-use crate::options::Placeholders;
-use crate::part::{Occurrence, fill_text, uses_in_text};
+use crate::part::{Occurrence, uses_in_text};
 use crate::source::Messages;
+pub(crate) use filler::StringFiller;
+pub(crate) use json_document::JsonDocument;
 use std::alloc::{AllocError, Global};
-use std::fmt;
 use std::ops::Range;
-use subst::json::PathStep;
-use subst_filter_lib::values::Values;
+use subst::json::StringAt;
+pub(crate) use toml_document::TomlDocument;
 
-mod json_tree;
-mod toml_tree;
+mod filler;
+mod json_document;
+mod toml_document;
 
-/// How many bytes are walked over, all in all, to find places in a document.
-const MOST_WALKED: usize = 1 << 23;
-
-/// Why a text is no document.
+/// Why a document isn't filled in.
 #[derive(Drop)]
-pub(crate) struct NotADocument {
-    /// Cause the reader says.
-    pub message: String,
-    /// Where in the text, if the reader says so.
-    pub range: Option<Range<usize>>,
+pub(crate) enum Unfilled {
+    /// What the reader says of a text that is none, and where in the text, if it says so.
+    NotADocument(String, Option<Range<usize>>),
+    /// A string of it is refused.
+    Refused,
+    /// It isn't confirmed where its strings are, or what they become.
+    NotConfirmed,
 }
 
-/// A document of one format.
-pub(crate) trait Document: Sized {
-    /// Cause leads to a string of it.
-    type Path: fmt::Display + Drop;
-
-    /// Reads a document.
+/// A format of documents.
+pub(crate) trait Document {
+    /// Returns a text with its strings filled in.
     ///
     /// # Errors
     ///
     /// When allocation fails.
-    fn read(alloc: Global, text: &str) -> Result<Result<Self, NotADocument>, AllocError>;
-
-    /// Returns its strings with their paths, arrays by index and keys in the order of their bytes.
-    ///
-    /// # Errors
-    ///
-    /// When allocation fails.
-    fn strings(&self, alloc: Global) -> Result<Vec<(Self::Path, String)>, AllocError>;
-
-    /// Returns it with a template in the place of each string that isn't one.
-    ///
-    /// # Errors
-    ///
-    /// When allocation fails.
-    fn with_templates(
-        self,
-        alloc: Global,
-        placeholders: &Placeholders<'_>,
-    ) -> Result<Self, AllocError>;
-
-    /// Returns its text with its strings, which are templates, filled in, or nothing where one is refused.
-    ///
-    /// # Errors
-    ///
-    /// When allocation fails.
-    fn filled(self, alloc: Global, values: &Values<'_>) -> Result<Option<String>, AllocError>;
-
-    /// Returns where a range of the string at a path is in the text of the document.
-    ///
-    /// # Errors
-    ///
-    /// When allocation fails.
-    fn place(
+    fn fill_in(
         alloc: Global,
         text: &str,
-        path: &Self::Path,
-        range: Range<usize>,
-    ) -> Result<Option<Range<usize>>, AllocError>;
-}
+        filler: &StringFiller<'_>,
+    ) -> Result<Result<String, Unfilled>, AllocError>;
 
-/// A string of a tree, and the steps that lead to it, the last one first.
-#[derive(Drop)]
-struct Found {
-    steps: Vec<PathStep>,
-    text: String,
-}
-
-/// Adds a string that a step leads to before its others.
-fn add(found: &mut Vec<Found>, mut it: Found, step: PathStep) -> Result<(), AllocError> {
-    it.steps.push(step)?;
-    found.push(it)?;
-    Ok(())
-}
-
-/// Finds where the strings of a document are, each by a walk over its text. The longer that is, the fewer are
-/// looked for, so that the time of all walks doesn't go with the square of its length.
-#[derive(Drop)]
-struct Finder<'t> {
-    text: &'t str,
-    /// How many more are looked for.
-    left: usize,
-}
-
-impl<'t> Finder<'t> {
-    /// Returns one that has found none yet.
-    fn over(text: &'t str) -> Self {
-        Finder {
-            text,
-            left: (MOST_WALKED / text.len().max(1)).max(1),
-        }
-    }
-
-    /// Returns where a range of the string at a path is, unless enough have been looked for.
-    fn place<D: Document>(
-        &mut self,
+    /// Returns the strings that are refused, in the order of the text, each with the path that leads to it.
+    /// That is empty where the document is a string.
+    ///
+    /// # Errors
+    ///
+    /// When allocation fails.
+    fn refused(
         alloc: Global,
-        path: &D::Path,
-        range: Range<usize>,
-    ) -> Result<Option<Range<usize>>, AllocError> {
-        if self.left == 0 {
-            return Ok(None);
-        }
-        self.left = self.left.saturating_sub(1);
-        D::place(alloc, self.text, path, range)
-    }
+        text: &str,
+        filler: &StringFiller<'_>,
+    ) -> Result<Result<Vec<(String, StringAt)>, Unfilled>, AllocError>;
+
+    /// Returns the strings, in the order of the text.
+    ///
+    /// # Errors
+    ///
+    /// When allocation fails.
+    fn strings(alloc: Global, text: &str) -> Result<Result<Vec<StringAt>, Unfilled>, AllocError>;
+
+    /// Returns where these ranges of a string, which go up, are in the text.
+    ///
+    /// # Errors
+    ///
+    /// When allocation fails.
+    fn places(
+        alloc: Global,
+        text: &str,
+        span: Range<usize>,
+        ranges: &[Range<usize>],
+    ) -> Result<Option<Vec<Range<usize>>>, AllocError>;
 }
 
-/// Reads a document, or adds a message about the text that is none.
+/// Returns a text with its strings filled in, or adds messages about why it isn't.
 ///
 /// # Errors
 ///
 /// When allocation fails.
-pub(crate) fn read<D: Document>(
+pub(crate) fn fill<D: Document>(
     alloc: Global,
     text: &str,
-    messages: &mut Messages<'_>,
-) -> Result<Option<D>, AllocError> {
-    match D::read(alloc, text)? {
-        Ok(document) => Ok(Some(document)),
-        Err(NotADocument { message, range }) => {
-            match range {
-                Some(range) => messages.add(alloc, range, &message)?,
-                None => messages.add_unplaced(alloc, &message)?,
-            }
-            Ok(None)
-        }
-    }
-}
-
-/// Returns the text of a document with its strings filled in, or adds messages about those that are refused.
-///
-/// # Errors
-///
-/// When allocation fails.
-pub(crate) fn fill<D: Document + Drop>(
-    alloc: Global,
-    text: &str,
-    placeholders: &Placeholders<'_>,
-    variables: &Variables<'_>,
+    filler: &StringFiller<'_>,
     messages: &mut Messages<'_>,
 ) -> Result<Option<String>, AllocError> {
-    let Some(document) = read::<D>(alloc, text, messages)? else {
-        return Ok(None);
-    };
-    if !variables.not_utf8.is_empty()
-        && add_all_faults(alloc, &document, text, placeholders, variables, messages)?
-    {
-        return Ok(None);
+    match D::fill_in(alloc, text, filler)? {
+        Ok(output) => return Ok(Some(output)),
+        Err(Unfilled::Refused) => add_faults::<D>(alloc, text, filler, messages)?,
+        Err(why) => add_why(alloc, &why, messages)?,
     }
-    let filled = document
-        .with_templates(alloc, placeholders)?
-        .filled(alloc, &variables.values)?;
-    if filled.is_none()
-        && let Some(document) = read::<D>(alloc, text, messages)?
-    {
-        add_all_faults(alloc, &document, text, placeholders, variables, messages)?;
-    }
-    Ok(filled)
-}
-
-/// Something about a range of the text of a document, if that is known.
-pub(crate) type Placed<T> = (Option<Range<usize>>, T);
-
-/// Puts first what is earlier in the text, and last what has no place.
-fn sort_by_place<T: Drop>(placed: &mut Vec<Placed<T>>) -> Result<(), AllocError> {
-    placed.sort_by_key(|(range, _)| match range {
-        Some(range) => range.start,
-        None => usize::MAX,
-    })
-}
-
-/// Adds messages about the faults of all strings, and returns whether there are any.
-fn add_all_faults<D: Document>(
-    alloc: Global,
-    document: &D,
-    text: &str,
-    placeholders: &Placeholders<'_>,
-    variables: &Variables<'_>,
-    messages: &mut Messages<'_>,
-) -> Result<bool, AllocError> {
-    let mut finder = Finder::over(text);
-    let mut placed = Vec::new(alloc);
-    for (path, string) in document.strings(alloc)? {
-        if let Err(faults) = fill_text(alloc, &string, placeholders, variables)? {
-            place_faults::<D>(alloc, &mut finder, &path, faults, &mut placed)?;
-        }
-    }
-    let is_refused = !placed.is_empty();
-    add_messages(alloc, placed, messages)?;
-    Ok(is_refused)
-}
-
-/// Adds the texts about the faults of a string, with their places in the document.
-fn place_faults<D: Document>(
-    alloc: Global,
-    finder: &mut Finder<'_>,
-    path: &D::Path,
-    faults: Vec<Fault>,
-    placed: &mut Vec<Placed<String>>,
-) -> Result<(), AllocError> {
-    for fault in faults {
-        let what = with_path(alloc, path, &fault)?;
-        placed.push((finder.place::<D>(alloc, path, fault.range)?, what))?;
-    }
-    Ok(())
-}
-
-/// Returns the text of a fault, after the path of its string, which a document that is a string doesn't have.
-fn with_path<P: fmt::Display>(
-    alloc: Global,
-    path: &P,
-    fault: &Fault,
-) -> Result<String, AllocError> {
-    let path = format!(in alloc; "{path}")?;
-    if path.is_empty() {
-        return format!(in alloc; "{fault}");
-    }
-    format!(in alloc; "{path}: {fault}")
-}
-
-/// Adds messages of these texts, in the order of their places.
-fn add_messages(
-    alloc: Global,
-    mut placed: Vec<Placed<String>>,
-    messages: &mut Messages<'_>,
-) -> Result<(), AllocError> {
-    sort_by_place(&mut placed)?;
-    for (range, what) in placed {
-        match range {
-            Some(range) => messages.add(alloc, range, &what)?,
-            None => messages.add_unplaced(alloc, &what)?,
-        }
-    }
-    Ok(())
-}
-
-/// Returns the variables of all strings, in the order of their places, and adds messages about those strings
-/// that are no templates.
-///
-/// # Errors
-///
-/// When allocation fails.
-pub(crate) fn uses<D: Document + Drop>(
-    alloc: Global,
-    text: &str,
-    placeholders: &Placeholders<'_>,
-    messages: &mut Messages<'_>,
-) -> Result<Option<Vec<Placed<Occurrence>>>, AllocError> {
-    let Some(document) = read::<D>(alloc, text, messages)? else {
-        return Ok(None);
-    };
-    let mut finder = Finder::over(text);
-    let mut refused = Vec::new(alloc);
-    let mut all = Vec::new(alloc);
-    for (path, string) in document.strings(alloc)? {
-        match uses_in_text(alloc, &string, placeholders)? {
-            Ok(uses) => place_uses::<D>(alloc, &mut finder, &path, uses, &mut all)?,
-            Err(faults) => place_faults::<D>(alloc, &mut finder, &path, faults, &mut refused)?,
-        }
-    }
-    if refused.is_empty() {
-        sort_by_place(&mut all)?;
-        return Ok(Some(all));
-    }
-    add_messages(alloc, refused, messages)?;
     Ok(None)
 }
 
-/// Adds the variables of a string, with their places in the document.
-fn place_uses<D: Document>(
+/// Returns the variables of a text, with their places in it, or adds messages about its faults.
+///
+/// # Errors
+///
+/// When allocation fails.
+pub(crate) fn uses<D: Document>(
     alloc: Global,
-    finder: &mut Finder<'_>,
-    path: &D::Path,
+    text: &str,
+    filler: &StringFiller<'_>,
+    messages: &mut Messages<'_>,
+) -> Result<Option<Vec<Occurrence>>, AllocError> {
+    let strings = match D::strings(alloc, text)? {
+        Ok(strings) => strings,
+        Err(why) => {
+            add_why(alloc, &why, messages)?;
+            return Ok(None);
+        }
+    };
+    let mut all = Vec::new(alloc);
+    for StringAt { text: string, span } in strings {
+        match uses_in_text(alloc, &string, filler.placeholders)? {
+            Ok(uses) => add_uses::<D>(alloc, text, span, uses, &mut all)?,
+            Err(_) => {
+                add_faults::<D>(alloc, text, filler, messages)?;
+                return Ok(None);
+            }
+        }
+    }
+    Ok(Some(all))
+}
+
+/// Adds the variables of a string, with their places in the text.
+fn add_uses<D: Document>(
+    alloc: Global,
+    text: &str,
+    span: Range<usize>,
     uses: Vec<Occurrence>,
-    placed: &mut Vec<Placed<Occurrence>>,
+    all: &mut Vec<Occurrence>,
 ) -> Result<(), AllocError> {
-    for it in uses {
-        let place = finder.place::<D>(alloc, path, it.range.start..it.range.end)?;
-        placed.push((place, it))?;
+    let ranges: Vec<_> = uses
+        .iter()
+        .map(|it| it.range.start..it.range.end)
+        .collect(alloc)?;
+    let places = places::<D>(alloc, text, span, &ranges)?;
+    for (mut it, place) in uses.into_iter().zip(places) {
+        it.range = place;
+        all.push(it)?;
     }
     Ok(())
+}
+
+/// Adds messages about all faults of all strings.
+fn add_faults<D: Document>(
+    alloc: Global,
+    text: &str,
+    filler: &StringFiller<'_>,
+    messages: &mut Messages<'_>,
+) -> Result<(), AllocError> {
+    match D::refused(alloc, text, filler)? {
+        Ok(strings) if strings.is_empty() => add_why(alloc, &Unfilled::NotConfirmed, messages),
+        Ok(strings) => {
+            for (path, it) in strings {
+                add_faults_of::<D>(alloc, text, filler, &path, it, messages)?;
+            }
+            Ok(())
+        }
+        Err(why) => add_why(alloc, &why, messages),
+    }
+}
+
+/// Adds messages about the faults of a string.
+fn add_faults_of<D: Document>(
+    alloc: Global,
+    text: &str,
+    filler: &StringFiller<'_>,
+    path: &str,
+    it: StringAt,
+    messages: &mut Messages<'_>,
+) -> Result<(), AllocError> {
+    let faults = filler.faults(alloc, &it.text)?;
+    let ranges: Vec<_> = faults
+        .iter()
+        .map(|it| it.range.start..it.range.end)
+        .collect(alloc)?;
+    let places = places::<D>(alloc, text, it.span, &ranges)?;
+    for (fault, place) in faults.into_iter().zip(places) {
+        if path.is_empty() {
+            messages.add(alloc, place, &fault)?;
+        } else {
+            let what = format!(in alloc; "{path}: {fault}")?;
+            messages.add(alloc, place, &what)?;
+        }
+    }
+    Ok(())
+}
+
+/// Returns where these ranges of a string are in the text, or for each where the string is if they aren't
+/// found.
+fn places<D: Document>(
+    alloc: Global,
+    text: &str,
+    span: Range<usize>,
+    ranges: &[Range<usize>],
+) -> Result<Vec<Range<usize>>, AllocError> {
+    let Range { start, end } = span;
+    if let Some(places) = D::places(alloc, text, start..end, ranges)? {
+        return Ok(places);
+    }
+    let mut places = Vec::with_capacity(alloc, ranges.len())?;
+    for _ in ranges {
+        places.push(start..end)?;
+    }
+    Ok(places)
+}
+
+/// Adds a message about a text that isn't read, or isn't confirmed.
+fn add_why(alloc: Global, why: &Unfilled, messages: &mut Messages<'_>) -> Result<(), AllocError> {
+    match why {
+        Unfilled::NotADocument(message, Some(range)) => {
+            messages.add(alloc, range.start..range.end, message)
+        }
+        Unfilled::NotADocument(message, None) => messages.add_unplaced(alloc, message),
+        Unfilled::Refused | Unfilled::NotConfirmed => messages.add_unplaced(
+            alloc,
+            &"it isn't confirmed where the strings of this document are",
+        ),
+    }
 }

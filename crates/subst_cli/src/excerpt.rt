@@ -12,7 +12,7 @@ const WIDEST: usize = 60;
 /// How many bytes of a line are looked at before a fault, and how many from it on.
 const AROUND: usize = 512;
 
-/// Cause stands for the part of a line that isn't shown.
+/// What stands for the part of a line that isn't shown.
 const CUT: &str = "…";
 
 /// Returns the line that a range of a source begins in and, below the range, carets, both lines indented by

@@ -1,4 +1,4 @@
-//! Cause is wrong with a text of a source.
+//! What is wrong with a text of a source.
 
 use crate::fill::Refusal;
 use std::alloc::AllocError;
@@ -11,7 +11,7 @@ use subst::Error;
 pub(crate) struct Fault {
     /// The range that it is about.
     pub range: Range<usize>,
-    /// Cause it is.
+    /// What it is.
     pub what: Cause,
 }
 

@@ -22,7 +22,7 @@ pub(crate) struct Refusal {
     pub others: Vec<NoSuchVariable>,
 }
 
-/// Cause a source gives, or why it gives nothing.
+/// What a source gives, or why it gives nothing.
 pub(crate) type Filled<T> = Result<T, Refusal>;
 
 /// Returns a text with its variables filled in, or why it is refused.

@@ -10,7 +10,7 @@ use std::{fs, io};
 ///
 /// # Errors
 ///
-/// Cause the system says, and that memory ran out.
+/// What the system says, and that memory ran out.
 pub(crate) fn read(rt: &HostRuntime, file: &str) -> io::Result<Vec<u8>> {
     if file != STANDARD_INPUT {
         return fs::read(rt, file);

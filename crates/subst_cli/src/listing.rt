@@ -42,7 +42,7 @@ impl Listing {
         name: String,
         kind: VariableKind,
         file: &str,
-        place: Option<Place>,
+        place: Place,
     ) -> Result<(), AllocError> {
         if let Some(index) = self.indices.get(name.as_str()) {
             if kind == VariableKind::Required
@@ -52,10 +52,8 @@ impl Listing {
             }
             return Ok(());
         }
-        let place = match place {
-            Some(Place { line, column }) => format!(in alloc; "{file}:{line}:{column}")?,
-            None => String::from_str(alloc, file)?,
-        };
+        let Place { line, column } = place;
+        let place = format!(in alloc; "{file}:{line}:{column}")?;
         self.indices
             .insert(String::from_str(alloc, &name)?, self.names.len())?;
         self.names.push(Listed { name, place, kind })?;

@@ -1,4 +1,4 @@
-//! Cause the words of the command line ask for.
+//! What the words of the command line ask for.
 
 ghost use Rattle.std.specs.Prelude.{IfOk, ◌<◌, length};
 
@@ -13,7 +13,7 @@ pub const STANDARD_INPUT: &str = "-";
 /// The files of `--output` that stand for standard output.
 const STANDARD_OUTPUT: [&str; 2] = ["-", "/dev/stdout"];
 
-/// Cause a source is read as.
+/// What a source is read as.
 #[derive(Clone, Copy, PartialEq, Eq)]
 pub enum InputFormat {
     /// Text, in UTF-8.
@@ -26,23 +26,23 @@ pub enum InputFormat {
     Toml,
 }
 
-/// Cause in a source is a variable.
+/// What in a source is a variable.
 #[derive(Drop)]
 pub enum Placeholders<'w> {
-    /// Cause the template language says.
+    /// What the template language says.
     Own,
-    /// Cause envsubst finds.
+    /// What envsubst finds.
     Envsubst,
     /// `$NAME` and `${NAME}` of these names.
     Only(Vec<&'w str>),
 }
 
-/// Cause is done with the sources.
+/// What is done with the sources.
 #[derive(Clone, Copy, PartialEq, Eq)]
 pub enum Action<'w> {
-    /// Cause they give is printed.
+    /// What they give is printed.
     Print,
-    /// Cause they give is written to a file.
+    /// What they give is written to a file.
     WriteTo(&'w str),
     /// Each is replaced by what it gives.
     Replace,
@@ -55,7 +55,7 @@ pub enum Action<'w> {
 /// A name and its value.
 pub type Pair = (String, String);
 
-/// Cause the words ask for.
+/// What the words ask for.
 #[derive(Drop)]
 pub struct Options<'w> {
     /// The variables of `--set`, in the order of the words.
@@ -64,12 +64,12 @@ pub struct Options<'w> {
     pub values_files: Vec<&'w str>,
     /// Whether the environment gives variables.
     pub environment: bool,
-    /// Cause the sources are read as.
+    /// What the sources are read as.
     pub form: InputFormat,
-    /// Cause in them is a variable.
+    /// What in them is a variable.
     pub placeholders: Placeholders<'w>,
-    /// Cause is done with them.
-    pub task: Action<'w>,
+    /// What is done with them.
+    pub action: Action<'w>,
     /// The sources. There is at least one.
     pub files: Vec<&'w str>,
 }
@@ -96,7 +96,7 @@ impl<'w> Options<'w> {
             environment: matches.get_flag("env"),
             form: asked_form(&matches),
             placeholders: asked_placeholders(alloc, &matches)?,
-            task: asked_task(&matches),
+            action: asked_action(&matches),
             files: or_standard_input(files)?,
         })
     }
@@ -234,7 +234,7 @@ fn without_dollar(word: &str) -> &str {
 }
 
 /// Returns what is done with the sources.
-fn asked_task<'w>(matches: &ArgMatches<'w>) -> Action<'w> {
+fn asked_action<'w>(matches: &ArgMatches<'w>) -> Action<'w> {
     if let Some(file) = matches.get_str("output") {
         if STANDARD_OUTPUT.contains(&file) {
             Action::Print
@@ -283,11 +283,11 @@ fn command<'a>(alloc: Global) -> Result<Command<'a>, AllocError> {
 
 /// An option.
 struct Row {
-    /// Cause it stands under in the help.
+    /// What it stands under in the help.
     heading: &'static str,
     long: &'static str,
     short: Option<char>,
-    /// Cause its value is called, and what is done with that, if it has one.
+    /// What its value is called, and what is done with that, if it has one.
     takes: Option<(&'static str, ArgAction)>,
     help: &'static str,
     /// The options below that it can't stand with.

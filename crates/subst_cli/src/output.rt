@@ -25,7 +25,7 @@ const MOST_LINKS: usize = 40;
 ///
 /// # Errors
 ///
-/// Cause the system says.
+/// What the system says.
 pub(crate) fn print(rt: &HostRuntime, bytes: &[u8]) -> io::Result<()> {
     let mut output = rt.stdout();
     output.write_all(bytes)?;
@@ -36,17 +36,17 @@ pub(crate) fn print(rt: &HostRuntime, bytes: &[u8]) -> io::Result<()> {
 ///
 /// # Errors
 ///
-/// Cause the system says.
+/// What the system says.
 pub(crate) fn is_regular(rt: &HostRuntime, path: &str) -> io::Result<bool> {
     Ok(fs::metadata(rt, path)?.is_file())
 }
 
-/// Writes bytes to a file: all of them, or the file is as before. Cause isn't a regular file is written
+/// Writes bytes to a file: all of them, or the file is as before. What isn't a regular file is written
 /// through.
 ///
 /// # Errors
 ///
-/// Cause the system says.
+/// What the system says.
 pub(crate) fn replace(rt: &HostRuntime, path: &str, bytes: &[u8]) -> io::Result<()> {
     match fs::metadata(rt, path) {
         Ok(old) if old.is_file() => {

@@ -16,7 +16,7 @@ use std::ops::Range;
 use subst::error::ParseError;
 use subst::{ByteTemplate, Error, Variable, VariableKind};
 
-/// Cause a part gives, or its faults in the order of their places.
+/// What a part gives, or its faults in the order of their places.
 pub(crate) type Outcome<T> = Result<T, Vec<Fault>>;
 
 /// Returns a text with its variables filled in, or its faults.
@@ -122,7 +122,7 @@ pub(crate) struct Occurrence {
     pub name: String,
     /// Where in the part it is.
     pub range: Range<usize>,
-    /// Cause there is in its place where it has no value.
+    /// What there is in its place where it has no value.
     pub kind: VariableKind,
 }
 

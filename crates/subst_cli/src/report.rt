@@ -1,4 +1,4 @@
-//! Cause a run says on standard error, and the status that it ends with.
+//! What a run says on standard error, and the status that it ends with.
 
 ghost use Rattle.std.specs.Prelude.{◌≡◌, ◌≤◌, OnOk};
 ghost use Rattle.subst_cli.specs.Status.{status_of, worse};

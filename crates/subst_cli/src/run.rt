@@ -5,7 +5,7 @@ ghost use Rattle.subst.specs.Language.LookUp.{LookUp};
 ghost use Rattle.subst_cli.specs.Fill.{IsOutput};
 ghost use Rattle.subst_filter_lib.specs.Words.{value_under};
 
-use crate::document::Placed;
+use crate::document::{JsonDocument, StringFiller, TomlDocument};
 use crate::environment::Environment;
 use crate::input::{read, shown_name};
 use crate::layers::{Variables, in_order};
@@ -54,7 +54,7 @@ pub(crate) fn run_options<'r>(
             not_utf8: &not_utf8,
         },
     };
-    match options.task {
+    match options.action {
         Action::ListNames => run.list(report),
         Action::Replace => run.replace_each(report),
         Action::Print | Action::Check | Action::WriteTo(_) => run.fill_all(report),
@@ -151,7 +151,9 @@ impl Run<'_, '_, '_> {
     fn fill_all(&self, report: &mut Report<'_>) -> Result<(), AllocError> {
         let mut all = Vec::new(self.rt.alloc());
         for file in &self.options.files {
-            if let Some(output) = self.output_of(file, report)? {
+            if let Some(source) = source(self.rt, file, report)?
+                && let Some(output) = self.output_of(source, report)?
+            {
                 append(&mut all, output)?;
             }
         }
@@ -163,7 +165,7 @@ impl Run<'_, '_, '_> {
 
     /// Writes what all sources give where it is asked for.
     fn write(&self, all: &[u8], report: &mut Report<'_>) -> Result<(), AllocError> {
-        match self.options.task {
+        match self.options.action {
             Action::Print => match output::print(self.rt, all) {
                 Ok(()) => Ok(()),
                 Err(e) => report.failed("<stdout>", &e),
@@ -173,7 +175,7 @@ impl Run<'_, '_, '_> {
         }
     }
 
-    /// Replaces each source by what it gives.
+    /// Replaces each source by what it gives, unless it gives itself.
     ///
     /// # Errors
     ///
@@ -184,7 +186,11 @@ impl Run<'_, '_, '_> {
             if let Ok(false) = is_regular {
                 let name = shown_name(self.rt.alloc(), file)?;
                 report.not_regular(&name, "not a regular file")?;
-            } else if let Some(output) = self.output_of(file, report)? {
+            } else if let Some(source) = source(self.rt, file, report)?
+                && !needs_no_filling(self.options, &source.bytes)
+                && let Some(output) = self.filled(&source, report)?
+                && output != source.bytes
+            {
                 self.replace(file, &output, report)?;
             }
         }
@@ -225,17 +231,24 @@ impl Run<'_, '_, '_> {
     /// Returns what a source gives, or says why it gives nothing.
     fn output_of(
         &self,
-        file: &str,
+        source: Source,
         report: &mut Report<'_>,
     ) -> Result<Option<Vec<u8>>, AllocError> {
-        let Some(source) = source(self.rt, file, report)? else {
-            return Ok(None);
-        };
         if needs_no_filling(self.options, &source.bytes) {
-            return Ok(Some(source.bytes));
+            Ok(Some(source.bytes))
+        } else {
+            self.filled(&source, report)
         }
-        let mut messages = Messages::about(self.rt.alloc(), &source);
-        match self.fill(&source, &mut messages) {
+    }
+
+    /// Returns what a source gives that is filled in, or says why it gives nothing.
+    fn filled(
+        &self,
+        source: &Source,
+        report: &mut Report<'_>,
+    ) -> Result<Option<Vec<u8>>, AllocError> {
+        let mut messages = Messages::about(self.rt.alloc(), source);
+        match self.fill(source, &mut messages) {
             Ok(Some(output)) => return Ok(Some(output)),
             Ok(None) => report.refused(&messages.into_text()),
             Err(AllocError) => report.out_of_memory(&source.name),
@@ -263,21 +276,13 @@ impl Run<'_, '_, '_> {
         let Some(text) = text_of(alloc, source, messages)? else {
             return Ok(None);
         };
+        let filler = StringFiller {
+            placeholders,
+            variables: Some(&self.variables),
+        };
         let output = match form {
-            InputFormat::Json => document::fill::<serde_json::Value>(
-                alloc,
-                text,
-                placeholders,
-                &self.variables,
-                messages,
-            )?,
-            InputFormat::Toml => document::fill::<toml::Value>(
-                alloc,
-                text,
-                placeholders,
-                &self.variables,
-                messages,
-            )?,
+            InputFormat::Json => document::fill::<JsonDocument>(alloc, text, &filler, messages)?,
+            InputFormat::Toml => document::fill::<TomlDocument>(alloc, text, &filler, messages)?,
             InputFormat::Text | InputFormat::Bytes => {
                 let outcome = fill_text(alloc, text, placeholders, &self.variables)?;
                 output_or_messages(alloc, outcome, messages)?
@@ -297,11 +302,8 @@ impl Run<'_, '_, '_> {
         let mut messages = Messages::about(alloc, source);
         match self.uses(source, &mut messages)? {
             Some(uses) => {
-                for (range, it) in uses {
-                    let place = match range {
-                        Some(range) => Some(messages.place(alloc, range.start)?),
-                        None => None,
-                    };
+                for it in uses {
+                    let place = messages.place(alloc, it.range.start)?;
                     listing.add(alloc, it.name, it.kind, &source.name, place)?;
                 }
             }
@@ -315,27 +317,26 @@ impl Run<'_, '_, '_> {
         &self,
         source: &Source,
         messages: &mut Messages<'_>,
-    ) -> Result<Option<Vec<Placed<Occurrence>>>, AllocError> {
+    ) -> Result<Option<Vec<Occurrence>>, AllocError> {
         let alloc = self.rt.alloc();
         let placeholders = &self.options.placeholders;
         if self.options.form == InputFormat::Bytes {
             let outcome = uses_in_bytes(alloc, &source.bytes, placeholders)?;
-            return placed_or_messages(alloc, outcome, messages);
+            return output_or_messages(alloc, outcome, messages);
         }
         let Some(text) = text_of(alloc, source, messages)? else {
             return Ok(None);
         };
+        let filler = StringFiller {
+            placeholders,
+            variables: None,
+        };
         match self.options.form {
-            InputFormat::Json => document::uses::<serde_json::Value>(
-                alloc,
-                text,
-                placeholders,
-                messages,
-            ),
-            InputFormat::Toml => document::uses::<toml::Value>(alloc, text, placeholders, messages),
+            InputFormat::Json => document::uses::<JsonDocument>(alloc, text, &filler, messages),
+            InputFormat::Toml => document::uses::<TomlDocument>(alloc, text, &filler, messages),
             InputFormat::Text | InputFormat::Bytes => {
                 let outcome = uses_in_text(alloc, text, placeholders)?;
-                placed_or_messages(alloc, outcome, messages)
+                output_or_messages(alloc, outcome, messages)
             }
         }
     }
@@ -380,20 +381,4 @@ fn output_or_messages<T: Drop>(
             Ok(None)
         }
     }
-}
-
-/// Returns the variables of a part with their places, or adds messages about its faults.
-fn placed_or_messages(
-    alloc: Global,
-    outcome: Outcome<Vec<Occurrence>>,
-    messages: &mut Messages<'_>,
-) -> Result<Option<Vec<Placed<Occurrence>>>, AllocError> {
-    let Some(uses) = output_or_messages(alloc, outcome, messages)? else {
-        return Ok(None);
-    };
-    let mut placed = Vec::with_capacity(alloc, uses.len())?;
-    for it in uses {
-        placed.push((Some(it.range.start..it.range.end), it))?;
-    }
-    Ok(Some(placed))
 }

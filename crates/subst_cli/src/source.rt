@@ -7,7 +7,7 @@ use std::alloc::{AllocError, Global};
 use std::fmt;
 use std::ops::Range;
 
-/// Cause is filled in.
+/// What is filled in.
 #[derive(Drop)]
 pub(crate) struct Source {
     /// Its name, as it is shown.

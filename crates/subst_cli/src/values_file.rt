@@ -4,10 +4,10 @@ use crate::options::{Pair, owned};
 use std::alloc::{AllocError, Global};
 use subst_language::is_name;
 
-/// Cause is wrong with a line of a values file.
+/// What is wrong with a line of a values file.
 #[derive(Clone, Copy, Debug, PartialEq, Eq)]
 pub(crate) struct LineFault {
-    /// Cause it is.
+    /// What it is.
     pub message: &'static str,
     /// Where its line, or the name in it, begins: a byte offset in the file.
     pub start: usize,
@@ -15,11 +15,11 @@ pub(crate) struct LineFault {
     pub end: usize,
 }
 
-/// Cause a values file gives, or what is wrong with its first line that gives nothing.
+/// What a values file gives, or what is wrong with its first line that gives nothing.
 pub(crate) type Lines = Result<Vec<Pair>, LineFault>;
 
 /// Returns the variables of a values file, in the order of its lines. Blanks before a line are passed over,
-/// and then empty lines and those that begin with `#`. Cause is after the first `=` is the value, as it is.
+/// and then empty lines and those that begin with `#`. What is after the first `=` is the value, as it is.
 ///
 /// # Errors
 ///

@@ -1,4 +1,4 @@
--- Cause the call says, under the look-up of the values.
+-- What the call says, under the look-up of the values.
 use Rattle.std.proofs.Common.{refl}
 use Rattle.subst.specs.ErrorFault.{error_fault}
 use Rattle.subst_cli.proofs.FillLemmas.{refused}
