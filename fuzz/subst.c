@@ -225,6 +225,10 @@ CALL(text_into, uint8_t, 1, SOURCE, PAIRS, buffer, buffer_len, &told->needed, &t
 CALL(bytes_each, uint8_t, 0, SOURCE, ROWS, buffer, buffer_len, ENDS, &told->needed, &told->row, &told->fault)
 CALL(variables, struct subst_variable, 0, SOURCE, buffer, buffer_len, &told->needed, &told->fault)
 CALL(missing, struct subst_variable, 0, SOURCE, PAIRS, buffer, buffer_len, &told->needed, &told->fault)
+CALL(json, uint8_t, 0, SOURCE, PAIRS, buffer, buffer_len, &told->needed, &told->fault)
+CALL(toml, uint8_t, 0, SOURCE, PAIRS, buffer, buffer_len, &told->needed, &told->fault)
+CALL(json_fault_text, uint8_t, 0, SOURCE, PAIRS, buffer, buffer_len, &told->needed)
+CALL(toml_fault_text, uint8_t, 0, SOURCE, PAIRS, buffer, buffer_len, &told->needed)
 CALL(fault_text, uint8_t, 0, SOURCE, PAIRS, buffer, buffer_len, &told->needed)
 CALL(fault_highlighting, uint8_t, 0, SOURCE, PAIRS, buffer, buffer_len, &told->needed)
 
@@ -353,6 +357,25 @@ static void try_escaped(const struct input *input)
     EXPECT(memcmp(answer.items, input->source, answer.needed) == 0);
     free(answer.block);
     free(source);
+}
+
+/* A document is filled in, or refused at a place in it, and what is said of it is empty unless it is refused. */
+static void try_document(const struct call *fill_in, const struct call *say, const struct input *input)
+{
+    struct answer none = asked(fill_in, input, 0), answer = asked(fill_in, input, none.needed), said = held(say, input);
+    const struct subst_fault *fault = &answer.fault;
+    EXPECT(answer.result == (are_texts(input) ? answer.result : SUBST_NOT_UTF8));
+    EXPECT(answer.result == SUBST_DONE || answer.result == SUBST_REFUSED || !are_texts(input));
+    if (answer.result == SUBST_REFUSED) {
+        EXPECT(fault->kind >= SUBST_INVALID_ESCAPE_SEQUENCE && fault->kind <= SUBST_INVALID_DOCUMENT);
+        EXPECT(fault->position <= input->source_len && fault->length <= input->source_len - fault->position);
+    }
+    expect_in_buffers(fill_in, input, &answer);
+    EXPECT(said.result == (are_texts(input) ? SUBST_DONE : SUBST_NOT_UTF8));
+    EXPECT((said.needed > 0) == (answer.result == SUBST_REFUSED) && is_utf8(said.items, said.needed));
+    free(none.block);
+    free(answer.block);
+    free(said.block);
 }
 
 /* Rows */
@@ -678,6 +701,8 @@ int LLVMFuzzerTestOneInput(const uint8_t *data, size_t size)
     try_highlighting(&input, &answer);
     try_place(&input, &answer);
     try_escaped(&input);
+    try_document(&call_json, &call_json_fault_text, &input);
+    try_document(&call_toml, &call_toml_fault_text, &input);
     free(answer.block);
     end_input(&input, data + size);
     return 0;

@@ -13,6 +13,8 @@ nothing is converted. All items of a map are passed, and no default of the map i
 surrogates, as os.environ may have, is a UnicodeEncodeError. A source that is refused is a SubstError, and a lack of
 memory is a MemoryError. Calls share nothing, so they may be made in several threads, of which each lets the others run.
 
+fill_in_json and fill_in_toml fill in the strings of a document, which is a str, and leave all else of it as it is.
+
 The work is done by the library libsubst.so.0: the one that the variable SUBST_LIBRARY of the environment names, or else
 the one beside this file, or two folders above it, where tools/install puts it, or the one that the loader finds.
 """
@@ -22,8 +24,8 @@ import os
 from collections import abc
 from typing import Any, AnyStr, Callable, Generic, Iterable, List, Mapping, NamedTuple, Optional, Tuple, Union
 
-__all__ = ['FaultKind', 'SubstError', 'Template', 'Variable', 'VariableKind',
-           'check', 'fill_in', 'missing', 'variables']
+__all__ = ['DocumentError', 'FaultKind', 'SubstError', 'Template', 'Variable', 'VariableKind',
+           'check', 'fill_in', 'fill_in_json', 'fill_in_toml', 'missing', 'variables']
 
 
 class FaultKind(enum.IntEnum):
@@ -71,7 +73,7 @@ class SubstError(ValueError):
     column count from 1, columns as a terminal has them, a tab as one; they are None where the source isn't UTF-8. The
     highlighting is that line with carets below what is seen of the fault, and is empty where the source isn't UTF-8 or
     the line is wider than 60 columns. The row is the index of the one that fill_in_each can't fill in, and None for
-    other calls.
+    other calls. Of a document, the source is its text, and the highlighting is empty.
     """
 
     def __init__(self, text: str, kind: FaultKind, position: int, length: int, line: Optional[int],
@@ -84,6 +86,22 @@ class SubstError(ValueError):
         self.column = column
         self.highlighting = highlighting
         self.row = row
+
+    def __str__(self) -> str:
+        return self.args[0]
+
+
+class DocumentError(ValueError):
+    """A text that isn't JSON, or isn't TOML, as the call asks. Its own text is the reader's, which stopped at
+    text[position:position + length]. Its line and column are as those of a SubstError.
+    """
+
+    def __init__(self, text: str, position: int, length: int, line: Optional[int], column: Optional[int]) -> None:
+        super().__init__(text, position, length, line, column)
+        self.position = position
+        self.length = length
+        self.line = line
+        self.column = column
 
     def __str__(self) -> str:
         return self.args[0]
@@ -139,6 +157,29 @@ def fill_in(source: AnyStr, variables: Mapping[AnyStr, AnyStr]) -> AnyStr:
     return _fill_in(_Source(source), variables)
 
 
+def fill_in_json(text: str, variables: Mapping[str, str]) -> str:
+    """Returns a JSON document with its strings filled in, each as a source of its own. All else of it stays as it is,
+    keys, numbers and blanks too.
+
+        >>> print(fill_in_json('{"name":  "$name", "price": 2.50}', {'name': 'a"b'}))
+        {"name":  "a\\"b", "price": 2.50}
+
+    Raises DocumentError where the text isn't JSON, and SubstError for the first string that is refused.
+    """
+    return _fill_in_document('subst_json', text, variables)
+
+
+def fill_in_toml(text: str, variables: Mapping[str, str]) -> str:
+    """Returns a TOML document with its strings filled in, as fill_in_json. Comments and dates stay as they are too.
+
+        >>> print(fill_in_toml('name = "$name" # $name', {'name': 'a"b'}))
+        name = 'a"b' # $name
+
+    Raises DocumentError where the text isn't TOML, and SubstError for the first string that is refused.
+    """
+    return _fill_in_document('subst_toml', text, variables)
+
+
 def check(source: AnyStr) -> None:
     """Raises SubstError where the source is no template. It may have variables that are needed."""
     _check(_Source(source))
@@ -156,7 +197,9 @@ def missing(source: AnyStr, variables: Mapping[AnyStr, AnyStr]) -> List[Variable
 
 # What subst.h declares
 
-_DONE, _REFUSED, _OUT_OF_MEMORY, _ROOM_TOO_SMALL, _NOT_UTF8 = 0, 1, 4, 5, 6
+_DONE, _REFUSED, _OUT_OF_MEMORY, _ROOM_TOO_SMALL, _NOT_CONFIRMED = 0, 1, 4, 5, 8
+# The kind of fault of a source that is no document.
+_INVALID_DOCUMENT = 6
 
 
 class _Pair(ctypes.Structure):
@@ -187,11 +230,15 @@ _VARIABLES = [ctypes.POINTER(_Variable), ctypes.c_size_t]
 _ARGUMENTS = {
     'subst_bytes_into': [*_BYTES, *_PAIRS, *_ROOM, _SIZE, _FAULT],
     'subst_bytes_each': [*_BYTES, *_ROWS, *_ROOM, _SIZE, ctypes.c_size_t, _SIZE, _SIZE, _FAULT],
+    'subst_json': [*_BYTES, *_PAIRS, *_ROOM, _SIZE, _FAULT],
+    'subst_toml': [*_BYTES, *_PAIRS, *_ROOM, _SIZE, _FAULT],
     'subst_check': [*_BYTES, _FAULT],
     'subst_variables': [*_BYTES, *_VARIABLES, _SIZE, _FAULT],
     'subst_missing': [*_BYTES, *_PAIRS, *_VARIABLES, _SIZE, _FAULT],
     'subst_fault_text': [*_BYTES, *_PAIRS, *_ROOM, _SIZE],
     'subst_fault_highlighting': [*_BYTES, *_PAIRS, *_ROOM, _SIZE],
+    'subst_json_fault_text': [*_BYTES, *_PAIRS, *_ROOM, _SIZE],
+    'subst_toml_fault_text': [*_BYTES, *_PAIRS, *_ROOM, _SIZE],
     'subst_place': [*_BYTES, ctypes.c_size_t, _SIZE, _SIZE],
     'subst_version': [],
 }
@@ -297,6 +344,21 @@ def _fill_in_each(source: _Source, given: Iterable[Mapping[AnyStr, AnyStr]]) -> 
     return [source.decoded(output[start:end]) for start, end in zip([0, *ends], ends)]
 
 
+def _fill_in_document(name: str, text: str, variables: Mapping[str, str]) -> str:
+    """The document that the call of this name makes of a text."""
+    if not isinstance(text, str):
+        raise TypeError(f'the document must be str, not {type(text).__name__}')
+    source, fault, call = _Source(text), _Fault(), getattr(_library, name)
+    pairs = _pairs(source, variables)
+    result, output = _in_buffer(ctypes.c_char, len(source.encoded) + _MORE, lambda *buffer: call(
+        *source.borrowed, pairs, len(pairs), *buffer, fault))
+    if result == _REFUSED:
+        raise _document_error(source, pairs, fault, getattr(_library, f'{name}_fault_text'))
+    if result == _NOT_CONFIRMED:
+        raise RuntimeError('the document with its strings filled in was not confirmed')
+    return source.decoded(output)
+
+
 def _check(source: _Source) -> None:
     fault = _Fault()
     if _has_memory(_library.subst_check(*source.borrowed, fault)) == _REFUSED:
@@ -325,13 +387,29 @@ def _listed(source: _Source, call: Callable) -> List[Variable]:
 
 def _error(source: _Source, pairs: 'ctypes.Array[_Pair]', fault: _Fault, row: Optional[int] = None) -> SubstError:
     """The error that a fault of the source is."""
-    def said(call: Callable) -> str:
-        _, text = _in_buffer(ctypes.c_char, 256, lambda *buffer: call(*source.borrowed, pairs, len(pairs), *buffer))
-        return text.decode('utf-8')
+    return SubstError(_said(_library.subst_fault_text, source, pairs), FaultKind(fault.kind), *_span(source, fault),
+                      _said(_library.subst_fault_highlighting, source, pairs), row)
 
+
+def _document_error(source: _Source, pairs: 'ctypes.Array[_Pair]', fault: _Fault,
+                    call: Callable) -> Union[SubstError, DocumentError]:
+    """The error that a fault of a document is, whose text a call gives."""
+    text, span = _said(call, source, pairs), _span(source, fault)
+    if fault.kind == _INVALID_DOCUMENT:
+        return DocumentError(text, *span)
+    return SubstError(text, FaultKind(fault.kind), *span, '')
+
+
+def _said(call: Callable, source: _Source, pairs: 'ctypes.Array[_Pair]') -> str:
+    """What a call says of a source."""
+    _, text = _in_buffer(ctypes.c_char, 256, lambda *buffer: call(*source.borrowed, pairs, len(pairs), *buffer))
+    return text.decode('utf-8')
+
+
+def _span(source: _Source, fault: _Fault) -> Tuple[int, int, Optional[int], Optional[int]]:
+    """The position of a fault, its length, its line and its column."""
     start, end = source.indices([fault.position, fault.position + fault.length])
-    return SubstError(said(_library.subst_fault_text), FaultKind(fault.kind), start, end - start,
-                      *_place(source, fault.position), said(_library.subst_fault_highlighting), row)
+    return (start, end - start, *_place(source, fault.position))
 
 
 def _place(source: _Source, offset: int) -> Tuple[Optional[int], Optional[int]]:

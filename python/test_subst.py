@@ -16,7 +16,7 @@ import unittest
 from unittest import mock
 
 import subst
-from subst import FaultKind, SubstError, Template, Variable, VariableKind
+from subst import DocumentError, FaultKind, SubstError, Template, Variable, VariableKind
 
 MIB = 1 << 20
 
@@ -171,6 +171,60 @@ class Faults(Case):
             self.assertEqual((str(other), vars(other)), (str(error), vars(error)))
 
 
+class Documents(Case):
+    """JSON and TOML, whose strings are filled in where they are."""
+
+    def test_filled_in(self):
+        variables = {'a': 'x"\\é', 'b': '$a'}
+        for call, text, wanted in (
+                (subst.fill_in_json, '{ "$a":1.50,"é": "${b} \\u0041", "c":["\\u0041"] }\r\n',
+                 '{ "$a":1.50,"é": "$a A", "c":["\\u0041"] }\r\n'),
+                (subst.fill_in_json, '"$a"', '"x\\"\\\\é"'),
+                (subst.fill_in_json, '[null, -0, 1E2]', '[null, -0, 1E2]'),
+                (subst.fill_in_json, f'["$a"{" " * MIB}]', f'["x\\"\\\\é"{" " * MIB}]'),
+                (subst.fill_in_toml, '# $a\r\n"é".x = "$b"  # é\r\nc = 1_0', '# $a\r\n"é".x = "$a"  # é\r\nc = 1_0'),
+                (subst.fill_in_toml, '', '')):
+            self.assertEqual(call(text, variables), wanted)
+
+    def test_refused(self):
+        for call, text, said, start in (
+                (subst.fill_in_json, '{"é":\n "\\u0041é $none", "a": "$"}', '/é: ', 'none'),
+                (subst.fill_in_json, '"é\\\\é"', '', '\\\\é'),
+                (subst.fill_in_toml, 'b = "é"\nc = """\nä\\u0024none"""\na = "$"', 'c: ', 'none'),
+                (subst.fill_in_toml, "[t]\na = ['$none']", 't.a[0]: ', 'none')):
+            error = self.refused(call, text, {})
+            alone = self.refused(subst.fill_in, '$none' if start == 'none' else '\\é', {})
+            self.assertEqual((str(error), error.kind), (said + str(alone), alone.kind))
+            self.assertEqual((error.position, error.length), (text.index(start), len(start)))
+            lines = text[:error.position].split('\n')
+            self.assertEqual((error.line, error.column), (len(lines), len(lines[-1]) + 1))
+            self.assertEqual((error.highlighting, error.row), ('', None))
+
+    def test_no_document(self):
+        for call, text, position, line, column in (
+                (subst.fill_in_json, '', 0, 1, 1), (subst.fill_in_json, '["é",\n é]', 7, 2, 2),
+                (subst.fill_in_json, '{"a": "$none", "a"}', 18, 1, 19),
+                (subst.fill_in_toml, 'a = "é"\nb = $none', 12, 2, 5)):
+            with self.assertRaises(DocumentError) as caught:
+                call(text, {})
+            error = caught.exception
+            self.assertEqual((error.position, error.line, error.column), (position, line, column), text)
+            self.assertTrue(str(error))
+            self.assertEqual(vars(pickle.loads(pickle.dumps(error))), vars(error))
+
+    def test_types(self):
+        for call in (subst.fill_in_json, subst.fill_in_toml):
+            with self.assertRaisesRegex(TypeError, '^the document must be str, not bytes$'):
+                call(b'', {})
+            with self.assertRaisesRegex(TypeError, 'must be str as the source is, not bytes'):
+                call('', {'a': b''})
+
+    def test_not_confirmed(self):
+        library = mock.Mock(**{'subst_json.return_value': 8})
+        with mock.patch.object(subst, '_library', library):
+            self.assertRaisesRegex(RuntimeError, 'not confirmed', subst.fill_in_json, '""', {})
+
+
 class Types(Case):
     """What is no source and no variables."""
 
@@ -226,12 +280,14 @@ class Outside(Case):
 
     def test_out_of_memory(self):
         template = Template('$a')
-        others = ('subst_fault_text', 'subst_fault_highlighting', 'subst_place', 'subst_version')
+        others = ('subst_fault_text', 'subst_fault_highlighting', 'subst_json_fault_text', 'subst_toml_fault_text',
+                  'subst_place', 'subst_version')
         names = [name for name in subst._ARGUMENTS if name not in others]
         library = mock.Mock(**{f'{name}.return_value': 4 for name in names})
         with mock.patch.object(subst, '_library', library):
             for call in (lambda: subst.fill_in('', {}), lambda: subst.check(''), lambda: subst.variables(''),
-                         lambda: subst.missing('', {}), lambda: template.fill_in_each([])):
+                         lambda: subst.missing('', {}), lambda: template.fill_in_each([]),
+                         lambda: subst.fill_in_json('', {}), lambda: subst.fill_in_toml('', {})):
                 self.assertRaises(MemoryError, call)
         self.assertEqual(sorted(name for name in names if getattr(library, name).called), sorted(names))
 

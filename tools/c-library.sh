@@ -180,9 +180,12 @@ print('version', library.subst_version())
 END
 }
 
-# A block of a page, docs/C.md or another, in this language, of which there is one.
+# The blocks of a page, docs/C.md or another, in this language, or the one with this number, from 1.
 block() {
-  sed -n "/^\`\`\`$1\$/,/^\`\`\`\$/{/^\`\`\`/!p}" "${2:-docs/C.md}"
+  awk -v begin="\`\`\`$1" -v wanted="${3:-0}" '
+    $0 == begin { inside = ++count == wanted || !wanted; next }
+    /^```/ { inside = 0 }
+    inside' "${2:-docs/C.md}"
 }
 
 # Runs the commands of the document, and prints each with what it printed.
@@ -199,7 +202,8 @@ run_commands() {
 
 examples_print_what_is_written() {
   mkdir "$folder/examples"
-  block c >"$folder/examples/greet.c"
+  block c docs/C.md 1 >"$folder/examples/greet.c"
+  block c docs/C.md 2 >"$folder/examples/document.c"
   block python >"$folder/examples/greet.py"
   block console >"$folder/wanted"
   PREFIX=$folder/prefix run_commands <"$folder/wanted" >"$folder/printed"

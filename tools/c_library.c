@@ -1,6 +1,6 @@
-/* Tests of the library as C calls it: NULL beside a length of 0, memory that is refused, the index over pairs, and its
- * version. All else that the header says is tried by fuzz/subst.c. A test that fails prints a line, and the last line
- * is 'N passed, M failed'.
+/* Tests of the library as C calls it: NULL beside a length of 0, memory that is refused, documents, the index over
+ * pairs, and its version. All else that the header says is tried by fuzz/subst.c. A test that fails prints a line, and
+ * the last line is 'N passed, M failed'.
  *
  * A call that is out of memory has to have written nothing; it is said and made again, so that tools/c-library.sh can
  * refuse each request for memory.
@@ -237,6 +237,108 @@ static void test_calls(const char *name)
     }
 }
 
+/* Documents */
+
+/* A document, and what filling it in ends with: the output; or the place of its fault in it, after its path in the text
+ * of the fault, and the string that has it; or where the reader stops, and no string. */
+struct document {
+    filling *fill;
+    saying *say;
+    const char *text, *output;
+    struct subst_fault fault;
+    const char *path, *string;
+};
+
+static const struct document documents[] = {
+    {subst_json, subst_json_fault_text,
+     "{ \"$name\" : \"${name}\\u0041\",\"b\":[1.50, -0,\"\\u0041\"],\r\n\"c\":\"$quote\"}\n",
+     "{ \"$name\" : \"worldA\",\"b\":[1.50, -0,\"\\u0041\"],\r\n\"c\":\"a\\\"b\"}\n", {0, 0, 0}, NULL, NULL},
+    {subst_json, subst_json_fault_text, "[null , 1E2]", "[null , 1E2]", {0, 0, 0}, NULL, NULL},
+    {subst_json, subst_json_fault_text, "{\"b\": [\"\\u0041 \\u0024none\"], \"a\": \"$x\"}", NULL,
+     {SUBST_NO_SUCH_VARIABLE, 21, 4}, "/b/0: ", "A $none"},
+    {subst_json, subst_json_fault_text, "\"a\\\\x\"", NULL, {SUBST_INVALID_ESCAPE_SEQUENCE, 2, 3}, "", "a\\x"},
+    {subst_json, subst_json_fault_text, "[\"$none\",\n]", NULL, {SUBST_INVALID_DOCUMENT, 10, 0}, NULL, NULL},
+    {subst_json, subst_json_fault_text, "", NULL, {SUBST_INVALID_DOCUMENT, 0, 0}, NULL, NULL},
+    {subst_toml, subst_toml_fault_text,
+     "# $name\r\n\"$name\" = '''${name}''' # $name\r\nb = [ 1_0, \"\\u0041\" ]\r\nc = \"$quote\"",
+     "# $name\r\n\"$name\" = \"world\" # $name\r\nb = [ 1_0, \"\\u0041\" ]\r\nc = 'a\"b'", {0, 0, 0}, NULL, NULL},
+    {subst_toml, subst_toml_fault_text, "", "", {0, 0, 0}, NULL, NULL},
+    {subst_toml, subst_toml_fault_text, "[t]\nb = ['', \"\"\"\n\\u0041 \\u0024none\"\"\"]\na = '$x'", NULL,
+     {SUBST_NO_SUCH_VARIABLE, 30, 4}, "t.b[1]: ", "A $none"},
+    {subst_toml, subst_toml_fault_text, "a = 'b\\x'", NULL, {SUBST_INVALID_ESCAPE_SEQUENCE, 6, 2}, "a: ", "b\\x"},
+    {subst_toml, subst_toml_fault_text, "a = '$none'\nb = ]", NULL, {SUBST_INVALID_DOCUMENT, 16, 0}, NULL, NULL},
+};
+
+/* Whether the text is that of the fault: its path, and what subst_fault_text says of the string, or something. */
+static int is_fault_text(const struct document *document, const struct written *written)
+{
+    struct written alone;
+    uint32_t result;
+    size_t length;
+    if (document->output != NULL)
+        return written->needed == 0;
+    if (document->string == NULL)
+        return written->needed > 0;
+    MAKE(result, &alone, say(subst_fault_text, document->string, &alone));
+    length = strlen(document->path);
+    return result == SUBST_DONE && written->needed == length + alone.needed
+           && memcmp(written->buffer, document->path, length) == 0
+           && memcmp(written->buffer + length, alone.buffer, alone.needed) == 0;
+}
+
+/* A document is filled in, or refused at its place, which the text of its fault goes with. */
+static void test_document(const struct document *document, const struct subst_pair pairs[2])
+{
+    const uint8_t *source = bytes_of(document->text);
+    size_t length = strlen(document->text), most = ROOM;
+    struct written written;
+    uint32_t result;
+    if (document->output != NULL)
+        most = strlen(document->output);
+    MAKE(result, &written, document->fill(source, length, pairs, 2, written.buffer, most, &written.needed,
+                                          &written.fault));
+    if (document->output != NULL)
+        end_test("a document", document->text, result == SUBST_DONE && holds(&written, document->output)
+                 && (most == ROOM || written.buffer[most] == UNTOUCHED));
+    else
+        end_test("a document", document->text, result == SUBST_REFUSED && written.buffer[0] == UNTOUCHED
+                 && written.fault.kind == document->fault.kind && written.fault.position == document->fault.position
+                 && written.fault.length == document->fault.length);
+    MAKE(result, &written, document->say(source, length, pairs, 2, written.buffer, ROOM, &written.needed));
+    end_test("the fault's text", document->text, result == SUBST_DONE && is_fault_text(document, &written));
+    if (document->output == NULL || most == 0)
+        return;
+    MAKE(result, &written, document->fill(source, length, pairs, 2, written.buffer, most - 1, &written.needed,
+                                          &written.fault));
+    end_test("a buffer too small", document->text, result == SUBST_ROOM_TOO_SMALL && written.needed == most
+             && written.buffer[0] == UNTOUCHED);
+}
+
+/* The value isn't UTF-8, also of a document without a variable. */
+static void test_no_text(filling *fill, saying *say)
+{
+    struct subst_pair pair = pair_of("name", "\xC3");
+    struct written written;
+    uint32_t result;
+    MAKE(result, &written, fill(bytes_of("[]"), 2, &pair, 1, written.buffer, ROOM, &written.needed, &written.fault));
+    end_test("a document", "a value that isn't UTF-8", result == SUBST_NOT_UTF8 && is_untouched(&written));
+    MAKE(result, &written, fill(bytes_of("\"\xC3\""), 3, NULL, 0, written.buffer, ROOM, &written.needed,
+                                &written.fault));
+    end_test("a document", "a source that isn't UTF-8", result == SUBST_NOT_UTF8 && is_untouched(&written));
+    MAKE(result, &written, say(bytes_of("[]"), 2, &pair, 1, written.buffer, ROOM, &written.needed));
+    end_test("the fault's text", "a value that isn't UTF-8", result == SUBST_NOT_UTF8 && is_untouched(&written));
+}
+
+static void test_documents(void)
+{
+    const struct subst_pair pairs[] = {pair_of("name", "world"), pair_of("quote", "a\"b")};
+    size_t i;
+    for (i = 0; i < sizeof documents / sizeof documents[0]; i++)
+        test_document(&documents[i], pairs);
+    test_no_text(subst_json, subst_json_fault_text);
+    test_no_text(subst_toml, subst_toml_fault_text);
+}
+
 /* The index over pairs */
 
 enum { MOST_INDEXED = 64 };
@@ -342,6 +444,14 @@ static void test_null_of_others(void)
     end_test("subst_fault_text", "no source", result == SUBST_DONE && written.needed == 0);
     MAKE(result, &written, subst_fault_highlighting(NULL, 0, NULL, 0, NULL, 0, &written.needed));
     end_test("subst_fault_highlighting", "no source", result == SUBST_DONE && written.needed == 0);
+    MAKE(result, &written, subst_json(NULL, 0, NULL, 0, NULL, 0, &written.needed, &written.fault));
+    end_test("subst_json", "no source", result == SUBST_REFUSED && written.fault.kind == SUBST_INVALID_DOCUMENT);
+    MAKE(result, &written, subst_json_fault_text(bytes_of("1"), 1, NULL, 0, NULL, 0, &written.needed));
+    end_test("subst_json_fault_text", "no buffer", result == SUBST_DONE && written.needed == 0);
+    MAKE(result, &written, subst_toml(NULL, 0, NULL, 0, NULL, 0, &written.needed, &written.fault));
+    end_test("subst_toml", "no source", result == SUBST_DONE && written.needed == 0);
+    MAKE(result, &written, subst_toml_fault_text(NULL, 0, NULL, 0, NULL, 0, &written.needed));
+    end_test("subst_toml_fault_text", "no source", result == SUBST_DONE && written.needed == 0);
     MAKE(result, &written, subst_bytes_each(NULL, 0, NULL, 0, NULL, 0, NULL, 0, &written.needed, &written.row,
                                             &written.fault));
     end_test("subst_bytes_each", "no rows", result == SUBST_DONE && written.needed == 0);
@@ -442,6 +552,7 @@ int main(int argc, char **argv)
         test_calls(argv[2]);
     } else {
         test_calls(NULL);
+        test_documents();
         test_index(17);
         test_index(64);
         test_null("subst_bytes", subst_bytes);

@@ -1,4 +1,5 @@
 mod AnswerLemmas
+mod DocumentLemmas
 mod EachLemmas
 mod IndexLemmas
 mod RecordsLemmas

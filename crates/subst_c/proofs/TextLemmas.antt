@@ -1,7 +1,6 @@
 -- What a source of text gives, filled in with texts, is a text.
 use Rattle.std.proofs.Common.{◌≡◌, ℕ, Bool, true, false, ◌&&◌, if◌then◌else◌, List, [], ◌∷◌, Option, Some, None, IfSome, MatchResult, Result, Ok, Err, find, is_ok, refl, subst, sym}
 use Rattle.std.proofs.lemmas.Str.{IsUtf8-from_is_utf8, is_utf8-from_IsUtf8}
-use Rattle.std.specs.List.{list_all}
 use Rattle.std.specs.Option.{option_map}
 use Rattle.std.specs.Str.{IsUtf8, bytes_eq, is_utf8}
 use Rattle.subst_language.specs.Language.Answer.{Answers, Gives}
@@ -10,7 +9,7 @@ use Rattle.subst_language.specs.Language.Sentence.{ByTree}
 use Rattle.subst_language.specs.Language.Value.{value, Bytes}
 use Rattle.subst_c.specs.Pairs.{pair_value}
 use Rattle.subst_c.specs.Buffer.{IsPut}
-use Rattle.subst_c.specs.Text.{are_texts}
+use Rattle.subst_c.specs.Text.{are_texts, have_texts}
 use Rattle.subst_c.specs.declared.pairs.Pair.{Pair}
 
 -- the law of texts, which `laws::texts_give_texts` states
@@ -38,7 +37,7 @@ second_passes true b e = e
 second_passes false b e = absurd cc
 
 -- the value that is found under a name is one of the values
-found_is_text : (pairs : List Pair) (name : List ℕ) → list_all (λ pair. is_utf8 pair.value.now) pairs ≡ true
+found_is_text : (pairs : List Pair) (name : List ℕ) → have_texts pairs ≡ true
     → IfSome (find (λ pair. bytes_eq name pair.name.now) pairs) (λ pair. is_utf8 pair.value.now ≡ true)
 found_is_text [] name all = tt
 found_is_text (pair ∷ pairs) name all =
@@ -59,14 +58,29 @@ value_is_text (Some pair) x is e =
     subst (λ (s : List ℕ). IsUtf8 s) same (IsUtf8-from_is_utf8 pair.value.now is)
 value_is_text None x is e = absurd cc
 
+-- what pairs have of which all values are texts is a text
+pub gives_texts : (pairs : List Pair) → have_texts pairs ≡ true → GivesTexts (pair_value pairs)
+gives_texts pairs all name x found =
+    value_is_text (find (λ pair. bytes_eq name pair.name.now) pairs) x (found_is_text pairs name all) found
+
+-- where the source is a text, all are texts if the values are
+pub texts_of_a_text : (s : List ℕ) (pairs : List Pair) → IsUtf8 s → are_texts s pairs ≡ have_texts pairs
+texts_of_a_text s pairs is = rw (is_utf8-from_IsUtf8 s is)
+
+-- where the source is no text, not all are texts
+pub texts_of_no_text : (s : List ℕ) (pairs : List Pair) → ¬ (IsUtf8 s) → are_texts s pairs ≡ false
+texts_of_no_text s pairs none = of (is_utf8 s) refl
+  where
+    of : (b : Bool) → is_utf8 s ≡ b → (b && have_texts pairs) ≡ false
+    of true is = absurd (none (IsUtf8-from_is_utf8 s is))
+    of false is = refl
+
 -- what is put into the buffer is a text
 pub puts_text : (law : TextsGiveTexts) (s : List ℕ) (pairs : List Pair) (needed : ℕ) (old new : List ℕ)
     → are_texts s pairs ≡ true → IsPut (λ x. Answers s (pair_value pairs) (Gives x)) needed old new
     → IsPut (λ x. IsUtf8 x × Answers s (pair_value pairs) (Gives x)) needed old new
 puts_text law s pairs needed old new are put =
-    let texts : GivesTexts (pair_value pairs) = λ name x found.
-    value_is_text (find (λ pair. bytes_eq name pair.name.now) pairs) x
-    (found_is_text pairs name (second_passes (is_utf8 s) _ are)) found in
+    let texts = gives_texts pairs (second_passes (is_utf8 s) _ are) in
     let source = IsUtf8-from_is_utf8 s (first_passes (is_utf8 s) _ are) in
     let tree = put.wanted in
     let is = law s put.items 0 (pair_value pairs) source texts tree.0 tree.1 tree.2 in

@@ -1,3 +1,4 @@
+pub mod Documents
 pub mod Each
 pub mod Fault
 pub mod Index

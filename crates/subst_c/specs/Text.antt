@@ -20,6 +20,10 @@ Says IsSaid (Refuses f) text = IsSaid f text
 abbrev pub SaysOf : (Answer → Type 0) → (Fault → List ℕ → Type 0) → List ℕ → Type 0
 SaysOf IsAnswer IsSaid text = (a : Answer) × IsAnswer a × Says IsSaid a text
 
+-- the values of pairs are UTF-8
+abbrev pub have_texts : List Pair → Bool
+have_texts pairs = list_all (λ pair. is_utf8 pair.value.now) pairs
+
 -- a source and the values of pairs are UTF-8
 abbrev pub are_texts : List ℕ → List Pair → Bool
-are_texts s pairs = is_utf8 s && list_all (λ pair. is_utf8 pair.value.now) pairs
+are_texts s pairs = is_utf8 s && have_texts pairs

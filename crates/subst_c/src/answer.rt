@@ -1,7 +1,6 @@
 //! The answer of a source under pairs, and what it says.
 
-ghost use Rattle.std.specs.Prelude.{◌≡◌, ◌≤◌, IfErr, IfOk, IfSome, length, string_bytes};
-ghost use Rattle.std.specs.List.{list_all};
+ghost use Rattle.std.specs.Prelude.{◌≡◌, ◌≤◌, IfErr, IfOk, IfSome, MatchOption, length, string_bytes, true, false};
 ghost use Rattle.std.specs.Str.{is_utf8};
 ghost use Rattle.subst_language.specs.Calls.Outcome.{answer_of};
 ghost use Rattle.subst_language.specs.Language.Answer.{Answers};
@@ -9,9 +8,9 @@ ghost use Rattle.subst_error.specs.Display.{IsDisplayOfError, IsDisplayOfFault};
 ghost use Rattle.subst_error.specs.ErrorFault.{error_fault};
 ghost use Rattle.subst_error.specs.Range.{range_of};
 ghost use Rattle.subst_c.specs.Pairs.{pair_value};
-ghost use Rattle.subst_c.specs.Text.{IsHighlighting, SaysOf, are_texts as all_are_texts};
+ghost use Rattle.subst_c.specs.Text.{IsHighlighting, SaysOf, are_texts as all_are_texts, have_texts};
 
-use crate::pairs::{Pair, Pairs, index_of};
+use crate::pairs::{Pair, Pairs, TextPairs, index_of};
 use std::alloc::{AllocError, Global};
 use std::fmt::{Display, Formatter};
 use subst_error::Error;
@@ -54,7 +53,7 @@ pub fn fault_text(alloc: Global, source: &[u8], pairs: &[Pair]) -> Result<String
 /// # Errors
 ///
 /// When allocation fails, and for nothing else.
-fn text_of(alloc: Global, e: &Error) -> Result<String, AllocError>
+pub fn text_of(alloc: Global, e: &Error) -> Result<String, AllocError>
     ensures { IfOk result (λ text. IsDisplayOfError (error_fault e.now) (string_bytes text)) }
 {
     let mut f = Formatter::new(String::new(alloc));
@@ -83,6 +82,28 @@ pub fn fault_highlighting(alloc: Global, source: &str, pairs: &[Pair]) -> Result
     }
 }
 
+/// Returns the source as a text, and the pairs as a map of texts, where it and the values of all pairs are
+/// UTF-8.
+pub fn as_texts<'a>(
+    alloc: Global,
+    source: &'a [u8],
+    pairs: &'a [Pair<'a>],
+) -> Option<(&'a str, TextPairs<'a>)>
+    ensures { MatchOption result (all_are_texts source.now pairs.now ≡ false)
+        (λ (text, map). (text.now ≡ source.now) × (map.pairs.pairs.now ≡ pairs.now)
+        × (all_are_texts source.now pairs.now ≡ true)) }
+{
+    let Ok(text) = simdutf8::basic::from_utf8(source) else {
+        return None;
+    };
+    if !values_are_texts(pairs) {
+        return None;
+    }
+    let index = index_of(alloc, source, pairs);
+    let pairs = Pairs { pairs, index };
+    Some((text, TextPairs { pairs }))
+}
+
 /// Returns whether the source and the values of all pairs are UTF-8.
 pub fn are_texts(source: &[u8], pairs: &[Pair]) -> bool
     ensures { result ≡ all_are_texts source.now pairs.now }
@@ -92,7 +113,7 @@ pub fn are_texts(source: &[u8], pairs: &[Pair]) -> bool
 
 /// Returns whether the values of all pairs are UTF-8.
 fn values_are_texts(pairs: &[Pair]) -> bool
-    ensures { result ≡ list_all (λ pair. is_utf8 pair.value.now) pairs.now }
+    ensures { result ≡ have_texts pairs.now }
 {
     pairs.iter().all(|pair| is_text(pair.value))
 }

@@ -25,6 +25,9 @@ pub const MISSING_CLOSING_BRACE: u32 = 4;
 /// A variable that is needed, and that no pair names.
 pub const NO_SUCH_VARIABLE: u32 = 5;
 
+/// The source of a call that fills in a document is none.
+pub const INVALID_DOCUMENT: u32 = 6;
+
 /// What a fault is, by the number of its kind, and where it is: its first byte, and how many bytes it takes.
 #[repr(C)]
 #[derive(Clone, Copy)]
@@ -86,7 +89,7 @@ pub fn refuse_missing(e: &ExpandIntoError, fault: &mut FaultRecord) -> u32
 }
 
 /// Returns the number of the kind of fault that an error states.
-fn kind(e: &Error) -> Option<u32>
+pub fn kind(e: &Error) -> Option<u32>
     ensures { result ≡ option_map fault_number (error_fault e.now) }
 {
     match e {

@@ -14,16 +14,18 @@ ghost use Rattle.subst_language.specs.Language.Answer.{Answers, Gives};
 ghost use Rattle.subst_language.specs.Language.BadItem.{HasFault};
 ghost use Rattle.subst_language.specs.Language.Sentence.{IsSentence};
 ghost use Rattle.subst_language.specs.Language.Variables.{all_missing, variables_of};
+ghost use Rattle.subst_c.specs.Documents.{IsFilledIn, IsReported, IsSaidOf, Json, Toml};
 ghost use Rattle.subst_c.specs.Each.{AreOutputs, IsRefusedIn};
 ghost use Rattle.subst_c.specs.Fault.{IsToldOf, LiesIn};
 ghost use Rattle.subst_c.specs.Pairs.{pair_value, GivenBy, TextGivenBy, RefusedBy};
 ghost use Rattle.subst_c.specs.Records.{HasRecords};
 ghost use Rattle.subst_c.specs.Buffer.{IsPut, IsTooLong};
 ghost use Rattle.subst_c.specs.Text.{IsHighlighting, SaysOf, are_texts};
-ghost use Rattle.subst_c.specs.declared.outcome.TheConstants.{DONE, REFUSED, OUT_OF_MEMORY, ROOM_TOO_SMALL, NOT_UTF8, NOT_A_BOUNDARY};
+ghost use Rattle.subst_c.specs.declared.outcome.TheConstants.{DONE, REFUSED, OUT_OF_MEMORY, ROOM_TOO_SMALL, NOT_UTF8, NOT_A_BOUNDARY, NOT_CONFIRMED};
 ghost use Rattle.subst_c.specs.Results.{IsOther, KeepsRest};
 ghost use Rattle.subst_version.specs.declared.TheConstants.{MAJOR, MINOR, PATCH};
 
+use document::{of_json, of_toml};
 pub use fault::FaultRecord;
 use outcome::{DONE, NOT_A_BOUNDARY, NOT_UTF8, OUT_OF_MEMORY, REFUSED};
 pub use pairs::{Pair, Row};
@@ -37,6 +39,7 @@ pub use variables::VariableRecord;
 
 mod answer;
 mod buffer;
+mod document;
 mod each;
 mod fault;
 mod into;
@@ -233,6 +236,82 @@ pub extern "C" fn subst_bytes_each(
     }
 }
 
+/// Puts the text of `source`, a JSON document, with its strings filled in from `pairs` at the front of the
+/// buffer. Each other byte of it stays. The source and all values have to be UTF-8.
+#[unsafe(no_mangle)]
+pub extern "C" fn subst_json(
+    alloc: Global,
+    source: &[u8],
+    pairs: &[Pair],
+    buffer: &mut [u8],
+    needed: &mut usize,
+    fault: &mut FaultRecord,
+) -> u32
+    // The buffer begins with the document with its strings filled in.
+    ensures done { result ≡ DONE
+        → IsPut (IsFilledIn Json (pair_value pairs.now) source.now)
+        needed.new buffer.old buffer.new }
+
+    // The source is no document, or the fault is that of its first string that is refused, and where.
+    ensures refused { result ≡ REFUSED
+        → IsReported Json (pair_value pairs.now) source.now fault.new }
+    ensures within { result ≡ REFUSED → LiesIn source.now fault.new }
+    ensures too_small { result ≡ ROOM_TOO_SMALL
+        → IsTooLong (IsFilledIn Json (pair_value pairs.now) source.now) needed.new buffer.old }
+
+    // The source or a value is told not to be UTF-8 exactly where one isn't.
+    ensures text { result ≢ NOT_UTF8 → are_texts source.now pairs.now ≡ true }
+    ensures not_text { result ≡ NOT_UTF8 → are_texts source.now pairs.now ≡ false }
+    ensures others { result ≢ NOT_UTF8 → result ≢ NOT_CONFIRMED → IsOther result }
+    ensures buffer_kept { result ≢ DONE → buffer.new ≡ buffer.old }
+    ensures kept { KeepsRest result fault.old fault.new needed.old needed.new }
+{
+    match answer::as_texts(alloc, source, pairs) {
+        Some((text, pairs)) => {
+            document::deliver(of_json::fill_in(alloc, text, &pairs), buffer, needed, fault)
+        }
+        None => NOT_UTF8,
+    }
+}
+
+/// Puts the text of `source`, a TOML document, with its strings filled in at the front of the buffer, as
+/// `subst_json`.
+#[unsafe(no_mangle)]
+pub extern "C" fn subst_toml(
+    alloc: Global,
+    source: &[u8],
+    pairs: &[Pair],
+    buffer: &mut [u8],
+    needed: &mut usize,
+    fault: &mut FaultRecord,
+) -> u32
+    // The buffer begins with the document with its strings filled in.
+    ensures done { result ≡ DONE
+        → IsPut (IsFilledIn Toml (pair_value pairs.now) source.now)
+        needed.new buffer.old buffer.new }
+
+    // The source is no document, or the fault is that of its first string that is refused, and where.
+    ensures refused { result ≡ REFUSED
+        → IsReported Toml (pair_value pairs.now) source.now fault.new }
+    ensures within { result ≡ REFUSED → LiesIn source.now fault.new }
+    ensures too_small { result ≡ ROOM_TOO_SMALL
+        → IsTooLong (IsFilledIn Toml (pair_value pairs.now) source.now) needed.new buffer.old }
+
+    // The source or a value is told not to be UTF-8 exactly where one isn't.
+    ensures text { result ≢ NOT_UTF8 → are_texts source.now pairs.now ≡ true }
+    ensures not_text { result ≡ NOT_UTF8 → are_texts source.now pairs.now ≡ false }
+    ensures others { result ≢ NOT_UTF8 → result ≢ NOT_CONFIRMED → IsOther result }
+    ensures buffer_kept { result ≢ DONE → buffer.new ≡ buffer.old }
+    ensures kept { KeepsRest result fault.old fault.new needed.old needed.new }
+{
+    match answer::as_texts(alloc, source, pairs) {
+        Some((text, pairs)) => {
+            document::deliver(of_toml::fill_in(alloc, text, &pairs), buffer, needed, fault)
+        }
+        None => NOT_UTF8,
+    }
+}
+
 /// Looks whether `source` is a sentence of the template language, without variables.
 #[unsafe(no_mangle)]
 pub extern "C" fn subst_check(alloc: Global, source: &[u8], fault: &mut FaultRecord) -> u32
@@ -354,6 +433,64 @@ pub extern "C" fn subst_fault_text(
     match answer::fault_text(alloc, source, pairs) {
         Ok(text) => buffer::deliver(text.as_bytes(), buffer, needed),
         Err(_) => OUT_OF_MEMORY,
+    }
+}
+
+/// Puts the text of the fault that `subst_json` finds, over the same source and pairs, at the front of the
+/// buffer: the path of the string and its fault, or what the reader says. Where that finds none, the text is
+/// empty.
+#[unsafe(no_mangle)]
+pub extern "C" fn subst_json_fault_text(
+    alloc: Global,
+    source: &[u8],
+    pairs: &[Pair],
+    buffer: &mut [u8],
+    needed: &mut usize,
+) -> u32
+    ensures done { result ≡ DONE
+        → IsPut (IsSaidOf Json (pair_value pairs.now) source.now) needed.new buffer.old buffer.new }
+    ensures too_small { result ≡ ROOM_TOO_SMALL
+        → IsTooLong (IsSaidOf Json (pair_value pairs.now) source.now) needed.new buffer.old }
+    ensures text { result ≢ NOT_UTF8 → are_texts source.now pairs.now ≡ true }
+    ensures not_text { result ≡ NOT_UTF8 → are_texts source.now pairs.now ≡ false }
+    ensures others { result ≢ DONE → result ≢ ROOM_TOO_SMALL → result ≢ NOT_UTF8
+        → result ≢ NOT_CONFIRMED → result ≡ OUT_OF_MEMORY }
+    ensures buffer_kept { result ≢ DONE → buffer.new ≡ buffer.old }
+    ensures needed_kept { result ≢ DONE → result ≢ ROOM_TOO_SMALL → needed.new ≡ needed.old }
+{
+    match answer::as_texts(alloc, source, pairs) {
+        Some((text, pairs)) => {
+            document::deliver_text(of_json::fill_in(alloc, text, &pairs), buffer, needed)
+        }
+        None => NOT_UTF8,
+    }
+}
+
+/// Puts the text of the fault that `subst_toml` finds at the front of the buffer, as `subst_json_fault_text`.
+#[unsafe(no_mangle)]
+pub extern "C" fn subst_toml_fault_text(
+    alloc: Global,
+    source: &[u8],
+    pairs: &[Pair],
+    buffer: &mut [u8],
+    needed: &mut usize,
+) -> u32
+    ensures done { result ≡ DONE
+        → IsPut (IsSaidOf Toml (pair_value pairs.now) source.now) needed.new buffer.old buffer.new }
+    ensures too_small { result ≡ ROOM_TOO_SMALL
+        → IsTooLong (IsSaidOf Toml (pair_value pairs.now) source.now) needed.new buffer.old }
+    ensures text { result ≢ NOT_UTF8 → are_texts source.now pairs.now ≡ true }
+    ensures not_text { result ≡ NOT_UTF8 → are_texts source.now pairs.now ≡ false }
+    ensures others { result ≢ DONE → result ≢ ROOM_TOO_SMALL → result ≢ NOT_UTF8
+        → result ≢ NOT_CONFIRMED → result ≡ OUT_OF_MEMORY }
+    ensures buffer_kept { result ≢ DONE → buffer.new ≡ buffer.old }
+    ensures needed_kept { result ≢ DONE → result ≢ ROOM_TOO_SMALL → needed.new ≡ needed.old }
+{
+    match answer::as_texts(alloc, source, pairs) {
+        Some((text, pairs)) => {
+            document::deliver_text(of_toml::fill_in(alloc, text, &pairs), buffer, needed)
+        }
+        None => NOT_UTF8,
     }
 }
 

@@ -17,3 +17,6 @@ pub const NOT_UTF8: u32 = 6;
 
 /// A position is past the end of the source, or inside one of its characters.
 pub const NOT_A_BOUNDARY: u32 = 7;
+
+/// What was made of a document isn't confirmed.
+pub const NOT_CONFIRMED: u32 = 8;

@@ -1,11 +1,12 @@
 //! Pairs of names and values, as C passes them, as a map of variables.
 
-ghost use Rattle.std.specs.Prelude.{◌≡◌, ℕ, List, Some, None, if◌then◌else◌, OnOk, IfOk, IfSome};
+ghost use Rattle.std.specs.Prelude.{◌≡◌, ℕ, List, Some, None, true, if◌then◌else◌, OnOk, IfOk, IfSome};
 ghost use Rattle.std.proofs.Props.{props};
 ghost use Rattle.std.specs.Option.{option_map, option_or};
 ghost use Rattle.std.specs.Str.{bytes_eq};
 ghost use Rattle.subst_c.specs.Index.{indexed_value};
 ghost use Rattle.subst_c.specs.Pairs.{pair_value};
+ghost use Rattle.subst_c.specs.Text.{have_texts};
 
 use std::alloc::{AllocError, Global};
 use std::collections::HashMap;
@@ -56,6 +57,31 @@ impl<'a> VariableMap<'a> for Pairs<'_> {
         match &self.index {
             Some(index) => index.get(key.as_bytes()).copied(),
             None => find(self.pairs, key),
+        }
+    }
+}
+
+/// Pairs whose values are texts, as a map of texts.
+#[derive(Drop)]
+pub struct TextPairs<'a> {
+    pub pairs: Pairs<'a>,
+    ghost texts: { have_texts pairs.pairs.now ≡ true },
+}
+
+impl<'a> VariableMap<'a> for TextPairs<'_> {
+    type Value = &'a str;
+
+    ghost Seen = { List ℕ };
+
+    ghost see = { λ v. v.now };
+
+    ghost look_up = { λ self. pair_value self.pairs.pairs.now };
+
+    fn get(&'a self, key: &str) -> Option<&'a str> {
+        let value = self.pairs.get(key)?;
+        match simdutf8::basic::from_utf8(value) {
+            Ok(text) => Some(text),
+            Err(_) => None,
         }
     }
 }

@@ -1,0 +1,30 @@
+-- The list of refusals begins with this one.
+use Rattle.std.proofs.Common.{ℕ, refl, string_bytes}
+use Rattle.std.specs.declared.ops.Range.{Range}
+use Rattle.subst_error.specs.ErrorFault.{error_fault}
+use Rattle.subst_toml.specs.Paths.{steps_of}
+use Rattle.subst_c.specs.Pairs.{pair_value}
+use Rattle.subst_c.specs.Documents.{IsFirst, Toml}
+use Rattle.subst_c.proofs.DocumentLemmas.{at_look_up, first_of_toml, first_refused}
+use Rattle.subst_c.proofs.document.of_toml.first_refusal.Goals as goal
+
+pub returns-in-Some-2 : goal.returns-in-Some-2
+returns-in-Some-2 c =
+    let s = c.args.source.now in
+    let look = pair_value c.args.pairs.now.pairs.pairs.now in
+    let it = c.in-Some.first.now in
+    let all = rw c.in-Ok-Some.field-0-is at c.in-Ok-Some.ensures.all in
+    let found = rw c.in-Ok-Some.field-0-is at c.in-Ok-Some.ensures.found in
+    let first = rw c.deref.ensures.value at c.in-Some.ensures.value in
+    let token : Range ℕ = record { start = it.span.start; end = it.span.end } in
+    let placed = rw (c.in-Some-2.is, c.source_range.ensures.range) at c.in_ok-place.ensures in
+    let told = rw (c.deref-in-Some-2.ensures, c.in_ok-path-in-Some-2.ensures.ok) at c.refused.ensures in
+    first_refused Toml look s (steps_of it.path) (string_bytes it.text) token c.in-Some-2.place
+    (error_fault it.error) c.refused.result
+    (λ f is. at_look_up look (λ l. IsFirst Toml l s (record {
+      path = steps_of it.path;
+      text = string_bytes it.text;
+      token = token;
+      fault = f;
+    })) (first_of_toml _ s c.in-Ok-Some.all.items it f first (all (λ v. v) (λ v. refl)) found is))
+    placed told

@@ -1,0 +1,175 @@
+//! Documents whose strings are filled in, of each format.
+
+ghost use Rattle.std.specs.Prelude.{◌≡◌, ◌≢◌, ℕ, List, ◌+◌, ◌++◌, ◌≤◌, IfOk, Some, string_bytes};
+ghost use Rattle.std.specs.Result.{IsErrAnd, IsOkAnd};
+ghost use Rattle.subst_error.specs.Display.{IsDisplayOfError};
+ghost use Rattle.subst_error.specs.ErrorFault.{error_fault};
+ghost use Rattle.subst_error.specs.Fault.{Fault};
+ghost use Rattle.subst_c.specs.Buffer.{IsPut, IsTooLong};
+ghost use Rattle.subst_c.specs.Documents.{IfRefused, IsInvalid, IsRefusedWith, IsSaidBy, Says, before_fault};
+ghost use Rattle.subst_c.specs.Fault.{fault_number};
+ghost use Rattle.subst_c.specs.Results.{IsOther, KeepsRest};
+ghost use Rattle.subst_c.specs.declared.outcome.TheConstants.{DONE, REFUSED, OUT_OF_MEMORY, ROOM_TOO_SMALL, NOT_UTF8, NOT_CONFIRMED};
+
+use crate::answer::text_of;
+use crate::buffer;
+use crate::fault::{self, FaultRecord, INVALID_DOCUMENT};
+use crate::outcome::{DONE, NOT_CONFIRMED, OUT_OF_MEMORY, REFUSED};
+use std::alloc::{AllocError, Global};
+use std::ops::Range;
+use subst_error::Error;
+
+pub(crate) mod of_json;
+pub(crate) mod of_toml;
+
+/// Why a document isn't filled in.
+#[derive(Drop)]
+pub enum Unfilled {
+    /// It is refused.
+    Refused(Report),
+    /// What was made of it isn't confirmed.
+    NotConfirmed,
+    /// An allocation failed.
+    OutOfMemory(AllocError),
+}
+
+/// What is reported of a document that is refused.
+#[derive(Drop)]
+pub struct Report {
+    /// Its fault, at its place in the document.
+    pub fault: FaultRecord,
+    /// The text of the fault.
+    pub text: String,
+}
+
+impl From<AllocError> for Unfilled {
+    ghost use Rattle.std.specs.Prelude.{◌≡◌};
+    ghost use Rattle.subst_c.specs.declared.document.Unfilled.TheVariants.{OutOfMemory};
+
+    ghost from_gives = { λ e unfilled. unfilled ≡ OutOfMemory e };
+
+    fn from(e: AllocError) -> Unfilled {
+        Unfilled::OutOfMemory(e)
+    }
+}
+
+/// Returns that a text is no document, with what the reader says, which stopped at a range of the text.
+fn invalid(source: &str, range: Range<usize>, message: String) -> Unfilled
+    ensures { IfRefused result (IsInvalid source.now) }
+{
+    let position = source.floor_char_boundary(range.start);
+    let end = source.floor_char_boundary(range.end);
+    Unfilled::Refused(Report {
+        fault: FaultRecord {
+            kind: INVALID_DOCUMENT,
+            position,
+            length: end.saturating_sub(position),
+        },
+        text: message,
+    })
+}
+
+/// Returns that the string of a document to which a path leads is refused for an error, at its range in the
+/// document.
+///
+/// # Errors
+///
+/// When allocation fails, and for nothing else.
+fn refused(
+    alloc: Global,
+    path: &str,
+    e: &Error,
+    range: Range<usize>,
+) -> Result<Unfilled, AllocError>
+    requires { range.start ≤ range.end }
+    ensures { IfOk result (λ unfilled. IfRefused unfilled (λ report.
+        (f : Fault) × (error_fault e.now ≡ Some f) × (report.fault.kind ≡ fault_number f)
+        × (report.fault.position ≡ range.start)
+        × (report.fault.position + report.fault.length ≡ range.end)
+        × Says path.now (string_bytes report.text) f)) }
+{
+    let Some(kind) = fault::kind(e) else {
+        return Err(AllocError);
+    };
+    Ok(Unfilled::Refused(Report {
+        fault: FaultRecord {
+            kind,
+            position: range.start,
+            length: range.end - range.start,
+        },
+        text: with_path(alloc, path, e)?,
+    }))
+}
+
+/// Returns the text of an error, after the path of its string. A document that is one string has no path.
+///
+/// # Errors
+///
+/// When allocation fails, and for nothing else.
+fn with_path(alloc: Global, path: &str, e: &Error) -> Result<String, AllocError>
+    ensures { IfOk result (λ text. (shown : List ℕ)
+        × (string_bytes text ≡ before_fault path.now ++ shown)
+        × IsDisplayOfError (error_fault e.now) shown) }
+{
+    let said = text_of(alloc, e)?;
+    if path.is_empty() {
+        return Ok(said);
+    }
+    let mut text = String::from_str(alloc, path)?;
+    text.push_str(": ")?;
+    text.push_str(said.as_str())?;
+    Ok(text)
+}
+
+/// Puts a document that is filled in at the front of the buffer, or reports why it isn't.
+pub fn deliver(
+    filled: Result<String, Unfilled>,
+    buffer: &mut [u8],
+    needed: &mut usize,
+    fault: &mut FaultRecord,
+) -> u32
+    ensures done { result ≡ DONE → IsOkAnd filled
+        (λ text. IsPut (λ x. x ≡ string_bytes text) needed.new buffer.old buffer.new) }
+    ensures refused { result ≡ REFUSED
+        → IsErrAnd filled (λ e. IsRefusedWith e (λ report. fault.new ≡ report.fault)) }
+    ensures too_small { result ≡ ROOM_TOO_SMALL → IsOkAnd filled
+        (λ text. IsTooLong (λ x. x ≡ string_bytes text) needed.new buffer.old) }
+    ensures others { result ≢ NOT_CONFIRMED → IsOther result }
+    ensures text { result ≢ NOT_UTF8 }
+    ensures buffer_kept { result ≢ DONE → buffer.new ≡ buffer.old }
+    ensures kept { KeepsRest result fault.old fault.new needed.old needed.new }
+{
+    match filled {
+        Ok(text) => buffer::deliver(text.as_bytes(), buffer, needed),
+        Err(e) => match e {
+            Unfilled::Refused(report) => {
+                *fault = report.fault;
+                REFUSED
+            }
+            Unfilled::NotConfirmed => NOT_CONFIRMED,
+            Unfilled::OutOfMemory(_) => OUT_OF_MEMORY,
+        },
+    }
+}
+
+/// Puts the text of the fault for which a document isn't filled in at the front of the buffer, or an empty
+/// text where it is.
+pub fn deliver_text(filled: Result<String, Unfilled>, buffer: &mut [u8], needed: &mut usize) -> u32
+    ensures done { result ≡ DONE
+        → IsPut (IsSaidBy filled) needed.new buffer.old buffer.new }
+    ensures too_small { result ≡ ROOM_TOO_SMALL
+        → IsTooLong (IsSaidBy filled) needed.new buffer.old }
+    ensures others { result ≢ DONE → result ≢ ROOM_TOO_SMALL → result ≢ NOT_CONFIRMED
+        → result ≡ OUT_OF_MEMORY }
+    ensures buffer_kept { result ≢ DONE → buffer.new ≡ buffer.old }
+    ensures needed_kept { result ≢ DONE → result ≢ ROOM_TOO_SMALL → needed.new ≡ needed.old }
+{
+    match filled {
+        Ok(_) => buffer::deliver(&[], buffer, needed),
+        Err(e) => match e {
+            Unfilled::Refused(report) => buffer::deliver(report.text.as_bytes(), buffer, needed),
+            Unfilled::NotConfirmed => NOT_CONFIRMED,
+            Unfilled::OutOfMemory(_) => OUT_OF_MEMORY,
+        },
+    }
+}
