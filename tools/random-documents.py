@@ -2,10 +2,12 @@
 """random-documents.py [--seed SEED] [--count COUNT]   Runs `subst` on random documents: 100,000.
 
 Half of the documents are JSON, and half TOML, small ones but for a few that are deep or wide, with strings spelled in
-all ways, comments and white space. Their strings are templates. What `subst` makes of them is read back by Python's
-readers, and is the document with its strings filled in by tools/rules.py. Then a fault is put at one place in each, and
-`subst --check` reports that one alone, at its line and column. The seed is fixed, unless SEED gives another; a failure
-names it with the document. Each test prints a line, and the last line is 'N passed, M failed, K skipped'.
+all ways, comments and white space, equal keys, and numbers and dates in all forms. Their strings are templates. What
+`subst` gives has the same bytes round the strings and in those that stay, and each other string is what tools/rules.py
+says; as a whole it is read by Python's readers as the document with its strings filled in. The program `subst_vectors`
+fills in each document by its tree and where it stands. Then a fault is put at one place in each, and `subst --check`
+reports that one alone, at its line and column. The seed is fixed, unless SEED gives another; a failure names it with the
+document. Each test prints a line, and the last line is 'N passed, M failed, K skipped'.
 """
 import argparse
 import functools
@@ -21,7 +23,7 @@ sys.dont_write_bytecode = True
 import faults
 import rules
 from running import Wrong, expect, expect_that, run, run_tests
-from vectors import read_document, text_of_tree
+from vectors import encode, pairs_column, read_document, text_of_tree
 
 # How many documents one run of the program has.
 CHUNK = 1000
@@ -41,9 +43,14 @@ FAULTS = (
 
 # Strings
 
-# Where a fault can be put into a string, by how the string is spelled.
-IN_JSON, IN_BASIC, IN_LITERAL = MARKS = '\ufdd0\ufdd1\ufdd2'
-MARK = re.compile(f'[{MARKS}]')
+# Where a fault can be put into a string, by how the string is spelled, and where its token begins and ends.
+IN_JSON, IN_BASIC, IN_LITERAL = '\ufdd0\ufdd1\ufdd2'
+MARK = re.compile('[\ufdd0-\ufdd2]')
+BEGIN, END = '\ufdd6\ufdd7'
+NOT_SOURCE = re.compile('[\ufdd0-\ufdd2\ufdd6\ufdd7]')
+TOKEN = re.compile(f'{BEGIN}(.*?){END}', re.DOTALL)
+# A string as a writer spells it.
+STRING = re.compile('"""(?:[^\\\\]|\\\\.)*?"{3,5}(?!")|\'{3}.*?\'{3,5}(?!\')|"(?:[^"\\\\]|\\\\.)*"|\'[^\']*\'', re.DOTALL)
 # What is there for the program, and what for Python's reader, which knows no TOML 1.1.
 EITHER = re.compile('\ufdd3(.*?)\ufdd4(.*?)\ufdd5', re.DOTALL)
 PLAIN = 'abz09 _-.,:;#=[]()/?~\u00e9\u0416\u20ac\u4e2d\U0001f600\u200b'
@@ -116,17 +123,19 @@ def some_parts(rng, mark, *pools):
 
 def token_of(quotes, mark, parts):
     """The spelling of a string with its marks, and the string."""
-    return (mark.join([quotes, *(spelling for spelling, _ in parts), quotes]), ''.join(text for _, text in parts))
+    spelling = mark.join([quotes, *(spelling for spelling, _ in parts), quotes])
+    return BEGIN + spelling + END, ''.join(text for _, text in parts)
 
 
 def without_marks(text):
-    return MARK.sub('', text)
+    return NOT_SOURCE.sub('', text)
 
 
 # JSON
 
 JSON_SPACE = ('', '', '', '', ' ', ' ', '\n', '\t', '\r\n  ', '  ')
-JSON_OTHER = ('0', '-1', '1.5e+3', 'true', 'false', 'null', '12345678901')
+JSON_OTHER = ('0', '-1', '-0', '1.50', '1.5e+3', '1E40', '0.1e-7', 'true', 'false', 'null', '12345678901',
+              '123456789012345678901234567890')
 
 
 def json_token(rng):
@@ -140,13 +149,9 @@ def json_list(rng, brackets, texts):
 
 
 def json_object(rng, keys, values):
-    """An object with these values. Of members with one key the last one counts."""
-    picked = [rng.choice(keys) for _ in values]
-    last = {key: at for at, (_, key) in enumerate(picked)}
+    """An object with these values, under keys of which some are equal."""
     return json_list(rng, '{}', [
-        spelling + rng.choice(JSON_SPACE) + ':' + rng.choice(JSON_SPACE)
-        + (value if last[key] == at else without_marks(value))
-        for at, ((spelling, key), value) in enumerate(zip(picked, values))])
+        rng.choice(keys) + rng.choice(JSON_SPACE) + ':' + rng.choice(JSON_SPACE) + value for value in values])
 
 
 def json_value(rng, tokens, keys, depth):
@@ -162,7 +167,7 @@ def json_documents(rng, count):
     tokens = [token for token, _ in made]
     # Few keys, so that some come twice, and in another spelling.
     keys = [(without_marks(token), key) for token, key in made]
-    keys = [it for it in keys if len(it[1]) == 1][:60] + keys[:20]
+    keys = [token for token, _ in [it for it in keys if len(it[1]) == 1][:60] + keys[:20]]
     for number in range(count):
         if number % 500 == 0:
             text = json_list(rng, '[]', [json_value(rng, tokens, keys, 0) for _ in range(100)])
@@ -178,8 +183,8 @@ def json_documents(rng, count):
 
 NEWLINES = (('\n', '\n'), ('\r\n', '\r\n'))
 CONTINUED = tuple((text, '') for text in ('\\\n', '\\\r\n', '\\  \n\n  ', '\\\n \t', '\\\t\r\n\n '))
-TOML_OTHER = ('0', '-1_000', '0xFF', '1.5e+3', '-inf', 'true', 'false', '1979-05-27', '1979-05-27T07:32:00.5-07:00',
-              '07:32:00')
+TOML_OTHER = ('0', '+1_000', '0xFF', '0o17', '0b1_0', '1.5e+3', '1.50', '-0.0', '-inf', '+nan', 'true', 'false', '1979-05-27',
+              '1979-05-27T07:32:00.5-07:00', '1979-05-27 07:32:60Z', '1979-05-27t07:32:00', '07:32:00', '07:32:00.999999999')
 # White space in a line, at the end of one, and in an array.
 IN_LINE = ('', ' ', ' ', '  ', '\t')
 LINE_ENDS = ('\n', '\n', '\n', '\r\n', ' # "a" = \'b\'\n', '#\r\n', '\n\n', '\n# [a]\n\n', '\t\n')
@@ -369,8 +374,8 @@ def subst(folder, kind, words):
     return run('subst_program', [f'--{kind}', '-s', f'a={VALUE}', *words], name='subst', cwd=folder)
 
 
-def check_filled(folder, kind, texts):
-    """Checks what documents give."""
+def outputs_of(folder, kind, texts):
+    """What the program gives for documents."""
     end_of_document = KINDS[kind][1]
     write_files(folder, [without_marks(for_program(text)) for text in texts])
     with open(os.path.join(folder, 'end'), 'w', encoding='utf-8') as file:
@@ -379,14 +384,59 @@ def check_filled(folder, kind, texts):
     expect(end._replace(output=b''), 0)
     outputs = end.output.decode().split(end_of_document)[:-1]
     expect_that(len(outputs) == len(texts), f'{len(texts)} documents have {len(outputs)} outputs')
-    for text, output in zip(texts, outputs):
-        try:
-            wanted = rules.filled(read_document(kind, without_marks(for_python(text))), {b'a': VALUE.encode()})
-            is_wanted = text_of_tree(read_document(kind, output)) == text_of_tree(wanted)
-        except ValueError as error:
-            raise Wrong(f'{without_marks(text)!r} gives {output!r}: {error}') from error
-        if not is_wanted:
-            raise Wrong(f'{without_marks(text)!r} gives {output!r} and not {wanted!r}')
+    return outputs
+
+
+def filled(tree):
+    return rules.filled(tree, {b'a': VALUE.encode()})
+
+
+def string_of(kind, token):
+    """The string that a token spells, with each end of a line as one character."""
+    string = read_document('json', token) if kind == 'json' else read_document('toml', f's = {token}')['s']
+    return re.sub('\r+\n', '\n', string)
+
+
+def spliced(kind, text, output):
+    """Checks that an output has the bytes of a document, with another token for each string that isn't what it gives.
+    Returns it as Python's reader can read it."""
+    at, readable = 0, []
+    for number, piece in enumerate(TOKEN.split(text)):
+        wanted, known = (without_marks(of(piece)) for of in (for_program, for_python))
+        string = string_of(kind, known) if number % 2 else ''
+        if filled(string) != string:
+            token = STRING.match(output, at)
+            expect_that(token and string_of(kind, token[0]) == filled(string), f'{wanted!r} gives {output[at:at + 99]!r}')
+            wanted = known = token[0]
+        expect_that(output.startswith(wanted, at), f'in the place of {wanted!r} is {output[at:at + 99]!r}')
+        at += len(wanted)
+        readable.append(known)
+    expect_that(at == len(output), f'after the end is {output[at:at + 99]!r}')
+    return ''.join(readable)
+
+
+def check_output(kind, text, output):
+    """Checks what a document gives, by its strings and as a whole."""
+    try:
+        output = spliced(kind, text, output)
+        wanted = filled(read_document(kind, without_marks(for_python(text))))
+        is_wanted = text_of_tree(read_document(kind, output)) == text_of_tree(wanted)
+    except (ValueError, Wrong) as error:
+        raise Wrong(f'{without_marks(text)!r} gives {output!r}: {error}') from error
+    if not is_wanted:
+        raise Wrong(f'{without_marks(text)!r} gives {output!r} and not {wanted!r}')
+
+
+def check_in_every_way(file, kind, texts, outputs):
+    """Checks that the program `subst_vectors` fills in documents to these outputs in every way."""
+    pairs = pairs_column({b'a': VALUE.encode()})
+    with open(file, 'w', encoding='utf-8') as rows:
+        for text, output in zip(texts, outputs):
+            source = without_marks(for_program(text))
+            rows.write('\t'.join((f'{kind}_text', encode(source.encode()), pairs, 'ok', encode(output.encode()))) + '\n')
+    end = run('subst_vectors', [file])
+    os.remove(file)
+    expect(end, 0, f'{file}: {len(texts)} rows hold\n'.encode())
 
 
 def check_faults(folder, kind, documents):
@@ -397,7 +447,8 @@ def check_faults(folder, kind, documents):
     messages = [line for line in end.errors.decode().split('\n') if line and not line.startswith('  ')]
     for number, (text, at, what) in enumerate(documents):
         message = messages[number] if number < len(messages) else 'nothing'
-        if not (message.startswith(f'{number}:{at}: ') and message.endswith(what)):
+        # A long message, that of a string far inside, is cut at its end.
+        if not (message.startswith(f'{number}:{at}: ') and message.endswith((what, '…'))):
             raise Wrong(f'{text!r} has a fault at {at}, {what}, and what is reported is {message}')
     expect_that(len(messages) == len(documents), f'{len(documents)} faults are reported as {len(messages)}')
 
@@ -408,7 +459,10 @@ def check_chunk(seed, kind, number):
     texts = list(KINDS[kind][0](rng, CHUNK))
     os.mkdir(folder)
     try:
-        check_filled(folder, kind, texts)
+        outputs = outputs_of(folder, kind, texts)
+        for text, output in zip(texts, outputs):
+            check_output(kind, text, output)
+        check_in_every_way(f'{folder}.tsv', kind, texts, outputs)
         check_faults(folder, kind, list(filter(None, (with_fault(rng, text) for text in texts))))
     except Wrong as wrong:
         raise Wrong(f'seed {seed}, {folder}: {wrong}') from wrong
@@ -428,7 +482,7 @@ def main():
     print(f'seed {given.seed}')
     chunks = max(1, round(given.count / CHUNK / len(KINDS)))
     run_tests([(f'{chunks * CHUNK}_documents_of_{kind}', functools.partial(check, given.seed, kind, chunks))
-               for kind in KINDS], ['subst_program'])
+               for kind in KINDS], ['subst_program', 'subst_vectors'])
 
 
 if __name__ == '__main__':

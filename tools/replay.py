@@ -3,9 +3,9 @@
 
 The library for C is called through the module for Python, both as tools/install puts them below PREFIX, or else below a
 new one: each row of bytes and of lists, and those that are texts once more as texts. The program `subst` fills in each
-document; what it prints is read back by Python's readers. The rows are compared with tools/rules.py too. A row that
-differs is printed with what came in place of its answer. Each test prints a line, and the last line is
-'N passed, M failed, K skipped'.
+document; what it prints is the row's text, or is read back by Python's readers. The rows are compared with
+tools/rules.py too. A row that differs is printed with what came in place of its answer. Each test prints a line, and
+the last line is 'N passed, M failed, K skipped'.
 """
 import argparse
 import functools
@@ -16,7 +16,7 @@ import faults
 import installed
 import rules
 from running import Wrong, as_told, run, run_tests, shown
-from vectors import (decode, is_text, read_document, rows, ruled_answer, ruled_fault, ruled_lists, text_of_tree,
+from vectors import (decode, encode, is_text, read_document, rows, ruled_answer, ruled_fault, ruled_lists, text_of_tree,
                      tree_of_row)
 
 FILES = ('answers.tsv', 'rows.tsv', 'variables.tsv')
@@ -46,7 +46,23 @@ def by_bytes(module, row):
 
 def by_texts(module, row):
     ask = installed.lists if row.kind == 'lists' else installed.answer
-    return ask(module, row.source.decode(), {name.decode(): value.decode() for name, value in row.variables.items()})
+    return ask(module, row.source.decode(), texts_of(row))
+
+
+def texts_of(row):
+    return {name.decode(): value.decode() for name, value in row.variables.items()}
+
+
+def in_place_by_library(module, row):
+    """Of a fault the case alone, which the row has in its string, and the library in the document."""
+    kind = row.kind.partition('_')[0]
+    try:
+        text = getattr(module, f'fill_in_{kind}')(row.source.decode(), texts_of(row))
+        return ['ok', encode(text.encode())]
+    except module.DocumentError:
+        return ['refused', kind.title()]
+    except module.SubstError as error:
+        return ['fault', error.kind.name.title().replace('_', '')]
 
 
 def by_the_rules(row):
@@ -73,9 +89,10 @@ def of_tree(row, tree):
 def by_subst(row):
     """Of a fault the text has to be among those of the faults of all strings."""
     words = [word for name, value in row.variables.items() for word in (b'-s', name + b'=' + value)]
-    end = run('subst_program', [f'--{row.kind}', *words], row.source, name='subst')
+    kind, _, is_text = row.kind.partition('_')
+    end = run('subst_program', [f'--{kind}', *words], row.source, name='subst')
     if end.status == 0 and not end.errors:
-        return of_tree(row, read_document(row.kind, end.output.decode()))
+        return ['ok', encode(end.output)] if is_text else of_tree(row, read_document(kind, end.output.decode()))
     texts = [line for line in end.errors.decode().splitlines() if line.startswith('<stdin>:')]
     text = as_told(decode(row.answer[DISPLAY]).decode()) if row.answer[0] == 'fault' else ''
     if (end.status, end.output) == (1, b'') and row.answer[0] != 'ok' and any(it.endswith(text) for it in texts):
@@ -107,11 +124,17 @@ def tests(prefix):
     def is_text_of_library(row):
         return is_of_library(row) and is_text(row)
 
+    def is_in_place(row):
+        # Of TOML the rows have the first fault of the tree, and the library the first of the text.
+        return is_text(row) and row.kind in ('json_text', 'toml_text') and (row.kind, row.answer[0]) != ('toml_text', 'fault')
+
     ways = {
         'as bytes by the library': (is_of_library, functools.partial(by_bytes, module)),
         'as texts by the library': (is_text_of_library, functools.partial(by_texts, module)),
-        'of JSON by subst': (lambda row: row.kind == 'json', by_subst),
-        'of TOML by subst': (lambda row: row.kind == 'toml', by_subst),
+        'in place by the library': (is_in_place, functools.partial(in_place_by_library, module)),
+        # The program passes over a byte order mark, which the reader of JSON refuses.
+        'of JSON by subst': (lambda row: row.kind.startswith('json') and row.source[:3] != b'\xef\xbb\xbf', by_subst),
+        'of TOML by subst': (lambda row: row.kind.startswith('toml'), by_subst),
         'by the rules': (is_of_library, by_the_rules),
         'of JSON by the rules': (lambda row: row.kind == 'json', by_the_rules),
         'of TOML by the rules': (lambda row: row.kind == 'toml', by_the_rules),

@@ -8,7 +8,8 @@ use serde_json::Value;
 use std::alloc::{AllocError, Global};
 use std::str::from_utf8;
 use subst::json::{
-    Error, all_refusals, first_refusal, substitute_string_values, value_from_slice, value_from_str,
+    Error, all_refusals, fill_in, fill_in_slice, first_refusal, refusals_in,
+    substitute_string_values, value_from_slice, value_from_str,
 };
 
 /// Adds all ways in which JSON documents are filled in.
@@ -32,22 +33,33 @@ fn ask_text(
     values: &Texts<'_>,
     ways: &mut Ways,
 ) -> Result<(), AllocError> {
-    let read = value_from_str(alloc, text, values);
-    ways.add("json::value_from_str", answer(alloc, read)?)?;
+    let read = answer(alloc, value_from_str(alloc, text, values))?;
+    let filled = read_again(alloc, fill_in(alloc, text, values), &read)?;
+    ways.add("json::value_from_str", read)?;
+    ways.add("json::fill_in", filled)?;
     match Value::from_str(alloc, text) {
-        Ok(mut tree) => ask_tree(alloc, &mut tree, values, ways),
+        Ok(mut tree) => ask_tree(alloc, text, &mut tree, values, ways),
         Err(e) => ways.add("Value::from_str", answer(alloc, Err(Error::from(e)))?),
     }
 }
 
 fn ask_tree(
     alloc: Global,
+    text: &str,
     tree: &mut Value,
     values: &Texts<'_>,
     ways: &mut Ways,
 ) -> Result<(), AllocError> {
     let first = first_refusal(alloc, tree, values)?.map(|it| it.error);
     let all = all_refusals(alloc, tree, values)?;
+    // Of members with equal keys the tree has the last one alone.
+    let are_listed = listed_count(alloc, text, values).is_some_and(|count| all.len() <= count);
+    if !are_listed {
+        ways.add(
+            "json::refusals_in",
+            Answer::Breaks("it lists other strings"),
+        )?;
+    }
     let filled = filled_in(alloc, tree, values)?;
     let all = all.into_iter().next().map(|it| it.error);
     ways.add(
@@ -56,6 +68,14 @@ fn ask_tree(
     )?;
     ways.add("json::all_refusals", after_refusals(alloc, all, &filled)?)?;
     ways.add("json::substitute_string_values", filled)
+}
+
+/// Returns how many refused strings of a text are listed.
+fn listed_count(alloc: Global, text: &str, values: &Texts<'_>) -> Option<usize> {
+    let Ok(listed) = refusals_in(alloc, text, values) else {
+        return None;
+    };
+    listed.map(|list| list.len())
 }
 
 fn filled_in(alloc: Global, tree: &mut Value, values: &Texts<'_>) -> Result<Answer, AllocError> {
@@ -68,6 +88,49 @@ fn filled_in(alloc: Global, tree: &mut Value, values: &Texts<'_>) -> Result<Answ
 fn answer(alloc: Global, read: Result<Value, Error>) -> Result<Answer, AllocError> {
     match read {
         Ok(tree) => Ok(Answer::Gives(tree.to_string(alloc)?.into_bytes())),
+        Err(Error::Subst(fault)) => Ok(Answer::Refuses(fault)),
+        Err(Error::Json(_)) => Ok(Answer::IsNot("Json")),
+        Err(Error::OutOfMemory(e)) => Err(e),
+    }
+}
+
+/// Returns the answer of a text that was filled in where its strings stand, as that of its tree. Another of
+/// its strings may be the first that is refused.
+fn read_again(
+    alloc: Global,
+    filled: Result<Option<String>, Error>,
+    of_tree: &Answer,
+) -> Result<Answer, AllocError> {
+    match filled {
+        Ok(Some(text)) => answer(alloc, Value::from_str(alloc, &text).map_err(Error::from)),
+        Err(Error::Subst(_)) if let Answer::Refuses(fault) = of_tree => Ok(Answer::Refuses(
+            fault.clone()?,
+        )),
+        filled => text_answer(filled),
+    }
+}
+
+/// Adds all ways in which JSON texts are filled in where their strings stand.
+pub fn ask_in_place(
+    alloc: Global,
+    source: &[u8],
+    values: &Texts<'_>,
+    ways: &mut Ways,
+) -> Result<(), AllocError> {
+    ways.add(
+        "json::fill_in_slice",
+        text_answer(fill_in_slice(alloc, source, values))?,
+    )?;
+    match from_utf8(source) {
+        Ok(text) => ways.add("json::fill_in", text_answer(fill_in(alloc, text, values))?),
+        Err(_) => Ok(()),
+    }
+}
+
+fn text_answer(filled: Result<Option<String>, Error>) -> Result<Answer, AllocError> {
+    match filled {
+        Ok(Some(text)) => Ok(Answer::Gives(text.into_bytes())),
+        Ok(None) => Ok(Answer::Breaks("the text isn't confirmed")),
         Err(Error::Subst(fault)) => Ok(Answer::Refuses(fault)),
         Err(Error::Json(_)) => Ok(Answer::IsNot("Json")),
         Err(Error::OutOfMemory(e)) => Err(e),

@@ -32,6 +32,8 @@ mod expect;
 mod fault;
 #[cfg(test)]
 mod foreign;
+#[cfg(test)]
+mod in_place;
 mod json_document;
 #[cfg(test)]
 mod large;

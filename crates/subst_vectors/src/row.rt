@@ -14,6 +14,10 @@ pub enum Kind {
     Json,
     /// It is read as TOML, and its strings are filled in.
     Toml,
+    /// It is read as JSON, and filled in where its strings stand.
+    JsonText,
+    /// It is read as TOML, and filled in where its strings stand.
+    TomlText,
     /// Its variables are listed, and those that are missing.
     Lists,
 }
@@ -24,6 +28,8 @@ impl Kind {
             "bytes" => Some(Kind::Bytes),
             "json" => Some(Kind::Json),
             "toml" => Some(Kind::Toml),
+            "json_text" => Some(Kind::JsonText),
+            "toml_text" => Some(Kind::TomlText),
             "lists" => Some(Kind::Lists),
             _ => None,
         }

@@ -77,6 +77,8 @@ fn ask(alloc: Global, row: &Row<'_>, ways: &mut Ways) -> Result<bool, AllocError
         (Kind::Lists, _) => lists::ask(alloc, source, &row.values, ways)?,
         (Kind::Json, Some(texts)) => json_document::ask(alloc, source, &texts, ways)?,
         (Kind::Toml, Some(texts)) => toml_document::ask(alloc, source, &texts, ways)?,
+        (Kind::JsonText, Some(texts)) => json_document::ask_in_place(alloc, source, &texts, ways)?,
+        (Kind::TomlText, Some(texts)) => toml_document::ask_in_place(alloc, source, &texts, ways)?,
         (_, None) => return Ok(false),
     }
     Ok(true)
