@@ -9,6 +9,7 @@ mod errors;
 mod foreign;
 mod free_calls;
 mod free_errors;
+mod in_place;
 mod into;
 mod lists;
 mod marks;
@@ -28,6 +29,8 @@ fn main(rt: HostRuntime) -> Result<(), Error> {
     documents::toml_calls(&rt)?;
     refusals::json_calls(&rt)?;
     refusals::toml_calls(&rt)?;
+    in_place::json_calls(&rt)?;
+    in_place::toml_calls(&rt)?;
     errors::calls(&rt)?;
     runs::calls(&rt)?;
     free_calls::calls(&rt)?;

@@ -85,7 +85,7 @@ fn show_refusal<P: Shown>(rt: &HostRuntime, word: &str, path: &P, text: &String,
 }
 
 /// Prints each value of a list.
-fn show_each<T: Shown>(rt: &HostRuntime, word: &str, all: &Vec<T>) {
+pub fn show_each<T: Shown>(rt: &HostRuntime, word: &str, all: &Vec<T>) {
     if all.is_empty() {
         say(rt, word, "none");
     }
