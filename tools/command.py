@@ -6,6 +6,7 @@ each message whole, templates of other programs, and, in tools/command_files.py,
 all, and streams and system calls that fail. What is expected is worked out here, from docs/subst.1.in and not from a
 run. Each test prints a line, and the last line is 'N passed, M failed, K skipped'.
 """
+import ctypes
 import errno
 import functools
 import os
@@ -18,9 +19,10 @@ import sys
 sys.dont_write_bytecode = True
 import command_files
 from command_running import (NO_NAME, PROGRAM, expect_fault, expect_file, expect_files, failed, missing, subst,
-                             tests_of, told, write, wrong_words)
+                             tests_of, told, told_without_line, write, wrong_words)
 from faults import invalid_escape, missing_brace, no_such_variable, unexpected
-from running import TOP, expect, expect_that, need, run_tests, shown, version
+from running import (HIDDEN, MIB, TOP, as_told, expect, expect_that, in_memory, need, path_of, run_tests, shown,
+                     version)
 
 TEMPLATES = TOP / 'tests/data/templates'
 
@@ -55,6 +57,13 @@ Writing:
 Asking:
       --check  Writes nothing, and reports the faults of every file
       --names  Prints each name, where it is first used, and whether it is required
+
+A name has the value of the first of these that has it: --set, the values files,
+the environment. All names without a value are reported, but of a file with a
+fault of another kind that fault alone.
+
+Status: 0 done, 1 a file or value is refused, 2 wrong arguments, 3 a file or
+device failed, 4 out of memory. The page subst(1) says more.
 """
 
 
@@ -105,19 +114,20 @@ def test_set():
 
 
 def test_set_of_no_variable():
-    for word in ('A', ''):
-        expect(subst([f'-s{word}' if word else '--set=']), 2, errors=wrong_words(f"no '=' in --set '{word}'"))
-    for word in ('=1', 'a b=1', 'a-b=1', '\u00e4=1', '$A=1', ' A=1', 'A =1'):
-        text = f"no template can spell the name of --set '{word}'"
-        expect(subst(['--set', word], b'a'), 2, errors=wrong_words(text))
+    for words, number in ((['-sA'], 1), (['--set='], 1), (['-sA=1', '-s', 'hunter2', '-sB'], 2)):
+        expect(subst(words), 2, errors=wrong_words(f"no '=' in argument {number} of --set"))
+    for name in ('', 'a b', 'a-b', '\u00e4', '$A', ' A', 'A '):
+        text = f"no template can spell the name '{name}' of --set"
+        for value in ('hunter2', 'a=b'):
+            expect(subst(['--set', f'{name}={value}'], b'a'), 2, errors=wrong_words(text))
     for word, value in (('-s', '--set <NAME=VALUE>'), ('--values', '--values <FILE>'), ('--only', '--only <NAMES>'),
                         ('-o', '--output <FILE>')):
-        text = f"error: a value is required for '{value}' but none was supplied\n\n"
+        text = f"subst: a value is required for '{value}' but none was supplied\n\n"
         expect(subst([word]), 2, errors=(text + "For more information, try '--help'.\n").encode())
 
 
 def test_set_is_shown_without_control_characters():
-    text = "no template can spell the name of --set 'a\\u{1b}=1'"
+    text = "no template can spell the name 'a\\u{1b}' of --set"
     expect(subst(['--set', 'a\x1b=1']), 2, errors=wrong_words(text))
 
 
@@ -138,6 +148,10 @@ def test_values():
         expect(subst(words, b'[$A][$B][$C][$D]'), 0, b'[\xc3\xa4][ "2" # $A \\n\t ][][\'a=b\'=\r]')
     write('empty', b'')
     expect(subst(['-f', 'empty'], b'${A:d}'), 0, b'd')
+    # At the end of the file a line ends as it does before a line feed.
+    for text in (b'A=1\r', b'A=1\r\n', b'A=1\n', b'A=1'):
+        write('one', text)
+        expect(subst(['-f', 'one'], b'[$A]'), 0, b'[1]')
 
 
 def test_values_of_standard_input_and_of_several_files():
@@ -153,16 +167,30 @@ def test_values_of_standard_input_and_of_several_files():
     expect_file('one', b'A=1\nB=1\n')
 
 
+def test_standard_input_under_its_other_names():
+    write('template', b'$A')
+    errors = wrong_words("standard input is read once: '--values -' needs a FILE")
+    for name in ('/dev/stdin', '/dev/fd/0', '/proc/self/fd/0'):
+        expect(subst(['-f', name, 'template'], b'A=9'), 0, b'9')
+        for words in (['-f', name], ['-f', name, '-'], ['-f', '-', name], ['-f', '-', '-f', name, 'template'],
+                      ['-f', name, '-o', 'template']):
+            expect(subst(words, b'A=9'), 2, errors=errors)
+    expect_file('template', b'$A')
+
+
 # Values files that are refused, with their message.
 WRONG_VALUES = (
-    (b'A=1\nB\nC', told('values:2:1', "missing '='", 'B', '^')),
-    (b'\n  A B \r\n', told('values:2:3', "missing '='", '  A B ', '  ^^^^')),
-    (b'A B=1', told('values:1:1', 'no template can spell this name', 'A B=1', '^^^')),
-    (b'\tA =1', told('values:1:2', 'no template can spell this name', ' A =1', ' ^^')),
-    (b'export A=1', told('values:1:1', 'no template can spell this name', 'export A=1', '^^^^^^^^')),
-    (b'=1', told('values:1:1', 'no template can spell this name', '=1', '^')),
-    ('\u6f22=1'.encode(), told('values:1:1', 'no template can spell this name', '\u6f22=1', '^^')),
-    (b'A=1\nB=\xff', told('values:2:3', 'invalid UTF-8', 'B=\ufffd', '  ^')),
+    (b'A=1\nB\nC', told_without_line('values:2:1', "missing '='")),
+    (b'\n  A B \r\n', told_without_line('values:2:3', "missing '='")),
+    (b'KEY=-----BEGIN KEY-----\nhunter2\n', told_without_line('values:2:1', "missing '='")),
+    (b'KEY=-----BEGIN KEY-----\nhunter+2==\n', told_without_line('values:2:1', 'no template can spell this name')),
+    (b'A B=1', told_without_line('values:1:1', 'no template can spell this name')),
+    (b'my-key=hunter2', told_without_line('values:1:1', 'no template can spell this name')),
+    (b'\tA =1', told_without_line('values:1:2', 'no template can spell this name')),
+    (b'export A=1', told_without_line('values:1:1', 'no template can spell this name')),
+    (b'=1', told_without_line('values:1:1', 'no template can spell this name')),
+    ('\u6f22=1'.encode(), told_without_line('values:1:1', 'no template can spell this name')),
+    (b'A=1\nB=hunter2\xff', told_without_line('values:2:10', 'invalid UTF-8')),
 )
 
 
@@ -172,14 +200,14 @@ def test_values_that_are_refused():
         expect_fault(subst(['-f', 'values'], b'$none'), message)
         expect_fault(subst(['-f', 'values', '-f', 'values'], b'$none'), message, message)
         expect_fault(subst(['-i', '-f', 'values', 'nothing']), message)
-    expect_fault(subst(['-f', '-', 'values'], b'A'), told('<stdin>:1:1', "missing '='", 'A', '^'))
+    expect_fault(subst(['-f', '-', 'values'], b'A'), told_without_line('<stdin>:1:1', "missing '='"))
 
 
 def test_values_that_cannot_be_read():
     errors = failed('nothing', errno.ENOENT) + failed('.', errno.EISDIR)
     expect(subst(['-f', 'nothing', '-f', '.'], b'$none'), 3, errors=errors)
     write('values', b'A')
-    errors = told('values:1:1', "missing '='", 'A', '^') + failed('nothing', errno.ENOENT)
+    errors = told_without_line('values:1:1', "missing '='") + failed('nothing', errno.ENOENT)
     expect(subst(['-f', 'values', '-f', 'nothing'], b'$none'), 3, errors=errors)
 
 
@@ -202,6 +230,30 @@ def test_env_that_is_not_utf8():
     expect_fault(subst(['-e', '--json'], b'["", "$BAD"]', env=env),
                  told('<stdin>:1:8', f'/1: {what}', '["", "$BAD"]', '       ^^^'))
     expect(subst(['-e', '--names'], b'$BAD', env=env), 0, b'BAD\t<stdin>:1:2\trequired\n')
+
+
+def with_entries(entries, words, source):
+    """Runs the program with these entries of the environment, in their order."""
+    def become():
+        texts = lambda all_: (ctypes.c_char_p * (len(all_) + 1))(*all_, None)
+        ctypes.CDLL(None).execve(os.fsencode(path_of(PROGRAM)), texts([b'subst', *words]), texts(entries))
+    return subst(words, source, preexec_fn=become)
+
+
+def test_entries_of_one_name():
+    what = "The value of this variable in the environment isn't UTF-8: $A"
+    for entries in ([b'A=1', b'A=2'], [b'A=1', b'A=\xff'], [b'A=1', b'A=\xff', b'A=2']):
+        expect(with_entries(entries, [b'-e'], b'$A'), 0, b'1')
+    for entries in ([b'A=\xff', b'A=1'], [b'A=\xff', b'A=\xff', b'A=1']):
+        expect_fault(with_entries(entries, [b'-e'], b'$A'), told('<stdin>:1:2', what, '$A', ' ^'))
+
+
+def test_many_values_that_are_not_utf8():
+    names = [f'n{number}' for number in range(8000)]
+    source = ' '.join(f'${name}' for name in names).encode()
+    ended = subst(['-e'], source, env={name.encode(): b'\xff' for name in names})
+    heads = [line for line in ended.errors.splitlines() if line.startswith(b'<stdin>:')]
+    expect_that(ended.status == 1 and len(heads) == len(names), f'{ended.status}, {len(heads)} faults')
 
 
 def test_set_comes_before_values_and_these_before_the_environment():
@@ -301,6 +353,14 @@ def test_texts_that_are_no_documents():
             expect_fault(subst([option, '--names'], source), message)
 
 
+def test_json_with_a_byte_order_mark():
+    mark = b'\xef\xbb\xbf'
+    expect(subst(['--json', '-sA=1'], mark + b'{"a": "$A"}\n'), 0, mark + b'{"a": "1"}\n')
+    expect(subst(['--json', '--names'], mark + b'\n["$A"]'), 0, b'A\t<stdin>:2:4\trequired\n')
+    expect_fault(subst(['--json'], mark + b'[\n"$A"]'), missing('A', '<stdin>:2:3: /0', '"$A"]', '  ^'))
+    expect_fault(subst(['--json'], mark + b'[\n1,]'), told('<stdin>:2:3', 'invalid JSON', '1,]', '  ^'))
+
+
 # A TOML document, and what it gives where A is 1.
 TOML = (b'# "$A"\r\nb   =\t\'$A\' # $A\r\n"$A" = +1_000\n[t]\nd = 1979-05-27\nn = ["${A}", 1.50,\n  """\n$A""",]\n'
         b'\'a\' = """\nb\\\n  c"""\n')
@@ -332,7 +392,9 @@ def test_only():
         expect(subst(['--only', names, *variables], ALL), 0, taken)
     for words in (['--only=A,B'], ['--only=A B'], ['--only=$B\t${A}\n'], ['--only=A', '--only', 'B']):
         expect(subst([*words, *variables], ALL), 0, both)
-    expect(subst(['--only=', *variables], ALL), 0, ALL)
+    for words in (['--only='], ['--only', ''], ['--only', ' , ', '--only=']):
+        expect(subst([*words, *variables], ALL), 2, errors=wrong_words('--only needs a name'))
+    expect(subst(['--only=', '--only=A', *variables], ALL), 0, taken)
     expect(subst(['--only=1', '-s1=x'], b'$1 ${1} $12'), 0, b'x x $12')
     for name in ('a-b', '$', '${}', '${A', '$A}', '{A}', '\u00e4', '$$A'):
         text = f"no template can spell the name '{name}' of --only"
@@ -416,11 +478,26 @@ def test_wrong_words():
     for word in ('--wrong', '-x'):
         more = f"  tip: to pass '{word}' as a value, use '-- {word}'\n\n"
         expect(subst([word], b'$'), 2, errors=wrong_words(f"unexpected argument '{word}' found", more=more))
-    for words, option in ((['-o', 'a', '-o', 'b'], '--output <FILE>'), (['-ii', 'a'], '--in-place')):
-        expect(subst(words), 2, errors=wrong_words(f"the argument '{option}' cannot be used multiple times"))
-    expect(subst([b'\xff']), 2, errors=b"error: a word of the command line isn't UTF-8\n")
+    text = "the argument '--output <FILE>' cannot be used multiple times"
+    expect(subst(['-o', 'a', '-o', 'b']), 2, errors=wrong_words(text))
+    expect(subst([b'\xff']), 2, errors=b"subst: a word of the command line isn't UTF-8\n")
     expect(subst(['-i']), 2, errors=wrong_words('--in-place needs a file'))
     expect(subst(['-i', 'a', '-']), 2, errors=wrong_words("--in-place can't be of standard input"))
+
+
+def test_flags_that_are_repeated():
+    env = {'A': '1'}
+    for words in (['-e', '-e'], ['-ee'], ['--env', '-e', '--env']):
+        expect(subst(words, b'$A', env=env), 0, b'1')
+    for flag, source, output in (('--bytes', b'\xff$A', b'\xff1'), ('--json', b'["$A"]', b'["1"]'),
+                                 ('--toml', b'a="$A"', b'a="1"'), ('--envsubst', b'$A$1', b'1$1'),
+                                 ('--check', b'$A', b''), ('--names', b'$A', b'A\t<stdin>:1:2\trequired\n')):
+        expect(subst([flag, '-sA=1', flag, flag], source), 0, output)
+    write('a', b'$A')
+    expect(subst(['-i', '-sA=1', '-ii', 'a', '--in-place']), 0)
+    expect_file('a', b'1')
+    errors = wrong_words("the argument '--json' cannot be used with '--toml'", usage='--json')
+    expect(subst(['--json', '--json', '--toml', '--toml']), 2, errors=errors)
 
 
 # What is filled in as itself, with arguments.
@@ -498,18 +575,41 @@ def test_all_that_is_missing_is_told():
     expect_fault(subst([], long.encode()), missing('n' * 70, '<stdin>:1:73', line, ' ' * 30 + '^' * 29))
 
 
+def test_names_that_are_very_long():
+    """Of a message of more than 240 columns the start is shown."""
+    line, carets = '$' + 'n' * 58 + '\u2026', ' ' + '^' * 58
+    room = 240 - len(no_such_variable(''))
+    for count in (room, room + 1, MIB):
+        what = no_such_variable('n' * min(count, room)) + '\u2026' * (count > room)
+        expect_fault(subst([], b'$' + b'n' * count), told('<stdin>:1:2', what, line, carets))
+
+
 def test_names_of_files_are_shown_without_control_characters():
     for name, as_shown in (('a\x1b[1m', 'a\\u{1b}[1m'), ('b\n', 'b\\u{a}'), ('c\u202e', 'c\\u{202e}'),
-                           ('\u00e4 d', '\u00e4 d')):
+                           ('\u00e4 d', '\u00e4 d'), ('e\tf', 'e f'), ('g\u200bh', 'g\\u{200b}h')):
         expect(subst([name]), 3, errors=failed(as_shown, errno.ENOENT))
         write(name, b'$x')
         expect_fault(subst([name]), missing('x', f'{as_shown}:1:2', '$x', ' ^'))
-        expect_fault(subst(['-f', name]), told(f'{as_shown}:1:1', "missing '='", '$x', '^^'))
+        expect_fault(subst(['-f', name]), told_without_line(f'{as_shown}:1:1', "missing '='"))
         expect(subst(['--names', name]), 0, f'x\t{as_shown}:1:2\trequired\n'.encode())
         expect(subst(['-o', f'{name}/x', '-sx=1', name]), 3, errors=failed(f'{as_shown}/x', errno.ENOTDIR))
 
 
+def test_characters_that_cannot_be_seen():
+    hidden = [character for character in map(chr, range(0x80, 0x110000)) if HIDDEN.match(character)]
+    for character in [*hidden[:-4096], hidden[-1]]:
+        expect(subst([f'a{character}']), 3, errors=failed(as_told(f'a{character}'), errno.ENOENT))
+    for character in '\u00a0\u0600\u200a\u2070\ufffc\U000dffff\U000e1000':
+        expect(subst([f'a{character}']), 3, errors=failed(f'a{character}', errno.ENOENT))
+
+
 # Tests of --check and --names
+
+
+def test_check_keeps_no_output():
+    for name in range(40):
+        write(f'{name}', b'${A}' + b'a' * (4 * MIB))
+    expect(subst(['--check', '-sA=1', *map(str, range(40))], **in_memory(64 * MIB)), 0)
 
 
 def test_check():

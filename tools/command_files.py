@@ -10,8 +10,8 @@ import shutil
 import subprocess
 import time
 
-from command_running import (NO_NAME, PROGRAM, by_another_user, expect_fault, expect_file, expect_files, expect_mode,
-                             failed, missing, need_to_run, read, subst, told, write)
+from command_running import (NOBODY, NO_NAME, PROGRAM, by_another_user, expect_fault, expect_file, expect_files,
+                             expect_mode, failed, missing, need_to_run, not_replaced, read, subst, told, write)
 from running import (KIB, MIB, SECONDS, Skipped, expect, expect_that, in_memory, path_of, pipe, run, shown, unread_pipe,
                      without)
 
@@ -106,6 +106,31 @@ def test_output_to_standard_output():
     expect_files('log')
 
 
+def test_output_to_what_is_open_is_written_through():
+    rows = (('/dev/fd/1', 1), ('/proc/self/fd/1', 1), ('//dev/stdout', 1), ('log', 1), ('link', 1), ('/dev/stderr', 2),
+            ('/dev/fd/2', 2), ('log', 2), ('link', 2), ('/dev/fd/{}', None), ('/proc/self/fd/{}', None))
+    for file, stream in rows:
+        write('log', b'before\n')
+        node = os.stat('log').st_ino
+        with open('log', 'ab') as log:
+            file = file.format(log.fileno())
+            target = {1: '/dev/stdout', 2: '/dev/stderr', None: f'/dev/fd/{log.fileno()}'}[stream]
+            os.symlink(target, 'link')
+            options = {1: {'stdout': log}, 2: {'stderr': log}, None: {'pass_fds': [log.fileno()]}}[stream]
+            expect(subst(['-o', file], b'after', **options), 0)
+            os.remove('link')
+        expect_file('log', b'before\nafter')
+        expect_that(os.stat('log').st_ino == node, f'{file}: the log was replaced')
+    write('log', b'$A')
+    with open('log', 'rb') as log:
+        expect(subst(['-o', 'log', '-sA=1'], stdin=log), 0)
+    expect_file('log', b'1')
+    with open('log', 'ab') as log:
+        expect(subst(['-i', 'log'], stdout=log), 0)
+    expect_file('log', b'1')
+    expect_files('log')
+
+
 def test_output_that_cannot_be_written():
     os.mkdir('folder')
     write('file', b'old')
@@ -124,19 +149,40 @@ def test_output_that_cannot_be_written():
 def test_files_and_folders_of_another_user():
     options = by_another_user()
     os.mkdir('folder')
-    write('folder/file', b'${a:b}')
+    write('folder/file', b'$A')
     write('secret', b'a', 0)
     os.chmod('folder', 0o555)
     denied = functools.partial(failed, number=errno.EACCES)
-    expect(subst(['secret', 'folder/file'], **options), 3, errors=denied('secret'))
+    expect(subst(['secret', 'folder/file', '-sA=1'], **options), 3, errors=denied('secret'))
     expect(subst(['-f', 'secret'], **options), 3, errors=denied('secret'))
     expect(subst(['-o', 'folder/new'], b'a', **options), 3, errors=denied('folder/new'))
-    for words in (['-o', 'folder/file'], ['-i', 'folder/file']):
-        expect(subst(words, b'new', **options), 3, errors=denied('folder/file'))
-    expect(subst(['-i', 'secret', 'folder/file'], **options), 3, errors=denied('secret') + denied('folder/file'))
+    new = not_replaced('folder/file', errno.EACCES, os.path.realpath('folder/.file.subst-0'))
+    expect(subst(['-o', 'folder/file'], b'new', **options), 3, errors=new)
+    expect(subst(['-i', '-sA=1', 'secret', 'folder/file'], **options), 3, errors=denied('secret') + new)
     os.chmod('folder', 0o755)
     expect_files('file', folder='folder')
-    expect_file('folder/file', b'${a:b}')
+    expect_file('folder/file', b'$A')
+
+
+def test_group_stays_where_the_owner_cannot():
+    if os.getuid() != 0:
+        raise Skipped('only root can give files away')
+    # The groups that the other user has, and the mode before and after: one in the group keeps it.
+    rows = ((1234, 0o660, 1234, 0o660), (1234, 0o6664, 1234, 0o664), (4321, 0o664, NOBODY, 0o644),
+            (4321, 0o6676, NOBODY, 0o666), (4321, 0o674, NOBODY, 0o644))
+    by_another_user()
+    copy = os.path.abspath('../subst')
+    os.chmod('.', 0o777)
+    for group, mode, group_after, mode_after in rows:
+        for words in (['-i', 'file'], ['-o', 'file']):
+            write('file', b'$A')
+            os.chown('file', 0, 1234)
+            os.chmod('file', mode)
+            options = {'user': NOBODY, 'group': NOBODY, 'extra_groups': [group], 'executable': copy}
+            expect(subst([*words, '-sA=1'], b'1', **options), 0)
+            found = os.stat('file')
+            expect_that((found.st_uid, found.st_gid) == (NOBODY, group_after), f'{found.st_uid}:{found.st_gid}')
+            expect_mode('file', mode_after)
 
 
 # Tests of --in-place
@@ -159,6 +205,27 @@ def test_in_place():
     write('e', b'["$A"]')
     expect(subst(['--in-place', '--json', '-sA="', 'e']), 0)
     expect_file('e', b'["\\""]')
+
+
+def test_in_place_of_a_file_that_is_named_twice():
+    os.mkdir('folder')
+    for other in ('f', './f', 'folder/../f', 'link'):
+        write('f', b'$A')
+        os.symlink('f', 'link')
+        expect(subst(['-i', '-sA=$A', 'f', other]), 0)
+        expect_file('f', b'$A')
+        write('f', b'$A$B')
+        expect(subst(['-i', '-sA=$B', '-sB=2', other, 'f', 'f']), 0)
+        expect_file('f', b'$B2')
+        write('f', b'$')
+        expect_fault(subst(['-i', 'f', other]), told('f:1:1', NO_NAME, '$', '^'))
+        os.remove('link')
+    # Another name of the file keeps what it was, and is filled in by itself.
+    write('f', b'$A')
+    os.link('f', 'hard')
+    expect(subst(['-i', '-sA=$A$A', 'f', 'hard']), 0)
+    expect_file('f', b'$A$A')
+    expect_file('hard', b'$A$A')
 
 
 def test_in_place_of_links():
@@ -188,15 +255,27 @@ def test_in_place_of_what_is_no_file():
 def test_names_of_new_files_that_are_taken():
     write('file', b'$A')
     write('other', b'other')
-    write('.subst-0', b'taken')
-    os.symlink('other', '.subst-1')
-    os.symlink('nothing', '.subst-2')
-    os.mkdir('.subst-3')
+    taken = [f'.{name}.subst-{number}' for name in ('file', 'new') for number in range(4)]
+    for first, second, third, fourth in (taken[:4], taken[4:]):
+        write(first, b'taken')
+        os.symlink('other', second)
+        os.symlink('nothing', third)
+        os.mkdir(fourth)
     expect(subst(['-i', '-sA=1', 'file']), 0)
     expect(subst(['-o', 'new'], b'new'), 0)
-    for file, data in (('file', b'1'), ('new', b'new'), ('other', b'other'), ('.subst-0', b'taken')):
+    for file, data in (('file', b'1'), ('new', b'new'), ('other', b'other'), (taken[0], b'taken')):
         expect_file(file, data)
-    expect_files('file', 'new', 'other', '.subst-0', '.subst-1', '.subst-2', '.subst-3')
+    expect_files('file', 'new', 'other', *taken)
+
+
+def test_names_as_long_as_names_can_be():
+    for name in ('n' * 255, '\u6f22' * 85, '\U00020000' * 63):
+        expect(subst(['-o', name], b'$A'.replace(b'$', b'')), 0)
+        write(name, b'$A')
+        expect(subst(['-i', '-sA=1', name]), 0)
+        expect_file(name, b'1')
+        os.remove(name)
+    expect_files()
 
 
 def test_owner_stays():
@@ -268,9 +347,10 @@ def test_memory_that_runs_out():
 # Tests of what is written whole or not at all
 
 
-def with_failing_call(call, number, words, *more):
-    """Runs the program where the first of such system calls fails, and returns how it ended."""
-    tracing = ['-qq', '-o', '/dev/null', *more, '-e', f'inject={call}:error={errno.errorcode[number]}:when=1']
+def with_failing_call(call, number, words, *more, when='1'):
+    """Runs the program where the first of such system calls, or those of other numbers, fail, and returns how it
+    ended."""
+    tracing = ['-qq', '-o', '/dev/null', *more, '-e', f'inject={call}:error={errno.errorcode[number]}:when={when}']
     return run(PROGRAM, [*tracing, path_of(PROGRAM), *words], b'$A\n', name='strace',
                executable=shutil.which('strace'))
 
@@ -285,7 +365,9 @@ def test_system_calls_that_fail():
     for call, number in CALLS:
         for words in (['-i', 'old'], ['-o', 'old', 'old'], ['-o', 'old']):
             write('old', b'$A', 0o640)
-            expect(with_failing_call(call, number, ['-sA=1', *words]), 3, errors=failed('old', number))
+            is_denied, new = number in (errno.EACCES, errno.EPERM), os.path.realpath('.old.subst-0')
+            errors = not_replaced('old', number, new) if is_denied else failed('old', number)
+            expect(with_failing_call(call, number, ['-sA=1', *words]), 3, errors=errors)
             expect_file('old', b'$A')
             expect_mode('old', 0o640)
             expect_files('old')
@@ -299,25 +381,30 @@ def test_new_file_that_cannot_be_created():
     for folder, words, target in (('', ['-o', 'new'], 'new'), (os.getcwd() + '/', ['-i', 'old'], 'old')):
         write('old', b'$A')
         for number in (errno.EROFS, errno.EDQUOT):
-            end = with_failing_call('open,openat', number, ['-sA=1', *words], '-P', f'{folder}.subst-0')
-            expect(end, 3, errors=failed(target, number))
+            new = f'{folder}.{target}.subst-0'
+            end = with_failing_call('open,openat', number, ['-sA=1', *words], '-P', new)
+            has_hint = folder and number == errno.EROFS
+            expect(end, 3, errors=not_replaced(target, number, new) if has_hint else failed(target, number))
             expect_file('old', b'$A')
             expect_files('old')
 
 
 def test_owner_that_is_refused():
     need_to_run('strace', '-o', '/dev/null', 'true')
-    for words in (['-i', 'file'], ['-o', 'file']):
-        write('file', b'$A\n')
-        if os.getuid() == 0:
-            os.chown('file', 1, 2)
-        os.chmod('file', 0o6750)
-        expect(with_failing_call('fchown', errno.EPERM, ['-sA=1', *words]), 0)
-        expect_file('file', b'1\n')
-        expect_that(os.stat('file').st_uid == os.getuid(), 'the file has another owner')
-        # Who owns it now lends its identity to nobody.
-        expect_mode('file', 0o750)
-        expect_files('file')
+    # Who owns it now lends its identity to nobody, and where the group isn't kept, it may do what others may.
+    for when, group, mode in (('1', 2, 0o754), ('1+', os.getgid(), 0o744)):
+        for words in (['-i', 'file'], ['-o', 'file']):
+            write('file', b'$A\n')
+            if os.getuid() == 0:
+                os.chown('file', 1, 2)
+            os.chmod('file', 0o6754)
+            expect(with_failing_call('fchown', errno.EPERM, ['-sA=1', *words], when=when), 0)
+            expect_file('file', b'1\n')
+            found = os.stat('file')
+            expect_that(found.st_uid == os.getuid(), 'the file has another owner')
+            expect_that(os.getuid() != 0 or found.st_gid == group, f'the group is {found.st_gid}')
+            expect_mode('file', mode)
+            expect_files('file')
 
 
 def started(words):
@@ -351,9 +438,34 @@ def test_killed_runs_leave_the_old_file_or_the_new_one():
         expect_that(read('file') in ends, f'the file has {shown(read("file"))}')
         ends[read('file')] += 1
         for left in set(os.listdir()) - {'file'}:
-            expect_that(re.fullmatch(r'\.subst-\d+', left), f'the folder has {left}')
+            expect_that(re.fullmatch(r'\.file\.subst-\d+', left), f'the folder has {left}')
             os.remove(left)
     expect_that(min(ends.values()) > 0, f'{ends[old]} runs left the old file, and {ends[new]} the new one')
+
+
+# Makes a file one that is mounted by itself, fills it in, and writes through it.
+ON_A_BOUND_FILE = """
+mount --bind old file || exit 99
+"$@"
+status=$?
+ls -A >listing
+"$1" -sA=1 template >file
+exit $status
+"""
+
+
+def test_file_that_is_mounted():
+    rights = ['-m'] if os.getuid() == 0 else ['-r', '-m']
+    for file in ('old', 'file', 'template'):
+        write(file, b'$A')
+    need_to_run('unshare', *rights, 'mount', '--bind', 'old', 'file')
+    for words in (['-i', 'file'], ['-o', 'file', 'file']):
+        write('old', b'$A')
+        end = run(PROGRAM, [*rights, 'sh', '-c', ON_A_BOUND_FILE, 'sh', path_of(PROGRAM), '-sA=1', *words],
+                  name='unshare', executable=shutil.which('unshare'))
+        expect(end, 3, errors=not_replaced('file', errno.EBUSY, os.path.realpath('.file.subst-0')))
+        expect_file('old', b'1')
+        expect_file('listing', b'file\nlisting\nold\ntemplate\n')
 
 
 # Fills a small file system, whose folder and file it then copies to where they are seen.

@@ -148,7 +148,9 @@ def expect_that(fact, text):
 
 
 # What is shown by its number in a message of `subst`: what a terminal would obey, or what can't be seen.
-HIDDEN = re.compile('[\0-\x1f\x7f-\x9f\u061c\u200e\u200f\u2028-\u202e\u2066-\u2069\ufeff]')
+HIDDEN = re.compile('[\0-\x1f\x7f-\x9f\xad\u034f\u061c\u115f\u1160\u17b4\u17b5\u180b-\u180f\u200b-\u200f'
+                    '\u2028-\u202e\u2060-\u206f\u3164\ufe00-\ufe0f\ufeff\uffa0\ufff0-\ufffb\U0001bca0-\U0001bca3'
+                    '\U0001d173-\U0001d17a\U000e0000-\U000e0fff]')
 
 
 def as_told(text):

@@ -2,6 +2,7 @@
 
 use crate::options::{Pair, owned};
 use std::alloc::{AllocError, Global};
+use std::collections::HashSet;
 use std::env::{Env, FillError};
 use subst_language::is_name;
 
@@ -13,7 +14,7 @@ const FIRST_ROOM: usize = 4096;
 pub(crate) struct Environment {
     /// Those whose values are UTF-8.
     pub pairs: Vec<Pair>,
-    /// The names of the others.
+    /// The names of the others, in their order as texts.
     pub not_utf8: Vec<String>,
 }
 
@@ -33,24 +34,39 @@ impl Environment {
     /// When allocation fails.
     pub fn read<E: Env>(alloc: Global, rt: &E) -> Result<Environment, AllocError> {
         let mut environment = Environment::empty(alloc);
+        let mut not_utf8 = HashSet::new(alloc);
         let mut room = vec![in alloc; 0; FIRST_ROOM]?;
         for index in 0..usize::MAX {
             match entry_len(rt, index, &mut room)? {
-                Some(len) => environment.add(alloc, room.get(..len).unwrap_or(&[]))?,
+                Some(len) => {
+                    let entry = room.get(..len).unwrap_or(&[]);
+                    environment.add(alloc, entry, &mut not_utf8)?;
+                }
                 None => break,
             }
         }
+        environment.not_utf8.sort_unstable();
         Ok(environment)
     }
 
-    /// Adds an entry, `NAME=VALUE`. Others give no variable.
-    fn add(&mut self, alloc: Global, entry: &[u8]) -> Result<(), AllocError> {
+    /// Adds an entry, `NAME=VALUE`, unless one of its name that counts before it isn't UTF-8. Others give no
+    /// variable.
+    fn add(
+        &mut self,
+        alloc: Global,
+        entry: &[u8],
+        not_utf8: &mut HashSet<String>,
+    ) -> Result<(), AllocError> {
         let Some((name, value)) = name_and_value(entry) else {
             return Ok(());
         };
         match str::from_utf8(value) {
+            _ if not_utf8.contains(name) => {}
             Ok(value) => self.pairs.push(owned(alloc, name, value)?)?,
-            Err(_) => self.not_utf8.push(String::from_str(alloc, name)?)?,
+            Err(_) => {
+                not_utf8.insert(String::from_str(alloc, name)?)?;
+                self.not_utf8.push(String::from_str(alloc, name)?)?;
+            }
         }
         Ok(())
     }

@@ -162,6 +162,20 @@ fn last_columns(text: &str, columns: usize) -> &str {
     ""
 }
 
+/// Cuts a text that takes more than so many columns, and puts a sign at its end.
+///
+/// # Errors
+///
+/// When allocation fails.
+pub(crate) fn cut(alloc: Global, text: String, columns: usize) -> Result<String, AllocError> {
+    let start = first_columns(&text, columns);
+    if start.len() < text.len() {
+        format!(in alloc; "{start}{CUT}")
+    } else {
+        Ok(text)
+    }
+}
+
 /// Returns the start of a text that takes at most so many columns.
 fn first_columns(text: &str, columns: usize) -> &str {
     let mut used = 0usize;

@@ -11,14 +11,17 @@ use subst_filter_lib::values::Values;
 pub(crate) struct Variables<'v> {
     /// The values that are text.
     pub values: Values<'v>,
-    /// The names of the environment whose values aren't.
+    /// The names of the environment whose values aren't, in their order as texts.
     pub not_utf8: &'v [String],
 }
 
 impl Variables<'_> {
     /// Returns whether the environment has a value of this name that isn't text, and no other is given.
     pub fn is_not_utf8(&self, name: &str) -> bool {
-        self.not_utf8.iter().any(|other| other.as_str() == name) && self.values.get(name).is_none()
+        let found = self
+            .not_utf8
+            .binary_search_by(|other| other.as_str().cmp(name));
+        found.is_ok() && self.values.get(name).is_none()
     }
 }
 

@@ -10,8 +10,20 @@ use subst_language::is_name;
 /// The file that stands for standard input.
 pub const STANDARD_INPUT: &str = "-";
 
+/// Paths that lead to standard input too.
+const STANDARD_INPUT_PATHS: [&str; 3] = ["/dev/stdin", "/dev/fd/0", "/proc/self/fd/0"];
+
 /// The files of `--output` that stand for standard output.
 const STANDARD_OUTPUT: [&str; 2] = ["-", "/dev/stdout"];
+
+/// The end of the help.
+const AFTER_HELP: &str = "\
+A name has the value of the first of these that has it: --set, the values files,
+the environment. All names without a value are reported, but of a file with a
+fault of another kind that fault alone.
+
+Status: 0 done, 1 a file or value is refused, 2 wrong arguments, 3 a file or
+device failed, 4 out of memory. The page subst(1) says more.";
 
 /// What a source is read as.
 #[derive(Clone, Copy, PartialEq, Eq)]
@@ -136,9 +148,9 @@ fn check_replaced(alloc: Global, files: &[&str]) -> Result<(), Error> {
 fn check_read_once(alloc: Global, values_files: &[&str], files: &[&str]) -> Result<(), Error> {
     let reads_values = values_files
         .iter()
-        .filter(|file| **file == STANDARD_INPUT)
+        .filter(|file| is_standard_input(file))
         .count();
-    let reads_source = files.is_empty() || files.iter().any(|file| *file == STANDARD_INPUT);
+    let reads_source = files.is_empty() || files.iter().any(|file| is_standard_input(file));
     if reads_values > 1 || reads_values == 1 && reads_source {
         return Err(wrong(
             alloc,
@@ -148,16 +160,22 @@ fn check_read_once(alloc: Global, values_files: &[&str], files: &[&str]) -> Resu
     Ok(())
 }
 
+/// Returns whether a file is standard input, under one of its names.
+fn is_standard_input(file: &str) -> bool {
+    file == STANDARD_INPUT || STANDARD_INPUT_PATHS.contains(&file)
+}
+
 /// Returns the variables of `--set`.
 fn asked_pairs(alloc: Global, matches: &ArgMatches<'_>) -> Result<Vec<Pair>, Error> {
     let mut pairs = Vec::new(alloc);
     for word in list(alloc, matches, "set")? {
         let Some((name, value)) = word.split_once('=') else {
-            let message = format!(in alloc; "no '=' in --set '{word}'")?;
+            let number = pairs.len().saturating_add(1);
+            let message = format!(in alloc; "no '=' in argument {number} of --set")?;
             return Err(wrong(alloc, &message));
         };
         if !is_name(name.as_bytes()) {
-            let message = format!(in alloc; "no template can spell the name of --set '{word}'")?;
+            let message = format!(in alloc; "no template can spell the name '{name}' of --set")?;
             return Err(wrong(alloc, &message));
         }
         pairs.push(owned(alloc, name, value)?)?;
@@ -204,6 +222,9 @@ fn asked_placeholders<'w>(
     let mut names = Vec::new(alloc);
     for words in list(alloc, matches, "only")? {
         add_names(alloc, &mut names, words)?;
+    }
+    if names.is_empty() {
+        return Err(wrong(alloc, "--only needs a name"));
     }
     Ok(Placeholders::Only(names))
 }
@@ -269,7 +290,8 @@ fn error(alloc: Global, message: &str) -> Result<Error, AllocError> {
 fn command<'a>(alloc: Global) -> Result<Command<'a>, AllocError> {
     let mut command = Command::new(alloc, "subst")
         .version(subst_version::TEXT)
-        .about("Fills in $name, ${name}, ${name:default} and ${name?} in files.");
+        .about("Fills in $name, ${name}, ${name:default} and ${name?} in files.")
+        .after_help(AFTER_HELP);
     for row in &OPTIONS {
         command = command.arg(row.to_arg(alloc)?)?;
     }
@@ -301,7 +323,12 @@ impl Row {
             .long(self.long)
             .help(self.help)
             .help_heading(self.heading);
-        with_value(with_short(arg, self.short), self.takes).conflicts_with_all(self.conflicts)
+        let arg = with_short(arg, self.short).conflicts_with_all(self.conflicts)?;
+        match self.takes {
+            Some((name, action)) => Ok(arg.value_name(name).action(action)),
+            // A flag may be repeated: each use undoes those before it.
+            None => arg.action(ArgAction::SetTrue).overrides_with(self.long),
+        }
     }
 }
 
@@ -310,14 +337,6 @@ fn with_short<'a>(arg: Arg<'a>, short: Option<char>) -> Arg<'a> {
     match short {
         Some(short) => arg.short(short),
         None => arg,
-    }
-}
-
-/// Returns an option that takes a value, if there is a name of it, and otherwise a flag.
-fn with_value<'a>(arg: Arg<'a>, takes: Option<(&'a str, ArgAction)>) -> Arg<'a> {
-    match takes {
-        Some((name, action)) => arg.value_name(name).action(action),
-        None => arg.action(ArgAction::SetTrue),
     }
 }
 

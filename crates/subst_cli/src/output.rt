@@ -1,5 +1,6 @@
 //! Writing files whole or not at all.
 
+use std::alloc::{AllocError, Global};
 use std::fs::{File, Metadata, OpenOptions, Permissions};
 use std::io::Write;
 use std::os::unix::fs::{MetadataExt, OpenOptionsExt, PermissionsExt, fchown};
@@ -21,6 +22,9 @@ const COMMON_PERMISSIONS: u32 = 0o777;
 /// How many symbolic links are followed to a file that isn't there.
 const MOST_LINKS: usize = 40;
 
+/// How many characters of a file's name are in that of the new file beside it, which has no room for all.
+const MOST_OF_NAME: usize = 50;
+
 /// Writes bytes to standard output.
 ///
 /// # Errors
@@ -32,13 +36,40 @@ pub(crate) fn print(rt: &HostRuntime, bytes: &[u8]) -> io::Result<()> {
     output.flush()
 }
 
-/// Returns whether there is a regular file at a path, through symbolic links.
+/// Returns the device of the regular file at a path, through symbolic links, and its number there; or nothing
+/// where something else is there.
 ///
 /// # Errors
 ///
 /// What the system says.
-pub(crate) fn is_regular(rt: &HostRuntime, path: &str) -> io::Result<bool> {
-    Ok(fs::metadata(rt, path)?.is_file())
+pub(crate) fn regular_file(rt: &HostRuntime, path: &str) -> io::Result<Option<(u64, u64)>> {
+    let found = fs::metadata(rt, path)?;
+    Ok(found.is_file().then_some((found.dev(), found.ino())))
+}
+
+/// Writes bytes to a file as [`replace`] does, or to the open stream that a path leads to.
+///
+/// # Errors
+///
+/// What the system says.
+pub(crate) fn write(rt: &HostRuntime, path: &str, bytes: &[u8]) -> io::Result<()> {
+    if is_same_file(rt, path, "/proc/self/fd/1") {
+        print(rt, bytes)
+    } else if is_same_file(rt, path, "/proc/self/fd/2") {
+        rt.stderr().write_all(bytes)
+    } else if path.starts_with("/dev/fd/") || path.starts_with("/proc/") {
+        write_through(rt, path, true, bytes)
+    } else {
+        replace(rt, path, bytes)
+    }
+}
+
+/// Returns whether two paths lead to one file that is there.
+fn is_same_file(rt: &HostRuntime, one: &str, other: &str) -> bool {
+    match (fs::metadata(rt, one), fs::metadata(rt, other)) {
+        (Ok(one), Ok(other)) => one.dev() == other.dev() && one.ino() == other.ino(),
+        _ => false,
+    }
 }
 
 /// Writes bytes to a file: all of them, or the file is as before. What isn't a regular file is written
@@ -53,7 +84,7 @@ pub(crate) fn replace(rt: &HostRuntime, path: &str, bytes: &[u8]) -> io::Result<
             let target = fs::canonicalize(rt, path)?;
             replace_by_new(rt, target.as_path(), Some(&old), bytes)
         }
-        Ok(_) => write_through(rt, path, bytes),
+        Ok(_) => write_through(rt, path, false, bytes),
         Err(e) if e.kind() == io::ErrorKind::NotFound => {
             let target = end_of_links(rt, path)?;
             replace_by_new(rt, target.as_path(), None, bytes)
@@ -62,10 +93,31 @@ pub(crate) fn replace(rt: &HostRuntime, path: &str, bytes: &[u8]) -> io::Result<
     }
 }
 
-/// Writes bytes to what is no regular file.
-fn write_through(rt: &HostRuntime, path: &str, bytes: &[u8]) -> io::Result<()> {
-    let mut file = OpenOptions::new().write(true).open(rt, path)?;
+/// Writes bytes to a file as it is, at its end or not.
+fn write_through(rt: &HostRuntime, path: &str, at_end: bool, bytes: &[u8]) -> io::Result<()> {
+    let mut options = OpenOptions::new();
+    options.write(true).append(at_end);
+    let mut file = options.open(rt, path)?;
     file.write_all(bytes)
+}
+
+/// Returns the path of the first new file that is tried where one is to take a file's place.
+///
+/// # Errors
+///
+/// What the system says.
+pub(crate) fn path_of_new(rt: &HostRuntime, path: &str) -> io::Result<PathBuf> {
+    let target = fs::canonicalize(rt, path)?;
+    Ok(path_beside(rt.alloc(), target.as_path(), 0)?)
+}
+
+/// Returns the path of a new file beside one, `.NAME.subst-N`.
+fn path_beside(alloc: Global, path: Path<'_>, number: u32) -> Result<PathBuf, AllocError> {
+    let name = path.file_name().unwrap_or("");
+    let start: String = name.chars().take(MOST_OF_NAME).collect(alloc)?;
+    let name = format!(in alloc; ".{start}.subst-{number}")?;
+    let folder = path.parent().unwrap_or(Path::new(""));
+    folder.join(alloc, name.as_str())
 }
 
 /// Returns the path that the symbolic links from a path on lead to, where no file is.
@@ -107,10 +159,8 @@ fn replace_by_new(
 
 /// Creates a file in the folder of a path, under a name that none has.
 fn create_beside(rt: &HostRuntime, path: Path<'_>, mode: u32) -> io::Result<(PathBuf, File)> {
-    let folder = path.parent().unwrap_or(Path::new(""));
     for number in 0..u32::MAX {
-        let name = format!(in rt.alloc(); ".subst-{number}")?;
-        let new = folder.join(rt.alloc(), name.as_str())?;
+        let new = path_beside(rt.alloc(), path, number)?;
         let mut options = OpenOptions::new();
         options.write(true).create_new(true).mode(mode);
         match options.open(rt, new.as_path()) {
@@ -127,13 +177,21 @@ fn create_beside(rt: &HostRuntime, path: Path<'_>, mode: u32) -> io::Result<(Pat
 fn finish(mut file: File, old: Option<&Metadata>, bytes: &[u8]) -> io::Result<()> {
     file.write_all(bytes)?;
     if let Some(old) = old {
-        let mode = old.permissions().mode();
-        // Who may not give a file away becomes its owner, and lends no identity by it.
-        let kept = match fchown(&file, Some(old.uid()), Some(old.gid())) {
-            Ok(()) => mode & PERMISSIONS,
-            Err(_) => mode & COMMON_PERMISSIONS,
-        };
-        file.set_permissions(Permissions::from_mode(kept))?;
+        file.set_permissions(Permissions::from_mode(give_owner(&file, old)))?;
     }
     file.sync_all()
+}
+
+/// Gives a new file the owner and the group of the old one, as far as that is allowed, and returns the mode
+/// that it may have. Who may not give a file away becomes its owner, and lends no identity by it; a group
+/// that isn't the old one may do what others may.
+fn give_owner(file: &File, old: &Metadata) -> u32 {
+    let mode = old.permissions().mode();
+    if fchown(file, Some(old.uid()), Some(old.gid())).is_ok() {
+        mode & PERMISSIONS
+    } else if fchown(file, None, Some(old.gid())).is_ok() {
+        mode & COMMON_PERMISSIONS
+    } else {
+        mode & 0o707 | (mode & 0o007) << 3
+    }
 }

@@ -38,7 +38,7 @@ fn run_words(rt: &HostRuntime, report: &mut Report<'_>) -> Result<(), AllocError
         Ok(words) => words,
         Err(e) if e.kind() == io::ErrorKind::OutOfMemory => return Err(AllocError),
         Err(_) => {
-            report.wrong_words("error: a word of the command line isn't UTF-8\n");
+            report.wrong_words("subst: a word of the command line isn't UTF-8\n");
             return Ok(());
         }
     };
@@ -62,7 +62,8 @@ fn answer(rt: &HostRuntime, e: &Error, report: &mut Report<'_>) -> Result<(), Al
     }
     let text = format!(in alloc; "{e}")?;
     if e.use_stderr() {
-        report.wrong_words(&shown_lines(alloc, &text)?);
+        let said = shown_lines(alloc, text.strip_prefix("error: ").unwrap_or(&text))?;
+        report.wrong_words(&format!(in alloc; "subst: {said}")?);
         return Ok(());
     }
     match output::print(rt, text.as_bytes()) {

@@ -103,12 +103,12 @@ impl<'r> Report<'r> {
         Ok(())
     }
 
-    /// Says of a file that there is something else than what is asked for.
+    /// Says why a file can't be what is asked for.
     ///
     /// # Errors
     ///
     /// When allocation fails.
-    pub fn not_regular(&mut self, name: &str, why: &str) -> Result<(), AllocError>
+    pub fn failed_since(&mut self, name: &str, why: &str) -> Result<(), AllocError>
         ensures { OnOk result (self.new.worst ≡ worse self.old.worst Severity.Failure) }
     {
         let message = format!(in self.rt.alloc(); "{name}: {why}\n")?;

@@ -16,8 +16,14 @@ use crate::report::Report;
 use crate::source::{Messages, Source};
 use crate::{document, output, values_file};
 use std::alloc::{AllocError, Global};
+use std::collections::HashSet;
+use std::io;
+use std::io::ErrorKind;
 use subst::escape::is_plain;
 use subst_filter_lib::values::values_of_pairs;
+
+/// What a text may begin with.
+const BYTE_ORDER_MARK: char = '\u{feff}';
 
 /// Reads the values files and the environment, and does what the options ask for.
 ///
@@ -92,7 +98,7 @@ fn add_values(
     let Some(source) = source(rt, file, report)? else {
         return Ok(());
     };
-    let mut messages = Messages::about(alloc, &source);
+    let mut messages = Messages::without_lines(alloc, &source);
     if let Some(text) = text_of(alloc, &source, &mut messages)? {
         match values_file::pairs(alloc, text)? {
             Ok(pairs) => {
@@ -101,7 +107,7 @@ fn add_values(
                 }
                 return Ok(());
             }
-            Err(fault) => messages.add(alloc, fault.start..fault.end, &fault.message)?,
+            Err(fault) => messages.add(alloc, fault.start..fault.start, &fault.message)?,
         }
     }
     report.refused(&messages.into_text());
@@ -150,9 +156,11 @@ impl Run<'_, '_, '_> {
     /// When allocation fails.
     fn fill_all(&self, report: &mut Report<'_>) -> Result<(), AllocError> {
         let mut all = Vec::new(self.rt.alloc());
+        let is_written = self.options.action != Action::Check;
         for file in &self.options.files {
             if let Some(source) = source(self.rt, file, report)?
                 && let Some(output) = self.output_of(source, report)?
+                && is_written
             {
                 append(&mut all, output)?;
             }
@@ -170,42 +178,70 @@ impl Run<'_, '_, '_> {
                 Ok(()) => Ok(()),
                 Err(e) => report.failed("<stdout>", &e),
             },
-            Action::WriteTo(file) => self.replace(file, all, report),
+            Action::WriteTo(file) => self.written(file, output::write(self.rt, file, all), report),
             Action::Replace | Action::Check | Action::ListNames => Ok(()),
         }
     }
 
-    /// Replaces each source by what it gives, unless it gives itself.
+    /// Replaces each source by what it gives, unless it gives itself. One that is named again, which is then
+    /// a file that is done, stays.
     ///
     /// # Errors
     ///
     /// When allocation fails.
     fn replace_each(&self, report: &mut Report<'_>) -> Result<(), AllocError> {
+        let mut done = HashSet::new(self.rt.alloc());
         for file in &self.options.files {
-            let is_regular = output::is_regular(self.rt, file);
-            if let Ok(false) = is_regular {
-                let name = shown_name(self.rt.alloc(), file)?;
-                report.not_regular(&name, "not a regular file")?;
-            } else if let Some(source) = source(self.rt, file, report)?
-                && !needs_no_filling(self.options, &source.bytes)
-                && let Some(output) = self.filled(&source, report)?
-                && output != source.bytes
-            {
-                self.replace(file, &output, report)?;
+            match output::regular_file(self.rt, file) {
+                Ok(Some(found)) if done.contains(&found) => {}
+                Ok(None) => {
+                    let name = shown_name(self.rt.alloc(), file)?;
+                    report.failed_since(&name, "not a regular file")?;
+                }
+                _ => self.replace(file, report)?,
+            }
+            if let Ok(Some(found)) = output::regular_file(self.rt, file) {
+                done.insert(found)?;
             }
         }
         Ok(())
     }
 
-    /// Writes bytes to a file, whole or not at all.
-    fn replace(&self, file: &str, bytes: &[u8], report: &mut Report<'_>) -> Result<(), AllocError> {
-        match output::replace(self.rt, file, bytes) {
-            Ok(()) => Ok(()),
-            Err(e) => {
-                let name = shown_name(self.rt.alloc(), file)?;
-                report.failed(&name, &e)
-            }
+    /// Replaces a source by what it gives, unless it gives itself.
+    fn replace(&self, file: &str, report: &mut Report<'_>) -> Result<(), AllocError> {
+        if let Some(source) = source(self.rt, file, report)?
+            && !needs_no_filling(self.options, &source.bytes)
+            && let Some(output) = self.filled(&source, report)?
+            && output != source.bytes
+        {
+            self.written(file, output::replace(self.rt, file, &output), report)?;
         }
+        Ok(())
+    }
+
+    /// Says why a file isn't written, if it isn't.
+    fn written(
+        &self,
+        file: &str,
+        outcome: io::Result<()>,
+        report: &mut Report<'_>,
+    ) -> Result<(), AllocError> {
+        let Err(e) = outcome else {
+            return Ok(());
+        };
+        let alloc = self.rt.alloc();
+        let name = shown_name(alloc, file)?;
+        report.failed(&name, &e)?;
+        if let ErrorKind::PermissionDenied
+        | ErrorKind::ResourceBusy
+        | ErrorKind::ReadOnlyFilesystem = e.kind()
+            && let Ok(new) = output::path_of_new(self.rt, file)
+        {
+            let new = shown_name(alloc, new.as_path().as_str())?;
+            let why = format!(in alloc; "{new} can't take its place; '> FILE' writes through")?;
+            report.failed_since(&name, &why)?;
+        }
+        Ok(())
     }
 
     /// Prints the names that the sources use.
@@ -281,7 +317,7 @@ impl Run<'_, '_, '_> {
             variables: Some(&self.variables),
         };
         let output = match form {
-            InputFormat::Json => document::fill::<JsonDocument>(alloc, text, &filler, messages)?,
+            InputFormat::Json => fill_json(alloc, text, &filler, messages)?,
             InputFormat::Toml => document::fill::<TomlDocument>(alloc, text, &filler, messages)?,
             InputFormat::Text | InputFormat::Bytes => {
                 let outcome = fill_text(alloc, text, placeholders, &self.variables)?;
@@ -332,13 +368,44 @@ impl Run<'_, '_, '_> {
             variables: None,
         };
         match self.options.form {
-            InputFormat::Json => document::uses::<JsonDocument>(alloc, text, &filler, messages),
+            InputFormat::Json => {
+                let text = after_mark(text, messages);
+                document::uses::<JsonDocument>(alloc, text, &filler, messages)
+            }
             InputFormat::Toml => document::uses::<TomlDocument>(alloc, text, &filler, messages),
             InputFormat::Text | InputFormat::Bytes => {
                 let outcome = uses_in_text(alloc, text, placeholders)?;
                 output_or_messages(alloc, outcome, messages)
             }
         }
+    }
+}
+
+/// Returns what a JSON text gives, in which a byte order mark at the start stays.
+fn fill_json(
+    alloc: Global,
+    text: &str,
+    filler: &StringFiller<'_>,
+    messages: &mut Messages<'_>,
+) -> Result<Option<String>, AllocError> {
+    let rest = after_mark(text, messages);
+    let mut output = document::fill::<JsonDocument>(alloc, rest, filler, messages)?;
+    if rest.len() < text.len()
+        && let Some(output) = &mut output
+    {
+        output.insert(0, BYTE_ORDER_MARK)?;
+    }
+    Ok(output)
+}
+
+/// Returns a text after its byte order mark, which the reader of JSON doesn't pass over.
+fn after_mark<'s>(text: &'s str, messages: &mut Messages<'_>) -> &'s str {
+    match text.strip_prefix(BYTE_ORDER_MARK) {
+        Some(rest) => {
+            messages.pass_over(BYTE_ORDER_MARK.len_utf8());
+            rest
+        }
+        None => text,
     }
 }
 

@@ -1,11 +1,14 @@
 //! Sources, and messages about them.
 
-use crate::excerpt::excerpt;
+use crate::excerpt::{cut, excerpt};
 use crate::place::{Place, Places};
 use crate::shown::shown;
 use std::alloc::{AllocError, Global};
 use std::fmt;
 use std::ops::Range;
+
+/// The columns of the widest message that is shown whole.
+const WIDEST_MESSAGE: usize = 240;
 
 /// What is filled in.
 #[derive(Drop)]
@@ -19,8 +22,10 @@ pub(crate) struct Source {
 /// Messages about a source.
 #[derive(Drop)]
 pub(crate) struct Messages<'s> {
-    source: &'s Source,
+    name: &'s str,
+    bytes: &'s [u8],
     places: Places<'s>,
+    shows_lines: bool,
     text: String,
 }
 
@@ -28,10 +33,25 @@ impl<'s> Messages<'s> {
     /// Returns none yet.
     pub fn about(alloc: Global, source: &'s Source) -> Self {
         Messages {
-            source,
+            name: &source.name,
+            bytes: &source.bytes,
             places: Places::of(&source.bytes),
+            shows_lines: true,
             text: String::new(alloc),
         }
+    }
+
+    /// Returns none yet, each of which will show no line: those of values files have secrets.
+    pub fn without_lines(alloc: Global, source: &'s Source) -> Self {
+        let mut messages = Messages::about(alloc, source);
+        messages.shows_lines = false;
+        messages
+    }
+
+    /// Has offsets count from after so many bytes of the source, which take no column.
+    pub fn pass_over(&mut self, len: usize) {
+        self.bytes = self.bytes.get(len..).unwrap_or(&[]);
+        self.places = Places::of(self.bytes);
     }
 
     /// Returns the place of an offset.
@@ -43,7 +63,7 @@ impl<'s> Messages<'s> {
         self.places.at(alloc, offset)
     }
 
-    /// Adds one about a range of the source, of which it shows the line.
+    /// Adds one about a range of the source, of which it shows the line, where it shows lines.
     ///
     /// # Errors
     ///
@@ -56,8 +76,12 @@ impl<'s> Messages<'s> {
     ) -> Result<(), AllocError> {
         let Place { line, column } = self.places.at(alloc, range.start)?;
         let what = shown_text(alloc, what)?;
-        let excerpt = excerpt(alloc, &self.source.bytes, range)?;
-        let message = format!(in alloc; "{}:{line}:{column}: {what}\n{excerpt}", self.source.name)?;
+        let excerpt = if self.shows_lines {
+            excerpt(alloc, self.bytes, range)?
+        } else {
+            String::new(alloc)
+        };
+        let message = format!(in alloc; "{}:{line}:{column}: {what}\n{excerpt}", self.name)?;
         self.text.push_str(&message)
     }
 
@@ -72,7 +96,7 @@ impl<'s> Messages<'s> {
         what: &D,
     ) -> Result<(), AllocError> {
         let what = shown_text(alloc, what)?;
-        let message = format!(in alloc; "{}: {what}\n", self.source.name)?;
+        let message = format!(in alloc; "{}: {what}\n", self.name)?;
         self.text.push_str(&message)
     }
 
@@ -82,8 +106,8 @@ impl<'s> Messages<'s> {
     }
 }
 
-/// Returns the text of something as it is shown.
+/// Returns the text of something as it is shown, without the end of one that is very long.
 fn shown_text<D: fmt::Display>(alloc: Global, what: &D) -> Result<String, AllocError> {
     let text = format!(in alloc; "{what}")?;
-    shown(alloc, text.as_bytes())
+    cut(alloc, shown(alloc, text.as_bytes())?, WIDEST_MESSAGE)
 }

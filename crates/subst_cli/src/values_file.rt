@@ -9,10 +9,8 @@ use subst_language::is_name;
 pub(crate) struct LineFault {
     /// What it is.
     pub message: &'static str,
-    /// Where its line, or the name in it, begins: a byte offset in the file.
+    /// Where its line begins, after its blanks: a byte offset in the file.
     pub start: usize,
-    /// Where that ends.
-    pub end: usize,
 }
 
 /// What a values file gives, or what is wrong with its first line that gives nothing.
@@ -56,14 +54,12 @@ fn pair(line: &str, offset: usize) -> Result<Option<(&str, &str)>, LineFault> {
         return Err(LineFault {
             message: "missing '='",
             start,
-            end: start.saturating_add(begun.len()),
         });
     };
     if !is_name(name.as_bytes()) {
         return Err(LineFault {
             message: "no template can spell this name",
             start,
-            end: start.saturating_add(name.len()),
         });
     }
     Ok(Some((name, value)))
