@@ -24,7 +24,7 @@ LINES = {'README.md': 170, 'docs/DESIGN.md': 160, 'docs/DEFINITIONS.md': 200, 'd
          'docs/CONTRIBUTING.md': 200, 'docs/decisions/[0-9]*.md': 40}
 # The words of all pages, the lines of code, of definitions and proofs, and of scripts, and the crates, at most; and the
 # ends of files beside scripts that are none.
-SIZES = {'.rt': 23000, '.antt': 23850, 'scripts': 9450, 'crates': 24}
+SIZES = {'.rt': 26300, '.antt': 26250, 'scripts': 10060, 'crates': 24}
 NO_SCRIPTS = ('.rt', '.antt', '.md', '.tsv', '.txt', 'args', 'stdin', 'stdout')
 # The files that have an option of subst, at most, and those that have the text of a fault.
 OPTION_FILES, FAULT_FILES = 7, 6
@@ -45,7 +45,7 @@ INDENTED = 'docs/CONTRIBUTING.md', (f'{DATA}/*.tsv', 'crates/*/must-fail/*')
 # The folders whose files pages name, the ends of names of files, and files in backticks that a reader makes.
 FOLDERS = ('.ci', 'benches', 'crates', 'docs', 'fuzz', 'include', 'python', 'tests', 'tools')
 ENDINGS = ('.rt', '.antt', '.py', '.sh', '.md', '.c', '.h', '.in', '.tsv', '.edit', '.txt', '.1')
-READERS = ('greet.c', 'greet.py')
+READERS = ('document.c', 'greet.c', 'greet.py')
 # Small numbers as pages write them.
 NUMBERS = 'no one two three four five six seven eight nine ten eleven twelve thirteen fourteen fifteen'.split()
 

@@ -21,6 +21,7 @@ HIDDEN = {
     'subst_raw/': '`subst` re-exports the module `steps` alone',
     'subst_raw/src/counters.rt': '',
     'subst_walk/': '`subst` has no function of it',
+    'subst_walk/src/lib.rt': '',
     'subst_json/src/typed.rt': 'its module is private, and its trait is there for each type of `serde`',
     'subst_toml/src/typed.rt': 'its module is private, and its trait is there for each type of `serde`',
     'subst_c/': 'its modules are private',
