@@ -2,10 +2,11 @@
 """doc-examples.py program | map | output   Prints a program of the library's examples, the module of it that is the map
 of docs/CALLING.md, or what the program prints, for tools/other-repository.sh.
 
-An example is a block of Rust in a comment `///` of a crate of the library. What it computes is its `output`, and its
-last line is a comment with the text of that. The first examples are the function `greet` of README.md, the environment
-as README.md reads it, and the map of docs/CALLING.md.
+An example is a block of Rust in a comment `///` of a crate of the library. What it computes is its `output`, of a
+document that is filled in where it stands an `Option`, and its last line is a comment with the text of that. The first
+examples are the function `greet` of README.md, the environment as README.md reads it, and the map of docs/CALLING.md.
 """
+import json
 import re
 import sys
 
@@ -56,7 +57,13 @@ def examples():
         for path in sorted((TOP / 'crates' / crate / 'src').rglob('*.rt')):
             for block in re.findall(r'^ */// ```rust\n(.*?)^ */// ```$', path.read_text(encoding='utf-8'), re.M | re.S):
                 *lines, printed = [line.strip()[len('/// '):] for line in block.splitlines()]
-                yield crate, lines, printed.removeprefix('// ')
+                yield crate, lines, text_of(printed.removeprefix('// '))
+
+
+def text_of(printed):
+    """What is printed of an output, which may be written as an `Option`."""
+    some = re.fullmatch(r'Some\((".*")\)', printed)
+    return json.loads(some[1]) if some else printed
 
 
 def function(number, crate, lines):
@@ -64,6 +71,9 @@ def function(number, crate, lines):
     error = ERRORS.get(crate, 'Error')
     ends = 'Ok(String::from_str(alloc, std::str::from_utf8(&output).unwrap_or("not UTF-8"))?)' \
         if any(word in line for word in ('substitute_bytes', 'Vec::from_slice') for line in lines) else 'Ok(output)'
+    if any('fill_in(' in line for line in lines):
+        lines = [re.sub(r' (fill_in\()', rf' {crate.partition("_")[2]}::\1', line) for line in lines]
+        ends = 'Ok(output.unwrap_or(String::new(alloc)))'
     body = ''.join(f'    {line}\n' for line in [*lines, ends])
     return f'\nfn example_{number}(alloc: Global) -> Result<String, {error}> {{\n{body}}}\n'
 
