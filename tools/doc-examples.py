@@ -72,7 +72,6 @@ def function(number, crate, lines):
     ends = 'Ok(String::from_str(alloc, std::str::from_utf8(&output).unwrap_or("not UTF-8"))?)' \
         if any(word in line for word in ('substitute_bytes', 'Vec::from_slice') for line in lines) else 'Ok(output)'
     if any('fill_in(' in line for line in lines):
-        lines = [re.sub(r' (fill_in\()', rf' {crate.partition("_")[2]}::\1', line) for line in lines]
         ends = 'Ok(output.unwrap_or(String::new(alloc)))'
     body = ''.join(f'    {line}\n' for line in [*lines, ends])
     return f'\nfn example_{number}(alloc: Global) -> Result<String, {error}> {{\n{body}}}\n'

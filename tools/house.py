@@ -18,13 +18,13 @@ import proved
 from running import TOP, Wrong, run_tests, version
 
 # The columns of a line of code or of a definition, of a line of a clause, and of a line of a page.
-CODE, CLAUSE, PROSE = 110, 100, 120
+CODE, CLAUSE, PROSE = 112, 100, 120
 # The lines of pages, at most; the last one is for each decision.
 LINES = {'README.md': 170, 'docs/DESIGN.md': 160, 'docs/DEFINITIONS.md': 200, 'docs/CALLING.md': 200,
          'docs/CONTRIBUTING.md': 200, 'docs/decisions/[0-9]*.md': 40}
 # The words of all pages, the lines of code, of definitions and proofs, and of scripts, and the crates, at most; and the
 # ends of files beside scripts that are none.
-SIZES = {'.rt': 26300, '.antt': 26250, 'scripts': 10060, 'crates': 24}
+SIZES = {'.rt': 27000, '.antt': 28100, 'scripts': 10400, 'crates': 24}
 NO_SCRIPTS = ('.rt', '.antt', '.md', '.tsv', '.txt', 'args', 'stdin', 'stdout')
 # The files that have an option of subst, at most, and those that have the text of a fault.
 OPTION_FILES, FAULT_FILES = 7, 6

@@ -27,6 +27,8 @@ HIDDEN = {
     'subst_c/': 'its modules are private',
     'subst_c/src/lib.rt': '',
     'subst_cli/': 'most of its modules are private',
+    'subst_cli/src/filling.rt': '',
+    'subst_cli/src/layers.rt': '',
     'subst_cli/src/options.rt': '',
     'subst_cli/src/process.rt': '',
 }

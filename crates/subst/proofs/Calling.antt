@@ -61,3 +61,7 @@ pub use Rattle.subst_language.proofs.WorkedExamples.Words.{plain, only_plain, on
 pub use Rattle.subst_json.proofs.OneOutcomeLemmas.{one_outcome}
 -- a TOML tree is filled in as one tree, or refused for one fault, and never both
 pub use Rattle.subst_toml.proofs.OneOutcomeLemmas.{one_outcome as toml_one_outcome}
+-- what the strings of a JSON tree become, of a TOML tree and of a text, said in a weaker way
+pub use Rattle.subst_json.proofs.MappedLemmas.{each_weaker}
+pub use Rattle.subst_toml.proofs.MappedLemmas.{each_weaker as toml_each_weaker}
+pub use Rattle.subst_walk.proofs.EditLemmas.{filled_weaker}

@@ -11,12 +11,13 @@
 //!
 //! [`first_refusal`] and [`all_refusals`] return refused strings of a tree with their paths; [`place_of`] and
 //! [`place_in`] return where they are in the document that was read, and [`places_in`] where many ranges of
-//! one string are. [`fill_in_by`] and [`refusals_by`] take a [`Fill`], a way to fill in a string, which by a
-//! map is [`Filler`]. [`reader_stop`] returns where a text that is no JSON goes wrong.
+//! one string are; a [`RangeFinder`] does so for many strings. [`fill_in_by`] and [`refusals_by`] take a
+//! [`Fill`], a way to fill in a string, which by a map is [`Filler`]. [`reader_stop`] returns where a text
+//! that is no JSON goes wrong.
 
 pub use subst_json::{
-    Error, Fill, Filler, Path, PathStep, ReaderStop, RefusalAt, RefusedString, StringAt,
-    all_refusals, fill_in, fill_in_by, fill_in_slice, first_refusal, from_slice, from_str,
-    place_in, place_of, places_in, reader_stop, refusals_by, refusals_in, strings,
+    Error, Fill, Filler, Path, PathStep, RangeFinder, ReaderStop, RefusalAt, RefusedString,
+    StringAt, all_refusals, fill_in, fill_in_by, fill_in_slice, first_refusal, from_slice,
+    from_str, place_in, place_of, places_in, reader_stop, refusals_by, refusals_in, strings,
     substitute_string_values, value_from_slice, value_from_str,
 };

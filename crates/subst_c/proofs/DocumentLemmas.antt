@@ -15,14 +15,15 @@ use Rattle.subst_language.specs.Calls.VariableMap.{look_up_of}
 use Rattle.subst_language.specs.Language.LookUp.{LookUp}
 use Rattle.subst_walk.specs.Edits.{AreSpelled}
 use Rattle.subst_walk.specs.Paths.{AreRefusals, PathStep}
+use Rattle.subst_walk.specs.declared.found.RefusalAt.{RefusalAt}
 use Rattle.subst_json.specs.Filled.{IsStringToken}
 use Rattle.subst_json.specs.Listed.{located_in, refusal_at, string_of}
 use Rattle.subst_json.specs.Paths as json_paths
-use Rattle.subst_json.specs.declared.listing.RefusalAt as json
+use Rattle.subst_json.specs.declared.path.Path as json
 use Rattle.subst_toml.specs.Filled.{AreAllRefusals, IsFound, refusal_in}
 use Rattle.subst_toml.specs.Outcome.{ReadsAsTree}
 use Rattle.subst_toml.specs.Paths as toml_paths
-use Rattle.subst_toml.specs.declared.document.listing.RefusalAt as toml
+use Rattle.subst_toml.specs.declared.path.Path as toml
 use Rattle.subst_c.specs.Buffer.{IsPut, IsTooLong}
 use Rattle.subst_c.specs.Documents.{Format, Json, Toml, IfRefused, IsFilledIn, IsFirst, IsPlaceIn, IsRefusal, IsResultOf, IsSaidBy, IsSaidOf, Says, path_text}
 use Rattle.subst_c.specs.Fault.{fault_number}
@@ -77,8 +78,8 @@ first_refused format look s path x token place e (Ok (OutOfMemory m)) first plac
 first_refused format look s path x token place e (Err m) first placed h = tt
 
 -- the first of a list of refusals of JSON
-pub first_of_json : (look : LookUp) (s : List ℕ) (items : List json.RefusalAt) (it : json.RefusalAt)
-    (f : Fault) → Some it ≡ slice_get items 0
+pub first_of_json : (look : LookUp) (s : List ℕ) (items : List (RefusalAt json.Path))
+    (it : RefusalAt json.Path) (f : Fault) → Some it ≡ slice_get items 0
     → AreRefusals look (located_in [] (tokens s)) (map refusal_at items)
     → AreSpelled IsStringToken s 0 (map string_of items) → error_fault it.error ≡ Some f
     → IsFirst Json look s (record {
@@ -96,8 +97,9 @@ first_of_json look s (item ∷ items) it f first all spelled is =
     ((map refusal_at items, rw is at all_it), spelled_it.3)
 
 -- the first of a list of refusals of TOML
-pub first_of_toml : (look : LookUp) (s : List ℕ) (items : List toml.RefusalAt) (it : toml.RefusalAt)
-    (f : Fault) → Some it ≡ slice_get items 0 → AreAllRefusals look s (map refusal_in items)
+pub first_of_toml : (look : LookUp) (s : List ℕ) (items : List (RefusalAt toml.Path))
+    (it : RefusalAt toml.Path) (f : Fault) → Some it ≡ slice_get items 0
+    → AreAllRefusals look s (map refusal_in items)
     → ReadsAsTree s (λ d. AllByRecursion (IsFound s d) items) → error_fault it.error ≡ Some f
     → IsFirst Toml look s (record {
       path = toml_paths.steps_of it.path;

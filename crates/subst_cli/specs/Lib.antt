@@ -1,2 +1,7 @@
+pub mod Faults
 pub mod Fill
+pub mod Layers
+pub mod Run
 pub mod Status
+pub mod Strings
+pub mod ValuesFile

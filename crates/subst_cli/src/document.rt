@@ -1,7 +1,13 @@
 //! Documents: texts whose strings are filled in where they are.
 
-use crate::part::{Occurrence, uses_in_text};
-use crate::source::Messages;
+ghost use Rattle.std.specs.Prelude.{◌≡◌, [], ℕ, List, IfErr, IfOk, string_bytes};
+ghost use Rattle.subst_cli.specs.Strings.{IsFilledFrom};
+ghost use Rattle.subst_cli.specs.Layers.{Entry, AreVariablesOf};
+ghost use Rattle.subst_cli.specs.declared.layers.Variables.{Variables as SpecVariables};
+ghost use Rattle.subst_cli.specs.declared.options.Placeholders.{Placeholders as SpecPlaceholders};
+
+use crate::fault::{Cause, Fault, one_fault};
+use crate::part::{Occurrence, Outcome, uses_in_text};
 pub(crate) use filler::StringFiller;
 pub(crate) use json_document::JsonDocument;
 use std::alloc::{AllocError, Global};
@@ -16,16 +22,23 @@ mod toml_document;
 /// Why a document isn't filled in.
 #[derive(Drop)]
 pub(crate) enum Unfilled {
-    /// What the reader says of a text that is none, and where in the text, if it says so.
-    NotADocument(String, Option<Range<usize>>),
+    /// It is none, or isn't confirmed: its fault.
+    Unread(Vec<Fault>),
     /// A string of it is refused.
     Refused,
-    /// It isn't confirmed where its strings are, or what they become.
-    NotConfirmed,
 }
+
+/// A string of a document that is refused, with the path that leads to it.
+pub(crate) type RefusedAt = (String, StringAt);
 
 /// A format of documents.
 pub(crate) trait Document {
+    /// What places are found with, which is kept from one string to the next.
+    type Finder: Drop;
+
+    // Whether a text is another one with its strings filled in.
+    ghost is_filled: { SpecPlaceholders → List Entry → List ℕ → List ℕ → Type 0 };
+
     /// Returns a text with its strings filled in.
     ///
     /// # Errors
@@ -35,7 +48,11 @@ pub(crate) trait Document {
         alloc: Global,
         text: &str,
         filler: &StringFiller<'_>,
-    ) -> Result<Result<String, Unfilled>, AllocError>;
+    ) -> Result<Result<String, Unfilled>, AllocError>
+        ensures { (variables : SpecVariables) → (entries : List Entry)
+            → IsFilledFrom filler.now variables → AreVariablesOf variables entries
+            → IfOk result (λ filled. IfOk filled (λ output.
+            is_filled filler.now.placeholders.now entries text.now (string_bytes output))) };
 
     /// Returns the strings that are refused, in the order of the text, each with the path that leads to it.
     /// That is empty where the document is a string.
@@ -47,7 +64,7 @@ pub(crate) trait Document {
         alloc: Global,
         text: &str,
         filler: &StringFiller<'_>,
-    ) -> Result<Result<Vec<(String, StringAt)>, Unfilled>, AllocError>;
+    ) -> Result<Result<Vec<RefusedAt>, Unfilled>, AllocError>;
 
     /// Returns the strings, in the order of the text.
     ///
@@ -56,6 +73,9 @@ pub(crate) trait Document {
     /// When allocation fails.
     fn strings(alloc: Global, text: &str) -> Result<Result<Vec<StringAt>, Unfilled>, AllocError>;
 
+    /// Returns what finds places.
+    fn finder(alloc: Global) -> Self::Finder;
+
     /// Returns where these ranges of a string, which go up, are in the text.
     ///
     /// # Errors
@@ -63,13 +83,14 @@ pub(crate) trait Document {
     /// When allocation fails.
     fn places(
         alloc: Global,
+        finder: &mut Self::Finder,
         text: &str,
         span: Range<usize>,
         ranges: &[Range<usize>],
     ) -> Result<Option<Vec<Range<usize>>>, AllocError>;
 }
 
-/// Returns a text with its strings filled in, or adds messages about why it isn't.
+/// Returns a text with its strings filled in, or its faults.
 ///
 /// # Errors
 ///
@@ -78,17 +99,22 @@ pub(crate) fn fill<D: Document>(
     alloc: Global,
     text: &str,
     filler: &StringFiller<'_>,
-    messages: &mut Messages<'_>,
-) -> Result<Option<String>, AllocError> {
+) -> Result<Outcome<String>, AllocError>
+    ensures gives { (variables : SpecVariables) → (entries : List Entry)
+        → IsFilledFrom filler.now variables → AreVariablesOf variables entries
+        → IfOk result (λ outcome. IfOk outcome (λ output.
+        D.is_filled filler.now.placeholders.now entries text.now (string_bytes output))) }
+    ensures refused { IfOk result
+        (λ outcome. IfErr outcome (λ faults. ¬ (faults.items ≡ []))) }
+{
     match D::fill_in(alloc, text, filler)? {
-        Ok(output) => return Ok(Some(output)),
-        Err(Unfilled::Refused) => add_faults::<D>(alloc, text, filler, messages)?,
-        Err(why) => add_why(alloc, &why, messages)?,
+        Ok(output) => Ok(Ok(output)),
+        Err(Unfilled::Unread(faults)) => Ok(Err(or_not_confirmed(alloc, faults)?)),
+        Err(Unfilled::Refused) => Ok(Err(faults_in::<D>(alloc, text, filler)?)),
     }
-    Ok(None)
 }
 
-/// Returns the variables of a text, with their places in it, or adds messages about its faults.
+/// Returns the variables of a text, with their places in it, or its faults.
 ///
 /// # Errors
 ///
@@ -97,31 +123,27 @@ pub(crate) fn uses<D: Document>(
     alloc: Global,
     text: &str,
     filler: &StringFiller<'_>,
-    messages: &mut Messages<'_>,
-) -> Result<Option<Vec<Occurrence>>, AllocError> {
+) -> Result<Outcome<Vec<Occurrence>>, AllocError> {
     let strings = match D::strings(alloc, text)? {
         Ok(strings) => strings,
-        Err(why) => {
-            add_why(alloc, &why, messages)?;
-            return Ok(None);
-        }
+        Err(Unfilled::Unread(faults)) => return Ok(Err(faults)),
+        Err(Unfilled::Refused) => return Ok(Err(or_not_confirmed(alloc, Vec::new(alloc))?)),
     };
+    let mut finder = D::finder(alloc);
     let mut all = Vec::new(alloc);
     for StringAt { text: string, span } in strings {
         match uses_in_text(alloc, &string, filler.placeholders)? {
-            Ok(uses) => add_uses::<D>(alloc, text, span, uses, &mut all)?,
-            Err(_) => {
-                add_faults::<D>(alloc, text, filler, messages)?;
-                return Ok(None);
-            }
+            Ok(uses) => add_uses::<D>(alloc, &mut finder, text, span, uses, &mut all)?,
+            Err(_) => return Ok(Err(faults_in::<D>(alloc, text, filler)?)),
         }
     }
-    Ok(Some(all))
+    Ok(Ok(all))
 }
 
 /// Adds the variables of a string, with their places in the text.
 fn add_uses<D: Document>(
     alloc: Global,
+    finder: &mut D::Finder,
     text: &str,
     span: Range<usize>,
     uses: Vec<Occurrence>,
@@ -131,7 +153,7 @@ fn add_uses<D: Document>(
         .iter()
         .map(|it| it.range.start..it.range.end)
         .collect(alloc)?;
-    let places = places::<D>(alloc, text, span, &ranges)?;
+    let places = places::<D>(alloc, finder, text, span, &ranges)?;
     for (mut it, place) in uses.into_iter().zip(places) {
         it.range = place;
         all.push(it)?;
@@ -139,61 +161,69 @@ fn add_uses<D: Document>(
     Ok(())
 }
 
-/// Adds messages about all faults of all strings.
-fn add_faults<D: Document>(
+/// Returns the faults of all strings of a document that is refused.
+fn faults_in<D: Document>(
     alloc: Global,
     text: &str,
     filler: &StringFiller<'_>,
-    messages: &mut Messages<'_>,
-) -> Result<(), AllocError> {
-    match D::refused(alloc, text, filler)? {
-        Ok(strings) if strings.is_empty() => add_why(alloc, &Unfilled::NotConfirmed, messages),
-        Ok(strings) => {
-            for (path, it) in strings {
-                add_faults_of::<D>(alloc, text, filler, &path, it, messages)?;
-            }
-            Ok(())
-        }
-        Err(why) => add_why(alloc, &why, messages),
+) -> Result<Vec<Fault>, AllocError>
+    ensures { IfOk result (λ faults. ¬ (faults.items ≡ [])) }
+{
+    let faults = match D::refused(alloc, text, filler)? {
+        Ok(strings) => faults_of::<D>(alloc, text, filler, strings)?,
+        Err(Unfilled::Unread(faults)) => faults,
+        Err(Unfilled::Refused) => Vec::new(alloc),
+    };
+    or_not_confirmed(alloc, faults)
+}
+
+/// Returns these faults, or where there are none that the document isn't confirmed.
+fn or_not_confirmed(alloc: Global, faults: Vec<Fault>) -> Result<Vec<Fault>, AllocError>
+    ensures { IfOk result (λ faults. ¬ (faults.items ≡ [])) }
+{
+    if faults.is_empty() {
+        one_fault(alloc, 0..0, Cause::NotConfirmed)
+    } else {
+        Ok(faults)
     }
 }
 
-/// Adds messages about the faults of a string.
-fn add_faults_of<D: Document>(
+/// Returns the faults of these strings, with their places in the text.
+fn faults_of<D: Document>(
     alloc: Global,
     text: &str,
     filler: &StringFiller<'_>,
-    path: &str,
-    it: StringAt,
-    messages: &mut Messages<'_>,
-) -> Result<(), AllocError> {
-    let faults = filler.faults(alloc, &it.text)?;
-    let ranges: Vec<_> = faults
-        .iter()
-        .map(|it| it.range.start..it.range.end)
-        .collect(alloc)?;
-    let places = places::<D>(alloc, text, it.span, &ranges)?;
-    for (fault, place) in faults.into_iter().zip(places) {
-        if path.is_empty() {
-            messages.add(alloc, place, &fault)?;
-        } else {
-            let what = format!(in alloc; "{path}: {fault}")?;
-            messages.add(alloc, place, &what)?;
+    strings: Vec<RefusedAt>,
+) -> Result<Vec<Fault>, AllocError> {
+    let mut finder = D::finder(alloc);
+    let mut all = Vec::new(alloc);
+    for (path, StringAt { text: string, span }) in strings {
+        let faults = filler.faults(alloc, &string)?;
+        let ranges: Vec<_> = faults
+            .iter()
+            .map(|it| it.range.start..it.range.end)
+            .collect(alloc)?;
+        let places = places::<D>(alloc, &mut finder, text, span, &ranges)?;
+        for (mut fault, place) in faults.into_iter().zip(places) {
+            fault.path = String::from_str(alloc, &path)?;
+            fault.range = place;
+            all.push(fault)?;
         }
     }
-    Ok(())
+    Ok(all)
 }
 
 /// Returns where these ranges of a string are in the text, or for each where the string is if they aren't
 /// found.
 fn places<D: Document>(
     alloc: Global,
+    finder: &mut D::Finder,
     text: &str,
     span: Range<usize>,
     ranges: &[Range<usize>],
 ) -> Result<Vec<Range<usize>>, AllocError> {
     let Range { start, end } = span;
-    if let Some(places) = D::places(alloc, text, start..end, ranges)? {
+    if let Some(places) = D::places(alloc, finder, text, start..end, ranges)? {
         return Ok(places);
     }
     let mut places = Vec::with_capacity(alloc, ranges.len())?;
@@ -201,18 +231,4 @@ fn places<D: Document>(
         places.push(start..end)?;
     }
     Ok(places)
-}
-
-/// Adds a message about a text that isn't read, or isn't confirmed.
-fn add_why(alloc: Global, why: &Unfilled, messages: &mut Messages<'_>) -> Result<(), AllocError> {
-    match why {
-        Unfilled::NotADocument(message, Some(range)) => {
-            messages.add(alloc, range.start..range.end, message)
-        }
-        Unfilled::NotADocument(message, None) => messages.add_unplaced(alloc, message),
-        Unfilled::Refused | Unfilled::NotConfirmed => messages.add_unplaced(
-            alloc,
-            &"it isn't confirmed where the strings of this document are",
-        ),
-    }
 }

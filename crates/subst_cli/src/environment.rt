@@ -1,75 +1,32 @@
-//! The environment, whose values need not be UTF-8.
+//! The environment, whose entries need not be UTF-8.
 
-use crate::options::{Pair, owned};
+ghost use Rattle.std.specs.Prelude.{◌≡◌, ◌++◌, IfOk, OnOk, map, option_to_list};
+ghost use Rattle.std.specs.Prelude.{vec_items};
+ghost use Rattle.subst_cli.specs.Layers as layers;
+ghost use Rattle.subst_cli.specs.Layers.{entries_of, environment_of};
+
+use crate::entry::{Entry, entry_in};
 use std::alloc::{AllocError, Global};
-use std::collections::HashSet;
 use std::env::{Env, FillError};
-use subst_language::is_name;
 
 /// For how long an entry there is room at first.
 const FIRST_ROOM: usize = 4096;
 
-/// The variables of the environment whose names templates can spell.
-#[derive(Drop)]
-pub(crate) struct Environment {
-    /// Those whose values are UTF-8.
-    pub pairs: Vec<Pair>,
-    /// The names of the others, in their order as texts.
-    pub not_utf8: Vec<String>,
-}
-
-impl Environment {
-    /// Returns one without variables.
-    pub fn empty(alloc: Global) -> Environment {
-        Environment {
-            pairs: Vec::new(alloc),
-            not_utf8: Vec::new(alloc),
-        }
-    }
-
-    /// Reads the environment.
-    ///
-    /// # Errors
-    ///
-    /// When allocation fails.
-    pub fn read<E: Env>(alloc: Global, rt: &E) -> Result<Environment, AllocError> {
-        let mut environment = Environment::empty(alloc);
-        let mut not_utf8 = HashSet::new(alloc);
-        let mut room = vec![in alloc; 0; FIRST_ROOM]?;
-        for index in 0..usize::MAX {
-            match entry_len(rt, index, &mut room)? {
-                Some(len) => {
-                    let entry = room.get(..len).unwrap_or(&[]);
-                    environment.add(alloc, entry, &mut not_utf8)?;
-                }
-                None => break,
-            }
-        }
-        environment.not_utf8.sort_unstable();
-        Ok(environment)
-    }
-
-    /// Adds an entry, `NAME=VALUE`, unless one of its name that counts before it isn't UTF-8. Others give no
-    /// variable.
-    fn add(
-        &mut self,
-        alloc: Global,
-        entry: &[u8],
-        not_utf8: &mut HashSet<String>,
-    ) -> Result<(), AllocError> {
-        let Some((name, value)) = name_and_value(entry) else {
-            return Ok(());
+/// Reads the environment: all its entries, `NAME=VALUE`, in their order.
+///
+/// # Errors
+///
+/// When allocation fails.
+pub(crate) fn read<E: Env>(alloc: Global, rt: &E) -> Result<Vec<Vec<u8>>, AllocError> {
+    let mut entries = Vec::new(alloc);
+    let mut room = vec![in alloc; 0; FIRST_ROOM]?;
+    for index in 0..usize::MAX {
+        let Some(len) = entry_len(rt, index, &mut room)? else {
+            break;
         };
-        match str::from_utf8(value) {
-            _ if not_utf8.contains(name) => {}
-            Ok(value) => self.pairs.push(owned(alloc, name, value)?)?,
-            Err(_) => {
-                not_utf8.insert(String::from_str(alloc, name)?)?;
-                self.not_utf8.push(String::from_str(alloc, name)?)?;
-            }
-        }
-        Ok(())
+        entries.push(Vec::from_slice(alloc, room.get(..len).unwrap_or(&[]))?)?;
     }
+    Ok(entries)
 }
 
 /// Copies an entry of the environment to the start of a buffer, which is made longer where that is needed,
@@ -89,14 +46,31 @@ fn entry_len<E: Env>(
     Err(AllocError)
 }
 
-/// Returns the two sides of an entry's first `=`, where the left one is a name that templates can spell.
-fn name_and_value(entry: &[u8]) -> Option<(&str, &[u8])> {
-    let at = entry.iter().position(|b| *b == b'=')?;
-    let (name, value) = entry.split_at(at);
-    let name = str::from_utf8(name).ok()?;
-    if is_name(name.as_bytes()) {
-        Some((name, value.get(1..)?))
-    } else {
-        None
+/// Returns what the entries of an environment give, in their order. One gives nothing that isn't
+/// `NAME=VALUE`, of a name that templates can spell.
+///
+/// # Errors
+///
+/// When allocation fails.
+pub(crate) fn entries(alloc: Global, raw: &[Vec<u8>]) -> Result<Vec<Entry>, AllocError>
+    ensures { IfOk result (λ entries. entries_of entries.items
+        ≡ environment_of (map vec_items raw.now)) }
+{
+    let mut entries = Vec::new(alloc);
+    for bytes in raw {
+        add(alloc, bytes, &mut entries)?;
     }
+    Ok(entries)
+}
+
+/// Adds what an entry of an environment gives.
+fn add(alloc: Global, bytes: &[u8], entries: &mut Vec<Entry>) -> Result<(), AllocError>
+    ensures { OnOk result (entries_of entries.new.items
+        ≡ entries_of entries.old.items ++ option_to_list (layers.entry_in bytes.now)) }
+{
+    let Some(entry) = entry_in(alloc, bytes)? else {
+        return Ok(());
+    };
+    entries.push(entry)?;
+    Ok(())
 }

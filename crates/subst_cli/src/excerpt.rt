@@ -1,6 +1,6 @@
 //! The line of a source that a fault is in, underlined, or what of a long line is around the fault.
 
-use crate::shown::shown;
+use crate::shown::{are_printable, shown};
 use std::alloc::{AllocError, Global};
 use std::ops::Range;
 use subst::error::Underlined;
@@ -11,6 +11,9 @@ const WIDEST: usize = 60;
 
 /// How many bytes of a line are looked at before a fault, and how many from it on.
 const AROUND: usize = 512;
+
+/// How many are enough where each takes a column: more than the widest line.
+const NEAR: usize = 64;
 
 /// What stands for the part of a line that isn't shown.
 const CUT: &str = "…";
@@ -36,7 +39,7 @@ pub(crate) fn excerpt(
         text: shown(alloc, part(source, range.start..line.end))?,
         is_cut: !is_at_line_end(source, Some(line.end)),
     };
-    let carets = shown(alloc, marked)?.as_str().width();
+    let carets = columns(&shown(alloc, marked)?);
     underlined(alloc, &before, &after, carets)
 }
 
@@ -47,8 +50,18 @@ fn part(source: &[u8], range: Range<usize>) -> &[u8] {
 
 /// Returns the range of the line around an offset, or of what of it is near the offset.
 fn around(source: &[u8], offset: usize) -> Range<usize> {
-    let first = character_start(source, offset.saturating_sub(AROUND));
-    let last = character_start(source, offset.saturating_add(AROUND).min(source.len()));
+    let near = within(source, offset, NEAR);
+    if are_printable(part(source, near.start..near.end)) {
+        near
+    } else {
+        within(source, offset, AROUND)
+    }
+}
+
+/// Returns the range of what of the line around an offset is at most so many bytes away.
+fn within(source: &[u8], offset: usize, most: usize) -> Range<usize> {
+    let first = character_start(source, offset.saturating_sub(most));
+    let last = character_start(source, offset.saturating_add(most).min(source.len()));
     let start = match part(source, first..offset)
         .iter()
         .rposition(|b| is_line_end(*b))
@@ -100,10 +113,7 @@ struct Piece {
 impl Piece {
     /// Returns how many columns it takes whole.
     fn width(&self) -> usize {
-        self.text
-            .as_str()
-            .width()
-            .saturating_add(usize::from(self.is_cut))
+        columns(&self.text).saturating_add(usize::from(self.is_cut))
     }
 
     /// Returns how many columns its text has, where it takes at most so many, and whether it is cut.
@@ -138,8 +148,8 @@ fn underlined(
     push_if(&mut line, is_right_cut)?;
     let underlined = Underlined {
         line: &line,
-        spaces: before.width().saturating_add(usize::from(is_left_cut)),
-        carets: carets.min(after.width()).max(1),
+        spaces: columns(before).saturating_add(usize::from(is_left_cut)),
+        carets: carets.min(columns(after)).max(1),
     };
     format!(in alloc; "{underlined}")
 }
@@ -149,8 +159,20 @@ fn push_if(text: &mut String, is_cut: bool) -> Result<(), AllocError> {
     if is_cut { text.push_str(CUT) } else { Ok(()) }
 }
 
+/// Returns how many columns a text takes that is shown.
+fn columns(text: &str) -> usize {
+    if text.is_ascii() {
+        text.len()
+    } else {
+        text.width()
+    }
+}
+
 /// Returns the end of a text that takes at most so many columns.
 fn last_columns(text: &str, columns: usize) -> &str {
+    if text.is_ascii() {
+        return text.get(text.len().saturating_sub(columns)..).unwrap_or("");
+    }
     let mut left = text.width();
     for (at, c) in text.char_indices() {
         let width = c.width().unwrap_or(0);
@@ -178,6 +200,9 @@ pub(crate) fn cut(alloc: Global, text: String, columns: usize) -> Result<String,
 
 /// Returns the start of a text that takes at most so many columns.
 fn first_columns(text: &str, columns: usize) -> &str {
+    if text.is_ascii() {
+        return text.get(..columns.min(text.len())).unwrap_or("");
+    }
     let mut used = 0usize;
     for (at, c) in text.char_indices() {
         used = used.saturating_add(c.width().unwrap_or(0));

@@ -1,84 +1,85 @@
-//! What is wrong with a text of a source.
+//! What is wrong with a source.
 
-use crate::fill::Refusal;
-use std::alloc::AllocError;
+ghost use Rattle.std.specs.Prelude.{◌≡◌, ◌∷◌, [], IfOk};
+ghost use Rattle.subst_cli.specs.declared.fault.Fault.{Fault as SpecFault};
+
+use std::alloc::{AllocError, Global};
 use std::fmt;
 use std::ops::Range;
 use subst::Error;
 
-/// Why a text of a source isn't filled in, and where in it.
+/// What is wrong with a source, and where in it.
 #[derive(Drop)]
-pub(crate) struct Fault {
-    /// The range that it is about.
+pub struct Fault {
+    /// The path to the string of a document that it is in. It is empty elsewhere, and where the document is a
+    /// string.
+    pub path: String,
+    /// The range that it is about, in byte offsets.
     pub range: Range<usize>,
     /// What it is.
-    pub what: Cause,
+    pub cause: Cause,
 }
 
-/// Why a text of a source isn't filled in.
+/// Why a source gives nothing.
 #[derive(Drop)]
-pub(crate) enum Cause {
+pub enum Cause {
     /// The library refuses it.
     Refused(Error),
     /// It names this variable, whose value in the environment isn't UTF-8.
-    NotUtf8(String),
+    Unreadable(String),
+    /// It isn't UTF-8.
+    NotUtf8,
+    /// It is no document, of which the reader says this.
+    NotADocument(String),
+    /// It isn't confirmed where the strings of the document are, or what they become.
+    NotConfirmed,
+    /// A line of a values file gives no variable, for this.
+    NoVariable(&'static str),
 }
 
-impl fmt::Display for Fault {
+impl fmt::Display for Cause {
     fn fmt<W: fmt::Write>(&self, f: &mut fmt::Formatter<W>) -> fmt::Result {
-        match &self.what {
+        match self {
             Cause::Refused(e) => write!(f, "{e}"),
-            Cause::NotUtf8(name) => {
+            Cause::Unreadable(name) => {
                 write!(
                     f,
                     "The value of this variable in the environment isn't UTF-8: ${name}"
                 )
             }
+            Cause::NotUtf8 => f.write_str("invalid UTF-8"),
+            Cause::NotADocument(message) => f.write_str(message),
+            Cause::NotConfirmed => {
+                f.write_str("it isn't confirmed where the strings of this document are")
+            }
+            Cause::NoVariable(why) => f.write_str(why),
         }
     }
+}
+
+/// Returns a list of one fault of a source, which is in no string of a document.
+///
+/// # Errors
+///
+/// When allocation fails.
+pub(crate) fn one_fault(
+    alloc: Global,
+    range: Range<usize>,
+    cause: Cause,
+) -> Result<Vec<Fault>, AllocError>
+    ensures { IfOk result
+        (λ faults. (fault : SpecFault) × (faults.items ≡ fault ∷ []) × (fault.cause ≡ cause)) }
+{
+    let mut faults = Vec::new(alloc);
+    faults.push(Fault {
+        path: String::new(alloc),
+        range,
+        cause,
+    })?;
+    Ok(faults)
 }
 
 /// Returns the range of a name that begins at a position.
 pub(crate) fn range_of_name(position: usize, name: &str) -> Range<usize> {
     position..position.saturating_add(name.len())
-}
-
-/// Returns the faults of a text that is refused, and those that it has besides, which are in the order of
-/// their places, all in that order. Those besides stand for what is missing at the same places.
-///
-/// # Errors
-///
-/// When allocation fails.
-pub(crate) fn all_faults(refusal: Refusal, besides: Vec<Fault>) -> Result<Vec<Fault>, AllocError> {
-    let mut faults = besides;
-    let count = faults.len();
-    let Refusal {
-        first,
-        range,
-        others,
-    } = refusal;
-    push_unless_told(&mut faults, count, range, first)?;
-    for e in others {
-        let range = range_of_name(e.position, &e.name);
-        push_unless_told(&mut faults, count, range, Error::NoSuchVariable(e))?;
-    }
-    faults.sort_unstable_by_key(|fault| fault.range.start);
-    Ok(faults)
-}
-
-/// Adds a fault, unless one of the first `count` faults is at its place.
-fn push_unless_told(
-    faults: &mut Vec<Fault>,
-    count: usize,
-    range: Range<usize>,
-    e: Error,
-) -> Result<(), AllocError> {
-    let told = faults.get(..count).unwrap_or(&[]);
-    match told.binary_search_by_key(&range.start, |fault| fault.range.start) {
-        Ok(_) => Ok(()),
-        Err(_) => Ok(faults.push(Fault {
-            range,
-            what: Cause::Refused(e),
-        })?),
-    }
 }

@@ -1,45 +1,135 @@
-//! The variables of a run: those that are given before those of the environment.
+//! The variables of a run: the entries that give them, in the order in which they count.
 
-ghost use Rattle.std.specs.Prelude.{◌≡◌, ◌++◌, IfOk, reverse};
+ghost use Rattle.std.specs.Prelude.{◌≡◌, ◌==◌, ◌||◌, ◌&&◌, ℕ, IfOk, IsTrue, List, false, None, OnOk, Some, if◌then◌else◌, is_none, is_some, not, option_map, string_bytes};
+ghost use Rattle.std.specs.Option.{option_or};
+ghost use Rattle.std.specs.Str.{bytes_eq};
+ghost use Rattle.subst_cli.specs.Layers as layers;
+ghost use Rattle.subst_cli.specs.Layers.{AreVariablesOf, entries_of, given_by, has_unreadable};
+ghost use Rattle.subst_filter_lib.specs.Words.{value_under};
 
+use crate::entry::Entry;
 use crate::options::Pair;
-use std::alloc::AllocError;
+use std::alloc::{AllocError, Global};
+use std::collections::HashMap;
 use subst_filter_lib::values::Values;
 
 /// The variables of a run.
 #[derive(Drop)]
-pub(crate) struct Variables<'v> {
+pub struct Variables<'v> {
     /// The values that are text.
     pub values: Values<'v>,
-    /// The names of the environment whose values aren't, in their order as texts.
-    pub not_utf8: &'v [String],
+    /// The names whose values aren't, each under itself.
+    pub unreadable: Values<'v>,
 }
 
-impl Variables<'_> {
-    /// Returns whether the environment has a value of this name that isn't text, and no other is given.
-    pub fn is_not_utf8(&self, name: &str) -> bool {
-        let found = self
-            .not_utf8
-            .binary_search_by(|other| other.as_str().cmp(name));
-        found.is_ok() && self.values.get(name).is_none()
+impl<'v> Variables<'v> {
+    /// Returns the variables that entries give: of those of one name, the first one counts.
+    ///
+    /// # Errors
+    ///
+    /// When allocation fails.
+    pub fn of(alloc: Global, entries: &'v [Entry]) -> Result<Variables<'v>, AllocError>
+        ensures { IfOk result (λ variables. AreVariablesOf variables (entries_of entries.now)) }
+    {
+        let mut values = HashMap::new(alloc);
+        values.reserve(entries.len())?;
+        let mut variables = Variables {
+            values,
+            unreadable: HashMap::new(alloc),
+        };
+        for entry in entries {
+            variables.add(entry)?;
+        }
+        Ok(variables)
+    }
+
+    /// Adds what an entry gives, unless one of its name was added before.
+    fn add(&mut self, entry: &'v Entry) -> Result<(), AllocError>
+        ensures values { OnOk result ((name : List ℕ) → value_under self.new.values name
+            ≡ option_or (value_under self.old.values name)
+            (if bytes_eq name (string_bytes entry.now.name) && not (has_unreadable self.old name)
+            then option_map string_bytes entry.now.value else None)) }
+        ensures unreadable { OnOk result ((name : List ℕ) → has_unreadable self.new name
+            ≡ (has_unreadable self.old name || (bytes_eq name (string_bytes entry.now.name)
+            && (not (is_some (value_under self.old.values name)) && is_none entry.now.value)))) }
+    {
+        let name = entry.name.as_str();
+        if has(&self.values, name) || has(&self.unreadable, name) {
+            return Ok(());
+        }
+        let Some(value) = &entry.value else {
+            return put(&mut self.unreadable, name, name);
+        };
+        put(&mut self.values, name, value.as_str())
+    }
+
+    /// Returns whether all that is given is text.
+    pub fn are_readable(&self) -> bool
+        ensures { IsTrue result → (name : List ℕ) → has_unreadable self.now name ≡ false }
+    {
+        self.unreadable.is_empty()
+    }
+
+    /// Returns whether what is given to this name isn't text.
+    pub fn is_unreadable(&self, name: &str) -> bool
+        ensures { result ≡ has_unreadable self.now name.now }
+    {
+        has(&self.unreadable, name)
     }
 }
 
-/// Returns all variables, those first that count: the given ones from the last on, and then those of the
-/// environment.
+/// Returns whether there is a value under this name.
+fn has(values: &Values<'_>, name: &str) -> bool
+    ensures { result ≡ is_some (value_under values.now name.now) }
+{
+    values.contains_key(name)
+}
+
+/// Puts a value under a name.
+#[tactic(auto, using(std::proofs::lemmas::Map::Text::text_keys))]
+fn put<'v>(values: &mut Values<'v>, name: &'v str, value: &'v str) -> Result<(), AllocError>
+    ensures { OnOk result ((other : List ℕ) → value_under values.new other
+        ≡ (if bytes_eq other name.now then Some value.now else value_under values.old other)) }
+{
+    values.insert(name, value)?;
+    Ok(())
+}
+
+/// Returns what the pairs of the options give, in their order.
+///
+/// # Errors
+///
+/// When allocation fails.
+pub(crate) fn given(alloc: Global, pairs: &[Pair]) -> Result<Vec<Entry>, AllocError>
+    ensures { IfOk result (λ entries. entries_of entries.items ≡ given_by pairs.now) }
+{
+    let mut entries = Vec::new(alloc);
+    for (name, value) in pairs {
+        let name = String::from_str(alloc, name)?;
+        let value = Some(String::from_str(alloc, value)?);
+        entries.push(Entry { name, value })?;
+    }
+    Ok(entries)
+}
+
+/// Returns all entries, those first that count: those of the options from the last on, those of values files
+/// from the last on, and those of the environment.
 ///
 /// # Errors
 ///
 /// When allocation fails.
 pub(crate) fn in_order(
-    mut given: Vec<Pair>,
-    environment: Vec<Pair>,
-) -> Result<Vec<Pair>, AllocError>
-    ensures { IfOk result (λ pairs. pairs.items ≡ reverse given.items ++ environment.items) }
+    mut given: Vec<Entry>,
+    lines: Vec<Entry>,
+    mut environment: Vec<Entry>,
+) -> Result<Vec<Entry>, AllocError>
+    ensures { IfOk result (λ entries. entries_of entries.items
+        ≡ layers.in_order (entries_of given.items) (entries_of lines.items)
+        (entries_of environment.items)) }
 {
-    given.reverse();
-    for pair in environment {
-        given.push(pair)?;
-    }
-    Ok(given)
+    let mut entries = lines;
+    entries.append(&mut given)?;
+    entries.reverse();
+    entries.append(&mut environment)?;
+    Ok(entries)
 }

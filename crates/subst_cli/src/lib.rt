@@ -5,12 +5,14 @@
 #![tactic(auto)]
 
 mod document;
+pub mod entry;
 mod environment;
 mod excerpt;
-mod fault;
+pub mod fault;
 mod fill;
+pub mod filling;
 mod input;
-mod layers;
+pub mod layers;
 mod listing;
 pub mod options;
 mod output;
@@ -21,5 +23,5 @@ pub mod process;
 mod report;
 mod run;
 mod shown;
-mod source;
+pub mod source;
 mod values_file;

@@ -184,11 +184,7 @@ fn asked_pairs(alloc: Global, matches: &ArgMatches<'_>) -> Result<Vec<Pair>, Err
 }
 
 /// Returns a pair that owns its texts.
-///
-/// # Errors
-///
-/// When allocation fails.
-pub(crate) fn owned(alloc: Global, name: &str, value: &str) -> Result<Pair, AllocError> {
+fn owned(alloc: Global, name: &str, value: &str) -> Result<Pair, AllocError> {
     Ok((
         String::from_str(alloc, name)?,
         String::from_str(alloc, value)?,

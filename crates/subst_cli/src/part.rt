@@ -1,13 +1,16 @@
 //! A text or byte string of a source: a source itself, or a string of a document.
 
-ghost use Rattle.std.specs.Prelude.{◌≡◌, Ok, IfOk, string_bytes};
-ghost use Rattle.subst.specs.Language.Answer.{Gives};
-ghost use Rattle.subst_cli.specs.Fill.{AnswersFor};
-ghost use Rattle.subst_filter_lib.specs.Words.{value_under};
+ghost use Rattle.std.specs.Prelude.{◌≡◌, ◌≢◌, ◌++◌, [], List, None, Ok, IfErr, IfOk, OnOk, map, string_bytes};
+ghost use Rattle.std.specs.List.{All, Any};
+ghost use Rattle.subst.specs.ErrorFault.{parse_fault};
+ghost use Rattle.subst_cli.specs.Faults.{cause_of, AreFaultsFor, IsCauseIn, IsFaultOf, IsFirstOrBesides, IsUnreadableCause, IsUnreadableName};
+ghost use Rattle.subst_cli.specs.Fill.{AreReadable, GivesFor};
+ghost use Rattle.subst_cli.specs.Layers.{Entry, AreVariablesOf, IsUnreadable};
+ghost use Rattle.subst_cli.specs.declared.fault.Fault.{Fault as SpecFault};
 
-use crate::fault::{Cause, Fault, all_faults, range_of_name};
+use crate::fault::{Cause, Fault, one_fault, range_of_name};
 use crate::fill;
-use crate::fill::Filled;
+use crate::fill::{Filled, Refusal};
 use crate::layers::Variables;
 use crate::options::Placeholders;
 use crate::placeholders::{Origins, byte_template_of, template_of};
@@ -30,17 +33,21 @@ pub(crate) fn fill_text(
     placeholders: &Placeholders<'_>,
     variables: &Variables<'_>,
 ) -> Result<Outcome<String>, AllocError>
-    ensures { IfOk result (λ outcome. IfOk outcome (λ output. AnswersFor placeholders.now text.now
-        (value_under variables.now.values) (Gives (string_bytes output)))) }
+    ensures gives { (entries : List Entry) → AreVariablesOf variables.now entries
+        → IfOk result (λ outcome. IfOk outcome
+        (λ output. GivesFor placeholders.now entries text.now (string_bytes output))) }
+    ensures refused { (entries : List Entry) → AreVariablesOf variables.now entries
+        → IfOk result (λ outcome. IfErr outcome
+        (λ faults. Any (IsFaultOf placeholders.now entries text.now) faults.items)) }
 {
-    let Some(converted) = template_of(alloc, text, placeholders)? else {
+    let Some(template) = template_of(alloc, text, placeholders)? else {
         let filled = fill::text(alloc, text, &variables.values)?;
-        let not_utf8 = not_utf8_in(alloc, text.as_bytes(), variables)?;
-        return outcome(alloc, filled, not_utf8, None);
+        let unreadable = unreadable_in(alloc, text.as_bytes(), variables)?;
+        return outcome(alloc, filled, unreadable, None);
     };
-    let filled = fill::text(alloc, &converted, &variables.values)?;
-    let not_utf8 = not_utf8_in(alloc, converted.as_bytes(), variables)?;
-    outcome(alloc, filled, not_utf8, Some(converted.as_bytes()))
+    let filled = fill::text(alloc, &template, &variables.values)?;
+    let unreadable = unreadable_in(alloc, template.as_bytes(), variables)?;
+    outcome(alloc, filled, unreadable, Some(template.as_bytes()))
 }
 
 /// Returns bytes with their variables filled in, or their faults.
@@ -54,65 +61,190 @@ pub(crate) fn fill_bytes(
     placeholders: &Placeholders<'_>,
     variables: &Variables<'_>,
 ) -> Result<Outcome<Vec<u8>>, AllocError>
-    ensures { IfOk result (λ outcome. IfOk outcome (λ output. AnswersFor placeholders.now source.now
-        (value_under variables.now.values) (Gives output.items))) }
+    ensures gives { (entries : List Entry) → AreVariablesOf variables.now entries
+        → IfOk result (λ outcome. IfOk outcome
+        (λ output. GivesFor placeholders.now entries source.now output.items)) }
+    ensures refused { (entries : List Entry) → AreVariablesOf variables.now entries
+        → IfOk result (λ outcome. IfErr outcome
+        (λ faults. Any (IsFaultOf placeholders.now entries source.now) faults.items)) }
 {
-    let Some(converted) = byte_template_of(alloc, source, placeholders)? else {
+    let Some(template) = byte_template_of(alloc, source, placeholders)? else {
         let filled = fill::bytes(alloc, source, &variables.values)?;
-        let not_utf8 = not_utf8_in(alloc, source, variables)?;
-        return outcome(alloc, filled, not_utf8, None);
+        let unreadable = unreadable_in(alloc, source, variables)?;
+        return outcome(alloc, filled, unreadable, None);
     };
-    let filled = fill::bytes(alloc, &converted, &variables.values)?;
-    let not_utf8 = not_utf8_in(alloc, &converted, variables)?;
-    outcome(alloc, filled, not_utf8, Some(&converted))
+    let filled = fill::bytes(alloc, &template, &variables.values)?;
+    let unreadable = unreadable_in(alloc, &template, variables)?;
+    outcome(alloc, filled, unreadable, Some(&template))
 }
 
-/// Returns the faults of variables whose values aren't UTF-8.
-fn not_utf8_in(
+/// Returns a fault for each variable of a template whose value isn't UTF-8, in its order. A source that is no
+/// template has none.
+///
+/// # Errors
+///
+/// When allocation fails.
+fn unreadable_in(
     alloc: Global,
     template: &[u8],
     variables: &Variables<'_>,
-) -> Result<Vec<Fault>, AllocError> {
-    let mut faults = Vec::new(alloc);
-    if variables.not_utf8.is_empty() {
-        return Ok(faults);
+) -> Result<Vec<Fault>, AllocError>
+    ensures all { (entries : List Entry) → AreVariablesOf variables.now entries
+        → IfOk result (λ faults. faults.items ≡ [] → AreReadable entries template.now) }
+    ensures each { (entries : List Entry) → AreVariablesOf variables.now entries
+        → IfOk result (λ faults. All (λ it. IsUnreadableCause entries it.cause) faults.items) }
+{
+    if variables.are_readable() {
+        return Ok(Vec::new(alloc));
     }
     let template = match ByteTemplate::from_slice(alloc, template) {
         Ok(template) => template,
-        Err(ParseError::OutOfMemory(e)) => return Err(e),
-        Err(_) => return Ok(faults),
+        Err(e) => return none_for(alloc, e),
     };
-    for variable in template.variables(alloc)? {
-        if variables.is_not_utf8(variable.name) {
-            faults.push(Fault {
-                range: range_of_name(variable.position, variable.name),
-                what: Cause::NotUtf8(String::from_str(alloc, variable.name)?),
-            })?;
+    unreadable_of(alloc, template.variables(alloc)?, variables)
+}
+
+/// Returns no faults, for a source that is no template.
+///
+/// # Errors
+///
+/// When it is none because allocation failed.
+fn none_for(alloc: Global, e: ParseError) -> Result<Vec<Fault>, AllocError>
+    ensures none { IfOk result (λ faults. faults.items ≡ []) }
+    ensures wrong { IfOk result (λ faults. parse_fault e ≢ None) }
+{
+    if let ParseError::OutOfMemory(e) = e {
+        return Err(e);
+    }
+    Ok(Vec::new(alloc))
+}
+
+/// Returns a fault for each of these variables whose value isn't UTF-8, in their order.
+///
+/// # Errors
+///
+/// When allocation fails.
+fn unreadable_of(
+    alloc: Global,
+    list: Vec<Variable<'_>>,
+    variables: &Variables<'_>,
+) -> Result<Vec<Fault>, AllocError>
+    ensures all { (entries : List Entry) → AreVariablesOf variables.now entries
+        → IfOk result (λ faults. faults.items ≡ []
+        → All (λ it. ¬ (IsUnreadable entries it.name.now)) list.entry.items) }
+    ensures each { (entries : List Entry) → AreVariablesOf variables.now entries
+        → IfOk result (λ faults. All (λ it. IsUnreadableCause entries it.cause) faults.items) }
+{
+    let mut faults = Vec::new(alloc);
+    for variable in list {
+        if variables.is_unreadable(variable.name) {
+            faults.push(unreadable(alloc, variable.position, variable.name)?)?;
         }
     }
     Ok(faults)
 }
 
-/// Returns what a part gives, for which a template was made, or is itself one.
+/// Returns the fault of a variable whose value isn't UTF-8.
+fn unreadable(alloc: Global, position: usize, name: &str) -> Result<Fault, AllocError>
+    ensures { IfOk result (λ fault. IsUnreadableName name.now fault.cause) }
+{
+    Ok(Fault {
+        path: String::new(alloc),
+        range: range_of_name(position, name),
+        cause: Cause::Unreadable(String::from_str(alloc, name)?),
+    })
+}
+
+/// Returns what a part gives, for which a template was made, or is itself one; or its faults.
+///
+/// # Errors
+///
+/// When allocation fails.
 fn outcome<T: Drop>(
     alloc: Global,
     filled: Filled<T>,
-    not_utf8: Vec<Fault>,
-    converted: Option<&[u8]>,
+    unreadable: Vec<Fault>,
+    template: Option<&[u8]>,
 ) -> Result<Outcome<T>, AllocError>
-    ensures { IfOk result (λ outcome. IfOk outcome (λ output. filled ≡ Ok output)) }
+    ensures gives { IfOk result (λ outcome. IfOk outcome
+        (λ output. (filled ≡ Ok output) × (unreadable.items ≡ []))) }
+    ensures refused { IfOk result (λ outcome. IfErr outcome
+        (λ faults. Any (λ it. IsCauseIn filled unreadable.items it.cause) faults.items)) }
 {
-    let mut faults = match filled {
-        Ok(output) if not_utf8.is_empty() => return Ok(Ok(output)),
-        Ok(_) => not_utf8,
-        Err(refusal) => all_faults(refusal, not_utf8)?,
+    let faults = match filled {
+        Ok(output) if unreadable.is_empty() => return Ok(Ok(output)),
+        Ok(_) => unreadable,
+        Err(refusal) => all_faults(alloc, refusal, unreadable)?,
     };
-    let mut origins = Origins::of(converted);
-    for fault in &mut faults {
+    Ok(Err(at_origins(faults, template)))
+}
+
+/// Returns these faults of a template where they are in the text that it was made for.
+fn at_origins(mut faults: Vec<Fault>, template: Option<&[u8]>) -> Vec<Fault>
+    ensures { map cause_of result.items ≡ map cause_of faults.items }
+{
+    let mut origins = Origins::of(template);
+    for fault in faults.iter_mut() {
         let Range { start, end } = fault.range;
         fault.range = origins.range(start..end);
     }
-    Ok(Err(faults))
+    faults
+}
+
+/// Returns the faults of a text that is refused, and those that it has besides, which are in the order of
+/// their places, all in that order. Those besides stand for what is missing at the same places.
+///
+/// # Errors
+///
+/// When allocation fails.
+fn all_faults(
+    alloc: Global,
+    refusal: Refusal,
+    besides: Vec<Fault>,
+) -> Result<Vec<Fault>, AllocError>
+    ensures { IfOk result (λ faults. Any
+        (λ it. IsFirstOrBesides refusal besides.items it.cause) faults.items) }
+{
+    let Refusal {
+        first,
+        range,
+        others,
+    } = refusal;
+    let mut faults = besides;
+    let count = faults.len();
+    push_unless_told(alloc, &mut faults, count, range, first)?;
+    for e in others {
+        let range = range_of_name(e.position, &e.name);
+        push_unless_told(alloc, &mut faults, count, range, Error::NoSuchVariable(e))?;
+    }
+    faults.sort_unstable_by_key(|fault| fault.range.start);
+    Ok(faults)
+}
+
+/// Adds a fault, unless one of the first `count` faults is at its place.
+///
+/// # Errors
+///
+/// When allocation fails.
+fn push_unless_told(
+    alloc: Global,
+    faults: &mut Vec<Fault>,
+    count: usize,
+    range: Range<usize>,
+    e: Error,
+) -> Result<(), AllocError>
+    ensures { OnOk result ((more : List SpecFault) × (faults.new.items ≡ faults.old.items ++ more)
+        × (count ≡ 0 → AreFaultsFor e more)) }
+{
+    let told = faults.get(..count).unwrap_or(&[]);
+    match told.binary_search_by_key(&range.start, |fault| fault.range.start) {
+        Ok(_) => Ok(()),
+        Err(_) => Ok(faults.push(Fault {
+            path: String::new(alloc),
+            range,
+            cause: Cause::Refused(e),
+        })?),
+    }
 }
 
 /// A variable as a listing tells it.
@@ -169,12 +301,8 @@ fn uses_in(
         Err(ParseError::OutOfMemory(e)) => Err(e),
         Err(e) => {
             let e = Error::from(e);
-            let mut faults = Vec::new(alloc);
-            faults.push(Fault {
-                range: e.source_range(),
-                what: Cause::Refused(e),
-            })?;
-            Ok(Err(faults))
+            let range = e.source_range();
+            Ok(Err(one_fault(alloc, range, Cause::Refused(e))?))
         }
     }
 }

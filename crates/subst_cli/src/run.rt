@@ -1,70 +1,143 @@
-//! A run over its sources.
+//! A run over files: what is read is filled in, and then written.
 
-ghost use Rattle.std.specs.Prelude.{◌≡◌, Ok, IfOk, IfSome, IsTrue};
-ghost use Rattle.subst.specs.Language.LookUp.{LookUp};
-ghost use Rattle.subst_cli.specs.Fill.{IsOutput};
-ghost use Rattle.subst_filter_lib.specs.Words.{value_under};
-
-use crate::document::{JsonDocument, StringFiller, TomlDocument};
-use crate::environment::Environment;
+use crate::entry::Entry;
+use crate::filling::{Filling, Outputs, Refused, all_entries, counted, fill_in, lines_of, uses};
 use crate::input::{read, shown_name};
-use crate::layers::{Variables, in_order};
+use crate::layers::Variables;
 use crate::listing::Listing;
-use crate::options::{Action, InputFormat, Options, Pair, Placeholders, owned};
-use crate::part::{Occurrence, Outcome, fill_bytes, fill_text, uses_in_bytes, uses_in_text};
+use crate::options::{Action, Options};
+use crate::place::Places;
 use crate::report::Report;
-use crate::source::{Messages, Source};
-use crate::{document, output, values_file};
+use crate::source::{Shows, Source, messages};
+use crate::{environment, output};
 use std::alloc::{AllocError, Global};
 use std::collections::HashSet;
 use std::io;
 use std::io::ErrorKind;
-use subst::escape::is_plain;
-use subst_filter_lib::values::values_of_pairs;
-
-/// What a text may begin with.
-const BYTE_ORDER_MARK: char = '\u{feff}';
 
 /// Reads the values files and the environment, and does what the options ask for.
 ///
 /// # Errors
 ///
 /// When allocation fails.
-pub(crate) fn run_options<'r>(
-    rt: &'r HostRuntime,
-    options: &'r Options<'_>,
+pub(crate) fn run_options(
+    rt: &HostRuntime,
+    options: &Options<'_>,
     report: &mut Report<'_>,
 ) -> Result<(), AllocError> {
     let alloc = rt.alloc();
-    let mut given = Vec::new(alloc);
-    for file in &options.values_files {
-        add_values(rt, file, &mut given, report)?;
-    }
+    let lines = lines(rt, options, report)?;
     if !report.is_empty() {
         return Ok(());
     }
-    for (name, value) in &options.pairs {
-        given.push(owned(alloc, name, value)?)?;
-    }
-    let Environment { pairs, not_utf8 } = if options.environment {
-        Environment::read(alloc, rt)?
+    let environment = if options.environment {
+        environment::read(alloc, rt)?
     } else {
-        Environment::empty(alloc)
-    };
-    let pairs = in_order(given, pairs)?;
-    let run = Run {
-        rt,
-        options,
-        variables: Variables {
-            values: values_of_pairs(alloc, &pairs)?,
-            not_utf8: &not_utf8,
-        },
+        Vec::new(alloc)
     };
     match options.action {
-        Action::ListNames => run.list(report),
-        Action::Replace => run.replace_each(report),
-        Action::Print | Action::Check | Action::WriteTo(_) => run.fill_all(report),
+        Action::ListNames => list(rt, options, report),
+        Action::Print | Action::WriteTo(_) => {
+            let sources = sources(rt, options, report)?;
+            let outputs = fill_in(alloc, options, lines, &environment, sources)?;
+            write(rt, options, outputs, report)
+        }
+        Action::Replace | Action::Check => {
+            let entries = all_entries(alloc, options, lines, &environment)?;
+            let variables = Variables::of(alloc, &entries)?;
+            let run = Run {
+                rt,
+                options,
+                filling: Filling::of(options, variables),
+            };
+            match options.action {
+                Action::Check => run.check_each(report),
+                _ => run.replace_each(report),
+            }
+        }
     }
+}
+
+/// Returns the variables of all values files, in their order, and says what is wrong with the files.
+fn lines(
+    rt: &HostRuntime,
+    options: &Options<'_>,
+    report: &mut Report<'_>,
+) -> Result<Vec<Entry>, AllocError> {
+    let alloc = rt.alloc();
+    let mut all = Vec::new(alloc);
+    for file in &options.values_files {
+        if let Some(source) = source(rt, file, report)? {
+            match lines_of(alloc, source)? {
+                Ok(mut entries) => all.append(&mut entries)?,
+                Err(Refused { source, faults }) => report.refused(&messages(
+                    alloc,
+                    &source.name,
+                    &source.bytes,
+                    &faults,
+                    Shows::Nothing,
+                )?),
+            }
+        }
+    }
+    Ok(all)
+}
+
+/// Returns all sources, and says which can't be read.
+fn sources(
+    rt: &HostRuntime,
+    options: &Options<'_>,
+    report: &mut Report<'_>,
+) -> Result<Vec<Source>, AllocError> {
+    let mut sources = Vec::new(rt.alloc());
+    for file in &options.files {
+        if let Some(source) = source(rt, file, report)? {
+            sources.push(source)?;
+        }
+    }
+    Ok(sources)
+}
+
+/// Writes what sources give where it is asked for, or says why they give nothing. Where something was said
+/// before, nothing is written.
+fn write(
+    rt: &HostRuntime,
+    options: &Options<'_>,
+    outputs: Outputs,
+    report: &mut Report<'_>,
+) -> Result<(), AllocError> {
+    let all = match outputs {
+        Ok(all) => all,
+        Err(refused) => {
+            for it in refused {
+                report_refused(rt.alloc(), options, &it, report)?;
+            }
+            return Ok(());
+        }
+    };
+    if !report.is_empty() {
+        return Ok(());
+    }
+    match options.action {
+        Action::WriteTo(file) => written(rt, file, output::write(rt, file, &all), report),
+        _ => match output::print(rt, &all) {
+            Ok(()) => Ok(()),
+            Err(e) => report.failed("<stdout>", &e),
+        },
+    }
+}
+
+/// Says why a source gives nothing.
+fn report_refused(
+    alloc: Global,
+    options: &Options<'_>,
+    refused: &Refused,
+    report: &mut Report<'_>,
+) -> Result<(), AllocError> {
+    let Refused { source, faults } = refused;
+    let bytes = counted(options.form, &source.bytes);
+    report.refused(&messages(alloc, &source.name, bytes, faults, Shows::Lines)?);
+    Ok(())
 }
 
 /// Returns a source, or says why it can't be read.
@@ -87,100 +160,27 @@ fn source(
     }
 }
 
-/// Adds the variables of a values file, or says what is wrong with it.
-fn add_values(
-    rt: &HostRuntime,
-    file: &str,
-    given: &mut Vec<Pair>,
-    report: &mut Report<'_>,
-) -> Result<(), AllocError> {
-    let alloc = rt.alloc();
-    let Some(source) = source(rt, file, report)? else {
-        return Ok(());
-    };
-    let mut messages = Messages::without_lines(alloc, &source);
-    if let Some(text) = text_of(alloc, &source, &mut messages)? {
-        match values_file::pairs(alloc, text)? {
-            Ok(pairs) => {
-                for pair in pairs {
-                    given.push(pair)?;
-                }
-                return Ok(());
-            }
-            Err(fault) => messages.add(alloc, fault.start..fault.start, &fault.message)?,
-        }
-    }
-    report.refused(&messages.into_text());
-    Ok(())
-}
-
-/// Returns the text of a source, or adds a message about where it isn't UTF-8.
-fn text_of<'s>(
-    alloc: Global,
-    source: &'s Source,
-    messages: &mut Messages<'_>,
-) -> Result<Option<&'s str>, AllocError>
-    ensures { IfOk result (λ text. IfSome text (λ text. text.now ≡ source.now.bytes.items)) }
-{
-    match simdutf8::basic::from_utf8(&source.bytes) {
-        Ok(text) => Ok(Some(text)),
-        Err(_) => {
-            let start = utf8_len(&source.bytes);
-            messages.add(alloc, start..start.saturating_add(1), &"invalid UTF-8")?;
-            Ok(None)
-        }
-    }
-}
-
-/// Returns how many bytes at the start are UTF-8.
-fn utf8_len(bytes: &[u8]) -> usize {
-    match str::from_utf8(bytes) {
-        Ok(text) => text.len(),
-        Err(e) => e.valid_up_to(),
-    }
-}
-
-/// A run, once its variables are known.
+/// A run whose sources each stand for themselves.
 #[derive(Drop)]
 struct Run<'r, 'w, 'v> {
     rt: &'r HostRuntime,
     options: &'r Options<'w>,
-    variables: Variables<'v>,
+    filling: Filling<'r, 'w, 'v>,
 }
 
 impl Run<'_, '_, '_> {
-    /// Fills in all sources, and then writes what they give, one after the other, where it is asked for.
+    /// Says what is wrong with each source. What they give isn't kept.
     ///
     /// # Errors
     ///
     /// When allocation fails.
-    fn fill_all(&self, report: &mut Report<'_>) -> Result<(), AllocError> {
-        let mut all = Vec::new(self.rt.alloc());
-        let is_written = self.options.action != Action::Check;
+    fn check_each(&self, report: &mut Report<'_>) -> Result<(), AllocError> {
         for file in &self.options.files {
-            if let Some(source) = source(self.rt, file, report)?
-                && let Some(output) = self.output_of(source, report)?
-                && is_written
-            {
-                append(&mut all, output)?;
+            if let Some(source) = source(self.rt, file, report)? {
+                let _ = self.output_of(source, report)?;
             }
         }
-        if report.is_empty() {
-            self.write(&all, report)?;
-        }
         Ok(())
-    }
-
-    /// Writes what all sources give where it is asked for.
-    fn write(&self, all: &[u8], report: &mut Report<'_>) -> Result<(), AllocError> {
-        match self.options.action {
-            Action::Print => match output::print(self.rt, all) {
-                Ok(()) => Ok(()),
-                Err(e) => report.failed("<stdout>", &e),
-            },
-            Action::WriteTo(file) => self.written(file, output::write(self.rt, file, all), report),
-            Action::Replace | Action::Check | Action::ListNames => Ok(()),
-        }
     }
 
     /// Replaces each source by what it gives, unless it gives itself. One that is named again, which is then
@@ -210,242 +210,109 @@ impl Run<'_, '_, '_> {
     /// Replaces a source by what it gives, unless it gives itself.
     fn replace(&self, file: &str, report: &mut Report<'_>) -> Result<(), AllocError> {
         if let Some(source) = source(self.rt, file, report)?
-            && !needs_no_filling(self.options, &source.bytes)
-            && let Some(output) = self.filled(&source, report)?
-            && output != source.bytes
+            && let Some(output) = self.output_of(source, report)?
         {
-            self.written(file, output::replace(self.rt, file, &output), report)?;
+            written(
+                self.rt,
+                file,
+                output::replace(self.rt, file, &output),
+                report,
+            )?;
         }
         Ok(())
     }
 
-    /// Says why a file isn't written, if it isn't.
-    fn written(
-        &self,
-        file: &str,
-        outcome: io::Result<()>,
-        report: &mut Report<'_>,
-    ) -> Result<(), AllocError> {
-        let Err(e) = outcome else {
-            return Ok(());
-        };
-        let alloc = self.rt.alloc();
-        let name = shown_name(alloc, file)?;
-        report.failed(&name, &e)?;
-        if let ErrorKind::PermissionDenied
-        | ErrorKind::ResourceBusy
-        | ErrorKind::ReadOnlyFilesystem = e.kind()
-            && let Ok(new) = output::path_of_new(self.rt, file)
-        {
-            let new = shown_name(alloc, new.as_path().as_str())?;
-            let why = format!(in alloc; "{new} can't take its place; '> FILE' writes through")?;
-            report.failed_since(&name, &why)?;
-        }
-        Ok(())
-    }
-
-    /// Prints the names that the sources use.
-    ///
-    /// # Errors
-    ///
-    /// When allocation fails.
-    fn list(&self, report: &mut Report<'_>) -> Result<(), AllocError> {
-        let alloc = self.rt.alloc();
-        let mut listing = Listing::new(alloc);
-        for file in &self.options.files {
-            if let Some(source) = source(self.rt, file, report)? {
-                self.list_source(&source, &mut listing, report)?;
-            }
-        }
-        let text = listing.text(alloc)?;
-        if let Err(e) = output::print(self.rt, text.as_bytes()) {
-            report.failed("<stdout>", &e)?;
-        }
-        Ok(())
-    }
-
-    /// Returns what a source gives, or says why it gives nothing.
+    /// Returns what a source gives, if it gives something else than itself, or says why it gives nothing.
     fn output_of(
         &self,
         source: Source,
         report: &mut Report<'_>,
     ) -> Result<Option<Vec<u8>>, AllocError> {
-        if needs_no_filling(self.options, &source.bytes) {
-            Ok(Some(source.bytes))
-        } else {
-            self.filled(&source, report)
-        }
-    }
-
-    /// Returns what a source gives that is filled in, or says why it gives nothing.
-    fn filled(
-        &self,
-        source: &Source,
-        report: &mut Report<'_>,
-    ) -> Result<Option<Vec<u8>>, AllocError> {
-        let mut messages = Messages::about(self.rt.alloc(), source);
-        match self.fill(source, &mut messages) {
-            Ok(Some(output)) => return Ok(Some(output)),
-            Ok(None) => report.refused(&messages.into_text()),
-            Err(AllocError) => report.out_of_memory(&source.name),
-        }
-        Ok(None)
-    }
-
-    /// Returns what a source gives, or adds messages about what is wrong with it.
-    fn fill(
-        &self,
-        source: &Source,
-        messages: &mut Messages<'_>,
-    ) -> Result<Option<Vec<u8>>, AllocError>
-        ensures { IfOk result (λ output. IfSome output
-            (λ bytes. IsOutput self.now.options.now.form self.now.options.now.placeholders
-            source.now.bytes.items (value_under self.now.variables.values) bytes.items)) }
-    {
         let alloc = self.rt.alloc();
-        let placeholders = &self.options.placeholders;
-        let form = self.options.form;
-        if form == InputFormat::Bytes {
-            let outcome = fill_bytes(alloc, &source.bytes, placeholders, &self.variables)?;
-            return output_or_messages(alloc, outcome, messages);
-        }
-        let Some(text) = text_of(alloc, source, messages)? else {
+        if self.filling.is_its_own_output(&source.bytes) {
             return Ok(None);
-        };
-        let filler = StringFiller {
-            placeholders,
-            variables: Some(&self.variables),
-        };
-        let output = match form {
-            InputFormat::Json => fill_json(alloc, text, &filler, messages)?,
-            InputFormat::Toml => document::fill::<TomlDocument>(alloc, text, &filler, messages)?,
-            InputFormat::Text | InputFormat::Bytes => {
-                let outcome = fill_text(alloc, text, placeholders, &self.variables)?;
-                output_or_messages(alloc, outcome, messages)?
-            }
-        };
-        Ok(output.map(String::into_bytes))
-    }
-
-    /// Adds the names of a source to a listing, or says why it has none.
-    fn list_source(
-        &self,
-        source: &Source,
-        listing: &mut Listing,
-        report: &mut Report<'_>,
-    ) -> Result<(), AllocError> {
-        let alloc = self.rt.alloc();
-        let mut messages = Messages::about(alloc, source);
-        match self.uses(source, &mut messages)? {
-            Some(uses) => {
-                for it in uses {
-                    let place = messages.place(alloc, it.range.start)?;
-                    listing.add(alloc, it.name, it.kind, &source.name, place)?;
-                }
-            }
-            None => report.refused(&messages.into_text()),
         }
-        Ok(())
-    }
-
-    /// Returns the variables of a source with their places, or adds messages about what is wrong with it.
-    fn uses(
-        &self,
-        source: &Source,
-        messages: &mut Messages<'_>,
-    ) -> Result<Option<Vec<Occurrence>>, AllocError> {
-        let alloc = self.rt.alloc();
-        let placeholders = &self.options.placeholders;
-        if self.options.form == InputFormat::Bytes {
-            let outcome = uses_in_bytes(alloc, &source.bytes, placeholders)?;
-            return output_or_messages(alloc, outcome, messages);
-        }
-        let Some(text) = text_of(alloc, source, messages)? else {
-            return Ok(None);
-        };
-        let filler = StringFiller {
-            placeholders,
-            variables: None,
-        };
-        match self.options.form {
-            InputFormat::Json => {
-                let text = after_mark(text, messages);
-                document::uses::<JsonDocument>(alloc, text, &filler, messages)
+        match self.filling.fill(alloc, &source.bytes) {
+            Ok(Ok(output)) if output == source.bytes => Ok(None),
+            Ok(Ok(output)) => Ok(Some(output)),
+            Ok(Err(faults)) => {
+                report_refused(alloc, self.options, &Refused { source, faults }, report)?;
+                Ok(None)
             }
-            InputFormat::Toml => document::uses::<TomlDocument>(alloc, text, &filler, messages),
-            InputFormat::Text | InputFormat::Bytes => {
-                let outcome = uses_in_text(alloc, text, placeholders)?;
-                output_or_messages(alloc, outcome, messages)
+            Err(AllocError) => {
+                report.out_of_memory(&source.name);
+                Ok(None)
             }
         }
     }
 }
 
-/// Returns what a JSON text gives, in which a byte order mark at the start stays.
-fn fill_json(
-    alloc: Global,
-    text: &str,
-    filler: &StringFiller<'_>,
-    messages: &mut Messages<'_>,
-) -> Result<Option<String>, AllocError> {
-    let rest = after_mark(text, messages);
-    let mut output = document::fill::<JsonDocument>(alloc, rest, filler, messages)?;
-    if rest.len() < text.len()
-        && let Some(output) = &mut output
+/// Says why a file isn't written, if it isn't.
+fn written(
+    rt: &HostRuntime,
+    file: &str,
+    outcome: io::Result<()>,
+    report: &mut Report<'_>,
+) -> Result<(), AllocError> {
+    let Err(e) = outcome else {
+        return Ok(());
+    };
+    let alloc = rt.alloc();
+    let name = shown_name(alloc, file)?;
+    report.failed(&name, &e)?;
+    if let ErrorKind::PermissionDenied
+    | ErrorKind::ResourceBusy
+    | ErrorKind::ReadOnlyFilesystem = e.kind()
+        && let Ok(new) = output::path_of_new(rt, file)
     {
-        output.insert(0, BYTE_ORDER_MARK)?;
+        let new = shown_name(alloc, new.as_path().as_str())?;
+        let why = format!(in alloc; "{new} can't take its place; '> FILE' writes through")?;
+        report.failed_since(&name, &why)?;
     }
-    Ok(output)
+    Ok(())
 }
 
-/// Returns a text after its byte order mark, which the reader of JSON doesn't pass over.
-fn after_mark<'s>(text: &'s str, messages: &mut Messages<'_>) -> &'s str {
-    match text.strip_prefix(BYTE_ORDER_MARK) {
-        Some(rest) => {
-            messages.pass_over(BYTE_ORDER_MARK.len_utf8());
-            rest
+/// Prints the names that the sources use.
+///
+/// # Errors
+///
+/// When allocation fails.
+fn list(
+    rt: &HostRuntime,
+    options: &Options<'_>,
+    report: &mut Report<'_>,
+) -> Result<(), AllocError> {
+    let alloc = rt.alloc();
+    let mut listing = Listing::new(alloc);
+    for file in &options.files {
+        if let Some(source) = source(rt, file, report)? {
+            list_source(alloc, options, source, &mut listing, report)?;
         }
-        None => text,
     }
+    let text = listing.text(alloc)?;
+    if let Err(e) = output::print(rt, text.as_bytes()) {
+        report.failed("<stdout>", &e)?;
+    }
+    Ok(())
 }
 
-/// Returns whether a source is what it gives, with nothing in it to fill in.
-fn needs_no_filling(options: &Options<'_>, bytes: &[u8]) -> bool
-    ensures { IsTrue result → (look : LookUp)
-        → IsOutput options.now.form options.now.placeholders bytes.now look bytes.now }
-{
-    match (options.form, &options.placeholders) {
-        (InputFormat::Text, Placeholders::Own) => is_plain(bytes) && str::from_utf8(bytes).is_ok(),
-        (InputFormat::Bytes, Placeholders::Own) => is_plain(bytes),
-        _ => false,
-    }
-}
-
-/// Appends what a source gives to what those before it gave.
-fn append(all: &mut Vec<u8>, output: Vec<u8>) -> Result<(), AllocError> {
-    if all.is_empty() {
-        *all = output;
-        Ok(())
-    } else {
-        Ok(all.extend_from_slice(&output)?)
-    }
-}
-
-/// Returns what a part gives, or adds messages about its faults.
-fn output_or_messages<T: Drop>(
+/// Adds the names of a source to a listing, or says why it has none.
+fn list_source(
     alloc: Global,
-    outcome: Outcome<T>,
-    messages: &mut Messages<'_>,
-) -> Result<Option<T>, AllocError>
-    ensures { IfOk result (λ given. IfSome given (λ output. outcome ≡ Ok output)) }
-{
-    match outcome {
-        Ok(output) => Ok(Some(output)),
-        Err(faults) => {
-            for fault in faults {
-                messages.add(alloc, fault.range.start..fault.range.end, &fault)?;
+    options: &Options<'_>,
+    source: Source,
+    listing: &mut Listing,
+    report: &mut Report<'_>,
+) -> Result<(), AllocError> {
+    match uses(alloc, &source.bytes, options)? {
+        Ok(uses) => {
+            let mut places = Places::of(counted(options.form, &source.bytes));
+            for it in uses {
+                let place = places.at(alloc, it.range.start)?;
+                listing.add(alloc, it.name, it.kind, &source.name, place)?;
             }
-            Ok(None)
+            Ok(())
         }
+        Err(faults) => report_refused(alloc, options, &Refused { source, faults }, report),
     }
 }

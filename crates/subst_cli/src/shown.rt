@@ -10,12 +10,22 @@ use std::fmt::Write;
 ///
 /// When allocation fails.
 pub(crate) fn shown(alloc: Global, bytes: &[u8]) -> Result<String, AllocError> {
+    if let Ok(text) = str::from_utf8(bytes)
+        && are_printable(bytes)
+    {
+        return String::from_str(alloc, text);
+    }
     let text = String::from_utf8_lossy(alloc, bytes)?;
     let mut shown = String::with_capacity(alloc, text.len())?;
     for c in text.chars() {
         push_shown(&mut shown, c)?;
     }
     Ok(shown)
+}
+
+/// Returns whether bytes are printable characters of ASCII, which are shown as they are and take a column each.
+pub(crate) fn are_printable(bytes: &[u8]) -> bool {
+    bytes.iter().all(|b| matches!(b, b' '..=b'~'))
 }
 
 /// Returns the lines of a text as they are shown.

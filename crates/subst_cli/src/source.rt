@@ -1,113 +1,78 @@
 //! Sources, and messages about them.
 
 use crate::excerpt::{cut, excerpt};
+use crate::fault::Fault;
 use crate::place::{Place, Places};
 use crate::shown::shown;
 use std::alloc::{AllocError, Global};
 use std::fmt;
-use std::ops::Range;
 
-/// The columns of the widest message that is shown whole.
-const WIDEST_MESSAGE: usize = 240;
+/// The columns of the widest text of a fault that is shown whole.
+const WIDEST_FAULT: usize = 240;
+
+/// The columns of the widest path that is shown whole.
+const WIDEST_PATH: usize = 120;
 
 /// What is filled in.
 #[derive(Drop)]
-pub(crate) struct Source {
+pub struct Source {
     /// Its name, as it is shown.
     pub name: String,
     /// All its bytes.
     pub bytes: Vec<u8>,
 }
 
-/// Messages about a source.
-#[derive(Drop)]
-pub(crate) struct Messages<'s> {
-    name: &'s str,
-    bytes: &'s [u8],
-    places: Places<'s>,
-    shows_lines: bool,
-    text: String,
+/// What messages show of a source.
+#[derive(Clone, Copy, PartialEq, Eq)]
+pub(crate) enum Shows {
+    /// The line of each fault.
+    Lines,
+    /// No line: those of values files have secrets.
+    Nothing,
 }
 
-impl<'s> Messages<'s> {
-    /// Returns none yet.
-    pub fn about(alloc: Global, source: &'s Source) -> Self {
-        Messages {
-            name: &source.name,
-            bytes: &source.bytes,
-            places: Places::of(&source.bytes),
-            shows_lines: true,
-            text: String::new(alloc),
+/// Returns messages about faults of a source, of which these are its name and what its offsets count.
+///
+/// # Errors
+///
+/// When allocation fails.
+pub(crate) fn messages(
+    alloc: Global,
+    name: &str,
+    bytes: &[u8],
+    faults: &[Fault],
+    shows: Shows,
+) -> Result<String, AllocError> {
+    let mut places = Places::of(bytes);
+    let mut text = String::new(alloc);
+    for fault in faults {
+        let Place { line, column } = places.at(alloc, fault.range.start)?;
+        let what = shown_fault(alloc, fault)?;
+        text.push_str(&format!(in alloc; "{name}:{line}:{column}: {what}\n")?)?;
+        if shows == Shows::Lines {
+            let range = fault.range.start..fault.range.end;
+            text.push_str(&excerpt(alloc, bytes, range)?)?;
         }
     }
-
-    /// Returns none yet, each of which will show no line: those of values files have secrets.
-    pub fn without_lines(alloc: Global, source: &'s Source) -> Self {
-        let mut messages = Messages::about(alloc, source);
-        messages.shows_lines = false;
-        messages
-    }
-
-    /// Has offsets count from after so many bytes of the source, which take no column.
-    pub fn pass_over(&mut self, len: usize) {
-        self.bytes = self.bytes.get(len..).unwrap_or(&[]);
-        self.places = Places::of(self.bytes);
-    }
-
-    /// Returns the place of an offset.
-    ///
-    /// # Errors
-    ///
-    /// When allocation fails.
-    pub fn place(&mut self, alloc: Global, offset: usize) -> Result<Place, AllocError> {
-        self.places.at(alloc, offset)
-    }
-
-    /// Adds one about a range of the source, of which it shows the line, where it shows lines.
-    ///
-    /// # Errors
-    ///
-    /// When allocation fails.
-    pub fn add<D: fmt::Display>(
-        &mut self,
-        alloc: Global,
-        range: Range<usize>,
-        what: &D,
-    ) -> Result<(), AllocError> {
-        let Place { line, column } = self.places.at(alloc, range.start)?;
-        let what = shown_text(alloc, what)?;
-        let excerpt = if self.shows_lines {
-            excerpt(alloc, self.bytes, range)?
-        } else {
-            String::new(alloc)
-        };
-        let message = format!(in alloc; "{}:{line}:{column}: {what}\n{excerpt}", self.name)?;
-        self.text.push_str(&message)
-    }
-
-    /// Adds one that has no place.
-    ///
-    /// # Errors
-    ///
-    /// When allocation fails.
-    pub fn add_unplaced<D: fmt::Display>(
-        &mut self,
-        alloc: Global,
-        what: &D,
-    ) -> Result<(), AllocError> {
-        let what = shown_text(alloc, what)?;
-        let message = format!(in alloc; "{}: {what}\n", self.name)?;
-        self.text.push_str(&message)
-    }
-
-    /// Returns their text.
-    pub fn into_text(self) -> String {
-        self.text
-    }
+    Ok(text)
 }
 
-/// Returns the text of something as it is shown, without the end of one that is very long.
-fn shown_text<D: fmt::Display>(alloc: Global, what: &D) -> Result<String, AllocError> {
+/// Returns a fault as it is shown, after the path of its string. The end of what is very long is cut.
+fn shown_fault(alloc: Global, fault: &Fault) -> Result<String, AllocError> {
+    let cause = shown_part(alloc, &fault.cause, WIDEST_FAULT)?;
+    if fault.path.is_empty() {
+        return Ok(cause);
+    }
+    let path = shown_part(alloc, &fault.path, WIDEST_PATH)?;
+    format!(in alloc; "{path}: {cause}")
+}
+
+/// Returns the text of something as it is shown, without what takes more than so many columns.
+fn shown_part<D: fmt::Display>(
+    alloc: Global,
+    what: &D,
+    columns: usize,
+) -> Result<String, AllocError> {
     let text = format!(in alloc; "{what}")?;
-    cut(alloc, shown(alloc, text.as_bytes())?, WIDEST_MESSAGE)
+    cut(alloc, shown(alloc, text.as_bytes())?, columns)
 }

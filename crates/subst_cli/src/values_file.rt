@@ -1,8 +1,13 @@
 //! Values files: `NAME=VALUE` lines.
 
-use crate::options::{Pair, owned};
+ghost use Rattle.std.specs.Prelude.{◌≡◌, ◌<◌, IfOk, List, MatchResult, None, Option, Some, if◌then◌else◌, length};
+ghost use Rattle.std.specs.List.{after_first, before_first};
+ghost use Rattle.subst_cli.specs.Layers.{Entry as SpecEntry, entries_of};
+ghost use Rattle.subst_cli.specs.ValuesFile as file;
+ghost use Rattle.subst_cli.specs.ValuesFile.{before, is_line_feed, said, values_of, with_line};
+
+use crate::entry::{Entry, entry_in, split_once};
 use std::alloc::{AllocError, Global};
-use subst_language::is_name;
 
 /// What is wrong with a line of a values file.
 #[derive(Clone, Copy, Debug, PartialEq, Eq)]
@@ -14,58 +19,126 @@ pub(crate) struct LineFault {
 }
 
 /// What a values file gives, or what is wrong with its first line that gives nothing.
-pub(crate) type Lines = Result<Vec<Pair>, LineFault>;
+pub(crate) type Lines = Result<Vec<Entry>, LineFault>;
 
-/// Returns the variables of a values file, in the order of its lines. Blanks before a line are passed over,
-/// and then empty lines and those that begin with `#`. What is after the first `=` is the value, as it is.
+/// Returns the entries of a values file, in the order of its lines. Blanks before a line are passed over, and
+/// then empty lines and those that begin with `#`. What is after the first `=` is the value, as it is.
 ///
 /// # Errors
 ///
 /// When allocation fails.
-pub(crate) fn pairs(alloc: Global, text: &str) -> Result<Lines, AllocError> {
-    let mut pairs = Vec::new(alloc);
-    let mut rest = text.strip_prefix('\u{feff}').unwrap_or(text);
+pub(crate) fn entries(alloc: Global, text: &[u8]) -> Result<Lines, AllocError>
+    ensures { IfOk result (λ lines. MatchResult lines
+        (λ entries. values_of text.now ≡ Some (entries_of entries.items))
+        (λ _. values_of text.now ≡ None)) }
+{
+    let mut entries = Vec::new(alloc);
+    let mut rest = after_mark(text);
     while !rest.is_empty() {
-        let offset = text.len().saturating_sub(rest.len());
-        let (line, after) = match rest.split_once('\n') {
-            Some(parts) => parts,
-            None => (rest, ""),
-        };
-        match pair(line.strip_suffix('\r').unwrap_or(line), offset) {
-            Ok(Some((name, value))) => pairs.push(owned(alloc, name, value)?)?,
-            Ok(None) => {}
-            Err(fault) => return Ok(Err(fault)),
+        let (line, after) = first_line(rest);
+        if !add_line(alloc, line, &mut entries)? {
+            return Ok(Err(fault(line, text.len().saturating_sub(rest.len()))));
         }
         rest = after;
     }
-    Ok(Ok(pairs))
+    Ok(Ok(entries))
 }
 
-/// Returns the variable of a line that begins at an offset, if it gives one.
-fn pair(line: &str, offset: usize) -> Result<Option<(&str, &str)>, LineFault> {
-    let begun = line.trim_start_matches(is_blank);
-    let start = offset
-        .saturating_add(line.len())
-        .saturating_sub(begun.len());
-    if begun.is_empty() || begun.starts_with('#') {
-        return Ok(None);
+/// Adds the entry of a line, if it gives one, and returns whether the line is right.
+fn add_line(alloc: Global, line: &[u8], entries: &mut Vec<Entry>) -> Result<bool, AllocError>
+    ensures { IfOk result (λ is_right. (later : Option (List SpecEntry))
+        → before (entries_of entries.old.items) (with_line (said line.now) later)
+        ≡ (if is_right then before (entries_of entries.new.items) later else None)) }
+{
+    let line = after_blanks(without_return(line));
+    if says_nothing(line) {
+        return Ok(true);
     }
-    let Some((name, value)) = begun.split_once('=') else {
-        return Err(LineFault {
-            message: "missing '='",
-            start,
-        });
+    let Some(entry) = entry_in(alloc, line)? else {
+        return Ok(false);
     };
-    if !is_name(name.as_bytes()) {
-        return Err(LineFault {
-            message: "no template can spell this name",
-            start,
-        });
-    }
-    Ok(Some((name, value)))
+    entries.push(entry)?;
+    Ok(true)
 }
 
-/// Returns whether a character is a blank or a tab.
-fn is_blank(c: char) -> bool {
-    c == ' ' || c == '\t'
+/// Returns what is wrong with a line that gives nothing and begins at an offset.
+fn fault(line: &[u8], offset: usize) -> LineFault {
+    let line = without_return(line);
+    let begun = after_blanks(line);
+    let message = if begun.contains(&b'=') {
+        "no template can spell this name"
+    } else {
+        "missing '='"
+    };
+    LineFault {
+        message,
+        start: offset
+            .saturating_add(line.len())
+            .saturating_sub(begun.len()),
+    }
+}
+
+/// Returns the bytes after a byte order mark at their start.
+fn after_mark(bytes: &[u8]) -> &[u8]
+    ensures { result.now ≡ file.after_mark bytes.now }
+{
+    let Some(rest) = bytes.strip_prefix(b"\xEF\xBB\xBF") else {
+        return bytes;
+    };
+    rest
+}
+
+/// Returns the first line and what is after its end.
+fn first_line(bytes: &[u8]) -> (&[u8], &[u8])
+    ensures line { result.0.now ≡ before_first is_line_feed bytes.now }
+    ensures rest { result.1.now ≡ after_first is_line_feed bytes.now }
+    ensures shorter { 0 < length bytes.now → length result.1.now < length bytes.now }
+{
+    let Some((line, rest)) = split_once(bytes, b'\n') else {
+        return (bytes, &[]);
+    };
+    (line, rest)
+}
+
+/// Returns a line without a carriage return at its end.
+fn without_return(line: &[u8]) -> &[u8]
+    ensures { result.now ≡ file.without_return line.now }
+{
+    let Some(bare) = line.strip_suffix(b"\r") else {
+        return line;
+    };
+    bare
+}
+
+/// Returns a line after the blanks and tabs at its start.
+fn after_blanks(line: &[u8]) -> &[u8]
+    ensures { result.now ≡ file.after_blanks line.now }
+{
+    let mut rest = line;
+    loop {
+        let Some((first, after)) = rest.split_first() else {
+            return rest;
+        };
+        if !is_blank(*first) {
+            return rest;
+        }
+        rest = after;
+    }
+}
+
+/// Returns whether a byte is a blank or a tab.
+fn is_blank(byte: u8) -> bool
+    ensures { result ≡ file.is_blank byte }
+{
+    byte == b' ' || byte == b'\t'
+}
+
+/// Returns whether a line is empty, or begins with `#`.
+fn says_nothing(line: &[u8]) -> bool
+    ensures { result ≡ file.says_nothing line.now }
+{
+    let Some((first, _)) = line.split_first() else {
+        return true;
+    };
+    *first == b'#'
 }

@@ -12,10 +12,8 @@ use Rattle.json.proofs.Printed.Trees.{value-json_tokens}
 use Rattle.json.proofs.Unique.Spelling.{value-json_tokens_back}
 use Rattle.serde_json.specs.Data.{Data, null, boolean, number, string, array, object, Items, no_items, item, Members, no_members, member, put}
 use Rattle.serde_json.specs.Read.{of_json, of_items, of_members, max_depth, read}
-use Rattle.subst_language.specs.Language.LookUp.{LookUp}
-use Rattle.subst_language.specs.Language.Answer.{Answers, Gives}
 use Rattle.subst_json.specs.Filled.{AreFilled}
-use Rattle.subst_json.specs.Mapped.{IsMapped, AreMapped, HasMappedMembers}
+use Rattle.subst_json.specs.Mapped.{IsEach, AreEach, HasEachMember}
 use Rattle.subst_json.specs.Outcome.{ReadsAsTree}
 use Rattle.subst_json.specs.Places.{IsTokenOf}
 
@@ -30,28 +28,30 @@ token_alone text x e =
     read_as text (json.string x) (string x)
     (ap (json.value max_depth) e ∙ value-json_tokens (json.string x) max_depth [] (omega arith)) refl
 
-by_order : (look : LookUp) (o : Ordering) (a b c d e f : Members) → HasMappedMembers look a d
-    → HasMappedMembers look b e → HasMappedMembers look c f
-    → HasMappedMembers look (match_ordering o a b c) (match_ordering o d e f)
-by_order look Less a b c d e f p q r = p
-by_order look Equal a b c d e f p q r = q
-by_order look Greater a b c d e f p q r = r
+by_order : (Becomes : List ℕ → List ℕ → Type 0) (o : Ordering) (a b c d e f : Members)
+    → HasEachMember Becomes a d
+    → HasEachMember Becomes b e → HasEachMember Becomes c f
+    → HasEachMember Becomes (match_ordering o a b c) (match_ordering o d e f)
+by_order Becomes Less a b c d e f p q r = p
+by_order Becomes Equal a b c d e f p q r = q
+by_order Becomes Greater a b c d e f p q r = r
 
--- members stay mapped with one more of them
-put_mapped : (look : LookUp) (k : List ℕ) (d e : Data) (ms ns : Members) → IsMapped look d e
-    → HasMappedMembers look ms ns → HasMappedMembers look (put k d ms) (put k e ns)
-put_mapped look k d e no_members no_members p h = (refl, p, tt)
-put_mapped look k d e no_members (member m g ns) p h = absurd h
-put_mapped look k d e (member l f ms) no_members p h = absurd h
-put_mapped look k d e (member l f ms) (member m g ns) p h =
-    subst (λ m'. HasMappedMembers look (put k d (member l f ms)) (put k e (member m' g ns))) h.0
-    (by_order look (slice_cmp nat_cmp k l) (member k d (member l f ms)) (member l d ms)
+-- members that are filled in stay so with one more of them
+put_each : (Becomes : List ℕ → List ℕ → Type 0) (k : List ℕ) (d e : Data) (ms ns : Members)
+    → IsEach Becomes d e → HasEachMember Becomes ms ns
+    → HasEachMember Becomes (put k d ms) (put k e ns)
+put_each Becomes k d e no_members no_members p h = (refl, p, tt)
+put_each Becomes k d e no_members (member m g ns) p h = absurd h
+put_each Becomes k d e (member l f ms) no_members p h = absurd h
+put_each Becomes k d e (member l f ms) (member m g ns) p h =
+    subst (λ m'. HasEachMember Becomes (put k d (member l f ms)) (put k e (member m' g ns))) h.0
+    (by_order Becomes (slice_cmp nat_cmp k l) (member k d (member l f ms)) (member l d ms)
     (member l f (put k d ms)) (member k e (member l g ns)) (member l e ns) (member l g (put k e ns))
-    (refl, p, (refl, h.1, h.2)) (refl, p, h.2) (refl, h.1, put_mapped look k d e ms ns p h.2))
+    (refl, p, (refl, h.1, h.2)) (refl, p, h.2) (refl, h.1, put_each Becomes k d e ms ns p h.2))
 
 -- Of tokens that are filled in, those of a value are the tokens of a value, which is read as what the first
 -- one is read as, filled in.
-record FilledValue (look : LookUp) (Becomes : List ℕ → List ℕ → Type 0) (j : json.Json)
+record FilledValue (Becomes : List ℕ → List ℕ → Type 0) (j : json.Json)
     (rest us : List Token) : Type 0 where
   filled : json.Json
   more : List Token
@@ -61,10 +61,10 @@ record FilledValue (look : LookUp) (Becomes : List ℕ → List ℕ → Type 0) 
   after : Data
   reads : of_json j ≡ Some before
   reads_filled : of_json filled ≡ Some after
-  mapped : IsMapped look before after
+  each : IsEach Becomes before after
   rest_filled : AreFilled Becomes rest more
 
-record FilledItems (look : LookUp) (Becomes : List ℕ → List ℕ → Type 0) (js : json.Items)
+record FilledItems (Becomes : List ℕ → List ℕ → Type 0) (js : json.Items)
     (rest us : List Token) : Type 0 where
   filled : json.Items
   more : List Token
@@ -74,11 +74,11 @@ record FilledItems (look : LookUp) (Becomes : List ℕ → List ℕ → Type 0) 
   after : Items
   reads : of_items js ≡ Some before
   reads_filled : of_items filled ≡ Some after
-  mapped : AreMapped look before after
+  each : AreEach Becomes before after
   rest_filled : AreFilled Becomes rest more
 
 -- of members that are put into others
-record FilledMembers (look : LookUp) (Becomes : List ℕ → List ℕ → Type 0) (ms : json.Members)
+record FilledMembers (Becomes : List ℕ → List ℕ → Type 0) (ms : json.Members)
     (found found_filled : Members) (rest us : List Token) : Type 0 where
   filled : json.Members
   more : List Token
@@ -88,7 +88,7 @@ record FilledMembers (look : LookUp) (Becomes : List ℕ → List ℕ → Type 0
   after : Members
   reads : of_members ms found ≡ Some before
   reads_filled : of_members filled found_filled ≡ Some after
-  mapped : HasMappedMembers look before after
+  each : HasEachMember Becomes before after
   rest_filled : AreFilled Becomes rest more
 
 -- a value that the reader passes is one that it reads
@@ -97,13 +97,12 @@ passed : (o : Option (json.Json × List Token)) (rest : List Token) → option_m
 passed None rest e = absurd cc
 passed (Some (j, ts)) rest e = let same : ts ≡ rest = cc in (j, ap (λ r. Some (j, r)) same)
 
-module _ (look : LookUp) (Becomes : List ℕ → List ℕ → Type 0)
-    (gives : (x y : List ℕ) → Becomes x y → Answers x look (Gives y)) where
+module _ (Becomes : List ℕ → List ℕ → Type 0) where
   -- a value of one token
   alone : (j k : json.Json) (d e : Data) (rest us more : List Token) → us ≡ json_tokens k ++ more
-      → tree.depth k ≡ tree.depth j → of_json j ≡ Some d → of_json k ≡ Some e → IsMapped look d e
-      → AreFilled Becomes rest more → FilledValue look Becomes j rest us
-  alone j k d e rest us more is deep reads reads_filled mapped h = record {
+      → tree.depth k ≡ tree.depth j → of_json j ≡ Some d → of_json k ≡ Some e → IsEach Becomes d e
+      → AreFilled Becomes rest more → FilledValue Becomes j rest us
+  alone j k d e rest us more is deep reads reads_filled each h = record {
     filled = k;
     more = more;
     is = is;
@@ -112,13 +111,13 @@ module _ (look : LookUp) (Becomes : List ℕ → List ℕ → Type 0)
     after = e;
     reads = reads;
     reads_filled = reads_filled;
-    mapped = mapped;
+    each = each;
     rest_filled = h;
   }
 
   mutual
     filled_value : (j : json.Json) (rest us : List Token) → AreFilled Becomes (json_tokens j ++ rest) us
-        → FilledValue look Becomes j rest us
+        → FilledValue Becomes j rest us
     filled_value json.null rest us (u, more, is, same, h) =
         alone json.null json.null null null rest us more (is ∙ ap (λ t. t ∷ more) same) refl refl refl tt h
     filled_value (json.boolean b) rest us (u, more, is, same, h) =
@@ -130,20 +129,20 @@ module _ (look : LookUp) (Becomes : List ℕ → List ℕ → Type 0)
         (ap (option_map number) known) refl h
     filled_value (json.string s) rest us (u, more, is, (x, same, becomes), h) =
         alone (json.string s) (json.string x) (string s) (string x) rest us more
-        (is ∙ ap (λ t. t ∷ more) same) refl refl refl (gives s x becomes) h
+        (is ∙ ap (λ t. t ∷ more) same) refl refl refl becomes h
     filled_value (json.array js) rest us (u, more, is, same, h) =
         let i = filled_items js rest more h in
         alone (json.array js) (json.array i.filled) (array i.before) (array i.after) rest us i.more
         (is ∙ ap₂ (λ t ts. t ∷ ts) same i.is) (ap suc i.deep) (ap (option_map array) i.reads)
-        (ap (option_map array) i.reads_filled) i.mapped i.rest_filled
+        (ap (option_map array) i.reads_filled) i.each i.rest_filled
     filled_value (json.object ms) rest us (u, more, is, same, h) =
         let m = filled_members ms no_members no_members rest more tt h in
         alone (json.object ms) (json.object m.filled) (object m.before) (object m.after) rest us m.more
         (is ∙ ap₂ (λ t ts. t ∷ ts) same m.is) (ap suc m.deep) (ap (option_map object) m.reads)
-        (ap (option_map object) m.reads_filled) m.mapped m.rest_filled
+        (ap (option_map object) m.reads_filled) m.each m.rest_filled
 
     filled_items : (js : json.Items) (rest us : List Token) → AreFilled Becomes (items_tokens js ++ rest) us
-        → FilledItems look Becomes js rest us
+        → FilledItems Becomes js rest us
     filled_items json.no_items rest us (u, more, is, same, h) = record {
       filled = json.no_items;
       more = more;
@@ -153,7 +152,7 @@ module _ (look : LookUp) (Becomes : List ℕ → List ℕ → Type 0)
       after = no_items;
       reads = refl;
       reads_filled = refl;
-      mapped = tt;
+      each = tt;
       rest_filled = h;
     }
     filled_items (json.item j js) rest us h =
@@ -171,14 +170,14 @@ module _ (look : LookUp) (Becomes : List ℕ → List ℕ → Type 0)
               ∙ ap (option_map (item v.before)) i.reads;
           reads_filled = ap (option_and_then (λ d. option_map (item d) (of_items i.filled))) v.reads_filled
               ∙ ap (option_map (item v.after)) i.reads_filled;
-          mapped = (v.mapped, i.mapped);
+          each = (v.each, i.each);
           rest_filled = i.rest_filled;
         }
 
     filled_members : (ms : json.Members) (found found_filled : Members) (rest us : List Token)
-        → HasMappedMembers look found found_filled → AreFilled Becomes (members_tokens ms ++ rest) us
-        → FilledMembers look Becomes ms found found_filled rest us
-    filled_members json.no_members found found_filled rest us mapped (u, more, is, same, h) = record {
+        → HasEachMember Becomes found found_filled → AreFilled Becomes (members_tokens ms ++ rest) us
+        → FilledMembers Becomes ms found found_filled rest us
+    filled_members json.no_members found found_filled rest us each (u, more, is, same, h) = record {
       filled = json.no_members;
       more = more;
       is = is ∙ ap (λ t. t ∷ more) same;
@@ -187,14 +186,14 @@ module _ (look : LookUp) (Becomes : List ℕ → List ℕ → Type 0)
       after = found_filled;
       reads = refl;
       reads_filled = refl;
-      mapped = mapped;
+      each = each;
       rest_filled = h;
     }
-    filled_members (json.member k j ms) found found_filled rest us mapped (u, more, is, same, h) =
+    filled_members (json.member k j ms) found found_filled rest us each (u, more, is, same, h) =
         let v = filled_value j (members_tokens ms ++ rest) more
         (subst (λ ts. AreFilled Becomes ts more) (append_assoc (json_tokens j) (members_tokens ms) rest) h) in
         let m = filled_members ms (put k v.before found) (put k v.after found_filled) rest v.more
-        (put_mapped look k v.before v.after found found_filled v.mapped mapped) v.rest_filled in record {
+        (put_each Becomes k v.before v.after found found_filled v.each each) v.rest_filled in record {
           filled = json.member k v.filled m.filled;
           more = m.more;
           is = is ∙ ap₂ (λ t ts. t ∷ ts) same (v.is ∙ ap (λ ts. json_tokens v.filled ++ ts) m.is
@@ -205,14 +204,14 @@ module _ (look : LookUp) (Becomes : List ℕ → List ℕ → Type 0)
           reads = ap (option_and_then (λ d. of_members ms (put k d found))) v.reads ∙ m.reads;
           reads_filled = ap (option_and_then (λ d. of_members m.filled (put k d found_filled))) v.reads_filled
               ∙ m.reads_filled;
-          mapped = m.mapped;
+          each = m.each;
           rest_filled = m.rest_filled;
         }
 
   -- a text is read, and so is a text whose tokens are those of the first one, filled in
   pub filled_document : (source output : List ℕ) → json.skip_value max_depth (tokens source) ≡ Some []
       → AreFilled Becomes (tokens source) (tokens output)
-      → ReadsAsTree source (λ d. ReadsAsTree output (IsMapped look d))
+      → ReadsAsTree source (λ d. ReadsAsTree output (IsEach Becomes d))
   filled_document source output e h =
       let (j, is) = passed (json.value max_depth (tokens source)) [] e in
       let v = filled_value j [] (tokens output) (subst (λ ts. AreFilled Becomes ts (tokens output))
@@ -223,5 +222,5 @@ module _ (look : LookUp) (Becomes : List ℕ → List ℕ → Type 0)
       ∙ value-json_tokens v.filled max_depth [] nests in (
         v.before,
         read_as source j v.before is v.reads,
-        (v.after, read_as output v.filled v.after filled_is v.reads_filled, v.mapped),
+        (v.after, read_as output v.filled v.after filled_is v.reads_filled, v.each),
       )

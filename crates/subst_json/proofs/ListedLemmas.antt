@@ -1,5 +1,5 @@
 -- Lists of refused strings of a text, a part at a time, and the paths to its strings.
-use Rattle.std.proofs.Common.{◌≡◌, ℕ, ◌+◌, List, [], ◌∷◌, ◌++◌, length, map, reverse, Option, Some, None, IsSomeAnd, inl, inr, refl, sym, ap, ◌∙◌, subst, arith, append_assoc, append-nil}
+use Rattle.std.proofs.Common.{◌≡◌, ℕ, List, [], ◌∷◌, ◌++◌, length, map, reverse, Option, Some, None, IsSomeAnd, inl, inr, refl, sym, ap, ◌∙◌, subst, arith, append_assoc, append-nil}
 use Rattle.std.proofs.lemmas.List.{map-append}
 use Rattle.std.specs.List.{AllByRecursion}
 use Rattle.subst_error.specs.Fault.{Fault}
@@ -14,8 +14,7 @@ use Rattle.subst_walk.specs.declared.edits.StringAt.{StringAt}
 use Rattle.subst_walk.specs.declared.path_step.PathStep as steps
 use Rattle.subst_walk.proofs.FoundLemmas.{pushed_step, refusals_append}
 use Rattle.subst_json.specs.Filled.{IsStringToken}
-use Rattle.subst_json.specs.Listed.{located, past_value, refusal_at, refusal_of, string_of, AreListedRefusals}
-use Rattle.subst_json.specs.declared.listing.RefusalAt.{RefusalAt}
+use Rattle.subst_json.specs.Listed.{located, past_value, refusal_at, refusal_of, string_of, AreListedRefusals, RefusalAt}
 
 -- the path of these steps, its last step first
 abbrev pub path_of : List steps.PathStep → List PathStep

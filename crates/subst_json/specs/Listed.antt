@@ -1,17 +1,18 @@
 -- The strings of a JSON text that are refused, with their paths and where they stand.
-use Rattle.std.specs.Prelude.{◌≡◌, ℕ, ◌+◌, List, [], ◌∷◌, ◌++◌, Option, drop, map, reverse, string_bytes}
+use Rattle.std.specs.Prelude.{◌≡◌, ℕ, ◌+◌, List, [], ◌∷◌, ◌++◌, Option, drop, map, reverse}
 use Rattle.subst_error.specs.Fault.{Fault}
 use Rattle.std.specs.List.{AllByRecursion}
 use Rattle.json.specs.Token.{Token, begin_object, end_object, begin_array, end_array, key, string, number, boolean, null, bad}
-use Rattle.subst_error.specs.ErrorFault.{error_fault}
 use Rattle.subst_language.specs.Language.LookUp.{LookUp}
 use Rattle.subst_walk.specs.Edits.{AreSpelled}
 use Rattle.subst_walk.specs.Paths.{PathStep, Key, Index, Located, Refusal, AreRefusals}
 use Rattle.subst_walk.specs.Refused.{HasRangeInText}
+use Rattle.subst_walk.specs.Refused as refused
 use Rattle.subst_walk.specs.declared.edits.StringAt.{StringAt}
+use Rattle.subst_walk.specs.declared.found.RefusalAt as found
 use Rattle.subst_json.specs.Filled.{strings_of_token, IsStringToken}
 use Rattle.subst_json.specs.Paths.{steps_of}
-use Rattle.subst_json.specs.declared.listing.RefusalAt.{RefusalAt}
+use Rattle.subst_json.specs.declared.path.Path.{Path}
 
 -- From the path to a value to that of what comes next: in an array, the next item. Paths are here with their
 -- last step first.
@@ -51,9 +52,12 @@ abbrev pub located_in : List PathStep → List Token → List Located
 located_in path [] = []
 located_in path (t ∷ ts) = located_at path t ++ located_in (past_token t path) ts
 
+abbrev pub RefusalAt : Type 0
+RefusalAt = found.RefusalAt Path
+
 -- the refusal
 abbrev pub refusal_at : RefusalAt → Refusal
-refusal_at it = refusal_of (steps_of it.path) (string_bytes it.text) (error_fault it.error)
+refusal_at = refused.refusal_at steps_of
 
 -- its string, with where it stands
 abbrev pub string_of : RefusalAt → StringAt

@@ -23,25 +23,35 @@ abbrev mutual
   strings_of_members no_members = []
   strings_of_members (member key d ms) = strings d ++ strings_of_members ms
 
--- The second tree is the first one, but each string is what the string gives that is there in the
--- first one. A number is the same number, which says nothing of how it is printed.
+-- The second tree is the first one, but each string is what the string becomes that is there in the first
+-- one. A number is the same number, which says nothing of how it is printed.
 abbrev mutual
-  pub IsMapped : LookUp → Data → Data → Type 0
-  IsMapped look (string s) (string x) = Answers s look (Gives x)
-  IsMapped look (array ds) (array es) = AreMapped look ds es
-  IsMapped look (object ms) (object ns) = HasMappedMembers look ms ns
-  IsMapped look null null = ⊤
-  IsMapped look (boolean b) (boolean c) = b ≡ c
-  IsMapped look (number m) (number n) = m ≡ n
-  IsMapped look _ _ = ⊥
+  pub IsEach : (List ℕ → List ℕ → Type 0) → Data → Data → Type 0
+  IsEach Becomes (string s) (string x) = Becomes s x
+  IsEach Becomes (array ds) (array es) = AreEach Becomes ds es
+  IsEach Becomes (object ms) (object ns) = HasEachMember Becomes ms ns
+  IsEach Becomes null null = ⊤
+  IsEach Becomes (boolean b) (boolean c) = b ≡ c
+  IsEach Becomes (number m) (number n) = m ≡ n
+  IsEach Becomes _ _ = ⊥
 
-  pub AreMapped : LookUp → Items → Items → Type 0
-  AreMapped look no_items no_items = ⊤
-  AreMapped look (item d ds) (item e es) = IsMapped look d e × AreMapped look ds es
-  AreMapped look _ _ = ⊥
+  pub AreEach : (List ℕ → List ℕ → Type 0) → Items → Items → Type 0
+  AreEach Becomes no_items no_items = ⊤
+  AreEach Becomes (item d ds) (item e es) = IsEach Becomes d e × AreEach Becomes ds es
+  AreEach Becomes _ _ = ⊥
 
-  pub HasMappedMembers : LookUp → Members → Members → Type 0
-  HasMappedMembers look no_members no_members = ⊤
-  HasMappedMembers look (member key d ms) (member other e ns) =
-      (key ≡ other) × IsMapped look d e × HasMappedMembers look ms ns
-  HasMappedMembers look _ _ = ⊥
+  pub HasEachMember : (List ℕ → List ℕ → Type 0) → Members → Members → Type 0
+  HasEachMember Becomes no_members no_members = ⊤
+  HasEachMember Becomes (member key d ms) (member other e ns) =
+      (key ≡ other) × IsEach Becomes d e × HasEachMember Becomes ms ns
+  HasEachMember Becomes _ _ = ⊥
+
+-- each string is what it gives
+abbrev pub IsMapped : LookUp → Data → Data → Type 0
+IsMapped look = IsEach (λ s x. Answers s look (Gives x))
+
+abbrev pub AreMapped : LookUp → Items → Items → Type 0
+AreMapped look = AreEach (λ s x. Answers s look (Gives x))
+
+abbrev pub HasMappedMembers : LookUp → Members → Members → Type 0
+HasMappedMembers look = HasEachMember (λ s x. Answers s look (Gives x))

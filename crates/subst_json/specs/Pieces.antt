@@ -1,5 +1,5 @@
 -- Spans of many ranges of one string, each piece of whose token is read alone.
-use Rattle.std.specs.Prelude.{◌≡◌, ◌<◌, ◌≤◌, ◌+◌, ℕ, List, [], ◌∷◌, ◌++◌, slice_range}
+use Rattle.std.specs.Prelude.{◌<◌, ◌≤◌, ◌+◌, ℕ, List, [], ◌∷◌, ◌++◌, slice_range}
 use Rattle.std.specs.declared.ops.Range.{Range}
 use Rattle.subst_error.specs.Range.{IsRangeIn}
 use Rattle.subst_walk.specs.Pieces.{position, ArePiecesFrom}

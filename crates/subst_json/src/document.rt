@@ -10,11 +10,10 @@ ghost use Rattle.subst_language.specs.Calls.VariableMap.{ByLookUp};
 ghost use Rattle.subst_language.specs.Language.Answer.{Answers, Gives};
 ghost use Rattle.subst_language.specs.Language.LookUp.{LookUp};
 ghost use Rattle.subst_language.specs.Language.Several.{IsFirstRefusal};
-ghost use Rattle.subst_walk.specs.Edits.{GivesUnder};
 ghost use Rattle.subst_walk.specs.Texts.{HasRange};
 ghost use Rattle.subst_json.specs.Errors.{HasOwnMemory};
 ghost use Rattle.subst_json.specs.Filled.{strings_in, IsFilledJson};
-ghost use Rattle.subst_json.specs.Mapped.{IsMapped};
+ghost use Rattle.subst_json.specs.Mapped.{IsEach, IsMapped};
 ghost use Rattle.subst_json.specs.Outcome.{ReadsAsTree, IfJson, OnJson, OnSubst};
 
 use crate::Error;
@@ -39,7 +38,7 @@ const MAX_DEPTH: usize = 127;
 /// ```rust
 /// let source = r#"{ "$home": "${home:/root}/.config", "scale": 1.50 }"#;
 /// let output = json::fill_in(alloc, source, &NoSubstitution)?;
-/// // { "$home": "/root/.config", "scale": 1.50 }
+/// // Some("{ \"$home\": \"/root/.config\", \"scale\": 1.50 }")
 /// ```
 ///
 /// The output is read and compared with the source before it is returned. It is `None` where it isn't
@@ -121,18 +120,17 @@ where
     }
 }
 
-/// Returns a JSON text with its strings filled in by `filler`, as [`fill_in`]. A string without `$` and `\`
-/// gives itself, and `filler` isn't asked.
+/// Returns a JSON text with its strings filled in by `filler`, as [`fill_in`]. A string that is seen to give
+/// itself ([`Fill::gives_itself`]) isn't filled in.
 ///
 /// # Errors
 ///
 /// As [`fill_in`].
 pub fn fill_in_by<F: Fill>(alloc: Global, source: &str, filler: &F) -> Result<Option<String>, Error>
-    ensures mapped { (look : LookUp) → F.is_look_up filler.now look
-        → IfOk result (λ output. IfSome output (λ output. ReadsAsTree source.now
-        (λ d. ReadsAsTree (string_bytes output) (IsMapped look d)))) }
+    ensures each { IfOk result (λ output. IfSome output (λ output. ReadsAsTree source.now
+        (λ d. ReadsAsTree (string_bytes output) (IsEach (F.gives filler.now) d)))) }
     ensures kept { IfOk result (λ output. IfSome output (λ output.
-        IsFilledJson (GivesUnder (F.is_look_up filler.now)) source.now (string_bytes output))) }
+        IsFilledJson (F.gives filler.now) source.now (string_bytes output))) }
     ensures json { OnJson result (read source.now ≡ None) }
     ensures kind { IfJson result IsOfText }
     ensures subst { (look : LookUp) → F.is_look_up filler.now look
@@ -160,9 +158,8 @@ fn confirmed<F: Fill>(
     filler: &F,
 ) -> Result<Option<String>, Error>
     ensures same { IfOk result (λ confirmed. IfSome confirmed (λ confirmed. confirmed ≡ output)) }
-    ensures mapped { (look : LookUp) → F.is_look_up filler.now look
-        → IfOk result (λ output. IfSome output (λ output. ReadsAsTree source.now
-        (λ d. ReadsAsTree (string_bytes output) (IsMapped look d)))) }
+    ensures each { IfOk result (λ output. IfSome output (λ output. ReadsAsTree source.now
+        (λ d. ReadsAsTree (string_bytes output) (IsEach (F.gives filler.now) d)))) }
     ensures json { OnJson result (read source.now ≡ None) }
     ensures kind { IfJson result IsOfText }
     ensures subst { OnSubst result (λ _. ⊥) }

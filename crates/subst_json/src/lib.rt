@@ -32,7 +32,7 @@ pub use error::Error;
 pub use listing::{RefusalAt, refusals_by, refusals_in, strings};
 pub use path::Path;
 pub use place::{place_in, place_of};
-pub use places::places_in;
+pub use places::{RangeFinder, places_in};
 pub use refusals::{RefusedString, all_refusals, first_refusal};
 use serde_json::Value;
 use std::alloc::Global;

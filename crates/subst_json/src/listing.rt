@@ -14,9 +14,8 @@ ghost use Rattle.subst_walk.specs.Paths.{AreRefusals, step_of};
 ghost use Rattle.subst_walk.specs.Refused.{HasRangeInText};
 ghost use Rattle.subst_json.specs.Errors.{HasOwnMemory};
 ghost use Rattle.subst_json.specs.Filled.{strings_of_token, strings_in, IsStringToken};
-ghost use Rattle.subst_json.specs.Listed.{located, located_at, located_in, past_token, past_value, refusal_at, refusal_of, string_of, AreListedRefusals};
+ghost use Rattle.subst_json.specs.Listed.{located, located_at, located_in, past_token, past_value, refusal_at, refusal_of, string_of, AreListedRefusals, RefusalAt as SpecRefusalAt};
 ghost use Rattle.subst_json.specs.Outcome.{ReadsAsTree, IfJson, OnJson};
-ghost use Rattle.subst_json.specs.declared.listing.RefusalAt.{RefusalAt as SpecRefusalAt};
 
 use crate::tokens::{JsonStrings, span_in};
 use crate::{Error, Path};
@@ -29,17 +28,7 @@ use subst_map::VariableMap;
 use subst_walk::{Fill, Filler, PathStep, StringAt, string_at};
 
 /// A string of a text that is refused.
-#[derive(Debug, Drop)]
-pub struct RefusalAt {
-    /// The path that leads to it. Of members with equal keys each has the same path.
-    pub path: Path,
-    /// The string, as it is read.
-    pub text: String,
-    /// The byte range of the text that spells it, with its quotes.
-    pub span: Range<usize>,
-    /// Why it is refused. Positions are byte offsets in the string. It is never `OutOfMemory`.
-    pub error: subst_error::Error,
-}
+pub type RefusalAt = subst_walk::RefusalAt<Path>;
 
 /// Returns the strings of `source`, a JSON text, in its order. A key is none of them, and of members with
 /// equal keys the string of each one is there. Each span is read by itself before it is returned. It is

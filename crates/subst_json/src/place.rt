@@ -106,7 +106,7 @@ fn read_tree(alloc: Global, text: &str) -> Result<Option<Value>, AllocError>
 }
 
 /// Returns the string that a text is read as, or `None` where it is none.
-pub(crate) fn read_string(alloc: Global, text: &str) -> Result<Option<String>, AllocError>
+fn read_string(alloc: Global, text: &str) -> Result<Option<String>, AllocError>
     ensures { IfOk result
         (λ read. IfSome read (λ string. IsTokenOf text.now (string_bytes string))) }
 {

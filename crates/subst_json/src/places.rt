@@ -5,10 +5,11 @@ ghost use Rattle.std.specs.Prelude.{◌≡◌, ◌++◌, ◌∷◌, [], IfOk, If
 ghost use Rattle.subst_json.specs.Places.{IsTokenOf};
 ghost use Rattle.subst_json.specs.Pieces.{ArePlacesIn};
 
-use crate::place::{read_string, spelling_len};
+use crate::place::spelling_len;
+use crate::tokens::JsonStrings;
 use std::alloc::{AllocError, Global};
 use std::ops::Range;
-use subst_walk::{Pieces, Position, slice, spans};
+use subst_walk::{Pieces, Position, StringFormat, slice, spans};
 
 /// A token of a string.
 #[derive(Clone, Copy)]
@@ -20,6 +21,8 @@ struct Token<'t> {
 }
 
 impl Pieces for Token<'_> {
+    type Reader = JsonStrings;
+
     ghost use Rattle.subst_json.specs.Pieces.{IsPiece};
 
     ghost is_piece = { λ token. IsPiece token.source.now token.span.now token.string.now };
@@ -27,6 +30,7 @@ impl Pieces for Token<'_> {
     fn piece_end(
         &self,
         alloc: Global,
+        reader: &mut JsonStrings,
         from: Position,
         offset: usize,
         _is_start: bool,
@@ -40,11 +44,65 @@ impl Pieces for Token<'_> {
         let Some(spelled) = slice(self.source, &(from.place..place)) else {
             return Ok(None);
         };
-        if place < self.span.end && reads_as(alloc, spelled, part)? {
+        if place < self.span.end && reads_as(alloc, reader, spelled, part)? {
             Ok(Some(Position { place, offset }))
         } else {
             Ok(None)
         }
+    }
+}
+
+/// Finds where ranges of many strings of one document are spelled, each as [`places_in`] does. What strings
+/// are read with is made once, and so a call takes as long as its token.
+#[derive(Drop)]
+pub struct RangeFinder {
+    format: JsonStrings,
+}
+
+impl RangeFinder {
+    /// Returns a finder.
+    pub fn new(alloc: Global) -> RangeFinder {
+        RangeFinder {
+            format: JsonStrings::new(alloc),
+        }
+    }
+
+    /// Returns the byte ranges in `source`, a JSON text, that spell these ranges of a string of it, as
+    /// [`places_in`]. The token is passed over once.
+    ///
+    /// # Errors
+    ///
+    /// That an allocation failed.
+    pub fn find(
+        &mut self,
+        alloc: Global,
+        source: &str,
+        token: Range<usize>,
+        ranges: &[Range<usize>],
+    ) -> Result<Option<Vec<Range<usize>>>, AllocError>
+        ensures { IfOk result (λ places. IfSome places
+            (λ places. ArePlacesIn source.now token ranges.now places.items)) }
+    {
+        let Some(text) = slice(source, &token) else {
+            return Ok(None);
+        };
+        let Some(string) = self.format.read(text)? else {
+            return Ok(None);
+        };
+        let string = String::from_str(alloc, string)?;
+        let first = Position {
+            place: token.start + 1,
+            offset: 0,
+        };
+        let token = Token {
+            source,
+            span: &token,
+            string: &string,
+        };
+        let Some(places) = spans(alloc, &token, &mut self.format, first, ranges)? else {
+            return Ok(None);
+        };
+        Ok(Some(places))
     }
 }
 
@@ -67,39 +125,21 @@ pub fn places_in(
     ensures { IfOk result (λ places. IfSome places
         (λ places. ArePlacesIn source.now token ranges.now places.items)) }
 {
-    let Some(text) = slice(source, &token) else {
-        return Ok(None);
-    };
-    let [b'"', .., b'"'] = text.as_bytes() else {
-        return Ok(None);
-    };
-    let Some(string) = read_string(alloc, text)? else {
-        return Ok(None);
-    };
-    let first = Position {
-        place: token.start + 1,
-        offset: 0,
-    };
-    let token = Token {
-        source,
-        span: &token,
-        string: &string,
-    };
-    let Some(places) = spans(alloc, &token, first, ranges)? else {
-        return Ok(None);
-    };
-    Ok(Some(places))
+    RangeFinder::new(alloc).find(alloc, source, token, ranges)
 }
 
 /// Returns whether a text between quotes is read as this string.
-fn reads_as(alloc: Global, text: &str, string: &str) -> Result<bool, AllocError>
+fn reads_as(
+    alloc: Global,
+    format: &mut JsonStrings,
+    text: &str,
+    string: &str,
+) -> Result<bool, AllocError>
     ensures { IfOk result (λ is. IsTrue is → IsTokenOf (34 ∷ text.now ++ 34 ∷ []) string.now) }
 {
-    let mut quoted = String::from_str(alloc, "\"")?;
+    let mut quoted = String::with_capacity(alloc, text.len().saturating_add(2))?;
+    quoted.push('"')?;
     quoted.push_str(text)?;
     quoted.push('"')?;
-    match read_string(alloc, &quoted)? {
-        Some(read) => Ok(read.as_str() == string),
-        None => Ok(false),
-    }
+    format.spells(alloc, &quoted, string)
 }

@@ -6,7 +6,7 @@ ghost use Rattle.json.specs.Print.{quoted};
 ghost use Rattle.json.specs.Reads.{token_of};
 ghost use Rattle.subst_error.specs.ErrorFault.{error_fault};
 ghost use Rattle.subst_language.specs.Calls.Outcome.{OnFault};
-ghost use Rattle.subst_walk.specs.Edits.{GivesUnder, IsFilledUpTo};
+ghost use Rattle.subst_walk.specs.Edits.{IsFilledUpTo};
 ghost use Rattle.subst_walk.specs.Refused.{RefusesFirst};
 ghost use Rattle.subst_walk.specs.Texts.{HasRange};
 ghost use Rattle.subst_json.specs.Filled.{strings_of_token, strings_in, IsFilledJson, IsStringToken};
@@ -30,6 +30,29 @@ impl JsonStrings {
             scratch: Scratch::new(alloc),
         }
     }
+
+    /// Returns the string that a part of a text spells, or `None` where it spells none.
+    ///
+    /// # Errors
+    ///
+    /// That an allocation failed.
+    pub(crate) fn read<'s>(&'s mut self, token: &'s str) -> Result<Option<&'s str>, AllocError>
+        ensures { IfOk result
+            (λ read. IfSome read (λ string. IsStringToken token.now string.now)) }
+    {
+        let [b'"', .., b'"'] = token.as_bytes() else {
+            return Ok(None);
+        };
+        let mut reader = Reader::new(token, &mut self.scratch)?;
+        let Some(Token::String(string)) = reader.next() else {
+            return Ok(None);
+        };
+        if reader.next().is_none() {
+            Ok(Some(string))
+        } else {
+            Ok(None)
+        }
+    }
 }
 
 impl StringFormat for JsonStrings {
@@ -38,13 +61,9 @@ impl StringFormat for JsonStrings {
     ghost written = { quoted };
 
     fn spells(&mut self, alloc: Global, token: &str, text: &str) -> Result<bool, AllocError> {
-        let [b'"', .., b'"'] = token.as_bytes() else {
-            return Ok(false);
-        };
-        let mut reader = Reader::new(token, &mut self.scratch)?;
-        match reader.next() {
-            Some(Token::String(read)) => Ok(read == text && reader.next().is_none()),
-            _ => Ok(false),
+        match self.read(token)? {
+            Some(read) => Ok(read == text),
+            None => Ok(false),
         }
     }
 
@@ -65,7 +84,7 @@ pub(crate) fn filled_in<F: Fill>(
     filler: &F,
 ) -> Result<Option<String>, Error>
     ensures ok { IfOk result (λ output. IfSome output (λ output.
-        IsFilledJson (GivesUnder (F.is_look_up filler.now)) source.now (string_bytes output))) }
+        IsFilledJson (F.gives filler.now) source.now (string_bytes output))) }
     ensures err { RefusesFirst (F.is_look_up filler.now) (strings_in (tokens source.now)) result }
     ensures range { OnFault error_fault result HasRange }
 {
@@ -106,7 +125,7 @@ fn fill_in_token<'t, F: Fill>(
     output: &mut String,
 ) -> Result<Option<&'t str>, Error>
     ensures filled { IfOk result (λ left. IfSome left
-        (λ left. IsFilledUpTo IsStringToken quoted (GivesUnder (F.is_look_up filler.now))
+        (λ left. IsFilledUpTo IsStringToken quoted (F.gives filler.now)
         (strings_of_token (token_of token.entry)) rest.now left.now (string_bytes output.old)
         (string_bytes output.new))) }
     ensures err { RefusesFirst (F.is_look_up filler.now) (strings_of_token (token_of token.entry))

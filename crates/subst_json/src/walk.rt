@@ -5,11 +5,10 @@
 ghost use Rattle.std.specs.Prelude.{IfOk};
 ghost use Rattle.serde_json.specs.View.{view, items_view, members_view};
 ghost use Rattle.subst_error.specs.ErrorFault.{error_fault};
-ghost use Rattle.subst_language.specs.Language.LookUp.{LookUp};
 ghost use Rattle.subst_language.specs.Calls.Outcome.{OnFault};
 ghost use Rattle.subst_walk.specs.Texts.{HasRange};
 ghost use Rattle.subst_walk.specs.Refused.{RefusesFirst};
-ghost use Rattle.subst_json.specs.Mapped.{strings, strings_of_items, strings_of_members, IsMapped, AreMapped, HasMappedMembers};
+ghost use Rattle.subst_json.specs.Mapped.{strings, strings_of_items, strings_of_members, IsEach, AreEach, HasEachMember};
 
 use serde_json::{Map, Value};
 use std::alloc::Global;
@@ -20,8 +19,7 @@ use subst_walk::{Fill, put_values};
 /// Returns the tree with its strings filled in.
 #[cycle(walk)]
 pub(crate) fn filled<F: Fill>(alloc: Global, value: Value, filler: &F) -> Result<Value, Error>
-    ensures ok { (look : LookUp) → F.is_look_up filler.now look
-        → IfOk result (λ tree. IsMapped look (view value) (view tree)) }
+    ensures ok { IfOk result (λ tree. IsEach (F.gives filler.now) (view value) (view tree)) }
     ensures err { RefusesFirst (F.is_look_up filler.now) (strings (view value)) result }
     ensures range { OnFault error_fault result HasRange }
 {
@@ -38,8 +36,8 @@ pub(crate) fn filled<F: Fill>(alloc: Global, value: Value, filler: &F) -> Result
 /// Returns the items of an array, in their order.
 #[cycle(walk)]
 fn filled_items<F: Fill>(alloc: Global, items: Vec<Value>, filler: &F) -> Result<Vec<Value>, Error>
-    ensures ok { (look : LookUp) → F.is_look_up filler.now look → IfOk result
-        (λ trees. AreMapped look (items_view items.items) (items_view trees.items)) }
+    ensures ok { IfOk result
+        (λ trees. AreEach (F.gives filler.now) (items_view items.items) (items_view trees.items)) }
     ensures err { RefusesFirst (F.is_look_up filler.now)
         (strings_of_items (items_view items.items)) result }
     ensures range { OnFault error_fault result HasRange }
@@ -58,9 +56,8 @@ fn filled_members<F: Fill>(
     mut members: Map<String, Value>,
     filler: &F,
 ) -> Result<Map<String, Value>, Error>
-    ensures ok { (look : LookUp) → F.is_look_up filler.now look → IfOk result
-        (λ trees. HasMappedMembers look (members_view members.entries)
-        (members_view trees.entries)) }
+    ensures ok { IfOk result (λ trees. HasEachMember (F.gives filler.now)
+        (members_view members.entries) (members_view trees.entries)) }
     ensures err { RefusesFirst (F.is_look_up filler.now)
         (strings_of_members (members_view members.entries)) result }
     ensures range { OnFault error_fault result HasRange }

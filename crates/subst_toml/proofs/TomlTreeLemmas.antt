@@ -1,5 +1,5 @@
 -- A walk over a tree, step by step.
-use Rattle.std.proofs.Common.{◌≡◌, List, [], ◌∷◌, ◌++◌, Option, Some, None, IfSome, String, Global, string_bytes, refl, sym, ap, subst}
+use Rattle.std.proofs.Common.{◌≡◌, ℕ, List, [], ◌∷◌, ◌++◌, Option, Some, None, IfSome, String, Global, string_bytes, refl, sym, ap, subst}
 use Rattle.std.specs.Map.{keys_of, values_of}
 use Rattle.toml.specs.Data.{Items, no_items, item}
 use Rattle.toml.specs.View.{view, items_view, members_view}
@@ -11,7 +11,7 @@ use Rattle.subst_language.specs.Language.LookUp.{LookUp}
 use Rattle.subst_language.specs.Language.Answer.{Answers, Refuses}
 use Rattle.subst_language.specs.Language.Several.{IsFirstRefusal}
 use Rattle.subst_language.proofs.Language.SeveralLemmas.{refusal_alone, refusal_before, refusal_after}
-use Rattle.subst_toml.specs.Mapped.{strings, strings_of_items, strings_of_members, IsMapped, AreMapped, HasMappedMembers}
+use Rattle.subst_toml.specs.Mapped.{strings, strings_of_items, strings_of_members, IsEach, AreEach, HasEachMember, AreMapped}
 use Rattle.subst_toml.proofs.MappedLemmas.{given}
 
 -- a string that is refused is the first one of its tree
@@ -24,13 +24,13 @@ string_refused look s (Some f) h =
     (refusal_alone look (string_bytes s) f h)
 
 -- one item more
-pub mapped_append : (look : LookUp) (vs ws : List Value) (v w : Value)
-    → AreMapped look (items_view vs) (items_view ws) → IsMapped look (view v) (view w)
-    → AreMapped look (items_view (vs ++ v ∷ [])) (items_view (ws ++ w ∷ []))
-mapped_append look [] [] v w h k = (k, tt)
-mapped_append look [] (y ∷ ws) v w h k = absurd h
-mapped_append look (x ∷ vs) [] v w h k = absurd h
-mapped_append look (x ∷ vs) (y ∷ ws) v w h k = (h.0, mapped_append look vs ws v w h.1 k)
+pub each_append : (Becomes : List ℕ → List ℕ → Type 0) (vs ws : List Value) (v w : Value)
+    → AreEach Becomes (items_view vs) (items_view ws) → IsEach Becomes (view v) (view w)
+    → AreEach Becomes (items_view (vs ++ v ∷ [])) (items_view (ws ++ w ∷ []))
+each_append Becomes [] [] v w h k = (k, tt)
+each_append Becomes [] (y ∷ ws) v w h k = absurd h
+each_append Becomes (x ∷ vs) [] v w h k = absurd h
+each_append Becomes (x ∷ vs) (y ∷ ws) v w h k = (h.0, each_append Becomes vs ws v w h.1 k)
 
 -- the first refusal of an item, after items that are mapped, is that of the array
 item_refused : (look : LookUp) (done more : List Value) (v : Value) (mapped : Items) (f : Fault)
@@ -68,15 +68,15 @@ table_refused look es done more v mapped fault is h k =
     subst (λ ss. IfSome fault (IsFirstRefusal look ss)) (sym (strings_of_values es))
     (array_refused look (values_of es) done more v mapped fault is h k)
 
--- if the values are mapped and the keys stay, the table is mapped
-pub members_mapped : (look : LookUp) (es fs : List Entry) → keys_of fs ≡ keys_of es
-    → AreMapped look (items_view (values_of es)) (items_view (values_of fs))
-    → HasMappedMembers look (members_view es) (members_view fs)
-members_mapped look [] [] same h = tt
-members_mapped look [] (f ∷ fs) same h = absurd h
-members_mapped look (e ∷ es) [] same h = absurd h
-members_mapped look (e ∷ es) (f ∷ fs) same h =
+-- if the values are filled in and the keys stay, the table is filled in
+pub each_member : (Becomes : List ℕ → List ℕ → Type 0) (es fs : List Entry) → keys_of fs ≡ keys_of es
+    → AreEach Becomes (items_view (values_of es)) (items_view (values_of fs))
+    → HasEachMember Becomes (members_view es) (members_view fs)
+each_member Becomes [] [] same h = tt
+each_member Becomes [] (f ∷ fs) same h = absurd h
+each_member Becomes (e ∷ es) [] same h = absurd h
+each_member Becomes (e ∷ es) (f ∷ fs) same h =
     let all : f.0 ∷ keys_of fs ≡ e.0 ∷ keys_of es = same in
     let first : e.0 ≡ f.0 = cc in
     let others : keys_of fs ≡ keys_of es = cc in
-    (ap string_bytes first, h.0, members_mapped look es fs others h.1)
+    (ap string_bytes first, h.0, each_member Becomes es fs others h.1)

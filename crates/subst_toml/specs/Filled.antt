@@ -14,12 +14,13 @@ use Rattle.subst_language.specs.Language.Answer.{Answers, Gives, Refuses}
 use Rattle.subst_language.specs.Language.LookUp.{LookUp}
 use Rattle.subst_walk.specs.Edits.{IsFilledText}
 use Rattle.subst_walk.specs.declared.edits.StringAt.{StringAt}
+use Rattle.subst_walk.specs.declared.found.RefusalAt.{RefusalAt}
 use Rattle.subst_toml.specs.Paths.{steps_of, Leads}
 use Rattle.subst_toml.specs.Places.{part_at, IsTokenOf}
-use Rattle.subst_toml.specs.declared.document.listing.RefusalAt.{RefusalAt}
 use Rattle.subst_toml.specs.declared.document.tokens.Bracket.{Bracket}
 use Rattle.subst_toml.specs.declared.document.tokens.Bracket.TheVariants.{Array, InlineTable}
 use Rattle.subst_toml.specs.declared.document.tokens.Progress as code
+use Rattle.subst_toml.specs.declared.path.Path.{Path}
 
 -- the text alone is read as this string, and begins with its quote
 abbrev pub IsQuotedToken : List ℕ → List ℕ → Type 0
@@ -134,7 +135,7 @@ pub record RefusalIn : Type 0 where
   pub fault : Option Fault
 
 -- the refusal, without its path
-abbrev pub refusal_in : RefusalAt → RefusalIn
+abbrev pub refusal_in : RefusalAt Path → RefusalIn
 refusal_in it = record { text = string_bytes it.text; span = it.span; fault = error_fault it.error }
 
 -- the range of its fault is in its string
@@ -156,6 +157,6 @@ AreAllRefusals look s refusals =
     (found : List Spelled) × (strings_in s ≡ Some found) × AreRefusalsIn look found refusals
 
 -- its path leads to its string in the tree, and the text has its token at its span
-abbrev pub IsFound : List ℕ → Data → RefusalAt → Type 0
+abbrev pub IsFound : List ℕ → Data → RefusalAt Path → Type 0
 IsFound s d it = Leads (steps_of it.path) d (string_bytes it.text)
     × IsSpelledAt s it.span (string_bytes it.text)

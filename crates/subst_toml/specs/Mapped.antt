@@ -24,26 +24,36 @@ abbrev mutual
   strings_of_members no_members = []
   strings_of_members (member key d ms) = strings d ++ strings_of_members ms
 
--- The second tree is the first one, but each string is what the string gives that is there in the
+-- The second tree is the first one, but each string is what the string becomes that is there in the
 -- first one. A date is the same in all its parts.
 abbrev mutual
-  pub IsMapped : LookUp → Data → Data → Type 0
-  IsMapped look (string s) (string x) = Answers s look (Gives x)
-  IsMapped look (array ds) (array es) = AreMapped look ds es
-  IsMapped look (table ms) (table ns) = HasMappedMembers look ms ns
-  IsMapped look (integer y) (integer z) = y ≡ z
-  IsMapped look (float x) (float y) = x ≡ y
-  IsMapped look (boolean b) (boolean c) = b ≡ c
-  IsMapped look (datetime t) (datetime u) = t ≡ u
-  IsMapped look _ _ = ⊥
+  pub IsEach : (List ℕ → List ℕ → Type 0) → Data → Data → Type 0
+  IsEach Becomes (string s) (string x) = Becomes s x
+  IsEach Becomes (array ds) (array es) = AreEach Becomes ds es
+  IsEach Becomes (table ms) (table ns) = HasEachMember Becomes ms ns
+  IsEach Becomes (integer y) (integer z) = y ≡ z
+  IsEach Becomes (float x) (float y) = x ≡ y
+  IsEach Becomes (boolean b) (boolean c) = b ≡ c
+  IsEach Becomes (datetime t) (datetime u) = t ≡ u
+  IsEach Becomes _ _ = ⊥
 
-  pub AreMapped : LookUp → Items → Items → Type 0
-  AreMapped look no_items no_items = ⊤
-  AreMapped look (item d ds) (item e es) = IsMapped look d e × AreMapped look ds es
-  AreMapped look _ _ = ⊥
+  pub AreEach : (List ℕ → List ℕ → Type 0) → Items → Items → Type 0
+  AreEach Becomes no_items no_items = ⊤
+  AreEach Becomes (item d ds) (item e es) = IsEach Becomes d e × AreEach Becomes ds es
+  AreEach Becomes _ _ = ⊥
 
-  pub HasMappedMembers : LookUp → Members → Members → Type 0
-  HasMappedMembers look no_members no_members = ⊤
-  HasMappedMembers look (member key d ms) (member other e ns) =
-      (key ≡ other) × IsMapped look d e × HasMappedMembers look ms ns
-  HasMappedMembers look _ _ = ⊥
+  pub HasEachMember : (List ℕ → List ℕ → Type 0) → Members → Members → Type 0
+  HasEachMember Becomes no_members no_members = ⊤
+  HasEachMember Becomes (member key d ms) (member other e ns) =
+      (key ≡ other) × IsEach Becomes d e × HasEachMember Becomes ms ns
+  HasEachMember Becomes _ _ = ⊥
+
+-- each string is what it gives
+abbrev pub IsMapped : LookUp → Data → Data → Type 0
+IsMapped look = IsEach (λ s x. Answers s look (Gives x))
+
+abbrev pub AreMapped : LookUp → Items → Items → Type 0
+AreMapped look = AreEach (λ s x. Answers s look (Gives x))
+
+abbrev pub HasMappedMembers : LookUp → Members → Members → Type 0
+HasMappedMembers look = HasEachMember (λ s x. Answers s look (Gives x))

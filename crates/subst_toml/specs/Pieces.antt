@@ -1,5 +1,5 @@
 -- Spans of many ranges of one string, each piece of whose token is read alone.
-use Rattle.std.specs.Prelude.{◌≡◌, ℕ, ◌≤◌, ◌==◌, if◌then◌else◌, List, [], ◌∷◌, ◌++◌, length, slice_range}
+use Rattle.std.specs.Prelude.{ℕ, ◌≤◌, ◌==◌, if◌then◌else◌, List, [], ◌∷◌, ◌++◌, length, slice_range}
 use Rattle.std.specs.declared.ops.Range.{Range}
 use Rattle.toml_parser.specs.Lexical.{line_feed}
 use Rattle.subst_error.specs.Range.{IsRangeIn}

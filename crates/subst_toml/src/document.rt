@@ -13,11 +13,11 @@ ghost use Rattle.subst_language.specs.Calls.VariableMap.{ByLookUp};
 ghost use Rattle.subst_language.specs.Language.Answer.{Answers, Gives};
 ghost use Rattle.subst_language.specs.Language.LookUp.{LookUp};
 ghost use Rattle.subst_language.specs.Language.Several.{IsFirstRefusal};
-ghost use Rattle.subst_walk.specs.Edits.{GivesUnder, IsFilledUpTo, text_at};
+ghost use Rattle.subst_walk.specs.Edits.{IsFilledUpTo, text_at};
 ghost use Rattle.subst_walk.specs.Texts.{HasRange};
 ghost use Rattle.subst_toml.specs.Errors.{HasOwnMemory};
 ghost use Rattle.subst_toml.specs.Filled.{IsFilledIn, IsQuotedToken};
-ghost use Rattle.subst_toml.specs.Mapped.{strings, IsMapped};
+ghost use Rattle.subst_toml.specs.Mapped.{strings, IsEach, IsMapped};
 ghost use Rattle.subst_toml.specs.Outcome.{ReadsAsTree, IfToml, OnToml, OnSubst, TellsUtf8, StatesFirst};
 
 use crate::error::Error;
@@ -41,7 +41,7 @@ pub(crate) mod tokens;
 /// `toml` prints it.
 ///
 /// ```rust
-/// let output = fill_in(alloc, "home = '${home:/root}' # where it is\n", &NoSubstitution)?;
+/// let output = toml::fill_in(alloc, "home = '${home:/root}' # where it is\n", &NoSubstitution)?;
 /// // Some("home = \"/root\" # where it is\n")
 /// ```
 ///
@@ -112,11 +112,10 @@ where
 ///
 /// As [`fill_in`].
 pub fn fill_in_by<F: Fill>(alloc: Global, source: &str, filler: &F) -> Result<Option<String>, Error>
-    ensures mapped { (look : LookUp) → F.is_look_up filler.now look
-        → IfOk result (λ output. IfSome output (λ output. ReadsAsTree source.now
-        (λ d. ReadsAsTree (string_bytes output) (IsMapped look d)))) }
+    ensures each { IfOk result (λ output. IfSome output (λ output. ReadsAsTree source.now
+        (λ d. ReadsAsTree (string_bytes output) (IsEach (F.gives filler.now) d)))) }
     ensures kept { IfOk result (λ output. IfSome output (λ output.
-        IsFilledIn (GivesUnder (F.is_look_up filler.now)) source.now (string_bytes output))) }
+        IsFilledIn (F.gives filler.now) source.now (string_bytes output))) }
     ensures utf8 { TellsUtf8 source.now result }
     ensures toml { OnToml result (parse_document source.now ≡ None) }
     ensures span { IfToml result (IsWithin source.now) }
@@ -140,7 +139,7 @@ pub fn fill_in_by<F: Fill>(alloc: Global, source: &str, filler: &F) -> Result<Op
 /// Returns a document with its strings filled in, or nothing where one of them is refused.
 fn written<F: Fill>(alloc: Global, source: &str, filler: &F) -> Result<Option<String>, AllocError>
     ensures { IfOk result (λ output. IfSome output (λ output.
-        IsFilledIn (GivesUnder (F.is_look_up filler.now)) source.now (string_bytes output))) }
+        IsFilledIn (F.gives filler.now) source.now (string_bytes output))) }
 {
     let Some(found) = tokens::strings_in(alloc, source)? else {
         return Ok(None);
@@ -168,7 +167,7 @@ fn next<'s, F: Fill>(
     output: &mut String,
 ) -> Result<Option<&'s str>, AllocError>
     ensures { IfOk result (λ left. IfSome left (λ left.
-        IsFilledUpTo IsQuotedToken string_text (GivesUnder (F.is_look_up filler.now))
+        IsFilledUpTo IsQuotedToken string_text (F.gives filler.now)
         (text_at it.now ∷ []) rest.now left.now (string_bytes output.old)
         (string_bytes output.new))) }
 {

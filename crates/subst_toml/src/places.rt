@@ -1,15 +1,15 @@
 //! Spans of many ranges of one string: each piece of its token is read alone between its quotes, and what the
 //! reader doesn't confirm is never returned.
 
-ghost use Rattle.std.specs.Prelude.{◌≡◌, ◌++◌, ◌∷◌, [], IfOk, IfSome, IsTrue, string_bytes};
-ghost use Rattle.subst_toml.specs.Places.{IsTokenOf};
+ghost use Rattle.std.specs.Prelude.{◌≡◌, ◌++◌, ◌∷◌, [], IfOk, IfSome, string_bytes};
 ghost use Rattle.subst_toml.specs.Pieces.{ArePlacesIn, between};
 
+use crate::document::token::Quoted;
 use crate::place::spelling::{Style, after_left_out, after_spelling, without_newline};
 use crate::place::{quotes, read_up_to, string_of};
 use std::alloc::{AllocError, Global};
 use std::ops::Range;
-use subst_walk::{Pieces, Position, slice, spans};
+use subst_walk::{Pieces, Position, StringFormat, slice, spans};
 
 /// A token of a string.
 #[derive(Clone, Copy)]
@@ -58,6 +58,8 @@ impl Token<'_> {
 }
 
 impl Pieces for Token<'_> {
+    type Reader = Quoted;
+
     ghost use Rattle.subst_toml.specs.Pieces.{IsPiece};
 
     ghost is_piece = { λ token.
@@ -66,6 +68,7 @@ impl Pieces for Token<'_> {
     fn piece_end(
         &self,
         alloc: Global,
+        reader: &mut Quoted,
         from: Position,
         offset: usize,
         is_start: bool,
@@ -79,7 +82,8 @@ impl Pieces for Token<'_> {
         let Some(spelled) = slice(self.source, &(from.place..place)) else {
             return Ok(None);
         };
-        if place <= self.span.end && reads_as(alloc, self.quotes, spelled, string)? {
+        let token = quoted(alloc, self.quotes, spelled)?;
+        if place <= self.span.end && reader.spells(alloc, token.as_str(), string)? {
             Ok(Some(Position { place, offset }))
         } else {
             Ok(None)
@@ -135,22 +139,10 @@ pub fn places_in(
         place: start,
         offset: 0,
     };
-    let Some(places) = spans(alloc, &token, first, ranges)? else {
+    let Some(places) = spans(alloc, &token, &mut Quoted, first, ranges)? else {
         return Ok(None);
     };
     Ok(Some(places))
-}
-
-/// Returns whether a text between quotes is read as this string.
-fn reads_as(alloc: Global, quotes: &str, text: &str, string: &str) -> Result<bool, AllocError>
-    ensures { IfOk result
-        (λ is. IsTrue is → IsTokenOf (between quotes.now text.now) string.now) }
-{
-    let token = quoted(alloc, quotes, text)?;
-    match string_of(alloc, token.as_str())? {
-        Some(read) => Ok(read.as_str() == string),
-        None => Ok(false),
-    }
 }
 
 /// Returns a text between quotes; after three of them is a newline, which is left out there.

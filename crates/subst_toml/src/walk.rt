@@ -5,11 +5,10 @@
 ghost use Rattle.std.specs.Prelude.{IfOk};
 ghost use Rattle.toml.specs.View.{view, items_view, members_view};
 ghost use Rattle.subst_error.specs.ErrorFault.{error_fault};
-ghost use Rattle.subst_language.specs.Language.LookUp.{LookUp};
 ghost use Rattle.subst_language.specs.Calls.Outcome.{OnFault};
 ghost use Rattle.subst_walk.specs.Texts.{HasRange};
 ghost use Rattle.subst_walk.specs.Refused.{RefusesFirst};
-ghost use Rattle.subst_toml.specs.Mapped.{strings, strings_of_items, strings_of_members, IsMapped, AreMapped, HasMappedMembers};
+ghost use Rattle.subst_toml.specs.Mapped.{strings, strings_of_items, strings_of_members, IsEach, AreEach, HasEachMember};
 
 use std::alloc::Global;
 use std::mem::replace;
@@ -20,8 +19,8 @@ use toml::{Table, Value};
 /// Returns the tree with its strings filled in.
 #[cycle(walk)]
 pub(crate) fn filled<F: Fill>(alloc: Global, value: Value, filler: &F) -> Result<Value, Error>
-    ensures ok { (look : LookUp) → F.is_look_up filler.now look
-        → IfOk result (λ tree. IsMapped look (view value) (view tree)) }
+    ensures each { IfOk result
+        (λ tree. IsEach (F.gives filler.now) (view value) (view tree)) }
     ensures err { RefusesFirst (F.is_look_up filler.now) (strings (view value)) result }
     ensures range { OnFault error_fault result HasRange }
 {
@@ -39,8 +38,8 @@ pub(crate) fn filled<F: Fill>(alloc: Global, value: Value, filler: &F) -> Result
 /// Returns the items of an array, in their order.
 #[cycle(walk)]
 fn filled_items<F: Fill>(alloc: Global, items: Vec<Value>, filler: &F) -> Result<Vec<Value>, Error>
-    ensures ok { (look : LookUp) → F.is_look_up filler.now look → IfOk result
-        (λ trees. AreMapped look (items_view items.items) (items_view trees.items)) }
+    ensures each { IfOk result (λ trees. AreEach (F.gives filler.now)
+        (items_view items.items) (items_view trees.items)) }
     ensures err { RefusesFirst (F.is_look_up filler.now)
         (strings_of_items (items_view items.items)) result }
     ensures range { OnFault error_fault result HasRange }
@@ -59,9 +58,8 @@ pub(crate) fn filled_members<F: Fill>(
     mut members: Table,
     filler: &F,
 ) -> Result<Table, Error>
-    ensures ok { (look : LookUp) → F.is_look_up filler.now look → IfOk result
-        (λ trees. HasMappedMembers look (members_view members.entries)
-        (members_view trees.entries)) }
+    ensures each { IfOk result (λ trees. HasEachMember (F.gives filler.now)
+        (members_view members.entries) (members_view trees.entries)) }
     ensures err { RefusesFirst (F.is_look_up filler.now)
         (strings_of_members (members_view members.entries)) result }
     ensures range { OnFault error_fault result HasRange }

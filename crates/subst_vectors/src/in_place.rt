@@ -98,9 +98,13 @@ fn spans(alloc: Global, places: Option<Vec<Range<usize>>>) -> Result<String, All
 }
 
 fn places_in_json(alloc: Global) -> Result<String, AllocError> {
-    let source = "[\"\\u00e9a\\n\\ud83d\\ude00$\"]";
+    let source = "[\"\\u00e9a\\n\\ud83d\\ude00$\",\"\\tb$\"]";
+    let mut finder = json::RangeFinder::new(alloc);
     let ranges = [0..2, 3..4, 4..8, 9..9];
-    spans(alloc, json::places_in(alloc, source, 1..25, &ranges)?)
+    let mut places = spans(alloc, finder.find(alloc, source, 1..25, &ranges)?)?;
+    let next = finder.find(alloc, source, 26..32, &[1..2, 2..3])?;
+    places.push_str(&spans(alloc, next)?)?;
+    Ok(places)
 }
 
 fn places_in_toml(alloc: Global) -> Result<String, AllocError> {
@@ -116,7 +120,7 @@ fn ranges_of_a_string_are_found_by_one_pass(rt: HostRuntime) {
     let places = places_in_json(rt.alloc()).unwrap_or(String::new(rt.alloc()));
     assert_eq!(rt;
         places.as_str(),
-        "-  2..8\n-  9..11\n-  11..23\n-  24..24\n"
+        "-  2..8\n-  9..11\n-  11..23\n-  24..24\n-  29..30\n-  30..31\n"
     );
     let places = places_in_toml(rt.alloc()).unwrap_or(String::new(rt.alloc()));
     assert_eq!(rt; places.as_str(), "-  14..20\n-  20..21\n-  21..21\n");

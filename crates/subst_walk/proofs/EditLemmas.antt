@@ -4,7 +4,7 @@ use Rattle.subst_language.specs.Language.LookUp.{LookUp}
 use Rattle.subst_language.specs.Language.Answer.{Answers, Gives}
 use Rattle.subst_language.specs.Language.Several.{AreGiven, under}
 use Rattle.subst_language.proofs.Language.SeveralLemmas.{given_append}
-use Rattle.subst_walk.specs.Edits.{GivesUnder, IsFilledText, IsFilledUpTo}
+use Rattle.subst_walk.specs.Edits.{IsFilledText, IsFilledUpTo}
 
 module _ (IsToken : List ℕ → List ℕ → Type 0) (written : List ℕ → List ℕ) where
   -- a token is passed, and in its place a value is written
@@ -61,7 +61,7 @@ module _ (IsToken : List ℕ → List ℕ → Type 0) (written : List ℕ → Li
       (sym (is ∙ ap (λ l. l ++ rest) is_p)) (before [] rest refl))
 
   -- what a string becomes may be said in a weaker way
-  filled_weaker : (Becomes Stays : List ℕ → List ℕ → Type 0)
+  pub filled_weaker : (Becomes Stays : List ℕ → List ℕ → Type 0)
       → ((x y : List ℕ) → Becomes x y → Stays x y) → (strings : List (List ℕ)) (source output : List ℕ)
       → IsFilledText IsToken written Becomes strings source output
       → IsFilledText IsToken written Stays strings source output
@@ -85,31 +85,23 @@ module _ (IsToken : List ℕ → List ℕ → Type 0) (written : List ℕ → Li
         filled_weaker Becomes Stays weaker strings edit.rest edit.filled_rest h,
       )
 
-  -- as of one look-up
-  pub filled_under : (IsLookUp : LookUp → Type 0) (look : LookUp) (strings : List (List ℕ))
-      (source output : List ℕ) → IsFilledText IsToken written (GivesUnder IsLookUp) strings source output
-      → IsLookUp look
-      → IsFilledText IsToken written (λ x y. Answers x look (Gives y)) strings source output
-  filled_under IsLookUp look strings source output h asked =
-      filled_weaker (GivesUnder IsLookUp) (λ x y. Answers x look (Gives y)) (λ x y gives. gives look asked)
-      strings source output h
-
-  module _ (IsLookUp : LookUp → Type 0) (look : LookUp) (asked : IsLookUp look) where
+  module _ (look : LookUp) (Becomes : List ℕ → List ℕ → Type 0)
+      (answers : (x y : List ℕ) → Becomes x y → Answers x look (Gives y)) where
     -- where a text is filled in, its strings give bytes
     given_where_filled : (strings : List (List ℕ)) (source output : List ℕ)
-        → IsFilledText IsToken written (GivesUnder IsLookUp) strings source output
+        → IsFilledText IsToken written Becomes strings source output
         → AreGiven (under look) strings
     given_where_filled [] source output h = ([], tt)
     given_where_filled (x ∷ strings) source output (inl (same, h)) =
-        given_append (under look) (x ∷ []) strings (x ∷ [], (same look asked, tt))
+        given_append (under look) (x ∷ []) strings (x ∷ [], (answers x x same, tt))
         (given_where_filled strings source output h)
     given_where_filled (x ∷ strings) source output (inr (value, becomes, other, edit, h)) =
-        given_append (under look) (x ∷ []) strings (value ∷ [], (becomes look asked, tt))
+        given_append (under look) (x ∷ []) strings (value ∷ [], (answers x value becomes, tt))
         (given_where_filled strings edit.rest edit.filled_rest h)
 
     -- so do those of a part
     pub given_so_far : (strings : List (List ℕ)) (text rest old new : List ℕ)
-        → IsFilledUpTo IsToken written (GivesUnder IsLookUp) strings text rest old new
+        → IsFilledUpTo IsToken written Becomes strings text rest old new
         → AreGiven (under look) strings
     given_so_far strings text rest old new (p, is, before) =
         subst (AreGiven (under look)) (append-nil strings)

@@ -6,12 +6,8 @@ use Rattle.subst_error.specs.Range.{IsRangeIn}
 use Rattle.subst_error.specs.declared.Error.{Error}
 use Rattle.subst_language.specs.Calls.Outcome.{OnFault}
 use Rattle.subst_language.specs.Language.LookUp.{LookUp}
-use Rattle.subst_language.specs.Language.Answer.{Answers, Gives, Refuses}
+use Rattle.subst_language.specs.Language.Answer.{Answers, Refuses}
 use Rattle.subst_walk.specs.declared.edits.StringAt.{StringAt}
-
--- under each of these look-ups the first string gives the second one
-abbrev pub GivesUnder : (LookUp → Type 0) → List ℕ → List ℕ → Type 0
-GivesUnder IsLookUp x y = (look : LookUp) → IsLookUp look → Answers x look (Gives y)
 
 -- under each of these look-ups, the fault is that for which the string is refused
 abbrev pub RefusesUnder : {T : Type 0} → (LookUp → Type 0) → List ℕ → Result T Error → Type 0

@@ -9,6 +9,7 @@ use Rattle.subst_language.specs.Language.LookUp.{LookUp}
 use Rattle.subst_language.specs.Language.Several.{IsFirstRefusal}
 use Rattle.subst_walk.specs.Paths.{PathStep, Key, Index, Located, Refusal, AreRefusals, step_of}
 use Rattle.subst_walk.specs.declared.refused.Refused.{Refused}
+use Rattle.subst_walk.specs.declared.found.RefusalAt.{RefusalAt}
 use Rattle.subst_walk.specs.declared.found.RefusedString.{RefusedString}
 use Rattle.subst_walk.specs.declared.refused.HowMany.{HowMany}
 use Rattle.subst_walk.specs.declared.refused.HowMany.TheVariants.{First, All}
@@ -31,6 +32,14 @@ refusal_of it = record {
 -- the refusal of a string whose path has these steps
 abbrev pub refusal_with : {P : Type 0} → (P → List PathStep) → RefusedString P → Refusal
 refusal_with steps it = record {
+  path = steps it.path;
+  text = string_bytes it.text;
+  fault = error_fault it.error;
+}
+
+-- the refusal of a string that stands in a text
+abbrev pub refusal_at : {P : Type 0} → (P → List PathStep) → RefusalAt P → Refusal
+refusal_at steps it = record {
   path = steps it.path;
   text = string_bytes it.text;
   fault = error_fault it.error;

@@ -3,7 +3,7 @@
 ghost use Rattle.std.specs.Prelude.{◌≡◌, ◌≤◌, ◌++◌, ◌-◌, ◌∷◌, [], ℕ, List, IfOk, IfSome, IsTrue, OnOk, length, option_map, slice_range, string_bytes};
 ghost use Rattle.subst_error.specs.ErrorFault.{error_fault};
 ghost use Rattle.subst_language.specs.Calls.Outcome.{OnFault};
-ghost use Rattle.subst_walk.specs.Edits.{GivesUnder, RefusesUnder, IsChanged, IsFilledUpTo, AreSpelled};
+ghost use Rattle.subst_walk.specs.Edits.{RefusesUnder, IsChanged, IsFilledUpTo, AreSpelled};
 ghost use Rattle.subst_error.specs.Range.{IsRangeIn};
 ghost use Rattle.subst_walk.specs.Texts.{HasRange};
 
@@ -11,7 +11,6 @@ use crate::Fill;
 use std::alloc::{AllocError, Global};
 use std::ops::Range;
 use subst_error::Error;
-use subst_template::is_plain;
 
 /// A string of a text, and where it stands.
 #[derive(Debug, Drop)]
@@ -66,18 +65,18 @@ pub fn cut_round<'t>(text: &'t str, range: &Range<usize>) -> Option<Cut<'t>>
     })
 }
 
-/// Returns what a string becomes, or `None` where it becomes itself. One without `$` and `\` does.
+/// Returns what a string becomes, or `None` where it becomes itself.
 ///
 /// # Errors
 ///
 /// The fault for which it is refused. `OutOfMemory` when allocation fails.
 pub fn changed<F: Fill>(alloc: Global, text: &str, filler: &F) -> Result<Option<String>, Error>
-    ensures ok { IfOk result (λ changed. IsChanged (GivesUnder (F.is_look_up filler.now)) text.now
+    ensures ok { IfOk result (λ changed. IsChanged (F.gives filler.now) text.now
         (option_map (λ value. string_bytes value) changed)) }
     ensures err { RefusesUnder (F.is_look_up filler.now) text.now result }
     ensures range { OnFault error_fault result HasRange }
 {
-    if is_plain(text.as_bytes()) {
+    if filler.gives_itself(text) {
         return Ok(None);
     }
     let value = filler.fill(alloc, String::from_str(alloc, text)?)?;
@@ -105,7 +104,7 @@ pub fn fill_in_string<'t, S: StringFormat, F: Fill>(
     output: &mut String,
 ) -> Result<Option<&'t str>, Error>
     ensures filled { IfOk result (λ left. IfSome left
-        (λ left. IsFilledUpTo S.is_token S.written (GivesUnder (F.is_look_up filler.now))
+        (λ left. IsFilledUpTo S.is_token S.written (F.gives filler.now)
         (text.now ∷ []) rest.now left.now (string_bytes output.old) (string_bytes output.new))) }
     ensures err { RefusesUnder (F.is_look_up filler.now) text.now result }
     ensures range { OnFault error_fault result HasRange }

@@ -7,6 +7,7 @@ ghost use Rattle.subst_walk.specs.Refused.{refusal_of, refusal_with};
 
 use crate::{PathStep, Refused};
 use std::alloc::{AllocError, Global};
+use std::ops::Range;
 use subst_error::Error;
 
 /// A path into a tree of some format.
@@ -25,6 +26,19 @@ pub struct RefusedString<P> {
     pub path: P,
     /// The string, as it is in the tree.
     pub text: String,
+    /// Why it is refused. Positions are byte offsets in the string. It is never `OutOfMemory`.
+    pub error: Error,
+}
+
+/// A string of a text that is refused, and where it stands.
+#[derive(Debug, Drop)]
+pub struct RefusalAt<P> {
+    /// The path that leads to it. Of members with equal keys each has the same path.
+    pub path: P,
+    /// The string, as it is read.
+    pub text: String,
+    /// The byte range of the text that spells it, with its quotes.
+    pub span: Range<usize>,
     /// Why it is refused. Positions are byte offsets in the string. It is never `OutOfMemory`.
     pub error: Error,
 }

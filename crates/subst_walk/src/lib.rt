@@ -23,7 +23,7 @@ ghost use Rattle.subst_walk.specs.Texts.{HasRange};
 pub use edits::{
     Cut, StringAt, StringFormat, changed, cut_round, fill_in_string, slice, string_at,
 };
-pub use found::{RefusedString, TreePath, all_found, first_found};
+pub use found::{RefusalAt, RefusedString, TreePath, all_found, first_found};
 pub use path_step::PathStep;
 pub use pieces::{Pieces, Position, spans};
 pub use refused::{HowMany, PathStepRef, Refused, add_below, refused_string};
@@ -48,10 +48,17 @@ pub trait Fill {
     // Whether texts are filled in by this look-up.
     ghost is_look_up: { Self → LookUp → Type 0 };
 
+    // Whether a text gives another one.
+    ghost gives: { Self → List ℕ → List ℕ → Type 0 };
+
+    /// Returns whether a text gives itself, as far as that is seen without filling it in.
+    fn gives_itself(&self, text: &str) -> bool
+        ensures { IsTrue result → gives self.now text.now text.now };
+
     /// Returns `source` with its variables filled in.
     fn fill(&self, alloc: Global, source: String) -> Result<String, Error>
-        ensures ok { (look : LookUp) → is_look_up self.now look
-            → IfOk result (λ text. Answers (string_bytes source) look (Gives (string_bytes text))) }
+        ensures ok { IfOk result
+            (λ text. gives self.now (string_bytes source) (string_bytes text)) }
         ensures err { (look : LookUp) → is_look_up self.now look
             → OnFault error_fault result (λ f. Answers (string_bytes source) look (Refuses f)) }
         ensures range { OnFault error_fault result HasRange };
@@ -64,6 +71,10 @@ pub trait Fill {
             (λ e. IsSomeAnd (error_fault e) (λ f. Answers source.now look (Refuses f)))) }
         ensures refusal_range { IfOk result (λ refusal. IfSome refusal
             (λ e. IsRangeIn source.now (range_of (error_fault e)))) };
+
+    // What a text gives, it gives under each of these look-ups.
+    ghost answers: { (filler : Self) → (x y : List ℕ) → gives filler x y
+        → (look : LookUp) → is_look_up filler look → Answers x look (Gives y) };
 }
 
 /// Fills in texts from a map of variables.
@@ -77,11 +88,22 @@ impl<'a, M: VariableMap<'a>> Fill for Filler<'a, M>
 where
     M::Value: AsStr + Drop,
 {
-    ghost use Rattle.subst_language.specs.Calls.VariableMap.{look_up_of, ReadsAs};
+    ghost use Rattle.std.proofs.Common.{subst, sym};
+    ghost use Rattle.subst_language.specs.Calls.VariableMap.{look_up_of, ByLookUp, ReadsAs};
 
     // It is the map's look-up, in some way to read the bytes of its values.
     ghost is_look_up = { λ filler look. (bytes : M.Seen → List ℕ) × ReadsAs M.Value.text M.see bytes
         × (look ≡ look_up_of bytes (M.look_up filler.variables.now)) };
+
+    ghost gives = { λ filler x y. ByLookUp M.Value.text M.see (M.look_up filler.variables.now)
+        (λ look. Answers x look (Gives y)) };
+
+    ghost answers = { λ filler x y gives look is.
+        subst (λ l. Answers x l (Gives y)) (sym is.2) (gives is.0 is.1) };
+
+    fn gives_itself(&self, text: &str) -> bool {
+        is_plain(text.as_bytes())
+    }
 
     fn fill(&self, alloc: Global, source: String) -> Result<String, Error> {
         substitute_owned(alloc, source, self.variables)

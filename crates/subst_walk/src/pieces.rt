@@ -17,6 +17,9 @@ pub struct Position {
 
 /// A token of a string, whose pieces can be read alone.
 pub trait Pieces {
+    /// What pieces are read with.
+    type Reader;
+
     ghost use Rattle.subst_walk.specs.declared.pieces.Position.{Position};
 
     // Whether the token has a piece from one position to another, which spells that part of its string.
@@ -27,6 +30,7 @@ pub trait Pieces {
     fn piece_end(
         &self,
         alloc: Global,
+        reader: &mut Self::Reader,
         from: Position,
         offset: usize,
         is_start: bool,
@@ -44,6 +48,7 @@ pub trait Pieces {
 pub fn spans<P: Pieces>(
     alloc: Global,
     token: &P,
+    reader: &mut P::Reader,
     first: Position,
     ranges: &[Range<usize>],
 ) -> Result<Option<Vec<Range<usize>>>, AllocError>
@@ -53,10 +58,10 @@ pub fn spans<P: Pieces>(
     let mut places = Vec::with_capacity(alloc, ranges.len())?;
     let mut passed = first;
     for range in ranges {
-        let Some(start) = token.piece_end(alloc, passed, range.start, true)? else {
+        let Some(start) = token.piece_end(alloc, reader, passed, range.start, true)? else {
             return Ok(None);
         };
-        let Some(end) = token.piece_end(alloc, start, range.end, false)? else {
+        let Some(end) = token.piece_end(alloc, reader, start, range.end, false)? else {
             return Ok(None);
         };
         places.push(start.place..end.place)?;

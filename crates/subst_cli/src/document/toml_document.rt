@@ -1,6 +1,9 @@
 //! TOML documents.
 
-use super::{Document, StringFiller, Unfilled};
+ghost use Rattle.std.specs.Prelude.{◌≡◌, Ok, Some, IfOk};
+
+use super::{Document, RefusedAt, StringFiller, Unfilled};
+use crate::fault::{Cause, one_fault};
 use std::alloc::{AllocError, Global};
 use std::ops::Range;
 use subst::toml::{
@@ -11,6 +14,12 @@ use subst::toml::{
 pub(crate) struct TomlDocument;
 
 impl Document for TomlDocument {
+    ghost use Rattle.subst_cli.specs.Fill.{GivesFor, IsTomlOutput};
+
+    type Finder = ();
+
+    ghost is_filled = { λ placeholders entries. IsTomlOutput (GivesFor placeholders entries) };
+
     fn fill_in(
         alloc: Global,
         text: &str,
@@ -23,7 +32,7 @@ impl Document for TomlDocument {
         alloc: Global,
         text: &str,
         filler: &StringFiller<'_>,
-    ) -> Result<Result<Vec<(String, StringAt)>, Unfilled>, AllocError> {
+    ) -> Result<Result<Vec<RefusedAt>, Unfilled>, AllocError> {
         let found = match outcome(alloc, refusals_by(alloc, text, filler))? {
             Ok(found) => found,
             Err(why) => return Ok(Err(why)),
@@ -44,9 +53,12 @@ impl Document for TomlDocument {
         outcome(alloc, strings(alloc, text))
     }
 
+    fn finder(_alloc: Global) {}
+
     // Where a single range ends within a newline, `place_in` alone has its place.
     fn places(
         alloc: Global,
+        _finder: &mut (),
         text: &str,
         span: Range<usize>,
         ranges: &[Range<usize>],
@@ -67,16 +79,32 @@ impl Document for TomlDocument {
 fn outcome<T: Drop>(
     alloc: Global,
     returned: Result<Option<T>, Error>,
-) -> Result<Result<T, Unfilled>, AllocError> {
+) -> Result<Result<T, Unfilled>, AllocError>
+    ensures { IfOk result (λ outcome. IfOk outcome (λ it. returned ≡ Ok (Some it))) }
+{
     match returned {
         Ok(Some(it)) => Ok(Ok(it)),
-        Ok(None) => Ok(Err(Unfilled::NotConfirmed)),
+        Ok(None) | Err(Error::InvalidUtf8(_)) => not_read(alloc, 0..0, Cause::NotConfirmed),
         Err(Error::Toml(e)) => {
             let message = String::from_str(alloc, e.message())?;
-            Ok(Err(Unfilled::NotADocument(message, e.span())))
+            not_read(
+                alloc,
+                e.span().unwrap_or(0..0),
+                Cause::NotADocument(message),
+            )
         }
         Err(Error::Subst(_)) => Ok(Err(Unfilled::Refused)),
-        Err(Error::InvalidUtf8(_)) => Ok(Err(Unfilled::NotConfirmed)),
         Err(Error::OutOfMemory(e)) => Err(e),
     }
+}
+
+/// Returns that a text isn't read, for this cause at a range.
+fn not_read<T: Drop>(
+    alloc: Global,
+    range: Range<usize>,
+    cause: Cause,
+) -> Result<Result<T, Unfilled>, AllocError>
+    ensures { IfOk result (λ outcome. IfOk outcome (λ _. ⊥)) }
+{
+    Ok(Err(Unfilled::Unread(one_fault(alloc, range, cause)?)))
 }

@@ -1,5 +1,5 @@
 -- A source without dollars and backslashes is a sentence, and gives itself.
-use Rattle.std.proofs.Common.{ℕ, List, None, length, refl, ap}
+use Rattle.std.proofs.Common.{None, length, refl, ap}
 use Rattle.std.proofs.lemmas.Result.{err_from_is_err_and}
 use Rattle.subst_language.specs.Calls.VariableMap.{look_up_of}
 use Rattle.subst_language.proofs.CallingLemmas.{plain_answer}

@@ -21,23 +21,12 @@ use crate::path::Path;
 use crate::place::{string_at, table_of};
 use std::alloc::{AllocError, Global};
 use std::convert::AsStr;
-use std::ops::Range;
 use subst_map::VariableMap;
 use subst_walk::{Fill, Filler, StringAt};
 use toml::Value;
 
-/// A string of a document that is refused.
-#[derive(Debug, Drop)]
-pub struct RefusalAt {
-    /// The path that leads to it in the document's tree.
-    pub path: Path,
-    /// The string, as it is in the tree.
-    pub text: String,
-    /// The byte range of the document that spells it, with its quotes.
-    pub span: Range<usize>,
-    /// Why it is refused. Positions are byte offsets in the string. It is never `OutOfMemory`.
-    pub error: subst_error::Error,
-}
+/// A string of a document that is refused, and where it stands.
+pub type RefusalAt = subst_walk::RefusalAt<Path>;
 
 /// Reads a TOML document, and returns its strings in the order of the text, each with the byte range that
 /// spells it. Keys are none of them.
@@ -85,7 +74,7 @@ where
     M::Value: AsStr + Drop,
 
     // They are the refusals of all strings of the text, in its order, and each other string gives bytes.
-    ensures all { ByLookUp M.Value.text M.see (M.look_up variables.now)
+    ensures refused { ByLookUp M.Value.text M.see (M.look_up variables.now)
         (λ look. IfOk result (λ all. IfSome all
         (λ all. AreAllRefusals look source.now (map refusal_in all.items)))) }
 
@@ -113,7 +102,7 @@ pub fn refusals_by<F: Fill>(
     source: &str,
     filler: &F,
 ) -> Result<Option<Vec<RefusalAt>>, Error>
-    ensures all { (look : LookUp) → F.is_look_up filler.now look
+    ensures refused { (look : LookUp) → F.is_look_up filler.now look
         → IfOk result (λ all. IfSome all
         (λ all. AreAllRefusals look source.now (map refusal_in all.items))) }
     ensures found { IfOk result (λ all. IfSome all (λ all. ReadsAsTree source.now
@@ -137,7 +126,7 @@ fn refusals_of<F: Fill>(
     tree: &Value,
     filler: &F,
 ) -> Result<Option<Vec<RefusalAt>>, AllocError>
-    ensures all { (look : LookUp) → F.is_look_up filler.now look
+    ensures refused { (look : LookUp) → F.is_look_up filler.now look
         → IfOk result (λ all. IfSome all
         (λ all. AreAllRefusals look source.now (map refusal_in all.items))) }
     ensures range { IfOk result (λ all. IfSome all

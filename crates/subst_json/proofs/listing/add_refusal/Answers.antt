@@ -2,8 +2,7 @@
 use Rattle.std.proofs.Common.{refl, ap, rules}
 use Rattle.std.specs.Prelude.{string_bytes}
 use Rattle.subst_error.specs.ErrorFault.{error_fault}
-use Rattle.subst_json.specs.Listed.{refusal_of}
-use Rattle.subst_json.specs.declared.listing.RefusalAt.{RefusalAt}
+use Rattle.subst_json.specs.Listed.{refusal_of, RefusalAt}
 use Rattle.subst_json.proofs.listing.add_refusal.Goals as goal
 
 pub returns : goal.returns

@@ -6,7 +6,7 @@ use Rattle.json.specs.Print.{quoted}
 use Rattle.json.specs.Reads.{token_of}
 use Rattle.subst_error.specs.ErrorFault.{error_fault}
 use Rattle.subst_language.proofs.Language.SeveralLemmas.{refusal_before, refusal_after}
-use Rattle.subst_walk.specs.Edits.{GivesUnder, IsFilledUpTo}
+use Rattle.subst_walk.specs.Edits.{IsFilledUpTo}
 use Rattle.subst_walk.proofs.EditLemmas.{filled_then, given_so_far}
 use Rattle.subst_json.specs.Filled.{strings_of_token, strings_in, IsStringToken}
 use Rattle.subst_json.proofs.tokens.filled_in.Goals as goal
@@ -22,15 +22,16 @@ returns-in_err-left-clause-err g c = λ look asked.
     c.from_residual-in_err-left.ensures.1 in
     rw (given.1, given.2, all, c.in-Some.ensures.value) (IfSome_then (error_fault failed.field-0.0)
     (failed.ensures.err look asked) (λ f refused. refusal_after look done (here ++ more) f
-    (given_so_far IsStringToken quoted (g.F.Fill.is_look_up c.args.filler.now) look asked done _ _ []
-    _ filled) (refusal_before look here more f refused)))
+    (given_so_far IsStringToken quoted look (g.F.Fill.gives c.args.filler.now)
+    (λ x y gives. g.met.F.Fill.answers c.args.filler.now x y gives look asked) done _ _ [] _ filled)
+    (refusal_before look here more f refused)))
 
 pub loop-token-preserved : goal.loop-token-preserved
 loop-token-preserved g c =
     let l = c.loop-token in
     let (is_utf8, done, all, filled) = l.invariant in
     let here = strings_of_token (token_of c.in-Some.token) in
-    let Becomes = GivesUnder (g.F.Fill.is_look_up c.args.filler.now) in
+    let Becomes = g.F.Fill.gives c.args.filler.now in
     let next : IsFilledUpTo IsStringToken quoted Becomes here l.rest.now c.in-Some-left.left.now
     (string_bytes l.output) (string_bytes c.fill_in_token.new.output) = search rules in (
       search rules,

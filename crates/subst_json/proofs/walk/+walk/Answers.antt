@@ -1,4 +1,4 @@
--- At each step of the walk: what was mapped, with the string, item or member that comes next.
+-- At each step of the walk: what was filled in, with the string, item or member that comes next.
 use Rattle.std.proofs.Common.{◌≡◌, ◌+◌, [], ◌∷◌, ◌++◌, length, sym, ap, ◌∙◌, append_assoc, rules, arith}
 use Rattle.std.proofs.lemmas.List.{length-append}
 use Rattle.std.proofs.lemmas.Result.{err_from_is_err_and}
@@ -8,7 +8,8 @@ use Rattle.std.specs.Vec.Iter.{into_iter_items}
 use Rattle.serde_json.specs.View.{items_view}
 use Rattle.subst_error.specs.ErrorFault.{error_fault}
 use Rattle.subst_walk.proofs.WalkLemmas.{ended}
-use Rattle.subst_json.proofs.JsonTreeLemmas.{string_refused, mapped_append, array_refused, object_refused, members_mapped}
+use Rattle.subst_json.proofs.JsonTreeLemmas.{string_refused, each_append, array_refused, object_refused, each_member}
+use Rattle.subst_json.proofs.MappedLemmas.{items_weaker}
 use Rattle.subst_json.proofs.walk.+walk.Goals as goal
 
 pub filled-returns-in_err-fill-in-String-clause-err : goal.filled-returns-in_err-fill-in-String-clause-err
@@ -29,8 +30,10 @@ filled_items-returns-in_err-filled-clause-err g t c = λ look is.
     l.invariant.1 ∙ ap (λ vs. done ++ vs) c.in-Some.ensures.steps.0 in
     let given = err_from_is_err_and c.from_residual-in_err-filled.result
     c.from_residual-in_err-filled.ensures.1 in
+    let mapped = items_weaker _ _ (λ x y gives. g.met.F.Fill.answers c.args.filler.now x y gives look is)
+    (items_view done) (items_view l.trees.items) l.invariant.3 in
     rw (given.1, given.2) (array_refused look c.args.items.items done left v (items_view l.trees.items)
-    (error_fault failed.field-0.0) all (l.invariant.3 look is) (failed.ensures.err look is))
+    (error_fault failed.field-0.0) all mapped (failed.ensures.err look is))
 
 pub filled_items-loop-item-preserved : goal.filled_items-loop-item-preserved
 filled_items-loop-item-preserved g t c =
@@ -45,8 +48,8 @@ filled_items-loop-item-preserved g t c =
           let gone = c.in-Some.ensures.steps.1 in
           let short = ap length steps in
           omega arith,
-      λ look is. rw c.in_ok-push.ensures.items (mapped_append look done l.trees.items v
-          c.in_ok-filled.field-0 (l.invariant.3 look is) (c.in_ok-filled.ensures.ok look is)),
+      rw c.in_ok-push.ensures.items (each_append (g.F.Fill.gives c.args.filler.now) done l.trees.items v
+          c.in_ok-filled.field-0 l.invariant.3 c.in_ok-filled.ensures.ok),
     )
 
 pub filled_members-returns-in_err-filled-clause-err : goal.filled_members-returns-in_err-filled-clause-err
@@ -60,8 +63,10 @@ filled_members-returns-in_err-filled-clause-err g t c = λ look is.
     l.invariant.1 ∙ ap (λ vs. done ++ vs) c.in-Some.ensures.steps in
     let given = err_from_is_err_and c.from_residual-in_err-filled.result
     c.from_residual-in_err-filled.ensures.1 in
+    let mapped = items_weaker _ _ (λ x y gives. g.met.F.Fill.answers c.args.filler.now x y gives look is)
+    (items_view done) (items_view l.trees.items) l.invariant.3 in
     rw (given.1, given.2) (object_refused look c.args.members.entries done left v (items_view l.trees.items)
-    (error_fault failed.field-0.0) all (l.invariant.3 look is)
+    (error_fault failed.field-0.0) all mapped
     (rw (sym c.replace-tree.ensures.value) (failed.ensures.err look is)))
 
 pub filled_members-loop-member-preserved : goal.filled_members-loop-member-preserved
@@ -75,15 +80,15 @@ filled_members-loop-member-preserved g t c =
       l.invariant.1 ∙ ap (λ vs. done ++ vs) steps ∙ sym (append_assoc done (v ∷ []) left),
       ap length c.in_ok-push.ensures.items ∙ length-append l.trees.items (c.in_ok-filled.field-0 ∷ [])
           ∙ ap (λ n. n + 1) l.invariant.2 ∙ sym (length-append done (v ∷ [])),
-      λ look is. rw c.in_ok-push.ensures.items (mapped_append look done l.trees.items v
-          c.in_ok-filled.field-0 (l.invariant.3 look is)
-          (rw (sym c.replace-tree.ensures.value) (c.in_ok-filled.ensures.ok look is))),
+      rw c.in_ok-push.ensures.items (each_append (g.F.Fill.gives c.args.filler.now) done l.trees.items v
+          c.in_ok-filled.field-0 l.invariant.3
+          (rw (sym c.replace-tree.ensures.value) c.in_ok-filled.ensures.ok)),
     )
 
 pub filled_members-returns-clause-ok : goal.filled_members-returns-clause-ok
-filled_members-returns-clause-ok g t c = λ look is.
+filled_members-returns-clause-ok g t c =
     let l = c.loop-member in
     let all : values_of c.args.members.entries ≡ l.invariant.0 =
     l.invariant.1 ∙ ended l.invariant.0 (values_mut_rest l.member-iterator) c.in-None.ensures.steps in
-    members_mapped look c.args.members.entries c.put_values.new.members.entries (search rules)
-    (rw (all, c.put_values.ensures.values) (l.invariant.3 look is))
+    each_member (g.F.Fill.gives c.args.filler.now) c.args.members.entries c.put_values.new.members.entries
+    (search rules) (rw (all, c.put_values.ensures.values) l.invariant.3)

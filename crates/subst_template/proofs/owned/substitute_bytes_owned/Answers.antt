@@ -1,5 +1,5 @@
 -- A source without dollars and backslashes is a sentence, and gives itself.
-use Rattle.std.proofs.Common.{ℕ, List, None}
+use Rattle.std.proofs.Common.{None}
 use Rattle.subst_language.specs.Calls.VariableMap.{look_up_of}
 use Rattle.subst_language.proofs.CallingLemmas.{plain_answer}
 use Rattle.subst_template.proofs.PlainLemmas.{all_plain}

@@ -4,22 +4,19 @@ use Rattle.std.specs.Map.{values_of}
 use Rattle.std.specs.Vec.Iter.{into_iter_items, into_iter_len}
 use Rattle.toml.specs.View.{items_view}
 use Rattle.toml.specs.declared.value.Value.{Value}
-use Rattle.subst_language.specs.Language.LookUp.{LookUp}
-use Rattle.subst_toml.specs.Mapped.{AreMapped}
+use Rattle.subst_toml.specs.Mapped.{AreEach}
 use Rattle.subst_toml.proofs.walk.+walk.Given as goal
 
--- the items so far are mapped
+-- the items so far are filled in
 abbrev pub invariant-filled_items-loop-item : goal.invariant-filled_items-loop-item
 invariant-filled_items-loop-item g l = (done : List Value)
     × (l.fn.items.items ≡ done ++ into_iter_items l.item-iterator)
     × (into_iter_len l.item-iterator ≡ length (into_iter_items l.item-iterator))
-    × ((look : LookUp) → g.F.Fill.is_look_up l.filler look
-    → AreMapped look (items_view done) (items_view l.trees.items))
+    × AreEach (g.F.Fill.gives l.filler) (items_view done) (items_view l.trees.items)
 
--- the values of the members so far are mapped
+-- the values of the members so far are filled in
 abbrev pub invariant-filled_members-loop-member : goal.invariant-filled_members-loop-member
 invariant-filled_members-loop-member g l = (done : List Value)
     × (values_of l.fn.members.entries ≡ done ++ values_mut_rest l.member-iterator)
     × (length l.trees.items ≡ length done)
-    × ((look : LookUp) → g.F.Fill.is_look_up l.filler look
-    → AreMapped look (items_view done) (items_view l.trees.items))
+    × AreEach (g.F.Fill.gives l.filler) (items_view done) (items_view l.trees.items)

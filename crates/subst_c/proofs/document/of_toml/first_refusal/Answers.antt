@@ -13,7 +13,7 @@ returns-in-Some-2 c =
     let s = c.args.source.now in
     let look = pair_value c.args.pairs.now.pairs.pairs.now in
     let it = c.in-Some.first.now in
-    let all = rw c.in-Ok-Some.field-0-is at c.in-Ok-Some.ensures.all in
+    let all = rw c.in-Ok-Some.field-0-is at c.in-Ok-Some.ensures.refused in
     let found = rw c.in-Ok-Some.field-0-is at c.in-Ok-Some.ensures.found in
     let first = rw c.deref.ensures.value at c.in-Some.ensures.value in
     let token : Range ℕ = record { start = it.span.start; end = it.span.end } in

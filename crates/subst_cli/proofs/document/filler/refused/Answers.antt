@@ -1,3 +1,4 @@
+-- The range is the empty one at the start of the string.
 use Rattle.std.proofs.lemmas.Str.{IsCharBoundary-start}
 use Rattle.subst_cli.proofs.document.filler.refused.Goals as goal
 

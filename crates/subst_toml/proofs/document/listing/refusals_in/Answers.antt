@@ -2,5 +2,5 @@
 use Rattle.std.proofs.Common.{refl}
 use Rattle.subst_toml.proofs.document.listing.refusals_in.Goals as goal
 
-pub returns-clause-all : goal.returns-clause-all
-returns-clause-all g c = λ bytes reads. c.refusals_by.ensures.all _ (bytes, reads, refl)
+pub returns-clause-refused : goal.returns-clause-refused
+returns-clause-refused g c = λ bytes reads. c.refusals_by.ensures.refused _ (bytes, reads, refl)

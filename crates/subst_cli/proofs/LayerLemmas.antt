@@ -1,0 +1,98 @@
+-- Lemmas on lists of entries, and on what names have by them.
+use Rattle.std.proofs.Common.{◌≡◌, ◌<◌, ◌+◌, ℕ, Bool, true, false, List, [], ◌∷◌, ◌++◌, ◌||◌, ◌&&◌, not, if◌then◌else◌, get_or, length, map, reverse, take, Option, Some, None, is_some, is_none, refl, sym, subst, ap, ◌∙◌, arith}
+use Rattle.std.proofs.lemmas.Grind.{common_steps, reverse_onto}
+use Rattle.std.proofs.lemmas.List.{map-append, map_push, take_more}
+use Rattle.std.proofs.lemmas.List.Elements.{filter_map-append}
+use Rattle.std.specs.List.{cons_option}
+use Rattle.std.specs.Option.{option_flatten, option_map, option_map_or, option_or, option_to_list}
+use Rattle.std.specs.Str.{bytes_eq}
+use Rattle.subst_cli.specs.Layers.{Entry, entry_in, environment_of, given_to, is_unreadable, look_up_in}
+
+-- what a function gives of one element more, where it was given `at` of them so far
+pub map_take : {X Y : Type 0} (f : X → Y) (xs : List X) (at : ℕ) (x : X) → at < length xs
+    → x ≡ get_or xs at x → map f (take (at + 1) xs) ≡ map f (take at xs) ++ f x ∷ []
+map_take f xs at x below is =
+    let longer = subst (λ y. take (at + 1) xs ≡ take at xs ++ y ∷ []) (sym is) (take_more xs at x below) in
+    rw longer (map_push f (take at xs) x)
+
+-- what is given to a name once an entry is added: what that gives where none before has the name
+given_to-append : (entries : List Entry) (entry : Entry) (name : List ℕ)
+    → given_to (entries ++ entry ∷ []) name
+    ≡ option_or (given_to entries name) (if bytes_eq name entry.name then Some entry.value else None)
+given_to-append [] entry name = grind (arith, common_steps)
+given_to-append (first ∷ entries) entry name =
+    grind (arith, common_steps, given_to-append entries entry name)
+
+-- the value that is text, where a value is added
+adds_value : (given : Option (Option (List ℕ))) (same : Bool) (value : Option (List ℕ))
+    → option_flatten (option_or given (if same then Some value else None))
+    ≡ option_or (option_flatten given)
+    (if same && not (option_map_or is_none given false) then value else None)
+adds_value None true value = refl
+adds_value None false value = refl
+adds_value (Some None) true value = refl
+adds_value (Some None) false value = refl
+adds_value (Some (Some x)) same value = refl
+
+-- whether a value isn't text, where a value is added
+adds_unreadable : (given : Option (Option (List ℕ))) (same : Bool) (value : Option (List ℕ))
+    → option_map_or is_none (option_or given (if same then Some value else None)) false
+    ≡ (option_map_or is_none given false
+    || (same && (not (is_some (option_flatten given)) && is_none value)))
+adds_unreadable None true value = refl
+adds_unreadable None false value = refl
+adds_unreadable (Some None) same value = refl
+adds_unreadable (Some (Some x)) true value = refl
+adds_unreadable (Some (Some x)) false value = refl
+
+-- what a name has once an entry is added
+pub look_up_in-append : (entries : List Entry) (entry : Entry) (name : List ℕ)
+    → look_up_in (entries ++ entry ∷ []) name ≡ option_or (look_up_in entries name)
+    (if bytes_eq name entry.name && not (is_unreadable entries name) then entry.value else None)
+look_up_in-append entries entry name =
+    ap option_flatten (given_to-append entries entry name)
+    ∙ adds_value (given_to entries name) (bytes_eq name entry.name) entry.value
+
+-- whether the value of a name isn't text once an entry is added
+pub is_unreadable-append : (entries : List Entry) (entry : Entry) (name : List ℕ)
+    → is_unreadable (entries ++ entry ∷ []) name
+    ≡ (is_unreadable entries name || (bytes_eq name entry.name
+    && (not (is_some (look_up_in entries name)) && is_none entry.value)))
+is_unreadable-append entries entry name =
+    ap (λ given. option_map_or is_none given false) (given_to-append entries entry name)
+    ∙ adds_unreadable (given_to entries name) (bytes_eq name entry.name) entry.value
+
+-- a function of the elements of a list that is turned round
+map_reverse : {X Y : Type 0} (f : X → Y) (xs : List X) → map f (reverse xs) ≡ reverse (map f xs)
+map_reverse f [] = refl
+map_reverse f (x ∷ xs) =
+    rw (reverse_onto xs x [], reverse_onto (map f xs) (f x) [], map_push f (reverse xs) x, map_reverse f xs)
+    refl
+
+-- a function of the elements of three lists in the order of a run's variables
+pub ordered : {X Y : Type 0} (f : X → Y) (given lines environment : List X)
+    → map f (reverse (lines ++ given) ++ environment)
+    ≡ reverse (map f lines ++ map f given) ++ map f environment
+ordered f given lines environment =
+    map-append f (reverse (lines ++ given)) environment
+    ∙ ap (λ front. front ++ map f environment)
+    (map_reverse f (lines ++ given) ∙ ap reverse (map-append f lines given))
+
+-- what one element more gives as a list
+one_more : {X : Type 0} (o : Option X) → cons_option o [] ≡ option_to_list o
+one_more None = refl
+one_more (Some x) = refl
+
+-- what an environment gives with one entry more, where it had `at` of them so far
+pub environment_take : {X : Type 0} (bytes_of : X → List ℕ) (raw : List X) (at : ℕ) (x : X) → at < length raw
+    → x ≡ get_or raw at x → environment_of (map bytes_of (take (at + 1) raw))
+    ≡ environment_of (map bytes_of (take at raw)) ++ option_to_list (entry_in (bytes_of x))
+environment_take bytes_of raw at x below is =
+    ap environment_of (map_take bytes_of raw at x below is)
+    ∙ filter_map-append entry_in (map bytes_of (take at raw)) (bytes_of x ∷ [])
+    ∙ ap (λ more. environment_of (map bytes_of (take at raw)) ++ more) (one_more (entry_in (bytes_of x)))
+
+-- a value is there just where what a function gives of it is
+pub no_value : {X Y : Type 0} (f : X → Y) (o : Option X) → is_none o ≡ is_none (option_map f o)
+no_value f None = refl
+no_value f (Some x) = refl

@@ -1,0 +1,60 @@
+-- Lemmas on the lines of a values file.
+use Rattle.std.proofs.Common.{◌≡◌, ◌<◌, ℕ, Bool, true, false, List, [], ◌∷◌, length, ltb, if◌then◌else◌, Option, None, refl, ap, ◌∙◌, arith}
+use Rattle.std.proofs.lemmas.Bool.{ltb-false, ltb-true}
+use Rattle.std.proofs.lemmas.Grind.{common_steps}
+use Rattle.std.proofs.lemmas.List.Splits.{slice_split_first}
+use Rattle.std.specs.List.{after_first, before_first, position_or_len, slice_split}
+use Rattle.subst_cli.proofs.EntryLemmas.{place_within}
+use Rattle.subst_cli.specs.Layers.{Entry}
+use Rattle.subst_cli.specs.ValuesFile.{before, is_line_feed, said, values_of_lines, with_line}
+
+-- where no byte passes, the list is its one part
+split_whole : (p : ℕ → Bool) (bytes : List ℕ) → position_or_len p bytes ≡ length bytes
+    → slice_split p bytes ≡ bytes ∷ []
+split_whole p [] whole = refl
+split_whole p (b ∷ bytes) whole = grind (arith, common_steps, split_whole p bytes)
+
+-- what a first line and those after it give, where it ends
+line_ended : (bytes : List ℕ) → position_or_len is_line_feed bytes < length bytes
+    → values_of_lines (slice_split is_line_feed bytes)
+    ≡ with_line (said (before_first is_line_feed bytes))
+    (values_of_lines (slice_split is_line_feed (after_first is_line_feed bytes)))
+line_ended bytes below = ap values_of_lines (slice_split_first is_line_feed bytes 0 below)
+
+-- what a line gives that is the last one
+line_last : (bytes : List ℕ) → position_or_len is_line_feed bytes ≡ length bytes
+    → values_of_lines (slice_split is_line_feed bytes)
+    ≡ with_line (said (before_first is_line_feed bytes))
+    (values_of_lines (slice_split is_line_feed (after_first is_line_feed bytes)))
+line_last bytes whole =
+    let all : before_first is_line_feed bytes ≡ bytes = grind (arith, common_steps) in
+    let none : after_first is_line_feed bytes ≡ [] = grind (arith, common_steps) in
+    rw (all, none) (ap values_of_lines (split_whole is_line_feed bytes whole))
+
+-- what the first line and those after it give
+line_first : (bytes : List ℕ) → values_of_lines (slice_split is_line_feed bytes)
+    ≡ with_line (said (before_first is_line_feed bytes))
+    (values_of_lines (slice_split is_line_feed (after_first is_line_feed bytes)))
+line_first bytes = of (ltb (position_or_len is_line_feed bytes) (length bytes)) refl
+  where
+    of : (test : Bool) → ltb (position_or_len is_line_feed bytes) (length bytes) ≡ test
+        → values_of_lines (slice_split is_line_feed bytes)
+        ≡ with_line (said (before_first is_line_feed bytes))
+        (values_of_lines (slice_split is_line_feed (after_first is_line_feed bytes)))
+    of true below = line_ended bytes (ltb-true _ _ below)
+    of false past =
+        let least = ltb-false (position_or_len is_line_feed bytes) (length bytes) past in
+        line_last bytes (omega (arith, place_within is_line_feed bytes))
+
+-- what the file gives, once a line is taken that is right or not
+pub line_taken : (whole : Option (List Entry)) (some more : List Entry) (rest line after : List ℕ)
+    (is_right : Bool) → whole ≡ before some (values_of_lines (slice_split is_line_feed rest))
+    → line ≡ before_first is_line_feed rest → after ≡ after_first is_line_feed rest
+    → ((later : Option (List Entry)) → before some (with_line (said line) later)
+    ≡ (if is_right then before more later else None))
+    → whole ≡ (if is_right then before more (values_of_lines (slice_split is_line_feed after)) else None)
+line_taken whole some more rest line after is_right so_far line_is after_is step =
+    let first : values_of_lines (slice_split is_line_feed rest)
+    ≡ with_line (said line) (values_of_lines (slice_split is_line_feed after)) =
+    rw (line_is, after_is) (line_first rest) in
+    so_far ∙ ap (before some) first ∙ step (values_of_lines (slice_split is_line_feed after))

@@ -1,0 +1,25 @@
+-- The source adds its output, or is one that gives nothing.
+use Rattle.std.proofs.Common.{[], inl, inr, refl}
+use Rattle.std.proofs.lemmas.List.Elements.{Contains-push}
+use Rattle.std.proofs.lemmas.Result.{on_ok_weaker}
+use Rattle.subst_cli.proofs.filling.Filling.add.Goals as goal
+
+pub returns-in-Ok : goal.returns-in-Ok
+returns-in-Ok c = λ entries are.
+    on_ok_weaker c.append-in-Ok.result (λ is. inl (
+      c.in-Ok.output.items,
+      rw (c.in-Ok.is, c.deref-2.ensures.value) at (c.in_ok-output.ensures.gives entries are),
+      is,
+      refl,
+    )) c.append-in-Ok.ensures
+
+pub returns-in_ok-push-in-Err : goal.returns-in_ok-push-in-Err
+returns-in_ok-push-in-Err c = λ entries are.
+    inr (
+      record { source = c.args.source; faults = c.in-Err.faults },
+      (
+        Contains-push [] c.args.source.bytes.items,
+        rw (c.in-Err.is, c.deref-2.ensures.value) at (c.in_ok-output.ensures.refused entries are),
+      ),
+      c.in_ok-push-in-Err.ensures.items,
+    )

@@ -1,0 +1,29 @@
+-- The variables are those of all entries, in their order.
+use Rattle.std.proofs.Common.{◌≡◌, ◌∙◌, List, ap, map, subst, sym}
+use Rattle.std.specs.Prelude.{vec_items}
+use Rattle.subst_cli.specs.Layers.{AreVariablesOf, Entry, entries_of}
+use Rattle.subst_cli.specs.Run.{entries_for}
+use Rattle.subst_cli.specs.declared.entry.Entry as owned
+use Rattle.subst_cli.specs.declared.layers.Variables.{Variables}
+use Rattle.subst_cli.proofs.filling.fill_in.Goals as goal
+
+variables_of : (variables kept : Variables) (read entries : List owned.Entry) (all : List Entry)
+    → AreVariablesOf variables (entries_of read) → read ≡ entries → entries_of entries ≡ all
+    → kept ≡ variables → AreVariablesOf kept all
+variables_of variables kept read entries all are same ordered is =
+    subst (λ it. AreVariablesOf it all) (sym is)
+    (subst (AreVariablesOf variables) (ap entries_of same ∙ ordered) are)
+
+pub returns-clause-gives : goal.returns-clause-gives
+returns-clause-gives c =
+    rw (c.of-filling.ensures.form, c.of-filling.ensures.placeholders) at
+    (c.fill_all.ensures.gives _ (variables_of c.in_ok-variables.variables c.of-filling.result.variables
+    c.deref.result.now c.in_ok-entries.entries.items _ c.in_ok-variables.ensures c.deref.ensures.value
+    c.in_ok-entries.ensures c.of-filling.ensures.variables))
+
+pub returns-clause-refused : goal.returns-clause-refused
+returns-clause-refused c =
+    rw (c.of-filling.ensures.form, c.of-filling.ensures.placeholders) at
+    (c.fill_all.ensures.refused _ (variables_of c.in_ok-variables.variables c.of-filling.result.variables
+    c.deref.result.now c.in_ok-entries.entries.items _ c.in_ok-variables.ensures c.deref.ensures.value
+    c.in_ok-entries.ensures c.of-filling.ensures.variables))

@@ -1,0 +1,24 @@
+-- The variables of a template have its names, and a source that is none has no name.
+use Rattle.std.proofs.Common.{ℕ, List, subst}
+use Rattle.subst.specs.ErrorFault.{parse_fault}
+use Rattle.subst_language.specs.Calls.Clauses.{AreVariables}
+use Rattle.subst_cli.proofs.PartLemmas.{readable_all, readable_names, readable_where_wrong}
+use Rattle.subst_cli.proofs.part.unreadable_in.Goals as goal
+
+pub returns-then-are_readable-clause-all : goal.returns-then-are_readable-clause-all
+returns-then-are_readable-clause-all c = λ entries are none.
+    readable_all c.args.variables.now entries are (c.are_readable.ensures c.if-are_readable.true)
+    c.args.template.now
+
+pub returns-in-Err-clause-all : goal.returns-in-Err-clause-all
+returns-in-Err-clause-all c = λ entries are.
+    readable_where_wrong entries c.args.template.now (parse_fault c.in-Err.e) c.none_for.result
+    c.in-Err.ensures.err c.none_for.ensures.wrong
+
+pub returns-clause-all : goal.returns-clause-all
+returns-clause-all c = λ entries are.
+    let list = c.in_ok-variables.field-0.items in
+    let named = subst (λ (s : List ℕ). AreVariables s list) c.in-Ok.ensures.ok.1
+    c.in_ok-variables.ensures.variables in
+    readable_names entries c.args.template.now list c.unreadable_of.result named
+    (c.unreadable_of.ensures.all entries are)

@@ -1,0 +1,16 @@
+-- Each variable so far can be read, or there is a fault.
+use Rattle.std.proofs.Common.{◌≡◌, [], ◌++◌, List}
+use Rattle.std.specs.List.{All}
+use Rattle.std.specs.Vec.Iter.{into_iter_items}
+use Rattle.subst_cli.specs.Faults.{IsUnreadableCause}
+use Rattle.subst_cli.specs.Layers.{AreVariablesOf, Entry, IsUnreadable}
+use Rattle.subst_cli.proofs.part.unreadable_of.Given as goal
+
+abbrev pub invariant-loop-variable : goal.invariant-loop-variable
+invariant-loop-variable l = record {
+  all : l.fn.list.items ≡ l.yielded ++ into_iter_items l.variable-iterator;
+  readable : (entries : List Entry) → AreVariablesOf l.variables entries → l.faults.items ≡ []
+      → All (λ it. ¬ (IsUnreadable entries it.name.now)) l.yielded;
+  unreadable : (entries : List Entry) → AreVariablesOf l.variables entries
+      → All (λ it. IsUnreadableCause entries it.cause) l.faults.items;
+}

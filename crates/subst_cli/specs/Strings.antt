@@ -1,0 +1,16 @@
+-- How the strings of a document are filled in.
+use Rattle.std.specs.Prelude.{◌≡◌, ℕ, List, IsSomeAnd, MatchOption}
+use Rattle.subst_cli.specs.Fill.{GivesFor}
+use Rattle.subst_cli.specs.Layers.{Entry, AreVariablesOf}
+use Rattle.subst_cli.specs.declared.document.filler.StringFiller.{StringFiller}
+use Rattle.subst_cli.specs.declared.layers.Variables.{Variables}
+
+-- they are filled in from these variables
+abbrev pub IsFilledFrom : StringFiller → Variables → Type 0
+IsFilledFrom filler variables = IsSomeAnd filler.variables (λ it. it.now ≡ variables)
+
+-- a string gives another one; without variables it gives itself
+abbrev pub gives_by : StringFiller → List ℕ → List ℕ → Type 0
+gives_by filler s x = MatchOption filler.variables (x ≡ s) (λ variables.
+    (entries : List Entry) → AreVariablesOf variables.now entries
+    → GivesFor filler.placeholders.now entries s x)
