@@ -9,19 +9,23 @@ run. Each test prints a line, and the last line is 'N passed, M failed, K skippe
 import ctypes
 import errno
 import functools
+import json
 import os
+import random
 import re
 import resource
 import shutil
+import signal
 import subprocess
 import sys
+import tomllib
 
 sys.dont_write_bytecode = True
 import command_files
-from command_running import (NO_NAME, PROGRAM, expect_fault, expect_file, expect_files, failed, missing, subst,
-                             tests_of, told, told_without_line, write, wrong_words)
+from command_running import (NO_NAME, PROGRAM, expect_fault, expect_file, expect_files, failed, missing, mode_of, read,
+                             subst, tests_of, told, told_without_line, write, wrong_words)
 from faults import invalid_escape, missing_brace, no_such_variable, unexpected
-from running import (HIDDEN, MIB, TOP, as_told, expect, expect_that, in_memory, need, path_of, run_tests, shown,
+from running import (HIDDEN, KIB, MIB, TOP, as_told, expect, expect_that, in_memory, need, path_of, run_tests, shown,
                      version)
 
 TEMPLATES = TOP / 'tests/data/templates'
@@ -431,7 +435,8 @@ def test_files_and_standard_input():
     expect(subst(['-sA=1', '-', '-'], b'$A.'), 0, b'1.')
     expect(subst(['-sA=1', '--', '-c', 'a']), 0, b'c1a1')
     expect(subst(['-sA=1', './-c']), 0, b'c1')
-    expect(subst(['a', '--', '-sA=1']), 3, errors=missing('A', 'a:1:3', 'a$A', '  ^') + failed('-sA=1', errno.ENOENT))
+    # All files are read before one is filled in.
+    expect(subst(['a', '--', '-sA=1']), 3, errors=failed('-sA=1', errno.ENOENT) + missing('A', 'a:1:3', 'a$A', '  ^'))
     expect(subst(['-sA=1'], b''), 0)
 
 
@@ -448,10 +453,10 @@ def test_nothing_is_written_where_one_file_is_refused():
 def test_status_is_the_highest():
     write('bad', b'$')
     refused, absent = told('bad:1:1', NO_NAME, '$', '^'), failed('nothing', errno.ENOENT)
-    expect(subst(['bad', 'nothing']), 3, errors=refused + absent)
-    expect(subst(['nothing', 'bad']), 3, errors=absent + refused)
-    expect(subst(['nothing', 'bad', '-i']), 3, errors=absent + refused)
-    expect(subst(['bad', 'nothing', '--names']), 3, errors=refused + absent)
+    for words in (['bad', 'nothing'], ['nothing', 'bad'], ['nothing', 'bad', '-i']):
+        expect(subst(words), 3, errors=absent + refused)
+    for word in ('--names', '--check', '-i'):
+        expect(subst(['bad', 'nothing', word]), 3, errors=refused + absent)
 
 
 # Pairs of options that can't be given together, as arguments and as they are reported.
@@ -576,12 +581,17 @@ def test_all_that_is_missing_is_told():
 
 
 def test_names_that_are_very_long():
-    """Of a message of more than 240 columns the start is shown."""
+    """Of a fault of more than 240 columns the start is shown, and of a path of more than 120."""
     line, carets = '$' + 'n' * 58 + '\u2026', ' ' + '^' * 58
     room = 240 - len(no_such_variable(''))
     for count in (room, room + 1, MIB):
         what = no_such_variable('n' * min(count, room)) + '\u2026' * (count > room)
         expect_fault(subst([], b'$' + b'n' * count), told('<stdin>:1:2', what, line, carets))
+    key, line = 'k' * 118, '\u2026' + 'k' * 51 + '": "$x"}'
+    for more in ('', 'k'):
+        path = f'/{key}{more}'[:120] + '\u2026' * (len(key + more) > 119)
+        expect_fault(subst(['--json'], f'{{"{key}{more}": "$x"}}'.encode()),
+                     missing('x', f'<stdin>:1:{len(key + more) + 8}: {path}', line, ' ' * 57 + '^'))
 
 
 def test_names_of_files_are_shown_without_control_characters():
@@ -778,5 +788,236 @@ def test_templates_of_other_programs_in_our_language():
                       ' ' * 21 + '^'))
 
 
+# Tests of sizes and of values, each of which fails for a program that cuts, drops, shows or fills in what it may not
+
+
+# What a source is read as, and how that spells a text in quotes.
+FORMS = (([], '{}'), (['--bytes'], '{}'), (['--json'], '["{}"]'), (['--toml'], 'a = "{}"\n'))
+# A size that is no multiple of any buffer's.
+LARGE = 64 * MIB + 12345
+
+
+def in_each_form(text):
+    """The words of each form, with a source of this text in it."""
+    return [(words, form.replace('{}', text).encode()) for words, form in FORMS]
+
+
+# Tests of what must not come out
+
+
+def test_values_are_never_templates():
+    for words, source in in_each_form('$A ${A} ${x:$A}'):
+        wanted = source.replace(b'${x:$A}', b'$A').replace(b'${A}', b'$A').replace(b'$A', b'$B')
+        expect(subst([*words, '-sA=$B', '-sB=secret'], source), 0, wanted)
+        expect(subst([*words, '-sA=${B:$B}', '-sB=secret'], source), 0, wanted.replace(b'$B', b'${B:$B}'))
+
+
+def test_environment_is_taken_where_it_is_asked_for():
+    for words, source in in_each_form('$HOME'):
+        for more in ([], ['--only=HOME'], ['--envsubst']):
+            expect_that(subst([*words, *more], source, env={'HOME': 'secret'}).status == 1, f'{words} {more}')
+            expect(subst([*words, *more, '-e'], source, env={'HOME': 'shown'}), 0, source.replace(b'$HOME', b'shown'))
+    for words, source in in_each_form('${HOME?}${HOME:d}'):
+        expect(subst(words, source, env={'HOME': 'secret'}), 0, source.replace(b'${HOME?}${HOME:d}', b'd'))
+
+
+def test_value_that_is_not_utf8_is_never_left_out():
+    what = "The value of this variable in the environment isn't UTF-8: $BAD"
+    for text in ('${BAD?}', '${BAD:d}', '${BAD:}', '${A:${BAD:d}}'):
+        for words, source in in_each_form(text):
+            ended = subst([*words, '-e'], source, env={b'BAD': b'\xff'})
+            expect_that((ended.status, ended.output) == (1, b'') and what.encode() in ended.errors, f'{words} {text}')
+
+
+def test_names_that_are_not_listed_stay():
+    """However deep a string is, however long, and however many members, items and tables are before it."""
+    long = 'x' * 2000
+    names = {f'N{number}': f'v{number}' for number in range(100)}
+    strings = [f'{long}$S ${{H}}{long}', *(f'$N{number}$S' for number in range(100))]
+    tree = {'a': {'b': {'c': strings, **{f'k{number}': {'d': ['$S ${H}', '$H']} for number in range(300)}}}}
+    filled = lambda text: ''.join(names.get(part[1:], part) for part in splits(text)).replace('${H}', 'h').replace('$H', 'h')
+    words = ['-sH=h', '-sS=secret', *(f'-s{name}={value}' for name, value in names.items())]
+    only = f'--only=H,{",".join(names)}'
+    for option, source, reads in (('--json', json.dumps(tree), json.loads),
+                                  ('--toml', toml_of(tree), tomllib.loads)):
+        ended = subst([option, only, *words], source.encode())
+        expect_that(ended.status == 0 and reads(ended.output.decode()) == mapped(filled, tree), f'{option} {only}')
+        ended = subst([option, '--envsubst', *words], source.encode())
+        every = lambda text: filled(text).replace('$S', 'secret')
+        expect_that(ended.status == 0 and reads(ended.output.decode()) == mapped(every, tree), f'{option} --envsubst')
+
+
+def splits(text):
+    """The parts of a text, of which each variable `$N..` is one."""
+    parts = text.split('$N')
+    found = parts[:1]
+    for part in parts[1:]:
+        digits = len(part) - len(part.lstrip('0123456789'))
+        found += [f'$N{part[:digits]}', part[digits:]]
+    return found
+
+
+def mapped(change, tree):
+    if isinstance(tree, str):
+        return change(tree)
+    if isinstance(tree, list):
+        return [mapped(change, item) for item in tree]
+    return {key: mapped(change, item) for key, item in tree.items()}
+
+
+def toml_of(tree):
+    """A document whose tables are in braces, which is what JSON writes with `=` in place of `:`."""
+    return ''.join(f'{key} = {in_braces(value)}\n' for key, value in tree.items())
+
+
+def in_braces(value):
+    if isinstance(value, dict):
+        return '{' + ', '.join(f'{key} = {in_braces(item)}' for key, item in value.items()) + '}'
+    return json.dumps(value) if isinstance(value, str) else f'[{", ".join(map(in_braces, value))}]'
+
+
+# Tests of sources past the size of each buffer
+
+
+def drawn(size, seed):
+    """A source of this size, in which a variable stands every some kilobytes, and what it gives where A is `<value>`."""
+    draw = random.Random(seed)
+    block = bytes(draw.choices(b'abcdefghij klmnop\n', k=64 * KIB))
+    parts, count = [], 0
+    while count < size:
+        part = block[:min(draw.randint(1, len(block)), size - count)]
+        parts.append(part)
+        count += len(part)
+    return b'${A}'.join(parts), b'<value>'.join(parts)
+
+
+def test_large_sources():
+    source, output = drawn(LARGE, 1)
+    write('source', source)
+    for words in ([], ['--bytes'], ['--envsubst'], ['--only=A']):
+        expect(subst([*words, '-sA=<value>', 'source']), 0, output)
+    expect(subst(['-sA=<value>'], source), 0, output)
+    expect(subst(['-sA=<value>', '-o', 'output', 'source']), 0)
+    expect_file('output', output)
+    expect(subst(['-sA=<value>', '-i', 'source']), 0)
+    expect_file('source', output)
+    expect(subst([], output), 0, output)
+    expect_files('source', 'output')
+
+
+def test_large_documents():
+    members = {f'key{number}': [f'$A{number % 7}', {'x': '${A}', 'y': f'\u00e4{number}'}] for number in range(100000)}
+    filled = {key: [f'{item[0].replace("$A", "$B")}', {**item[1], 'x': '$B"'}] for key, item in members.items()}
+    words = ['-sA=$B"', *(f'-sA{number}=$B{number}' for number in range(7))]
+    source = json.dumps(members)
+    expect_that(json.loads(subst(['--json', *words], source.encode()).output) == filled, 'a JSON document isn\'t filled in')
+    source = toml_of({key: members[key] for key in list(members)[:30000]})
+    wanted = dict(list(filled.items())[:30000])
+    expect_that(tomllib.loads(subst(['--toml', *words], source.encode()).output.decode()) == wanted,
+                'a TOML document isn\'t filled in')
+
+
+def test_several_large_files():
+    first, second = drawn(8 * MIB + 1, 2), drawn(8 * MIB + 3, 3)
+    write('first', first[0])
+    write('second', second[0])
+    expect(subst(['-sA=<value>', 'first', 'second', 'first']), 0, first[1] + second[1] + first[1])
+    write('output', b'old')
+    write('refused', b'\n$missing')
+    message = missing('missing', 'refused:2:2', '$missing', ' ^^^^^^^')
+    for words in ([], ['-o', 'output']):
+        expect_fault(subst(['-sA=<value>', *words, 'first', 'refused', 'second']), message)
+    expect_file('output', b'old')
+    expect_files('first', 'second', 'output', 'refused')
+
+
+# Tests of lists past the size of each buffer
+
+
+def test_many_values():
+    names = [f'n{number}' for number in range(10000)]
+    source = ' '.join(f'${name}' for name in names).encode()
+    wanted = source.replace(b'$n', b'v')
+    write('values', b''.join(b'%s=v%s\n' % (name.encode(), name[1:].encode()) for name in names))
+    expect(subst(['-f', 'values'], source), 0, wanted)
+    expect(subst(['-e'], source, env={name: f'v{name[1:]}' for name in names}), 0, wanted)
+    few = names[:1000]
+    source = ' '.join(f'${name}' for name in few).encode()
+    expect(subst([f'-s{name}=v{name[1:]}' for name in few], source), 0, source.replace(b'$n', b'v'))
+    expect(subst([*(f'-s{name}=v{name[1:]}' for name in few), f'--only={",".join(few)}'], source + b'$m'), 0,
+           source.replace(b'$n', b'v') + b'$m')
+
+
+def test_long_values():
+    value = 'x$A\\' * (25 * KIB)
+    write('values', f'A={value}\nB=1\\\nC=2'.encode())
+    expect(subst(['-f', 'values'], b'$A|$B|$C'), 0, f'{value}|1\\|2'.encode())
+    expect(subst([f'-sA={value}'], b'$A'), 0, value.encode())
+    expect(subst(['-e'], b'$A', env={'A': value}), 0, value.encode())
+
+
+def test_many_files():
+    names = [f'f{number}' for number in range(1000)]
+    for name in names:
+        write(name, f'{name} $A\n'.encode())
+    expect(subst(['-sA=1', *names]), 0, ''.join(f'{name} 1\n' for name in names).encode())
+    expect(subst(['-sA=1', '-i', *names]), 0)
+    for name in names:
+        expect_file(name, f'{name} 1\n'.encode())
+
+
+def test_many_names_that_are_missing():
+    names = [f'n{number}' for number in range(2000)]
+    ended = subst([], '\n'.join(f'${name}' for name in names).encode())
+    wanted = b''.join(told(f'<stdin>:{line}:2', no_such_variable(name), f'${name}', ' ' + '^' * len(name))
+                      for line, name in enumerate(names, 1))
+    expect(ended, 1, errors=wanted)
+
+
+# Tests of large files that are replaced
+
+
+def test_in_place_of_what_gives_nothing():
+    write('file', b'${A?}')
+    expect(subst(['-i', 'file']), 0)
+    expect_file('file', b'')
+
+
+def test_new_file_is_private_while_it_is_written():
+    source, _ = drawn(LARGE, 4)
+    seen = set()
+    for _ in range(5):
+        write('file', source, 0o600)
+        with subprocess.Popen([path_of('subst_program'), '-sA=1', '-i', 'file'], stdin=subprocess.DEVNULL) as running:
+            while running.poll() is None:
+                seen |= {mode for name in os.listdir() if name != 'file' for mode in modes_of(name)}
+        expect_that(running.returncode == 0 and mode_of('file') == 0o600, 'the file isn\'t replaced')
+    expect_that(seen == {0o600}, f'the new file has the modes {sorted(map(oct, seen))}')
+    expect_that(read('file') != source, 'the file is as before')
+
+
+def test_large_file_stays_where_the_new_one_cannot_be_written():
+    source, _ = drawn(4 * MIB + 1, 5)
+    write('file', source)
+    ended = subst(['-sA=1', '-i', 'file'], preexec_fn=write_at_most_a_megabyte)
+    expect(ended, 3, errors=failed('file', errno.EFBIG))
+    expect_file('file', source)
+    expect_files('file')
+
+
+def write_at_most_a_megabyte():
+    signal.signal(signal.SIGXFSZ, signal.SIG_IGN)
+    resource.setrlimit(resource.RLIMIT_FSIZE, (MIB, MIB))
+
+
+def modes_of(name):
+    """The mode of a file, if it is still there."""
+    try:
+        return [mode_of(name)]
+    except FileNotFoundError:
+        return []
+
+
 if __name__ == '__main__':
-    run_tests([*tests_of(globals()), *tests_of(vars(command_files))], [PROGRAM], ['strace', 'unshare', 'envsubst'])
+    run_tests([test for module in (globals(), vars(command_files)) for test in tests_of(module)],
+              [PROGRAM], ['strace', 'unshare', 'envsubst'])

@@ -447,8 +447,7 @@ def check_faults(folder, kind, documents):
     messages = [line for line in end.errors.decode().split('\n') if line and not line.startswith('  ')]
     for number, (text, at, what) in enumerate(documents):
         message = messages[number] if number < len(messages) else 'nothing'
-        # A long message, that of a string far inside, is cut at its end.
-        if not (message.startswith(f'{number}:{at}: ') and message.endswith((what, '…'))):
+        if not (message.startswith(f'{number}:{at}: ') and message.endswith(what)):
             raise Wrong(f'{text!r} has a fault at {at}, {what}, and what is reported is {message}')
     expect_that(len(messages) == len(documents), f'{len(documents)} faults are reported as {len(messages)}')
 

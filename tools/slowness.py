@@ -7,6 +7,7 @@ counts, and where it is too much, of more runs. Less than 10 ms for 8n is never 
 40,000 or more, is more steps than that. The last line is 'N passed, M failed, K skipped'.
 """
 import functools
+import re
 import resource
 import sys
 from typing import NamedTuple
@@ -20,14 +21,16 @@ RUNS, MOST_RUNS, MORE, MOST, LEAST = 3, 12, 8, 24, 0.01
 
 
 class Run(NamedTuple):
-    """A run of a program over a source."""
+    """A run of a program over a source, and its output, or how many faults it reports."""
     program: str
     words: list
     source: bytes
+    output: bytes = b''
+    faults: int = 0
 
 
-def check(source, *words):
-    return Run('subst_program', words, source)
+def check(source, *words, faults=1):
+    return Run('subst_program', words, source, faults=faults)
 
 
 def fault_after_a_line(count):
@@ -39,7 +42,7 @@ def fault_after_lines(count):
 
 
 def highlighting(count):
-    return Run('subst_filter', ['text'], count * b'a\n' + b'$')
+    return Run('subst_filter', ['text'], count * b'a\n' + b'$', faults=1)
 
 
 def names(count):
@@ -51,27 +54,38 @@ def source_of(count):
 
 
 def words(count):
-    return Run('subst_filter', ['bytes', *(f'{name}=1' for name in names(count))], b'$name_0')
+    return Run('subst_filter', ['bytes', *(f'{name}=1' for name in names(count))], b'$name_0', b'1')
 
 
 def words_of_one_name(count):
-    return Run('subst_filter', ['bytes', *(count * ['name=1'])], b'$name')
+    return Run('subst_filter', ['bytes', *(count * ['name=1'])], b'$name', b'1')
 
 
 def variables_in_a_hash_map(count):
-    return Run('subst_filter', ['bytes', *(f'{name}=1' for name in names(count))], 8 * source_of(count))
+    return Run('subst_filter', ['bytes', *(f'{name}=1' for name in names(count))], 8 * source_of(count), 8 * count * b'1')
 
 
 def sets(count):
-    return Run('subst_program', [word for name in names(count) for word in ('-s', f'{name}=1')], 8 * source_of(count))
+    given = [word for name in names(count) for word in ('-s', f'{name}=1')]
+    return Run('subst_program', given, 8 * source_of(count), 8 * count * b'1')
+
+
+def missing_names(count):
+    return check(source_of(count), faults=count)
+
+
+def listed_names(count):
+    source = source_of(count)
+    listed = (b'%s\t<stdin>:1:%d\trequired\n' % (it[1], it.start(1) + 1) for it in re.finditer(rb'{(\w+)}', source))
+    return Run('subst_program', ['--names'], source, b''.join(listed))
 
 
 def variables(count):
-    return Run('subst_filter', ['bytes', 'a=1'], count * b'$a ')
+    return Run('subst_filter', ['bytes', 'a=1'], count * b'$a ', count * b'1 ')
 
 
 def escapes(count):
-    return Run('subst_filter', ['bytes'], count * b'\\$')
+    return Run('subst_filter', ['bytes'], count * b'\\$', count * b'$')
 
 
 def nested_defaults(count):
@@ -79,11 +93,11 @@ def nested_defaults(count):
 
 
 def braces_in_a_default(count):
-    return Run('subst_filter', ['bytes'], b'${a:' + count * b'{' + count * b'}' + b'}')
+    return Run('subst_filter', ['bytes'], b'${a:' + count * b'{' + count * b'}' + b'}', count * b'{' + count * b'}')
 
 
 def unclosed_defaults(count):
-    return Run('subst_filter', ['bytes'], count * b'${a:\\x')
+    return Run('subst_filter', ['bytes'], count * b'${a:\\x', faults=1)
 
 
 def fault_after_members_of_json(count):
@@ -92,7 +106,7 @@ def fault_after_members_of_json(count):
 
 
 def faults_of_json(count):
-    return check(b'[' + count * b'"$",' + b'1]', '--json')
+    return check(b'[' + count * b'"$",' + b'1]', '--json', faults=count)
 
 
 def fault_after_escapes_of_json(count):
@@ -105,7 +119,7 @@ def fault_after_pairs_of_toml(count):
 
 
 def faults_of_toml(count):
-    return check(b'a = [' + count * b'"$",' + b']\n', '--toml')
+    return check(b'a = [' + count * b'"$",' + b']\n', '--toml', faults=count)
 
 
 def fault_after_escapes_of_toml(count):
@@ -116,6 +130,7 @@ def fault_after_escapes_of_toml(count):
 WORKS = {
     fault_after_a_line: 4 * MIB, fault_after_lines: 4 * MIB, highlighting: 4 * MIB,
     words: 10000, words_of_one_name: 10000, variables_in_a_hash_map: 5000, sets: 5000, variables: 256 * KIB,
+    missing_names: 5000, listed_names: 5000,
     escapes: 256 * KIB, nested_defaults: 256 * KIB, braces_in_a_default: 2 * MIB, unclosed_defaults: 512 * KIB,
     fault_after_members_of_json: 20000, faults_of_json: 20000, fault_after_escapes_of_json: 256 * KIB,
     fault_after_pairs_of_toml: 5000, faults_of_toml: 20000, fault_after_escapes_of_toml: 256 * KIB,
@@ -134,9 +149,17 @@ def time_of(it):
         for _ in range(RUNS):
             source.seek(0)
             before = spent()
-            run(it.program, it.words, stdin=source)
+            ended = run(it.program, it.words, stdin=source)
             times.append(spent() - before)
+            look_at(ended, it)
     return min(times)
+
+
+def look_at(ended, it):
+    """Fails the test unless a run gave its output, or reported its faults: one that ends early is fast."""
+    faults = len(re.findall(rb'^<stdin>:', ended.errors, re.MULTILINE)) if it.faults > 1 else bool(ended.errors)
+    expect_that((ended.status, ended.output, faults) == (it.faults > 0, it.output, it.faults),
+                f'{ended.status}, {len(ended.output)} bytes and {faults} faults')
 
 
 def grows_little(work, count):
