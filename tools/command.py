@@ -840,11 +840,18 @@ def test_names_that_are_not_listed_stay():
     only = f'--only=H,{",".join(names)}'
     for option, source, reads in (('--json', json.dumps(tree), json.loads),
                                   ('--toml', toml_of(tree), tomllib.loads)):
-        ended = subst([option, only, *words], source.encode())
-        expect_that(ended.status == 0 and reads(ended.output.decode()) == mapped(filled, tree), f'{option} {only}')
-        ended = subst([option, '--envsubst', *words], source.encode())
         every = lambda text: filled(text).replace('$S', 'secret')
-        expect_that(ended.status == 0 and reads(ended.output.decode()) == mapped(every, tree), f'{option} --envsubst')
+        for more, change in ((only, filled), ('--envsubst', every)):
+            expect_tree(subst([option, more, *words], source.encode()), reads, mapped(change, tree))
+
+
+def expect_tree(end, reads, wanted):
+    """Fails the test unless the program gave a document that is read so."""
+    try:
+        tree = reads(end.output.decode())
+    except ValueError:
+        tree = None
+    expect_that(end.status == 0 and tree == wanted, f'{end.status}, and {shown(end.output)} isn\'t the document filled in')
 
 
 def splits(text):
@@ -910,11 +917,9 @@ def test_large_documents():
     filled = {key: [f'{item[0].replace("$A", "$B")}', {**item[1], 'x': '$B"'}] for key, item in members.items()}
     words = ['-sA=$B"', *(f'-sA{number}=$B{number}' for number in range(7))]
     source = json.dumps(members)
-    expect_that(json.loads(subst(['--json', *words], source.encode()).output) == filled, 'a JSON document isn\'t filled in')
+    expect_tree(subst(['--json', *words], source.encode()), json.loads, filled)
     source = toml_of({key: members[key] for key in list(members)[:30000]})
-    wanted = dict(list(filled.items())[:30000])
-    expect_that(tomllib.loads(subst(['--toml', *words], source.encode()).output.decode()) == wanted,
-                'a TOML document isn\'t filled in')
+    expect_tree(subst(['--toml', *words], source.encode()), tomllib.loads, dict(list(filled.items())[:30000]))
 
 
 def test_several_large_files():
