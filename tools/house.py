@@ -24,7 +24,7 @@ LINES = {'README.md': 170, 'docs/DESIGN.md': 160, 'docs/DEFINITIONS.md': 200, 'd
          'docs/CONTRIBUTING.md': 200, 'docs/decisions/[0-9]*.md': 40}
 # The words of all pages, the lines of code, of definitions and proofs, and of scripts, and the crates, at most; and the
 # ends of files beside scripts that are none.
-SIZES = {'.rt': 27000, '.antt': 28100, 'scripts': 10400, 'crates': 24}
+SIZES = {'.rt': 27000, '.antt': 28900, 'scripts': 10400, 'crates': 24}
 NO_SCRIPTS = ('.rt', '.antt', '.md', '.tsv', '.txt', 'args', 'stdin', 'stdout')
 # The files that have an option of subst, at most, and those that have the text of a fault.
 OPTION_FILES, FAULT_FILES = 7, 6

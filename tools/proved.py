@@ -31,6 +31,7 @@ HIDDEN = {
     'subst_cli/src/layers.rt': '',
     'subst_cli/src/options.rt': '',
     'subst_cli/src/process.rt': '',
+    'subst_cli/src/values_file.rt': '',
 }
 # How an item begins: its margin, whether it is public, what it is, and its name.
 BEGIN = re.compile(r'(|    )(pub(?:\([^)]*\))? )?(?:unsafe |extern "C" )*(fn|trait|impl|type|ghost(?! use))\b ?(\w*)')

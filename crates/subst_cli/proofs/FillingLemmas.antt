@@ -1,12 +1,8 @@
--- What sources give, a source at a time, and what documents become, said in a weaker way.
-use denote.Ref.{Bor}
-use Rattle.std.proofs.Common.{◌≡◌, ℕ, List, [], ◌∷◌, ◌++◌, Option, Some, None, Result, Ok, Err, IfOk, IfSome, inl, inr, refl, sym, ap, ◌∙◌, subst, append_assoc, append-nil, map, length, drop, ◌+◌}
-use Rattle.std.proofs.lemmas.List.Elements.{All-push, All-same, All-weaker, Contains-append_left, Contains-append_right}
+-- What sources give, and what documents become, said in a weaker way.
+use Rattle.std.proofs.Common.{◌≡◌, ℕ, List, [], ◌∷◌, ◌++◌, Option, Some, None, Result, Ok, Err, IfOk, IfSome, inl, inr, refl, sym, ap, ◌∙◌, subst, append_assoc, append-nil}
 use Rattle.std.proofs.lemmas.Result.{IfErr-weaker, IfOk-weaker}
-use Rattle.std.specs.Char.{encode_utf8}
 use Rattle.std.specs.List.{All}
-use Rattle.std.specs.Prelude.{◌⊎◌, true, IfErr, IsOkAnd, is_ok, IsSomeAnd, MatchOption, MatchResult}
-use Rattle.std.specs.Str.Pattern.{FindsCharPrefix}
+use Rattle.std.specs.Prelude.{◌⊎◌, true, IfErr, is_ok, IsSomeAnd, MatchOption, MatchResult}
 use Rattle.subst.proofs.Calling.{each_weaker, toml_each_weaker, filled_weaker, plain_answer}
 use Rattle.subst.specs.Json.Filled as json_text
 use Rattle.subst.specs.Json.Mapped as json_tree
@@ -15,75 +11,51 @@ use Rattle.subst.specs.Toml.Filled as toml_text
 use Rattle.subst.specs.Toml.Mapped as toml_tree
 use Rattle.subst.specs.Toml.Outcome as toml
 use Rattle.subst_language.specs.Language.Bytes.{IsPlain}
-use Rattle.subst_cli.proofs.PartLemmas.{pushed}
-use Rattle.subst_cli.specs.Fill.{AreOutputs, GivesFor, IsJsonOutput, IsOutput, IsTomlOutput}
+use Rattle.subst_cli.proofs.SourceLemmas.{AreDone, given_more, refused_more}
+use Rattle.subst_cli.specs.Faults.{IsFaultIn, IsNoText, StatesFault}
+use Rattle.subst_cli.specs.Fill.{AreOutputs, GivesFor, IsDocumentOutput, IsOutput}
 use Rattle.subst_cli.specs.Layers.{AreVariablesOf, Entry}
-use Rattle.subst_cli.specs.Run.{bytes_of, IsRefusalOf}
+use Rattle.subst_cli.specs.Run.{IsRefusalOf}
 use Rattle.subst_cli.specs.Strings.{gives_by, IsFilledFrom}
-use Rattle.subst_cli.specs.ValuesFile.{byte_order_mark}
 use Rattle.subst_cli.specs.declared.document.filler.StringFiller.{StringFiller}
-use Rattle.subst_cli.specs.declared.filling.Refused.{Refused}
+use Rattle.subst_cli.specs.declared.document.format.Format.TheVariants.{Json, Toml}
+use Rattle.subst_cli.specs.declared.fault.Fault.{Fault}
 use Rattle.subst_cli.specs.declared.layers.Variables.{Variables}
 use Rattle.subst_cli.specs.declared.options.InputFormat.{InputFormat}
-use Rattle.subst_cli.specs.declared.options.InputFormat.TheVariants.{Text, Bytes}
+use Rattle.subst_cli.specs.declared.options.InputFormat.TheVariants.{Text, Bytes, Document}
 use Rattle.subst_cli.specs.declared.options.Placeholders.{Placeholders}
 use Rattle.subst_cli.specs.declared.options.Placeholders.TheVariants.{Own}
+use Rattle.subst_cli.specs.declared.source.Refused.{Refused}
 
--- Sources that are done, of which this is said under a format.
-module _ (form : InputFormat) (placeholders : Placeholders) (entries : List Entry) where
-  -- one source more gives its output after those of the others
-  outputs_more : (sources : List (List ℕ)) (source output x : List ℕ)
-      → AreOutputs form placeholders entries sources output → IsOutput form placeholders entries source x
-      → AreOutputs form placeholders entries (sources ++ source ∷ []) (output ++ x)
-  outputs_more [] source output x none is =
-      (x, [], is, refl, ap (λ l. l ++ x) none ∙ sym (append-nil x))
-  outputs_more (s ∷ sources) source output x (y, more, here, rest, both) is = (
-    y,
-    more ++ x,
-    here,
-    outputs_more sources source more x rest is,
-    ap (λ l. l ++ x) both ∙ append_assoc y more x,
-  )
+-- one source more gives its output after those of the others
+outputs_more : (form : InputFormat) (placeholders : Placeholders) (entries : List Entry)
+    (sources : List (List ℕ)) (source output x : List ℕ)
+    → IsOutput form placeholders entries source x → AreOutputs form placeholders entries sources output
+    → AreOutputs form placeholders entries (sources ++ source ∷ []) (output ++ x)
+outputs_more form placeholders entries [] source output x is none =
+    (x, [], is, refl, ap (λ l. l ++ x) none ∙ sym (append-nil x))
+outputs_more form placeholders entries (s ∷ sources) source output x is (y, more, here, rest, both) = (
+  y,
+  more ++ x,
+  here,
+  outputs_more form placeholders entries sources source more x is rest,
+  ap (λ l. l ++ x) both ∙ append_assoc y more x,
+)
 
-  -- The sources so far give their outputs, unless some of them give nothing, of which this is said.
-  abbrev pub AreDone : List (List ℕ) → List ℕ → List Refused → Type 0
-  AreDone sources all refused =
-      (refused ≡ [] → AreOutputs form placeholders entries sources all)
-      × All (IsRefusalOf form placeholders entries sources) refused
-
-  -- what one source adds
-  abbrev pub Adds : List ℕ → List ℕ → List ℕ → List Refused → List Refused → Type 0
-  Adds source old new refused more =
-      ((x : List ℕ) × IsOutput form placeholders entries source x × (new ≡ old ++ x) × (more ≡ refused))
-      ⊎ ((it : Refused) × IsRefusalOf form placeholders entries (source ∷ []) it
-      × (more ≡ refused ++ it ∷ []))
-
-  -- one of these sources is one of more of them
-  refusal_later : (sources : List (List ℕ)) (source : List ℕ) (it : Refused)
-      → IsRefusalOf form placeholders entries sources it
-      → IsRefusalOf form placeholders entries (sources ++ source ∷ []) it
-  refusal_later sources source it h =
-      (Contains-append_left sources (source ∷ []) (bytes_of it.source) h.0, h.1)
-
-  -- one source more is done
-  pub done_more : (sources : List (List ℕ)) (source old new : List ℕ) (refused more : List Refused)
-      → AreDone sources old refused → Adds source old new refused more
-      → AreDone (sources ++ source ∷ []) new more
-  done_more sources source old new refused more (outputs, refusals) (inl (x, is, new_is, same)) =
-      let P = IsRefusalOf form placeholders entries sources in
-      let Q = IsRefusalOf form placeholders entries (sources ++ source ∷ []) in (
-        λ none. rw new_is (outputs_more sources source old x (outputs (sym same ∙ none)) is),
-        All-same Q more refused same (All-weaker P Q (refusal_later sources source) refused refusals),
-      )
-  done_more sources source old new refused more (outputs, refusals) (inr (it, refusal, more_is)) =
-      let P = IsRefusalOf form placeholders entries sources in
-      let Q = IsRefusalOf form placeholders entries (sources ++ source ∷ []) in
-      let here = Contains-append_right sources (source ∷ []) (bytes_of it.source) refusal.0 in (
-        λ none. absurd (pushed refused it (sym more_is ∙ none)),
-        All-same Q more (refused ++ it ∷ []) more_is
-            (All-push Q refused it (All-weaker P Q (refusal_later sources source) refused refusals)
-            (here, refusal.1)),
-      )
+-- one source more is done, whose output is added or which is refused
+pub done_more : (form : InputFormat) (placeholders : Placeholders) (entries : List Entry)
+    (sources : List (List ℕ)) (source old new : List ℕ) (refused more : List Refused)
+    → AreDone (StatesFault form placeholders entries) (AreOutputs form placeholders entries sources old)
+    sources refused
+    → ((x : List ℕ) × IsOutput form placeholders entries source x × (new ≡ old ++ x) × (more ≡ refused))
+    ⊎ ((it : Refused) × IsRefusalOf form placeholders entries (source ∷ []) it × (more ≡ refused ++ it ∷ []))
+    → AreDone (StatesFault form placeholders entries)
+    (AreOutputs form placeholders entries (sources ++ source ∷ []) new) (sources ++ source ∷ []) more
+done_more form placeholders entries sources source old new refused more done (inl (x, is, both, same)) =
+    rw (both, same) (given_more (StatesFault form placeholders entries) _ _ sources source refused
+    (outputs_more form placeholders entries sources source old x is) done)
+done_more form placeholders entries sources source old new refused more done (inr (it, (one, are), both)) =
+    refused_more (StatesFault form placeholders entries) _ _ sources source refused more it one are both done
 
 -- a tree that is read, of which something weaker is said
 read_weaker : (text : List ℕ) (P Q : _ → Type 0) → ((d : _) → P d → Q d) → toml.ReadsAsTree text P
@@ -95,7 +67,7 @@ module _ (Becomes Stays : List ℕ → List ℕ → Type 0)
     (weaker : (s x : List ℕ) → Becomes s x → Stays s x) where
   pub json_weaker : (source output : List ℕ)
       → json.ReadsAsTree source (λ d. json.ReadsAsTree output (json_tree.IsEach Becomes d))
-      → json_text.IsFilledJson Becomes source output → IsJsonOutput Stays source output
+      → json_text.IsFilledJson Becomes source output → IsDocumentOutput Json Stays source output
   json_weaker source output (d, read, (e, read_as, each)) kept = (
     (d, read, (e, read_as, each_weaker Becomes Stays weaker d e each)),
     filled_weaker _ _ Becomes Stays weaker _ source output kept,
@@ -103,7 +75,7 @@ module _ (Becomes Stays : List ℕ → List ℕ → Type 0)
 
   pub toml_weaker : (source output : List ℕ)
       → toml.ReadsAsTree source (λ d. toml.ReadsAsTree output (toml_tree.IsEach Becomes d))
-      → toml_text.IsFilledIn Becomes source output → IsTomlOutput Stays source output
+      → toml_text.IsFilledIn Becomes source output → IsDocumentOutput Toml Stays source output
   toml_weaker source output tree (found, strings, kept) = (
     read_weaker source (λ d. toml.ReadsAsTree output (toml_tree.IsEach Becomes d))
         (λ d. toml.ReadsAsTree output (toml_tree.IsEach Stays d))
@@ -172,36 +144,15 @@ pub weaker_faults : {T U E : Type 0} (outcome : Result (Result T U) E) (P Q : U 
 weaker_faults outcome P Q weaker =
     IfOk-weaker outcome (λ it. IfErr it P) (λ it. IfErr it Q) (λ it. IfErr-weaker it P Q weaker)
 
--- a text without the character that it begins with, which these bytes spell
-pub stripped : (character : ℕ) (s : List ℕ) (result : Option (Bor (List ℕ)))
-    → MatchOption result (FindsCharPrefix character s None) (λ x. (n : ℕ)
-    × FindsCharPrefix character s (Some n) × (x.now ≡ drop n s) × (length x.now + n ≡ length s))
-    → encode_utf8 character ≡ byte_order_mark → IfSome result (λ x. s ≡ byte_order_mark ++ x.now)
-stripped character s None h spelled = tt
-stripped character s (Some x) (n, finds, is, _) spelled =
-    finds.split ∙ ap (λ l. l ++ drop n s) spelled ∙ ap (λ l. byte_order_mark ++ l) (sym is)
-
--- how a byte order mark is spelled
-pub mark_spelled : encode_utf8 65279 ≡ byte_order_mark
-unfolding encode_utf8
-mark_spelled = refl
+-- that bytes aren't UTF-8 is a fault of a source that is text
+pub no_text : (form : InputFormat) (placeholders : Placeholders) (entries : List Entry) (s : List ℕ)
+    (it : Fault) → ¬ (form ≡ Bytes) → IsNoText s it → IsFaultIn form placeholders entries s it
+no_text Bytes placeholders entries s it other is = absurd (other refl)
+no_text Text placeholders entries s it other is = inl is
+no_text (Document format) placeholders entries s it other is = inl is
 
 -- what is said of texts and of bytes
 pub text_or_bytes : (form : InputFormat) (P : InputFormat → Type 0) → (form ≡ Text) ⊎ (form ≡ Bytes)
     → P Text → P Bytes → P form
 text_or_bytes form P (inl is) text bytes = subst P (sym is) text
 text_or_bytes form P (inr is) text bytes = subst P (sym is) bytes
-
--- what is said of bytes that are a text
-pub of_text : {T U F : Type 0} (outcome : Result T F) (result : Result U F) (R : U → T → Type 0)
-    (P : T → Type 0) (Q : U → Type 0) → ((it : U) (text : T) → R it text → P text → Q it)
-    → IfOk result (λ it. IsOkAnd outcome (R it)) → IfOk outcome P → IfOk result Q
-of_text (Ok text) (Ok it) R P Q follows are holds = follows it text are holds
-of_text (Err faults) (Ok it) R P Q follows are holds = absurd are
-of_text outcome (Err faults) R P Q follows are holds = tt
-
--- what is said of faults that are those of a text
-pub of_faults : {T U F : Type 0} (outcome : Result T F) (result : Result U F) (P : F → Type 0)
-    → IfErr result (λ faults. outcome ≡ Err faults) → IfErr outcome P → IfErr result P
-of_faults outcome (Ok it) P are holds = tt
-of_faults outcome (Err faults) P are holds = subst (λ it. IfErr it P) are holds

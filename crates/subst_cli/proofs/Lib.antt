@@ -1,6 +1,11 @@
+pub mod DocumentLemmas
 pub mod EntryLemmas
+pub mod FaultLemmas
 pub mod FillLemmas
 pub mod FillingLemmas
 pub mod LayerLemmas
+pub mod ListLemmas
+pub mod OriginLemmas
 pub mod PartLemmas
+pub mod SourceLemmas
 pub mod ValuesFileLemmas

@@ -1,12 +1,13 @@
--- Lemmas on the lines of a values file.
-use Rattle.std.proofs.Common.{◌≡◌, ◌<◌, ℕ, Bool, true, false, List, [], ◌∷◌, length, ltb, if◌then◌else◌, Option, None, refl, ap, ◌∙◌, arith}
+-- Lemmas on values files and their lines.
+use Rattle.std.proofs.Common.{◌≡◌, ◌<◌, ℕ, Bool, true, false, List, [], ◌∷◌, ◌++◌, length, ltb, if◌then◌else◌, Option, Some, None, refl, sym, ap, ◌∙◌, append_assoc, append-nil, arith}
 use Rattle.std.proofs.lemmas.Bool.{ltb-false, ltb-true}
 use Rattle.std.proofs.lemmas.Grind.{common_steps}
+use Rattle.std.proofs.lemmas.Option.{none-some, same_Some}
 use Rattle.std.proofs.lemmas.List.Splits.{slice_split_first}
 use Rattle.std.specs.List.{after_first, before_first, position_or_len, slice_split}
 use Rattle.subst_cli.proofs.EntryLemmas.{place_within}
 use Rattle.subst_cli.specs.Layers.{Entry}
-use Rattle.subst_cli.specs.ValuesFile.{before, is_line_feed, said, values_of_lines, with_line}
+use Rattle.subst_cli.specs.ValuesFile.{before, is_line_feed, said, values_of, values_of_files, values_of_lines, with_file, with_line}
 
 -- where no byte passes, the list is its one part
 split_whole : (p : ℕ → Bool) (bytes : List ℕ) → position_or_len p bytes ≡ length bytes
@@ -58,3 +59,24 @@ line_taken whole some more rest line after is_right so_far line_is after_is step
     ≡ with_line (said line) (values_of_lines (slice_split is_line_feed after)) =
     rw (line_is, after_is) (line_first rest) in
     so_far ∙ ap (before some) first ∙ step (values_of_lines (slice_split is_line_feed after))
+
+-- what one file more gives comes after what those before it give
+pub values_more : (files : List (List ℕ)) (file : List ℕ) (xs ys : List Entry)
+    → values_of_files files ≡ Some xs → values_of file ≡ Some ys
+    → values_of_files (files ++ file ∷ []) ≡ Some (xs ++ ys)
+values_more [] file xs ys so_far gives =
+    rw (gives, append-nil ys) (ap (λ l. Some (l ++ ys)) (same_Some [] xs so_far))
+values_more (first ∷ files) file xs ys so_far gives =
+    of (values_of first) (values_of_files files)
+    (λ more is. values_more files file more ys is gives) so_far
+  where
+    of : (here later : Option (List Entry))
+        → ((more : List Entry) → later ≡ Some more
+        → values_of_files (files ++ file ∷ []) ≡ Some (more ++ ys))
+        → with_file here later ≡ Some xs
+        → with_file here (values_of_files (files ++ file ∷ [])) ≡ Some (xs ++ ys)
+    of None later longer none = absurd (none-some xs none)
+    of (Some some) None longer none = absurd (none-some xs none)
+    of (Some some) (Some more) longer both =
+        ap (before some) (longer more refl) ∙ ap Some (sym (append_assoc some more ys))
+        ∙ ap (λ l. Some (l ++ ys)) (same_Some (some ++ more) xs both)

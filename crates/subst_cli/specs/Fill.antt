@@ -1,11 +1,12 @@
 -- What a source gives: it is a template itself, or one stands for it, by what in it is a variable.
-use Rattle.std.specs.Prelude.{◌≡◌, ◌⊎◌, ℕ, List, [], ◌∷◌, ◌++◌, IsUtf8}
+use denote.Ref.{Bor}
+use Rattle.std.specs.Prelude.{◌≡◌, ℕ, List, [], ◌∷◌, ◌++◌, ◌+◌, ◌-◌, ◌≤◌, IsUtf8, Option, Some, None, length, take, drop}
 use Rattle.std.specs.List.{All}
-use Rattle.subst.specs.Foreign.{IsTemplateFor, IsShellName, IsListed}
+use Rattle.subst.specs.Foreign.{unescaped, IsTemplateFor, IsShellName, IsListed}
 use Rattle.subst.specs.Json.Filled as json_text
 use Rattle.subst.specs.Json.Mapped as json_tree
 use Rattle.subst.specs.Json.Outcome as json
-use Rattle.subst.specs.Language.Answer.{Answer, Answers, Gives}
+use Rattle.subst.specs.Language.Answer.{Answers, Gives}
 use Rattle.subst.specs.Language.LookUp.{LookUp}
 use Rattle.subst.specs.Language.NamesIn.{names_in}
 use Rattle.subst.specs.Language.Sentence.{Spells}
@@ -14,9 +15,11 @@ use Rattle.subst.specs.Toml.Filled as toml_text
 use Rattle.subst.specs.Toml.Mapped as toml_tree
 use Rattle.subst.specs.Toml.Outcome as toml
 use Rattle.subst_cli.specs.Layers.{Entry, IsUnreadable, look_up_in}
-use Rattle.subst_cli.specs.ValuesFile.{byte_order_mark}
+use Rattle.subst_cli.specs.Mark.{filled_of, kept_of}
+use Rattle.subst_cli.specs.declared.document.format.Format.{Format}
+use Rattle.subst_cli.specs.declared.document.format.Format.TheVariants.{Json, Toml}
 use Rattle.subst_cli.specs.declared.options.InputFormat.{InputFormat}
-use Rattle.subst_cli.specs.declared.options.InputFormat.TheVariants.{Text, Bytes, Json, Toml}
+use Rattle.subst_cli.specs.declared.options.InputFormat.TheVariants.{Text, Bytes, Document}
 use Rattle.subst_cli.specs.declared.options.Placeholders.{Placeholders}
 use Rattle.subst_cli.specs.declared.options.Placeholders.TheVariants.{Own, Envsubst, Only}
 
@@ -26,10 +29,23 @@ StandsFor Own s template = template ≡ s
 StandsFor Envsubst s template = IsTemplateFor IsShellName s template
 StandsFor (Only names) s template = IsTemplateFor (IsListed names.items) s template
 
--- the answer of a source is that of a template that stands for it
-abbrev pub AnswersFor : Placeholders → List ℕ → LookUp → Answer → Type 0
-AnswersFor placeholders s look answer =
-    (template : List ℕ) × StandsFor placeholders s template × Answers template look answer
+-- Where in a source is what is at an offset of its template. Where that was made for it, both bytes of an
+-- escape are where the byte is that they stand for.
+abbrev pub origin_of : Placeholders → List ℕ → ℕ → ℕ
+origin_of Own template at = at
+origin_of _ template at = length (unescaped (take at template))
+
+-- the same, of a template that was made, or of none
+abbrev pub origin_in : Option (Bor (List ℕ)) → ℕ → ℕ
+origin_in None at = at
+origin_in (Some template) at = length (unescaped (take at template.now))
+
+-- A template is split at an offset: from there on an offset of it is in the source where it is in the second
+-- part, after so many bytes.
+abbrev pub AreSplit : List ℕ → ℕ → ℕ → Type 0
+AreSplit template offset place = (offset ≤ length template) × ((at : ℕ) → offset ≤ at
+    → length (unescaped (take at template))
+    ≡ place + length (unescaped (take (at - offset) (drop offset template))))
 
 -- the look-up has what the entries give, but for names whose values can't be read, which may have any
 abbrev pub Agrees : List Entry → LookUp → Type 0
@@ -41,6 +57,10 @@ abbrev pub GivesFor : Placeholders → List Entry → List ℕ → List ℕ → 
 GivesFor placeholders entries s output = (template : List ℕ) × StandsFor placeholders s template
     × ((look : LookUp) → Agrees entries look → Answers template look (Gives output))
 
+-- the source gives something
+abbrev pub GivesSome : Placeholders → List Entry → List ℕ → Type 0
+GivesSome placeholders entries s = (output : List ℕ) × GivesFor placeholders entries s output
+
 -- each name in the template can be read
 abbrev pub AreReadable : List Entry → List ℕ → Type 0
 AreReadable entries template = (t : Tree) → Spells t template
@@ -48,28 +68,25 @@ AreReadable entries template = (t : Tree) → Spells t template
 
 -- The output is the document with its strings filled in: it reads as the tree whose strings are, and is the
 -- source but for the tokens of strings that change.
-abbrev pub IsJsonOutput : (List ℕ → List ℕ → Type 0) → List ℕ → List ℕ → Type 0
-IsJsonOutput Becomes source output =
+abbrev pub IsDocumentOutput : Format → (List ℕ → List ℕ → Type 0) → List ℕ → List ℕ → Type 0
+IsDocumentOutput Json Becomes source output =
     json.ReadsAsTree source (λ d. json.ReadsAsTree output (json_tree.IsEach Becomes d))
     × json_text.IsFilledJson Becomes source output
-
-abbrev pub IsTomlOutput : (List ℕ → List ℕ → Type 0) → List ℕ → List ℕ → Type 0
-IsTomlOutput Becomes source output =
+IsDocumentOutput Toml Becomes source output =
     toml.ReadsAsTree source (λ d. toml.ReadsAsTree output (toml_tree.IsEach Becomes d))
     × toml_text.IsFilledIn Becomes source output
 
--- P holds of the texts after a byte order mark, where both begin with one, or of the texts
-abbrev pub AfterMark : (List ℕ → List ℕ → Type 0) → List ℕ → List ℕ → Type 0
-AfterMark P s x = P s x ⊎ ((t : List ℕ) × (y : List ℕ)
-    × (s ≡ byte_order_mark ++ t) × (x ≡ byte_order_mark ++ y) × P t y)
+-- what the bytes of a source give that are filled in
+abbrev pub IsFilled : InputFormat → Placeholders → List Entry → List ℕ → List ℕ → Type 0
+IsFilled Text placeholders entries s x = IsUtf8 s × GivesFor placeholders entries s x
+IsFilled Bytes placeholders entries s x = GivesFor placeholders entries s x
+IsFilled (Document format) placeholders entries s x =
+    IsDocumentOutput format (GivesFor placeholders entries) s x
 
 -- what a source gives
 abbrev pub IsOutput : InputFormat → Placeholders → List Entry → List ℕ → List ℕ → Type 0
-IsOutput Text placeholders entries s output = IsUtf8 s × GivesFor placeholders entries s output
-IsOutput Bytes placeholders entries s output = GivesFor placeholders entries s output
-IsOutput Json placeholders entries s output =
-    AfterMark (IsJsonOutput (GivesFor placeholders entries)) s output
-IsOutput Toml placeholders entries s output = IsTomlOutput (GivesFor placeholders entries) s output
+IsOutput form placeholders entries s output = (x : List ℕ) × (output ≡ kept_of form s ++ x)
+    × IsFilled form placeholders entries (filled_of form s) x
 
 -- what several sources give, one after the other
 abbrev pub AreOutputs : InputFormat → Placeholders → List Entry → List (List ℕ) → List ℕ → Type 0

@@ -1,9 +1,9 @@
 -- A run over sources, apart from files.
 use Rattle.std.specs.Prelude.{ℕ, List, [], if◌then◌else◌}
-use Rattle.std.specs.List.{Contains}
-use Rattle.subst_cli.specs.Faults.{StatesFault}
+use Rattle.std.specs.List.{Any, Contains}
+use Rattle.subst_cli.specs.Faults.{IsFaultOfFile, StatesFault}
 use Rattle.subst_cli.specs.Layers.{Entry, environment_of, given_by, in_order}
-use Rattle.subst_cli.specs.declared.filling.Refused.{Refused}
+use Rattle.subst_cli.specs.declared.source.Refused.{Refused}
 use Rattle.subst_cli.specs.declared.options.InputFormat.{InputFormat}
 use Rattle.subst_cli.specs.declared.options.Options.{Options}
 use Rattle.subst_cli.specs.declared.options.Placeholders.{Placeholders}
@@ -22,3 +22,8 @@ entries_for options lines environment = in_order (given_by options.pairs.items) 
 abbrev pub IsRefusalOf : InputFormat → Placeholders → List Entry → List (List ℕ) → Refused → Type 0
 IsRefusalOf form placeholders entries sources it = Contains sources (bytes_of it.source)
     × StatesFault form placeholders entries (bytes_of it.source) it.faults.items
+
+-- it is one of these values files, and one of its faults is so
+abbrev pub IsRefusedFile : List (List ℕ) → Refused → Type 0
+IsRefusedFile files it = Contains files (bytes_of it.source)
+    × Any (IsFaultOfFile (bytes_of it.source)) it.faults.items

@@ -1,9 +1,15 @@
 -- How the strings of a document are filled in.
-use Rattle.std.specs.Prelude.{◌≡◌, ℕ, List, IsSomeAnd, MatchOption}
+use Rattle.std.specs.Prelude.{◌≡◌, ℕ, List, IsSomeAnd, MatchOption, String, string_bytes}
+use Rattle.std.specs.Global.{Global}
+use Rattle.subst_walk.specs.declared.edits.StringAt.{StringAt}
 use Rattle.subst_cli.specs.Fill.{GivesFor}
 use Rattle.subst_cli.specs.Layers.{Entry, AreVariablesOf}
 use Rattle.subst_cli.specs.declared.document.filler.StringFiller.{StringFiller}
 use Rattle.subst_cli.specs.declared.layers.Variables.{Variables}
+
+-- the string of a document that is refused
+abbrev pub string_of : String Global × StringAt → List ℕ
+string_of it = string_bytes it.1.text
 
 -- they are filled in from these variables
 abbrev pub IsFilledFrom : StringFiller → Variables → Type 0

@@ -3,14 +3,7 @@ use Rattle.std.specs.Prelude.{◌==◌, ◌-◌, ℕ, Bool, true, ◌||◌, List
 use Rattle.std.specs.List.{slice_split}
 use Rattle.std.specs.Str.{bytes_eq}
 use Rattle.subst_cli.specs.Layers.{Entry, entry_in}
-
--- a byte order mark, in UTF-8
-abbrev pub byte_order_mark : List ℕ
-byte_order_mark = 239 ∷ 187 ∷ 191 ∷ []
-
--- the bytes after a byte order mark at their start
-abbrev pub after_mark : List ℕ → List ℕ
-after_mark bytes = if bytes_eq (take 3 bytes) byte_order_mark then drop 3 bytes else bytes
+use Rattle.subst_cli.specs.Mark.{after_mark}
 
 -- the byte ends a line
 abbrev pub is_line_feed : ℕ → Bool
@@ -76,3 +69,13 @@ values_of_lines (line ∷ lines) = with_line (said line) (values_of_lines lines)
 -- what a values file gives in the order of its lines, or nothing where one is wrong
 abbrev pub values_of : List ℕ → Option (List Entry)
 values_of bytes = values_of_lines (slice_split is_line_feed (after_mark bytes))
+
+-- what is given before what later files give, if all of them give something
+abbrev pub with_file : Option (List Entry) → Option (List Entry) → Option (List Entry)
+with_file None later = None
+with_file (Some entries) later = before entries later
+
+-- what values files give, one after the other, or nothing where one of them gives nothing
+abbrev pub values_of_files : List (List ℕ) → Option (List Entry)
+values_of_files [] = Some []
+values_of_files (file ∷ files) = with_file (values_of file) (values_of_files files)

@@ -1,116 +1,52 @@
 //! Documents: texts whose strings are filled in where they are.
 
-ghost use Rattle.std.specs.Prelude.{◌≡◌, [], ℕ, List, IfErr, IfOk, string_bytes};
-ghost use Rattle.subst_cli.specs.Strings.{IsFilledFrom};
+ghost use Rattle.std.specs.Prelude.{◌≡◌, ◌++◌, ℕ, List, IfErr, IfOk, OnOk, map, string_bytes};
+ghost use Rattle.std.specs.List.{All, Any, Contains};
+ghost use Rattle.subst_cli.specs.Faults.{cause_of, AreFaults, IsCauseOfSome, IsDocumentCause};
+ghost use Rattle.subst_cli.specs.Fill.{GivesFor, GivesSome, IsDocumentOutput};
 ghost use Rattle.subst_cli.specs.Layers.{Entry, AreVariablesOf};
+ghost use Rattle.subst_cli.specs.Strings.{string_of, IsFilledFrom};
+ghost use Rattle.subst_cli.specs.declared.fault.Cause.TheVariants as cause;
 ghost use Rattle.subst_cli.specs.declared.layers.Variables.{Variables as SpecVariables};
-ghost use Rattle.subst_cli.specs.declared.options.Placeholders.{Placeholders as SpecPlaceholders};
 
 use crate::fault::{Cause, Fault, one_fault};
 use crate::part::{Occurrence, Outcome, uses_in_text};
 pub(crate) use filler::StringFiller;
-pub(crate) use json_document::JsonDocument;
+pub use format::Format;
+use format::{Finder, RefusedAt, Unfilled};
 use std::alloc::{AllocError, Global};
 use std::ops::Range;
-use subst::json::StringAt;
-pub(crate) use toml_document::TomlDocument;
+use subst_walk::StringAt;
 
 mod filler;
-mod json_document;
-mod toml_document;
-
-/// Why a document isn't filled in.
-#[derive(Drop)]
-pub(crate) enum Unfilled {
-    /// It is none, or isn't confirmed: its fault.
-    Unread(Vec<Fault>),
-    /// A string of it is refused.
-    Refused,
-}
-
-/// A string of a document that is refused, with the path that leads to it.
-pub(crate) type RefusedAt = (String, StringAt);
-
-/// A format of documents.
-pub(crate) trait Document {
-    /// What places are found with, which is kept from one string to the next.
-    type Finder: Drop;
-
-    // Whether a text is another one with its strings filled in.
-    ghost is_filled: { SpecPlaceholders → List Entry → List ℕ → List ℕ → Type 0 };
-
-    /// Returns a text with its strings filled in.
-    ///
-    /// # Errors
-    ///
-    /// When allocation fails.
-    fn fill_in(
-        alloc: Global,
-        text: &str,
-        filler: &StringFiller<'_>,
-    ) -> Result<Result<String, Unfilled>, AllocError>
-        ensures { (variables : SpecVariables) → (entries : List Entry)
-            → IsFilledFrom filler.now variables → AreVariablesOf variables entries
-            → IfOk result (λ filled. IfOk filled (λ output.
-            is_filled filler.now.placeholders.now entries text.now (string_bytes output))) };
-
-    /// Returns the strings that are refused, in the order of the text, each with the path that leads to it.
-    /// That is empty where the document is a string.
-    ///
-    /// # Errors
-    ///
-    /// When allocation fails.
-    fn refused(
-        alloc: Global,
-        text: &str,
-        filler: &StringFiller<'_>,
-    ) -> Result<Result<Vec<RefusedAt>, Unfilled>, AllocError>;
-
-    /// Returns the strings, in the order of the text.
-    ///
-    /// # Errors
-    ///
-    /// When allocation fails.
-    fn strings(alloc: Global, text: &str) -> Result<Result<Vec<StringAt>, Unfilled>, AllocError>;
-
-    /// Returns what finds places.
-    fn finder(alloc: Global) -> Self::Finder;
-
-    /// Returns where these ranges of a string, which go up, are in the text.
-    ///
-    /// # Errors
-    ///
-    /// When allocation fails.
-    fn places(
-        alloc: Global,
-        finder: &mut Self::Finder,
-        text: &str,
-        span: Range<usize>,
-        ranges: &[Range<usize>],
-    ) -> Result<Option<Vec<Range<usize>>>, AllocError>;
-}
+mod format;
 
 /// Returns a text with its strings filled in, or its faults.
 ///
 /// # Errors
 ///
 /// When allocation fails.
-pub(crate) fn fill<D: Document>(
+pub(crate) fn fill(
     alloc: Global,
+    format: Format,
     text: &str,
     filler: &StringFiller<'_>,
 ) -> Result<Outcome<String>, AllocError>
     ensures gives { (variables : SpecVariables) → (entries : List Entry)
         → IsFilledFrom filler.now variables → AreVariablesOf variables entries
         → IfOk result (λ outcome. IfOk outcome (λ output.
-        D.is_filled filler.now.placeholders.now entries text.now (string_bytes output))) }
-    ensures refused { IfOk result
-        (λ outcome. IfErr outcome (λ faults. ¬ (faults.items ≡ []))) }
+        IsDocumentOutput format (GivesFor filler.now.placeholders.now entries) text.now
+        (string_bytes output))) }
+    ensures refused { (variables : SpecVariables) → (entries : List Entry)
+        → IsFilledFrom filler.now variables → AreVariablesOf variables entries
+        → IfOk result (λ outcome. IfErr outcome (λ faults. Any
+        (λ it. IsDocumentCause format filler.now.placeholders.now entries text.now
+        it.cause) faults.items)) }
 {
-    match D::fill_in(alloc, text, filler)? {
+    match format.fill_in(alloc, text, filler)? {
         Ok(output) => Ok(Ok(output)),
-        Err(Unfilled::Unread(faults)) => Ok(Err(or_not_confirmed(alloc, faults)?)),
-        Err(Unfilled::Refused) => Ok(Err(faults_in::<D>(alloc, text, filler)?)),
+        Err(Unfilled::Unread(range, cause)) => Ok(Err(one_fault(alloc, range, cause)?)),
+        Err(Unfilled::Refused) => Ok(Err(faults_in(alloc, format, text, filler)?)),
     }
 }
 
@@ -119,116 +55,132 @@ pub(crate) fn fill<D: Document>(
 /// # Errors
 ///
 /// When allocation fails.
-pub(crate) fn uses<D: Document>(
+pub(crate) fn uses(
     alloc: Global,
+    format: Format,
     text: &str,
     filler: &StringFiller<'_>,
 ) -> Result<Outcome<Vec<Occurrence>>, AllocError> {
-    let strings = match D::strings(alloc, text)? {
+    let strings = match format.strings(alloc, text)? {
         Ok(strings) => strings,
-        Err(Unfilled::Unread(faults)) => return Ok(Err(faults)),
-        Err(Unfilled::Refused) => return Ok(Err(or_not_confirmed(alloc, Vec::new(alloc))?)),
+        Err(Unfilled::Unread(range, cause)) => return Ok(Err(one_fault(alloc, range, cause)?)),
+        Err(Unfilled::Refused) => return Ok(Err(not_confirmed(alloc)?)),
     };
-    let mut finder = D::finder(alloc);
+    let mut finder = Finder::new(alloc, format);
     let mut all = Vec::new(alloc);
     for StringAt { text: string, span } in strings {
         match uses_in_text(alloc, &string, filler.placeholders)? {
-            Ok(uses) => add_uses::<D>(alloc, &mut finder, text, span, uses, &mut all)?,
-            Err(_) => return Ok(Err(faults_in::<D>(alloc, text, filler)?)),
+            Ok(uses) => add_uses(alloc, &mut finder, text, span, uses, &mut all)?,
+            Err(_) => return Ok(Err(faults_in(alloc, format, text, filler)?)),
         }
     }
     Ok(Ok(all))
 }
 
 /// Adds the variables of a string, with their places in the text.
-fn add_uses<D: Document>(
+fn add_uses(
     alloc: Global,
-    finder: &mut D::Finder,
+    finder: &mut Finder,
     text: &str,
     span: Range<usize>,
     uses: Vec<Occurrence>,
     all: &mut Vec<Occurrence>,
 ) -> Result<(), AllocError> {
+    let Range { start, end } = span;
     let ranges: Vec<_> = uses
         .iter()
         .map(|it| it.range.start..it.range.end)
         .collect(alloc)?;
-    let places = places::<D>(alloc, finder, text, span, &ranges)?;
-    for (mut it, place) in uses.into_iter().zip(places) {
-        it.range = place;
+    let mut places = finder.places(alloc, text, start..end, &ranges)?.into_iter();
+    for mut it in uses {
+        it.range = places.next().unwrap_or(start..end);
         all.push(it)?;
     }
     Ok(())
 }
 
 /// Returns the faults of all strings of a document that is refused.
-fn faults_in<D: Document>(
+fn faults_in(
     alloc: Global,
+    format: Format,
     text: &str,
     filler: &StringFiller<'_>,
 ) -> Result<Vec<Fault>, AllocError>
-    ensures { IfOk result (λ faults. ¬ (faults.items ≡ [])) }
+    ensures { (variables : SpecVariables) → (entries : List Entry)
+        → IsFilledFrom filler.now variables → AreVariablesOf variables entries
+        → IfOk result (λ faults. Any
+        (λ it. IsDocumentCause format filler.now.placeholders.now entries text.now
+        it.cause) faults.items) }
 {
-    let faults = match D::refused(alloc, text, filler)? {
-        Ok(strings) => faults_of::<D>(alloc, text, filler, strings)?,
-        Err(Unfilled::Unread(faults)) => faults,
-        Err(Unfilled::Refused) => Vec::new(alloc),
+    let strings = match format.refused(alloc, text, filler)? {
+        Ok(strings) => strings,
+        Err(Unfilled::Unread(range, cause)) => return one_fault(alloc, range, cause),
+        Err(Unfilled::Refused) => return not_confirmed(alloc),
     };
-    or_not_confirmed(alloc, faults)
-}
-
-/// Returns these faults, or where there are none that the document isn't confirmed.
-fn or_not_confirmed(alloc: Global, faults: Vec<Fault>) -> Result<Vec<Fault>, AllocError>
-    ensures { IfOk result (λ faults. ¬ (faults.items ≡ [])) }
-{
+    let faults = faults_of(alloc, format, text, filler, strings)?;
     if faults.is_empty() {
-        one_fault(alloc, 0..0, Cause::NotConfirmed)
+        not_confirmed(alloc)
     } else {
         Ok(faults)
     }
 }
 
+/// Returns the fault of a document that isn't confirmed.
+fn not_confirmed(alloc: Global) -> Result<Vec<Fault>, AllocError>
+    ensures { IfOk result (λ faults. Any (λ it. it.cause ≡ cause.NotConfirmed) faults.items) }
+{
+    one_fault(alloc, 0..0, Cause::NotConfirmed)
+}
+
 /// Returns the faults of these strings, with their places in the text.
-fn faults_of<D: Document>(
+fn faults_of(
     alloc: Global,
+    format: Format,
     text: &str,
     filler: &StringFiller<'_>,
     strings: Vec<RefusedAt>,
-) -> Result<Vec<Fault>, AllocError> {
-    let mut finder = D::finder(alloc);
+) -> Result<Vec<Fault>, AllocError>
+    ensures { (variables : SpecVariables) → (entries : List Entry)
+        → IsFilledFrom filler.now variables → AreVariablesOf variables entries
+        → IfOk result (λ faults. AreFaults
+        (All (GivesSome filler.now.placeholders.now entries) (map string_of strings.items))
+        (λ it. IsCauseOfSome (Contains (map string_of strings.items)) filler.now.placeholders.now
+        entries it.cause) faults.items) }
+{
+    let mut finder = Finder::new(alloc, format);
     let mut all = Vec::new(alloc);
     for (path, StringAt { text: string, span }) in strings {
         let faults = filler.faults(alloc, &string)?;
-        let ranges: Vec<_> = faults
-            .iter()
-            .map(|it| it.range.start..it.range.end)
-            .collect(alloc)?;
-        let places = places::<D>(alloc, &mut finder, text, span, &ranges)?;
-        for (mut fault, place) in faults.into_iter().zip(places) {
-            fault.path = String::from_str(alloc, &path)?;
-            fault.range = place;
-            all.push(fault)?;
-        }
+        add_faults(alloc, &mut finder, text, &path, span, faults, &mut all)?;
     }
     Ok(all)
 }
 
-/// Returns where these ranges of a string are in the text, or for each where the string is if they aren't
-/// found.
-fn places<D: Document>(
+/// Adds the faults of a string, with the path that leads to it and their places in the text.
+fn add_faults(
     alloc: Global,
-    finder: &mut D::Finder,
+    finder: &mut Finder,
     text: &str,
+    path: &str,
     span: Range<usize>,
-    ranges: &[Range<usize>],
-) -> Result<Vec<Range<usize>>, AllocError> {
+    faults: Vec<Fault>,
+    all: &mut Vec<Fault>,
+) -> Result<(), AllocError>
+    ensures { OnOk result (map cause_of all.new.items
+        ≡ map cause_of all.old.items ++ map cause_of faults.items) }
+{
     let Range { start, end } = span;
-    if let Some(places) = D::places(alloc, finder, text, start..end, ranges)? {
-        return Ok(places);
+    let ranges: Vec<_> = faults
+        .iter()
+        .map(|it| it.range.start..it.range.end)
+        .collect(alloc)?;
+    let mut places = finder.places(alloc, text, start..end, &ranges)?.into_iter();
+    for Fault { cause, .. } in faults {
+        all.push(Fault {
+            path: String::from_str(alloc, path)?,
+            range: places.next().unwrap_or(start..end),
+            cause,
+        })?;
     }
-    let mut places = Vec::with_capacity(alloc, ranges.len())?;
-    for _ in ranges {
-        places.push(start..end)?;
-    }
-    Ok(places)
+    Ok(())
 }

@@ -19,10 +19,6 @@ pub struct Entry {
 
 /// Returns what `NAME=VALUE` gives, which is split at its first `=`, or nothing where there is no `=` or no
 /// template can spell the name.
-///
-/// # Errors
-///
-/// When allocation fails.
 pub(crate) fn entry_in(alloc: Global, bytes: &[u8]) -> Result<Option<Entry>, AllocError>
     ensures { IfOk result (λ entry. option_map entry_of entry ≡ layers.entry_in bytes.now) }
 {

@@ -13,10 +13,6 @@ use std::env::{Env, FillError};
 const FIRST_ROOM: usize = 4096;
 
 /// Reads the environment: all its entries, `NAME=VALUE`, in their order.
-///
-/// # Errors
-///
-/// When allocation fails.
 pub(crate) fn read<E: Env>(alloc: Global, rt: &E) -> Result<Vec<Vec<u8>>, AllocError> {
     let mut entries = Vec::new(alloc);
     let mut room = vec![in alloc; 0; FIRST_ROOM]?;
@@ -48,10 +44,6 @@ fn entry_len<E: Env>(
 
 /// Returns what the entries of an environment give, in their order. One gives nothing that isn't
 /// `NAME=VALUE`, of a name that templates can spell.
-///
-/// # Errors
-///
-/// When allocation fails.
 pub(crate) fn entries(alloc: Global, raw: &[Vec<u8>]) -> Result<Vec<Entry>, AllocError>
     ensures { IfOk result (λ entries. entries_of entries.items
         ≡ environment_of (map vec_items raw.now)) }

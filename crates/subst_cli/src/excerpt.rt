@@ -20,10 +20,6 @@ const CUT: &str = "…";
 
 /// Returns the line that a range of a source begins in and, below the range, carets, both lines indented by
 /// two blanks. Of a line wider than 60 columns what is around the range's start is shown.
-///
-/// # Errors
-///
-/// When allocation fails.
 pub(crate) fn excerpt(
     alloc: Global,
     source: &[u8],
@@ -185,10 +181,6 @@ fn last_columns(text: &str, columns: usize) -> &str {
 }
 
 /// Cuts a text that takes more than so many columns, and puts a sign at its end.
-///
-/// # Errors
-///
-/// When allocation fails.
 pub(crate) fn cut(alloc: Global, text: String, columns: usize) -> Result<String, AllocError> {
     let start = first_columns(&text, columns);
     if start.len() < text.len() {

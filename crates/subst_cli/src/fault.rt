@@ -67,8 +67,8 @@ pub(crate) fn one_fault(
     range: Range<usize>,
     cause: Cause,
 ) -> Result<Vec<Fault>, AllocError>
-    ensures { IfOk result
-        (λ faults. (fault : SpecFault) × (faults.items ≡ fault ∷ []) × (fault.cause ≡ cause)) }
+    ensures { IfOk result (λ faults. (fault : SpecFault) × (faults.items ≡ fault ∷ [])
+        × (fault.cause ≡ cause) × (fault.range ≡ range)) }
 {
     let mut faults = Vec::new(alloc);
     faults.push(Fault {
@@ -80,6 +80,8 @@ pub(crate) fn one_fault(
 }
 
 /// Returns the range of a name that begins at a position.
-pub(crate) fn range_of_name(position: usize, name: &str) -> Range<usize> {
+pub(crate) fn range_of_name(position: usize, name: &str) -> Range<usize>
+    ensures { result.start ≡ position }
+{
     position..position.saturating_add(name.len())
 }

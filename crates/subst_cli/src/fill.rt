@@ -1,12 +1,12 @@
 //! Filling in one text or byte string, or telling what is wrong with it.
 
-ghost use Rattle.std.specs.Prelude.{◌≡◌, Some, IfOk, IfErr, IsSomeAnd, string_bytes};
+ghost use Rattle.std.specs.Prelude.{◌<◌, ◌^◌, IfOk, IfErr, IsSomeAnd, string_bytes};
 ghost use Rattle.subst.specs.ErrorFault.{error_fault};
 ghost use Rattle.subst.specs.Language.Answer.{Answers, Gives, Refuses};
+ghost use Rattle.subst.specs.Range.{range_of};
 ghost use Rattle.subst_filter_lib.specs.Words.{value_under};
 
 use std::alloc::{AllocError, Global};
-use std::ops::Range;
 use subst::error::{NoSuchVariable, ParseError};
 use subst::{ByteTemplate, Error, substitute, substitute_bytes};
 use subst_filter_lib::values::Values;
@@ -16,10 +16,9 @@ use subst_filter_lib::values::Values;
 pub(crate) struct Refusal {
     /// The first fault.
     pub first: Error,
-    /// Where that is.
-    pub range: Range<usize>,
     /// Where a variable is missing, all others that are missing too, in the order of the source.
     pub others: Vec<NoSuchVariable>,
+    pub ghost fits: { (range_of (error_fault first)).end < 2 ^ 64 },
 }
 
 /// What a source gives, or why it gives nothing.
@@ -43,9 +42,12 @@ pub(crate) fn text(
 {
     match substitute(alloc, source, values) {
         Ok(filled) => Ok(Ok(filled)),
-        Err(e) => {
-            let range = e.source_range();
-            Ok(Err(why_refused(alloc, source.as_bytes(), e, range, values)?))
+        Err(first) => {
+            if let Error::OutOfMemory(e) = first {
+                return Err(e);
+            }
+            let others = others_missing(alloc, source.as_bytes(), values)?;
+            Ok(Err(Refusal { first, others }))
         }
     }
 }
@@ -68,36 +70,30 @@ pub(crate) fn bytes(
 {
     match substitute_bytes(alloc, source, values) {
         Ok(output) => Ok(Ok(output)),
-        Err(e) => {
-            let range = e.source_range();
-            Ok(Err(why_refused(alloc, source, e, range, values)?))
+        Err(first) => {
+            if let Error::OutOfMemory(e) = first {
+                return Err(e);
+            }
+            let others = others_missing(alloc, source, values)?;
+            Ok(Err(Refusal { first, others }))
         }
     }
 }
 
-/// Returns why a source is refused, of which this is the first fault, at this range.
-fn why_refused(
+/// Returns all variables that are missing in a source but for the first, in its order.
+///
+/// # Errors
+///
+/// When allocation fails.
+fn others_missing(
     alloc: Global,
     source: &[u8],
-    first: Error,
-    range: Range<usize>,
     values: &Values<'_>,
-) -> Result<Refusal, AllocError>
-    ensures { IfOk result (λ refusal. IsSomeAnd (error_fault refusal.first)
-        (λ f. error_fault first ≡ Some f)) }
-{
-    if let Error::OutOfMemory(e) = first {
-        return Err(e);
-    }
+) -> Result<Vec<NoSuchVariable>, AllocError> {
     let missing = match ByteTemplate::from_slice(alloc, source) {
         Ok(template) => template.missing(alloc, values)?,
         Err(ParseError::OutOfMemory(e)) => return Err(e),
         Err(_) => Vec::new(alloc),
     };
-    let others = missing.into_iter().skip(1).collect(alloc)?;
-    Ok(Refusal {
-        first,
-        range,
-        others,
-    })
+    missing.into_iter().skip(1).collect(alloc)
 }

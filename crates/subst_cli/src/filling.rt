@@ -1,35 +1,24 @@
 //! Sources filled in: what each gives, or why it gives nothing. No file is read or written here.
 
-ghost use Rattle.std.specs.Prelude.{◌≡◌, ◌++◌, ◌∷◌, [], ◌⊎◌, ℕ, List, Some, None, Err, IfErr, IfOk, IfSome, IsTrue, IsUtf8, IsOkAnd, MatchOption, OnOk, map, string_bytes, vec_items};
-ghost use Rattle.std.specs.List.{All, Contains};
-ghost use Rattle.subst_cli.specs.Faults.{StatesFault};
-ghost use Rattle.subst_cli.specs.Fill.{AreOutputs, IsOutput};
+ghost use Rattle.std.specs.Prelude.{◌≡◌, ◌++◌, ◌∷◌, [], ◌⊎◌, ℕ, List, IfErr, IfOk, IsTrue, OnOk, map, string_bytes, vec_items};
+ghost use Rattle.std.specs.List.{All, Any};
+ghost use Rattle.subst_cli.specs.Faults.{IsFaultIn, StatesFault};
+ghost use Rattle.subst_cli.specs.Fill.{AreOutputs, IsFilled, IsOutput};
 ghost use Rattle.subst_cli.specs.Layers.{Entry as SpecEntry, AreVariablesOf, entries_of};
 ghost use Rattle.subst_cli.specs.Strings.{IsFilledFrom};
-ghost use Rattle.subst_cli.specs.ValuesFile.{byte_order_mark, values_of};
 ghost use Rattle.subst_cli.specs.Run.{bytes_of, entries_for, IsRefusalOf};
-ghost use Rattle.subst_cli.specs.declared.filling.Refused.{Refused as SpecRefused};
+ghost use Rattle.subst_cli.specs.declared.source.Refused.{Refused as SpecRefused};
 
-use crate::document::{JsonDocument, StringFiller, TomlDocument};
+use crate::document::StringFiller;
 use crate::entry::Entry;
-use crate::fault::{Cause, Fault, one_fault};
 use crate::layers::{Variables, given, in_order};
 use crate::options::{InputFormat, Options, Placeholders};
 use crate::part::{Occurrence, Outcome, fill_bytes, fill_text, uses_in_bytes, uses_in_text};
-use crate::source::Source;
-use crate::values_file::LineFault;
-use crate::{document, environment, values_file};
+use crate::source::{Refused, Source};
+use crate::text::{not_utf8, split_source, text_of};
+use crate::{document, environment};
 use std::alloc::{AllocError, Global};
 use subst::escape::is_plain;
-
-/// A source that gives nothing.
-#[derive(Drop)]
-pub struct Refused {
-    /// The source.
-    pub source: Source,
-    /// What is wrong with it, in the order of its places.
-    pub faults: Vec<Fault>,
-}
 
 /// What sources give, one after the other, or those of them that give nothing.
 pub type Outputs = Result<Vec<u8>, Vec<Refused>>;
@@ -66,10 +55,6 @@ pub fn fill_in(
 
 /// Returns all entries of a run, those first that count: those of the environment only where the options ask
 /// for them.
-///
-/// # Errors
-///
-/// When allocation fails.
 pub(crate) fn all_entries(
     alloc: Global,
     options: &Options<'_>,
@@ -190,50 +175,33 @@ impl<'r, 'w, 'v> Filling<'r, 'w, 'v> {
             → IfOk result (λ outcome. IfErr outcome (λ faults. StatesFault self.now.form
             self.now.placeholders.now entries source.now faults.items)) }
     {
+        let (kept, filled) = split_source(self.form, source);
         if let InputFormat::Bytes = self.form {
-            return fill_bytes(alloc, source, self.placeholders, &self.variables);
+            return fill_bytes(alloc, filled, self.placeholders, &self.variables);
         }
-        let Some(text) = text_of(source) else {
-            return Ok(Err(not_utf8(alloc, source)?));
+        let Some(text) = text_of(filled) else {
+            return Ok(Err(not_utf8(alloc, filled)?));
         };
-        Ok(into_bytes(self.fill_str(alloc, text)?))
+        match self.fill_str(alloc, text)? {
+            Ok(output) => Ok(Ok(after(alloc, kept, output)?)),
+            Err(faults) => Ok(Err(faults)),
+        }
     }
 
-    /// Returns what a text gives, or its faults.
+    /// Returns what a text gives that is filled in, or its faults.
     fn fill_str(&self, alloc: Global, text: &str) -> Result<Outcome<String>, AllocError>
         ensures gives { (entries : List SpecEntry) → AreVariablesOf self.now.variables entries
-            → IfOk result (λ outcome. IfOk outcome (λ output. IsOutput self.now.form
+            → IfOk result (λ outcome. IfOk outcome (λ output. IsFilled self.now.form
             self.now.placeholders.now entries text.now (string_bytes output))) }
         ensures refused { (entries : List SpecEntry) → AreVariablesOf self.now.variables entries
-            → IfOk result (λ outcome. IfErr outcome (λ faults. StatesFault self.now.form
-            self.now.placeholders.now entries text.now faults.items)) }
+            → IfOk result (λ outcome. IfErr outcome (λ faults. Any (IsFaultIn self.now.form
+            self.now.placeholders.now entries text.now) faults.items)) }
     {
         match self.form {
-            InputFormat::Json => self.fill_json(alloc, text),
-            InputFormat::Toml => document::fill::<TomlDocument>(alloc, text, &self.filler()),
+            InputFormat::Document(format) => document::fill(alloc, format, text, &self.filler()),
             InputFormat::Text | InputFormat::Bytes => {
                 fill_text(alloc, text, self.placeholders, &self.variables)
             }
-        }
-    }
-
-    /// Returns what a JSON text gives, in which a byte order mark at the start stays.
-    fn fill_json(&self, alloc: Global, text: &str) -> Result<Outcome<String>, AllocError>
-        ensures gives { (entries : List SpecEntry) → AreVariablesOf self.now.variables entries
-            → IfOk result (λ outcome. IfOk outcome (λ output. IsOutput InputFormat.Json
-            self.now.placeholders.now entries text.now (string_bytes output))) }
-        ensures refused { IfOk result
-            (λ outcome. IfErr outcome (λ faults. ¬ (faults.items ≡ []))) }
-    {
-        let Some(rest) = after_mark(text) else {
-            return document::fill::<JsonDocument>(alloc, text, &self.filler());
-        };
-        match document::fill::<JsonDocument>(alloc, rest, &self.filler())? {
-            Ok(mut output) => {
-                output.insert(0, BYTE_ORDER_MARK)?;
-                Ok(Ok(output))
-            }
-            Err(faults) => Ok(Err(faults)),
         }
     }
 
@@ -249,24 +217,6 @@ impl<'r, 'w, 'v> Filling<'r, 'w, 'v> {
     }
 }
 
-/// What a text may begin with.
-const BYTE_ORDER_MARK: char = '\u{feff}';
-
-/// Returns a JSON text after its byte order mark, which the reader doesn't pass over, if it begins with one.
-fn after_mark(text: &str) -> Option<&str>
-    ensures { IfSome result (λ rest. text.now ≡ byte_order_mark ++ rest.now) }
-{
-    text.strip_prefix(BYTE_ORDER_MARK)
-}
-
-/// Returns the bytes of a source that places are counted in: a JSON text's byte order mark takes none.
-pub(crate) fn counted(form: InputFormat, source: &[u8]) -> &[u8] {
-    match source {
-        [0xef, 0xbb, 0xbf, rest @ ..] if form == InputFormat::Json => rest,
-        _ => source,
-    }
-}
-
 /// Appends what a source gives to what those before it gave.
 fn append(all: &mut Vec<u8>, output: Vec<u8>) -> Result<(), AllocError>
     ensures { OnOk result (all.new.items ≡ all.old.items ++ output.items) }
@@ -279,93 +229,38 @@ fn append(all: &mut Vec<u8>, output: Vec<u8>) -> Result<(), AllocError>
     }
 }
 
-/// Returns the bytes of the text that a source gives, or its faults.
-fn into_bytes(outcome: Outcome<String>) -> Outcome<Vec<u8>>
-    ensures gives { IfOk result
-        (λ bytes. IsOkAnd outcome (λ text. bytes.items ≡ string_bytes text)) }
-    ensures refused { IfErr result (λ faults. outcome ≡ Err faults) }
+/// Returns what a text gives, after what comes before it.
+fn after(alloc: Global, kept: &[u8], output: String) -> Result<Vec<u8>, AllocError>
+    ensures { IfOk result (λ bytes. bytes.items ≡ kept.now ++ string_bytes output) }
 {
-    match outcome {
-        Ok(text) => Ok(text.into_bytes()),
-        Err(faults) => Err(faults),
+    if kept.is_empty() {
+        return Ok(output.into_bytes());
     }
-}
-
-/// Returns the text that these bytes are, if they are UTF-8.
-fn text_of(source: &[u8]) -> Option<&str>
-    ensures { MatchOption result (¬ (IsUtf8 source.now)) (λ text. text.now ≡ source.now) }
-{
-    simdutf8::basic::from_utf8(source).ok()
-}
-
-/// Returns the fault of a source that isn't UTF-8, where that ends.
-fn not_utf8(alloc: Global, source: &[u8]) -> Result<Vec<Fault>, AllocError>
-    ensures { IfOk result (λ faults. ¬ (faults.items ≡ [])) }
-{
-    let start = match str::from_utf8(source) {
-        Ok(text) => text.len(),
-        Err(e) => e.valid_up_to(),
-    };
-    one_fault(alloc, start..start.saturating_add(1), Cause::NotUtf8)
+    let mut bytes = Vec::from_slice(alloc, kept)?;
+    bytes.extend_from_slice(output.as_bytes())?;
+    Ok(bytes)
 }
 
 /// Returns the variables of a source with their places, or its faults.
-///
-/// # Errors
-///
-/// When allocation fails.
 pub(crate) fn uses(
     alloc: Global,
     source: &[u8],
     options: &Options<'_>,
 ) -> Result<Outcome<Vec<Occurrence>>, AllocError> {
     let placeholders = &options.placeholders;
+    let (_, filled) = split_source(options.form, source);
     if options.form == InputFormat::Bytes {
-        return uses_in_bytes(alloc, source, placeholders);
+        return uses_in_bytes(alloc, filled, placeholders);
     }
-    let Some(text) = text_of(source) else {
-        return Ok(Err(not_utf8(alloc, source)?));
+    let Some(text) = text_of(filled) else {
+        return Ok(Err(not_utf8(alloc, filled)?));
     };
     let filler = StringFiller {
         placeholders,
         variables: None,
     };
     match options.form {
-        InputFormat::Json => {
-            document::uses::<JsonDocument>(alloc, after_mark(text).unwrap_or(text), &filler)
-        }
-        InputFormat::Toml => document::uses::<TomlDocument>(alloc, text, &filler),
+        InputFormat::Document(format) => document::uses(alloc, format, text, &filler),
         InputFormat::Text | InputFormat::Bytes => uses_in_text(alloc, text, placeholders),
-    }
-}
-
-/// Returns the variables of a values file, in the order of its lines, or the file where a line gives none, or
-/// where it isn't UTF-8.
-///
-/// # Errors
-///
-/// When allocation fails.
-pub fn lines_of(alloc: Global, file: Source) -> Result<Result<Vec<Entry>, Refused>, AllocError>
-    ensures gives { IfOk result (λ outcome. IfOk outcome
-        (λ entries. values_of file.bytes.items ≡ Some (entries_of entries.items))) }
-    ensures refused { IfOk result (λ outcome. IfErr outcome
-        (λ refused. IsUtf8 file.bytes.items → values_of file.bytes.items ≡ None)) }
-{
-    if text_of(&file.bytes).is_none() {
-        let faults = not_utf8(alloc, &file.bytes)?;
-        return Ok(Err(Refused {
-            source: file,
-            faults,
-        }));
-    }
-    match values_file::entries(alloc, &file.bytes)? {
-        Ok(entries) => Ok(Ok(entries)),
-        Err(LineFault { message, start }) => {
-            let faults = one_fault(alloc, start..start, Cause::NoVariable(message))?;
-            Ok(Err(Refused {
-                source: file,
-                faults,
-            }))
-        }
     }
 }

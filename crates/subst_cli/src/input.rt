@@ -21,10 +21,6 @@ pub(crate) fn read(rt: &HostRuntime, file: &str) -> io::Result<Vec<u8>> {
 }
 
 /// Returns the name of a file as it is shown.
-///
-/// # Errors
-///
-/// When allocation fails.
 pub(crate) fn shown_name(alloc: Global, file: &str) -> Result<String, AllocError> {
     if file == STANDARD_INPUT {
         String::from_str(alloc, "<stdin>")

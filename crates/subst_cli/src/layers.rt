@@ -96,10 +96,6 @@ fn put<'v>(values: &mut Values<'v>, name: &'v str, value: &'v str) -> Result<(),
 }
 
 /// Returns what the pairs of the options give, in their order.
-///
-/// # Errors
-///
-/// When allocation fails.
 pub(crate) fn given(alloc: Global, pairs: &[Pair]) -> Result<Vec<Entry>, AllocError>
     ensures { IfOk result (λ entries. entries_of entries.items ≡ given_by pairs.now) }
 {
@@ -114,10 +110,6 @@ pub(crate) fn given(alloc: Global, pairs: &[Pair]) -> Result<Vec<Entry>, AllocEr
 
 /// Returns all entries, those first that count: those of the options from the last on, those of values files
 /// from the last on, and those of the environment.
-///
-/// # Errors
-///
-/// When allocation fails.
 pub(crate) fn in_order(
     mut given: Vec<Entry>,
     lines: Vec<Entry>,

@@ -24,4 +24,5 @@ mod report;
 mod run;
 mod shown;
 pub mod source;
-mod values_file;
+mod text;
+pub mod values_file;

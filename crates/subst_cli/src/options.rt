@@ -2,6 +2,7 @@
 
 ghost use Rattle.std.specs.Prelude.{IfOk, ◌<◌, length};
 
+pub use crate::document::Format;
 use clap::error::ErrorKind;
 use clap::{Arg, ArgAction, ArgMatches, Command, Error};
 use std::alloc::{AllocError, Global};
@@ -32,10 +33,8 @@ pub enum InputFormat {
     Text,
     /// Bytes.
     Bytes,
-    /// A JSON document, whose strings are filled in.
-    Json,
-    /// A TOML document, whose strings are filled in.
-    Toml,
+    /// A document, whose strings are filled in.
+    Document(Format),
 }
 
 /// What in a source is a variable.
@@ -196,9 +195,9 @@ fn asked_form(matches: &ArgMatches<'_>) -> InputFormat {
     if matches.get_flag("bytes") {
         InputFormat::Bytes
     } else if matches.get_flag("json") {
-        InputFormat::Json
+        InputFormat::Document(Format::Json)
     } else if matches.get_flag("toml") {
-        InputFormat::Toml
+        InputFormat::Document(Format::Toml)
     } else {
         InputFormat::Text
     }

@@ -1,11 +1,13 @@
 //! A text or byte string of a source: a source itself, or a string of a document.
 
-ghost use Rattle.std.specs.Prelude.{◌≡◌, ◌≢◌, ◌++◌, [], List, None, Ok, IfErr, IfOk, OnOk, map, string_bytes};
-ghost use Rattle.std.specs.List.{All, Any};
+ghost use Rattle.std.specs.Prelude.{◌≡◌, ◌≢◌, ◌⊎◌, [], List, None, Ok, IfErr, IfOk, map, string_bytes};
+ghost use Rattle.std.specs.List.{All, Any, Contains};
+ghost use Rattle.subst.specs.Calls.Variables.{variable_of};
 ghost use Rattle.subst.specs.ErrorFault.{parse_fault};
-ghost use Rattle.subst_cli.specs.Faults.{cause_of, AreFaultsFor, IsCauseIn, IsFaultOf, IsFirstOrBesides, IsUnreadableCause, IsUnreadableName};
-ghost use Rattle.subst_cli.specs.Fill.{AreReadable, GivesFor};
+ghost use Rattle.subst_cli.specs.Faults.{lacks_unreadable, moved, IsFaultOf, IsFirstOf, IsToldOf, IsUnreadableAmong, IsUnreadableAt, IsUnreadableIn};
+ghost use Rattle.subst_cli.specs.Fill.{origin_in, AreReadable, GivesFor};
 ghost use Rattle.subst_cli.specs.Layers.{Entry, AreVariablesOf, IsUnreadable};
+ghost use Rattle.subst_cli.specs.declared.fault.Cause.TheVariants as causes;
 ghost use Rattle.subst_cli.specs.declared.fault.Fault.{Fault as SpecFault};
 
 use crate::fault::{Cause, Fault, one_fault, range_of_name};
@@ -43,11 +45,12 @@ pub(crate) fn fill_text(
     let Some(template) = template_of(alloc, text, placeholders)? else {
         let filled = fill::text(alloc, text, &variables.values)?;
         let unreadable = unreadable_in(alloc, text.as_bytes(), variables)?;
-        return outcome(alloc, filled, unreadable, None);
+        return outcome(alloc, filled, unreadable, variables, None);
     };
     let filled = fill::text(alloc, &template, &variables.values)?;
     let unreadable = unreadable_in(alloc, template.as_bytes(), variables)?;
-    outcome(alloc, filled, unreadable, Some(template.as_bytes()))
+    let made = Some(template.as_bytes());
+    outcome(alloc, filled, unreadable, variables, made)
 }
 
 /// Returns bytes with their variables filled in, or their faults.
@@ -71,11 +74,12 @@ pub(crate) fn fill_bytes(
     let Some(template) = byte_template_of(alloc, source, placeholders)? else {
         let filled = fill::bytes(alloc, source, &variables.values)?;
         let unreadable = unreadable_in(alloc, source, variables)?;
-        return outcome(alloc, filled, unreadable, None);
+        return outcome(alloc, filled, unreadable, variables, None);
     };
-    let filled = fill::bytes(alloc, &template, &variables.values)?;
-    let unreadable = unreadable_in(alloc, &template, variables)?;
-    outcome(alloc, filled, unreadable, Some(&template))
+    let made = template.as_slice();
+    let filled = fill::bytes(alloc, made, &variables.values)?;
+    let unreadable = unreadable_in(alloc, made, variables)?;
+    outcome(alloc, filled, unreadable, variables, Some(made))
 }
 
 /// Returns a fault for each variable of a template whose value isn't UTF-8, in its order. A source that is no
@@ -92,7 +96,7 @@ fn unreadable_in(
     ensures all { (entries : List Entry) → AreVariablesOf variables.now entries
         → IfOk result (λ faults. faults.items ≡ [] → AreReadable entries template.now) }
     ensures each { (entries : List Entry) → AreVariablesOf variables.now entries
-        → IfOk result (λ faults. All (λ it. IsUnreadableCause entries it.cause) faults.items) }
+        → IfOk result (λ faults. All (IsUnreadableIn entries template.now) faults.items) }
 {
     if variables.are_readable() {
         return Ok(Vec::new(alloc));
@@ -133,7 +137,8 @@ fn unreadable_of(
         → IfOk result (λ faults. faults.items ≡ []
         → All (λ it. ¬ (IsUnreadable entries it.name.now)) list.entry.items) }
     ensures each { (entries : List Entry) → AreVariablesOf variables.now entries
-        → IfOk result (λ faults. All (λ it. IsUnreadableCause entries it.cause) faults.items) }
+        → IfOk result (λ faults. All (IsUnreadableAmong entries (map variable_of list.entry.items))
+        faults.items) }
 {
     let mut faults = Vec::new(alloc);
     for variable in list {
@@ -146,7 +151,7 @@ fn unreadable_of(
 
 /// Returns the fault of a variable whose value isn't UTF-8.
 fn unreadable(alloc: Global, position: usize, name: &str) -> Result<Fault, AllocError>
-    ensures { IfOk result (λ fault. IsUnreadableName name.now fault.cause) }
+    ensures { IfOk result (IsUnreadableAt position name.now) }
 {
     Ok(Fault {
         path: String::new(alloc),
@@ -164,24 +169,26 @@ fn outcome<T: Drop>(
     alloc: Global,
     filled: Filled<T>,
     unreadable: Vec<Fault>,
+    variables: &Variables<'_>,
     template: Option<&[u8]>,
 ) -> Result<Outcome<T>, AllocError>
     ensures gives { IfOk result (λ outcome. IfOk outcome
         (λ output. (filled ≡ Ok output) × (unreadable.items ≡ []))) }
-    ensures refused { IfOk result (λ outcome. IfErr outcome
-        (λ faults. Any (λ it. IsCauseIn filled unreadable.items it.cause) faults.items)) }
+    ensures refused { IfOk result (λ outcome. IfErr outcome (λ faults. Any
+        (λ it. (x : SpecFault) × IsToldOf filled unreadable.items x
+        × (it ≡ moved (origin_in template.entry) x)) faults.items)) }
 {
     let faults = match filled {
         Ok(output) if unreadable.is_empty() => return Ok(Ok(output)),
         Ok(_) => unreadable,
-        Err(refusal) => all_faults(alloc, refusal, unreadable)?,
+        Err(refusal) => all_faults(alloc, refusal, unreadable, variables)?,
     };
     Ok(Err(at_origins(faults, template)))
 }
 
 /// Returns these faults of a template where they are in the text that it was made for.
 fn at_origins(mut faults: Vec<Fault>, template: Option<&[u8]>) -> Vec<Fault>
-    ensures { map cause_of result.items ≡ map cause_of faults.items }
+    ensures { result.items ≡ map (moved (origin_in template.entry)) faults.items }
 {
     let mut origins = Origins::of(template);
     for fault in faults.iter_mut() {
@@ -191,8 +198,8 @@ fn at_origins(mut faults: Vec<Fault>, template: Option<&[u8]>) -> Vec<Fault>
     faults
 }
 
-/// Returns the faults of a text that is refused, and those that it has besides, which are in the order of
-/// their places, all in that order. Those besides stand for what is missing at the same places.
+/// Returns the faults of a text that is refused, and those of unreadable names that it has besides, all in the
+/// order of their places. A variable that is missing since its value isn't UTF-8 is told once.
 ///
 /// # Errors
 ///
@@ -201,49 +208,46 @@ fn all_faults(
     alloc: Global,
     refusal: Refusal,
     besides: Vec<Fault>,
+    variables: &Variables<'_>,
 ) -> Result<Vec<Fault>, AllocError>
-    ensures { IfOk result (λ faults. Any
-        (λ it. IsFirstOrBesides refusal besides.items it.cause) faults.items) }
+    ensures { IfOk result
+        (λ faults. Any (λ it. IsFirstOf refusal it ⊎ Contains besides.items it) faults.items) }
 {
-    let Refusal {
-        first,
-        range,
-        others,
-    } = refusal;
+    let Refusal { first, others } = refusal;
     let mut faults = besides;
-    let count = faults.len();
-    push_unless_told(alloc, &mut faults, count, range, first)?;
+    if faults.is_empty() || !is_unreadable(&first, variables) {
+        let range = first.source_range();
+        faults.push(refused(alloc, range, first))?;
+    }
     for e in others {
-        let range = range_of_name(e.position, &e.name);
-        push_unless_told(alloc, &mut faults, count, range, Error::NoSuchVariable(e))?;
+        if !variables.is_unreadable(&e.name) {
+            let range = range_of_name(e.position, &e.name);
+            faults.push(refused(alloc, range, Error::NoSuchVariable(e)))?;
+        }
     }
     faults.sort_unstable_by_key(|fault| fault.range.start);
     Ok(faults)
 }
 
-/// Adds a fault, unless one of the first `count` faults is at its place.
-///
-/// # Errors
-///
-/// When allocation fails.
-fn push_unless_told(
-    alloc: Global,
-    faults: &mut Vec<Fault>,
-    count: usize,
-    range: Range<usize>,
-    e: Error,
-) -> Result<(), AllocError>
-    ensures { OnOk result ((more : List SpecFault) × (faults.new.items ≡ faults.old.items ++ more)
-        × (count ≡ 0 → AreFaultsFor e more)) }
+/// Returns whether an error is that a variable is missing, whose value isn't UTF-8.
+fn is_unreadable(e: &Error, variables: &Variables<'_>) -> bool
+    ensures { result ≡ lacks_unreadable variables.now e.now }
 {
-    let told = faults.get(..count).unwrap_or(&[]);
-    match told.binary_search_by_key(&range.start, |fault| fault.range.start) {
-        Ok(_) => Ok(()),
-        Err(_) => Ok(faults.push(Fault {
-            path: String::new(alloc),
-            range,
-            cause: Cause::Refused(e),
-        })?),
+    let Error::NoSuchVariable(missing) = e else {
+        return false;
+    };
+    variables.is_unreadable(&missing.name)
+}
+
+/// Returns the fault that a template is refused with this error, which is about this range.
+fn refused(alloc: Global, range: Range<usize>, e: Error) -> Fault
+    ensures cause { result.cause ≡ causes.Refused e }
+    ensures range { result.range ≡ range }
+{
+    Fault {
+        path: String::new(alloc),
+        range,
+        cause: Cause::Refused(e),
     }
 }
 

@@ -29,10 +29,6 @@ pub fn run(rt: &HostRuntime) -> ExitCode
 }
 
 /// Does what the words of the command line ask for.
-///
-/// # Errors
-///
-/// When allocation fails.
 fn run_words(rt: &HostRuntime, report: &mut Report<'_>) -> Result<(), AllocError> {
     let words = match words(rt) {
         Ok(words) => words,

@@ -1,14 +1,16 @@
 //! A run over files: what is read is filled in, and then written.
 
 use crate::entry::Entry;
-use crate::filling::{Filling, Outputs, Refused, all_entries, counted, fill_in, lines_of, uses};
+use crate::filling::{Filling, Outputs, all_entries, fill_in, uses};
 use crate::input::{read, shown_name};
 use crate::layers::Variables;
 use crate::listing::Listing;
 use crate::options::{Action, Options};
 use crate::place::Places;
 use crate::report::Report;
-use crate::source::{Shows, Source, messages};
+use crate::source::{Refused, Shows, Source, messages};
+use crate::text::split_source;
+use crate::values_file::lines_of;
 use crate::{environment, output};
 use std::alloc::{AllocError, Global};
 use std::collections::HashSet;
@@ -16,10 +18,6 @@ use std::io;
 use std::io::ErrorKind;
 
 /// Reads the values files and the environment, and does what the options ask for.
-///
-/// # Errors
-///
-/// When allocation fails.
 pub(crate) fn run_options(
     rt: &HostRuntime,
     options: &Options<'_>,
@@ -38,7 +36,7 @@ pub(crate) fn run_options(
     match options.action {
         Action::ListNames => list(rt, options, report),
         Action::Print | Action::WriteTo(_) => {
-            let sources = sources(rt, options, report)?;
+            let sources = sources(rt, &options.files, report)?;
             let outputs = fill_in(alloc, options, lines, &environment, sources)?;
             write(rt, options, outputs, report)
         }
@@ -65,32 +63,27 @@ fn lines(
     report: &mut Report<'_>,
 ) -> Result<Vec<Entry>, AllocError> {
     let alloc = rt.alloc();
-    let mut all = Vec::new(alloc);
-    for file in &options.values_files {
-        if let Some(source) = source(rt, file, report)? {
-            match lines_of(alloc, source)? {
-                Ok(mut entries) => all.append(&mut entries)?,
-                Err(Refused { source, faults }) => report.refused(&messages(
-                    alloc,
-                    &source.name,
-                    &source.bytes,
-                    &faults,
-                    Shows::Nothing,
-                )?),
+    let files = sources(rt, &options.values_files, report)?;
+    match lines_of(alloc, files)? {
+        Ok(lines) => Ok(lines),
+        Err(refused) => {
+            for Refused { source, faults } in refused {
+                let Source { name, bytes } = source;
+                report.refused(&messages(alloc, &name, &bytes, &faults, Shows::Nothing)?);
             }
+            Ok(Vec::new(alloc))
         }
     }
-    Ok(all)
 }
 
-/// Returns all sources, and says which can't be read.
+/// Returns what is in files, and says which can't be read.
 fn sources(
     rt: &HostRuntime,
-    options: &Options<'_>,
+    files: &[&str],
     report: &mut Report<'_>,
 ) -> Result<Vec<Source>, AllocError> {
     let mut sources = Vec::new(rt.alloc());
-    for file in &options.files {
+    for file in files {
         if let Some(source) = source(rt, file, report)? {
             sources.push(source)?;
         }
@@ -135,16 +128,12 @@ fn report_refused(
     report: &mut Report<'_>,
 ) -> Result<(), AllocError> {
     let Refused { source, faults } = refused;
-    let bytes = counted(options.form, &source.bytes);
+    let (_, bytes) = split_source(options.form, &source.bytes);
     report.refused(&messages(alloc, &source.name, bytes, faults, Shows::Lines)?);
     Ok(())
 }
 
 /// Returns a source, or says why it can't be read.
-///
-/// # Errors
-///
-/// When allocation fails.
 fn source(
     rt: &HostRuntime,
     file: &str,
@@ -170,10 +159,6 @@ struct Run<'r, 'w, 'v> {
 
 impl Run<'_, '_, '_> {
     /// Says what is wrong with each source. What they give isn't kept.
-    ///
-    /// # Errors
-    ///
-    /// When allocation fails.
     fn check_each(&self, report: &mut Report<'_>) -> Result<(), AllocError> {
         for file in &self.options.files {
             if let Some(source) = source(self.rt, file, report)? {
@@ -185,10 +170,6 @@ impl Run<'_, '_, '_> {
 
     /// Replaces each source by what it gives, unless it gives itself. One that is named again, which is then
     /// a file that is done, stays.
-    ///
-    /// # Errors
-    ///
-    /// When allocation fails.
     fn replace_each(&self, report: &mut Report<'_>) -> Result<(), AllocError> {
         let mut done = HashSet::new(self.rt.alloc());
         for file in &self.options.files {
@@ -273,10 +254,6 @@ fn written(
 }
 
 /// Prints the names that the sources use.
-///
-/// # Errors
-///
-/// When allocation fails.
 fn list(
     rt: &HostRuntime,
     options: &Options<'_>,
@@ -306,7 +283,8 @@ fn list_source(
 ) -> Result<(), AllocError> {
     match uses(alloc, &source.bytes, options)? {
         Ok(uses) => {
-            let mut places = Places::of(counted(options.form, &source.bytes));
+            let (_, filled) = split_source(options.form, &source.bytes);
+            let mut places = Places::of(filled);
             for it in uses {
                 let place = places.at(alloc, it.range.start)?;
                 listing.add(alloc, it.name, it.kind, &source.name, place)?;

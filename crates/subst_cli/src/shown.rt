@@ -5,10 +5,6 @@ use std::fmt::Write;
 
 /// Returns bytes as they are shown: what isn't UTF-8 as the replacement character, a tab as a blank, and each
 /// other character that controls a terminal, or that can't be seen, by its number, as `\u{1b}`.
-///
-/// # Errors
-///
-/// When allocation fails.
 pub(crate) fn shown(alloc: Global, bytes: &[u8]) -> Result<String, AllocError> {
     if let Ok(text) = str::from_utf8(bytes)
         && are_printable(bytes)
@@ -29,10 +25,6 @@ pub(crate) fn are_printable(bytes: &[u8]) -> bool {
 }
 
 /// Returns the lines of a text as they are shown.
-///
-/// # Errors
-///
-/// When allocation fails.
 pub(crate) fn shown_lines(alloc: Global, text: &str) -> Result<String, AllocError> {
     let mut shown = String::with_capacity(alloc, text.len())?;
     for c in text.chars() {

@@ -22,6 +22,15 @@ pub struct Source {
     pub bytes: Vec<u8>,
 }
 
+/// A source that gives nothing.
+#[derive(Drop)]
+pub struct Refused {
+    /// The source.
+    pub source: Source,
+    /// What is wrong with it, in the order of its places.
+    pub faults: Vec<Fault>,
+}
+
 /// What messages show of a source.
 #[derive(Clone, Copy, PartialEq, Eq)]
 pub(crate) enum Shows {
@@ -32,10 +41,6 @@ pub(crate) enum Shows {
 }
 
 /// Returns messages about faults of a source, of which these are its name and what its offsets count.
-///
-/// # Errors
-///
-/// When allocation fails.
 pub(crate) fn messages(
     alloc: Global,
     name: &str,

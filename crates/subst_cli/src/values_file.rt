@@ -1,17 +1,23 @@
 //! Values files: `NAME=VALUE` lines.
 
-ghost use Rattle.std.specs.Prelude.{◌≡◌, ◌<◌, IfOk, List, MatchResult, None, Option, Some, if◌then◌else◌, length};
-ghost use Rattle.std.specs.List.{after_first, before_first};
+ghost use Rattle.std.specs.Prelude.{◌≡◌, ◌<◌, [], IfErr, IfOk, List, MatchResult, None, Option, Some, if◌then◌else◌, length, map};
+ghost use Rattle.std.specs.List.{after_first, before_first, All, Any};
+ghost use Rattle.subst_cli.specs.Faults.{IsFaultOfFile};
 ghost use Rattle.subst_cli.specs.Layers.{Entry as SpecEntry, entries_of};
 ghost use Rattle.subst_cli.specs.ValuesFile as file;
-ghost use Rattle.subst_cli.specs.ValuesFile.{before, is_line_feed, said, values_of, with_line};
+ghost use Rattle.subst_cli.specs.ValuesFile.{before, is_line_feed, said, values_of, values_of_files, with_line};
+ghost use Rattle.subst_cli.specs.Run.{bytes_of, IsRefusedFile};
 
 use crate::entry::{Entry, entry_in, split_once};
+use crate::fault::{Cause, one_fault};
+use crate::part::Outcome;
+use crate::source::{Refused, Source};
+use crate::text::{not_utf8, split_mark, text_of};
 use std::alloc::{AllocError, Global};
 
 /// What is wrong with a line of a values file.
 #[derive(Clone, Copy, Debug, PartialEq, Eq)]
-pub(crate) struct LineFault {
+struct LineFault {
     /// What it is.
     pub message: &'static str,
     /// Where its line begins, after its blanks: a byte offset in the file.
@@ -19,21 +25,66 @@ pub(crate) struct LineFault {
 }
 
 /// What a values file gives, or what is wrong with its first line that gives nothing.
-pub(crate) type Lines = Result<Vec<Entry>, LineFault>;
+type Lines = Result<Vec<Entry>, LineFault>;
 
-/// Returns the entries of a values file, in the order of its lines. Blanks before a line are passed over, and
-/// then empty lines and those that begin with `#`. What is after the first `=` is the value, as it is.
+/// Returns the variables of values files, in the order of the files and of their lines, or those files of
+/// which a line gives none, or that aren't UTF-8.
 ///
 /// # Errors
 ///
 /// When allocation fails.
-pub(crate) fn entries(alloc: Global, text: &[u8]) -> Result<Lines, AllocError>
+pub fn lines_of(
+    alloc: Global,
+    files: Vec<Source>,
+) -> Result<Result<Vec<Entry>, Vec<Refused>>, AllocError>
+    ensures gives { IfOk result (λ outcome. IfOk outcome (λ entries.
+        values_of_files (map bytes_of files.items) ≡ Some (entries_of entries.items))) }
+    ensures refused { IfOk result (λ outcome. IfErr outcome (λ refused. (¬ (refused.items ≡ []))
+        × All (IsRefusedFile (map bytes_of files.items)) refused.items)) }
+{
+    let mut all = Vec::new(alloc);
+    let mut refused = Vec::new(alloc);
+    for source in files {
+        match entries_or_faults(alloc, &source.bytes)? {
+            Ok(mut entries) => all.append(&mut entries)?,
+            Err(faults) => refused.push(Refused { source, faults })?,
+        }
+    }
+    if refused.is_empty() {
+        Ok(Ok(all))
+    } else {
+        Ok(Err(refused))
+    }
+}
+
+/// Returns the entries of a values file, or its faults.
+fn entries_or_faults(alloc: Global, bytes: &[u8]) -> Result<Outcome<Vec<Entry>>, AllocError>
+    ensures gives { IfOk result (λ outcome. IfOk outcome
+        (λ entries. values_of bytes.now ≡ Some (entries_of entries.items))) }
+    ensures refused { IfOk result (λ outcome. IfErr outcome
+        (λ faults. Any (IsFaultOfFile bytes.now) faults.items)) }
+{
+    if text_of(bytes).is_none() {
+        return Ok(Err(not_utf8(alloc, bytes)?));
+    }
+    match entries(alloc, bytes)? {
+        Ok(entries) => Ok(Ok(entries)),
+        Err(LineFault { message, start }) => {
+            let cause = Cause::NoVariable(message);
+            Ok(Err(one_fault(alloc, start..start, cause)?))
+        }
+    }
+}
+
+/// Returns the entries of a values file, in the order of its lines. Blanks before a line are passed over, and
+/// then empty lines and those that begin with `#`. What is after the first `=` is the value, as it is.
+fn entries(alloc: Global, text: &[u8]) -> Result<Lines, AllocError>
     ensures { IfOk result (λ lines. MatchResult lines
         (λ entries. values_of text.now ≡ Some (entries_of entries.items))
         (λ _. values_of text.now ≡ None)) }
 {
     let mut entries = Vec::new(alloc);
-    let mut rest = after_mark(text);
+    let (_, mut rest) = split_mark(text);
     while !rest.is_empty() {
         let (line, after) = first_line(rest);
         if !add_line(alloc, line, &mut entries)? {
@@ -76,16 +127,6 @@ fn fault(line: &[u8], offset: usize) -> LineFault {
             .saturating_add(line.len())
             .saturating_sub(begun.len()),
     }
-}
-
-/// Returns the bytes after a byte order mark at their start.
-fn after_mark(bytes: &[u8]) -> &[u8]
-    ensures { result.now ≡ file.after_mark bytes.now }
-{
-    let Some(rest) = bytes.strip_prefix(b"\xEF\xBB\xBF") else {
-        return bytes;
-    };
-    rest
 }
 
 /// Returns the first line and what is after its end.

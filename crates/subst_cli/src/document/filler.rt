@@ -4,6 +4,11 @@ ghost use Rattle.std.specs.Prelude.{IfOk, IfSome, IsUtf8, List, ℕ};
 ghost use Rattle.subst.specs.ErrorFault.{error_fault};
 ghost use Rattle.subst.specs.Json.Texts.{HasRange};
 ghost use Rattle.subst.specs.Range.{range_of, IsRangeIn};
+ghost use Rattle.subst_cli.specs.Faults.{AreFaults, IsFaultOf};
+ghost use Rattle.subst_cli.specs.Fill.{GivesSome};
+ghost use Rattle.subst_cli.specs.Layers.{Entry, AreVariablesOf};
+ghost use Rattle.subst_cli.specs.Strings.{IsFilledFrom};
+ghost use Rattle.subst_cli.specs.declared.layers.Variables.{Variables as SpecVariables};
 
 use crate::fault::Fault;
 use crate::layers::Variables;
@@ -30,7 +35,13 @@ impl StringFiller<'_> {
     /// # Errors
     ///
     /// When allocation fails.
-    pub fn faults(&self, alloc: Global, text: &str) -> Result<Vec<Fault>, AllocError> {
+    pub fn faults(&self, alloc: Global, text: &str) -> Result<Vec<Fault>, AllocError>
+        ensures { (variables : SpecVariables) → (entries : List Entry)
+            → IsFilledFrom self.now variables → AreVariablesOf variables entries
+            → IfOk result (λ faults. AreFaults
+            (GivesSome self.now.placeholders.now entries text.now)
+            (IsFaultOf self.now.placeholders.now entries text.now) faults.items) }
+    {
         let faults = match self.variables {
             Some(variables) => fill_text(alloc, text, self.placeholders, variables)?.err(),
             None => uses_in_text(alloc, text, self.placeholders)?.err(),

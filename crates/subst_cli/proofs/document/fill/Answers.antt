@@ -1,6 +1,20 @@
--- What the format says of a text that it fills in.
+-- What the format says of a text that it fills in, and the faults of one that it doesn't.
+use Rattle.subst_cli.proofs.DocumentLemmas.{unread_one}
 use Rattle.subst_cli.proofs.document.fill.Goals as goal
 
 pub returns-in-Ok-clause-gives : goal.returns-in-Ok-clause-gives
-returns-in-Ok-clause-gives g c = λ variables entries from are.
-    rw c.in-Ok.is at (c.in_ok-output.ensures variables entries from are)
+returns-in-Ok-clause-gives c = λ variables entries from are.
+    rw c.in-Ok.is at (c.in_ok-output.ensures.given variables entries from are)
+
+pub returns-in_ok-one_fault-in-Err-Unread-clause-refused :
+    goal.returns-in_ok-one_fault-in-Err-Unread-clause-refused
+returns-in_ok-one_fault-in-Err-Unread-clause-refused c = λ variables entries from are.
+    let arm = c.in-Err-Unread in
+    rw c.in_ok-one_fault-in-Err-Unread.was at (unread_one c.args.format c.args.filler.now.placeholders.now
+    entries c.args.text.now arm.cause arm.range c.one_fault.result
+    (rw arm.field-0-is at (rw arm.is at c.in_ok-output.ensures.unread)) c.one_fault.ensures)
+
+pub returns-in_ok-faults_in-in-Err-Refused-clause-refused :
+    goal.returns-in_ok-faults_in-in-Err-Refused-clause-refused
+returns-in_ok-faults_in-in-Err-Refused-clause-refused c = λ variables entries from are.
+    c.in_ok-faults_in-in-Err-Refused.ensures variables entries from are

@@ -1,13 +1,11 @@
 -- What the call says, under the look-up of the values.
 use Rattle.std.proofs.Common.{refl}
-use Rattle.subst.specs.ErrorFault.{error_fault}
 use Rattle.subst_cli.proofs.FillLemmas.{refused}
 use Rattle.subst_cli.proofs.fill.text.Goals as goal
 
 pub returns-in-Ok-clause-gives : goal.returns-in-Ok-clause-gives
 returns-in-Ok-clause-gives c = c.in-Ok.ensures.answer (λ v. v.now) (λ v. refl)
 
-pub returns-in_ok-why_refused-in-Err-clause-refuses : goal.returns-in_ok-why_refused-in-Err-clause-refuses
-returns-in_ok-why_refused-in-Err-clause-refuses c =
-    refused (error_fault c.in_ok-why_refused-in-Err.field-0.first) (error_fault c.in-Err.e) _
-    (c.in-Err.ensures.answer (λ v. v.now) (λ v. refl)) c.in_ok-why_refused-in-Err.ensures
+pub returns-in_ok-others-in-Err-clause-refuses : goal.returns-in_ok-others-in-Err-clause-refuses
+returns-in_ok-others-in-Err-clause-refuses c =
+    refused c.in-Err.first _ c.in_default.not-OutOfMemory (c.in-Err.ensures.answer (λ v. v.now) (λ v. refl))

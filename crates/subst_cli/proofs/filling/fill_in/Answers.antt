@@ -1,8 +1,6 @@
 -- The variables are those of all entries, in their order.
-use Rattle.std.proofs.Common.{◌≡◌, ◌∙◌, List, ap, map, subst, sym}
-use Rattle.std.specs.Prelude.{vec_items}
+use Rattle.std.proofs.Common.{◌≡◌, ◌∙◌, List, ap, subst, sym}
 use Rattle.subst_cli.specs.Layers.{AreVariablesOf, Entry, entries_of}
-use Rattle.subst_cli.specs.Run.{entries_for}
 use Rattle.subst_cli.specs.declared.entry.Entry as owned
 use Rattle.subst_cli.specs.declared.layers.Variables.{Variables}
 use Rattle.subst_cli.proofs.filling.fill_in.Goals as goal

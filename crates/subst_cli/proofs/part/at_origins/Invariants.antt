@@ -1,7 +1,12 @@
--- The causes stay.
-use Rattle.std.proofs.Common.{◌≡◌, map}
-use Rattle.subst_cli.specs.Faults.{cause_of}
+-- The faults so far are moved.
+use Rattle.std.proofs.Common.{◌≡◌, ◌++◌, map, take, drop}
+use Rattle.subst_cli.specs.Faults.{moved}
+use Rattle.subst_cli.specs.Fill.{origin_in}
 use Rattle.subst_cli.proofs.part.at_origins.Given as goal
 
 abbrev pub invariant-loop-fault : goal.invariant-loop-fault
-invariant-loop-fault l = map cause_of l.fault-items ≡ map cause_of l.fn.faults.items
+invariant-loop-fault l = record {
+  made : l.origins.made ≡ l.fn.template;
+  faults : l.fault-items ≡ map (moved (origin_in l.fn.template)) (take l.fault-index l.fn.faults.items)
+      ++ drop l.fault-index l.fn.faults.items;
+}

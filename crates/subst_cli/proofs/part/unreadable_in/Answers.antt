@@ -1,8 +1,6 @@
 -- The variables of a template have its names, and a source that is none has no name.
-use Rattle.std.proofs.Common.{ℕ, List, subst}
 use Rattle.subst.specs.ErrorFault.{parse_fault}
-use Rattle.subst_language.specs.Calls.Clauses.{AreVariables}
-use Rattle.subst_cli.proofs.PartLemmas.{readable_all, readable_names, readable_where_wrong}
+use Rattle.subst_cli.proofs.PartLemmas.{readable_all, readable_names, readable_where_wrong, unreadable_variables}
 use Rattle.subst_cli.proofs.part.unreadable_in.Goals as goal
 
 pub returns-then-are_readable-clause-all : goal.returns-then-are_readable-clause-all
@@ -18,7 +16,14 @@ returns-in-Err-clause-all c = λ entries are.
 pub returns-clause-all : goal.returns-clause-all
 returns-clause-all c = λ entries are.
     let list = c.in_ok-variables.field-0.items in
-    let named = subst (λ (s : List ℕ). AreVariables s list) c.in-Ok.ensures.ok.1
-    c.in_ok-variables.ensures.variables in
-    readable_names entries c.args.template.now list c.unreadable_of.result named
+    let named = rw c.in-Ok.ensures.ok.1 at c.in_ok-variables.ensures.variables in
+    readable_names entries c.args.template.now list named c.unreadable_of.result
     (c.unreadable_of.ensures.all entries are)
+
+pub returns-clause-each : goal.returns-clause-each
+returns-clause-each c = λ entries are.
+    let list = c.in_ok-variables.field-0.items in
+    let named = rw c.in-Ok.ensures.ok.1 at c.in_ok-variables.ensures.variables in
+    unreadable_variables entries c.args.template.now list named c.unreadable_of.result
+    (rw c.in-Ok.ensures.ok.1 at c.in_ok-variables.ensures.sentence)
+    (c.unreadable_of.ensures.each entries are)

@@ -1,13 +1,14 @@
 -- A variable whose value can't be read gets a fault.
-use Rattle.std.proofs.Common.{◌≡◌, [], ◌∷◌, ◌++◌, List, sym, ap, subst, ◌∙◌, append_assoc}
-use Rattle.std.proofs.lemmas.List.Elements.{All-push}
-use Rattle.std.specs.List.{All}
+use Rattle.std.proofs.Common.{◌≡◌, [], ◌∷◌, ◌++◌, List, map, sym, ap, ◌∙◌, append_assoc}
+use Rattle.std.proofs.lemmas.List.{map-append}
+use Rattle.std.proofs.lemmas.List.Elements.{All-push, Contains-append_left, Contains-push}
+use Rattle.std.specs.List.{Contains}
 use Rattle.std.specs.Vec.Iter.{into_iter_items}
+use Rattle.subst.specs.Calls.Variables.{variable_of}
 use Rattle.subst_language.specs.declared.variable.Variable.{Variable}
-use Rattle.subst_cli.specs.Faults.{IsUnreadableCause}
+use Rattle.subst_cli.specs.Faults.{IsUnreadableAmong}
 use Rattle.subst_cli.specs.Layers.{IsUnreadable}
-use Rattle.subst_cli.specs.declared.fault.Fault.{Fault}
-use Rattle.subst_cli.proofs.PartLemmas.{as_told, named_cause, pushed, readable_name}
+use Rattle.subst_cli.proofs.PartLemmas.{as_told, pushed, readable_name}
 use Rattle.subst_cli.proofs.part.unreadable_of.Goals as goal
 
 -- one of the variables that were left is done
@@ -16,18 +17,24 @@ next_done : (list done left rest : List Variable) (v : Variable) → list ≡ do
 next_done list done left rest v all steps =
     all ∙ ap (λ vs. done ++ vs) steps ∙ sym (append_assoc done (v ∷ []) rest)
 
+-- the last that is done is among all
+contains_done : (list done rest : List Variable) (v : Variable)
+    → list ≡ (done ++ v ∷ []) ++ rest → Contains (map variable_of list) (variable_of v)
+contains_done list done rest v all =
+    rw (all, map-append variable_of (done ++ v ∷ []) rest, map-append variable_of done (v ∷ []))
+    (Contains-append_left _ (map variable_of rest) _ (Contains-push (map variable_of done) _))
+
 pub loop-variable-preserved : goal.loop-variable-preserved
 loop-variable-preserved c =
     let l = c.loop-variable in
     let v = c.in-Some.variable in
-    let variables = c.args.variables.now in
     record {
       all = next_done _ l.yielded (into_iter_items l.variable-iterator) (into_iter_items c.next.new.self) v
           l.invariant.all c.in-Some.ensures.steps.0;
       readable = λ entries are none.
           All-push (λ it. ¬ (IsUnreadable entries it.name.now)) l.yielded v
           (l.invariant.readable entries are none)
-          (readable_name variables entries are v.name.now
+          (readable_name c.args.variables.now entries are v.name.now
           (sym c.is_unreadable.ensures ∙ c.if-is_unreadable.false));
       unreadable = l.invariant.unreadable;
     }
@@ -36,18 +43,20 @@ pub loop-variable-preserved-in_ok-push : goal.loop-variable-preserved-in_ok-push
 loop-variable-preserved-in_ok-push c =
     let l = c.loop-variable in
     let v = c.in-Some.variable in
-    let variables = c.args.variables.now in
     let fault = c.in_ok-unreadable.field-0 in
     let more = c.in_ok-push.ensures.items in
+    let all = next_done c.args.list.items l.yielded (into_iter_items l.variable-iterator)
+    (into_iter_items c.next.new.self) v l.invariant.all c.in-Some.ensures.steps.0 in
     record {
-      all = next_done _ l.yielded (into_iter_items l.variable-iterator) (into_iter_items c.next.new.self) v
-          l.invariant.all c.in-Some.ensures.steps.0;
-      readable = λ entries are none. absurd (pushed l.faults.items fault (sym more ∙ none));
+      all = all;
+      readable = λ entries are none. absurd (pushed l.faults.items fault (rw more at none));
       unreadable = λ entries are.
-          let P = λ (it : Fault). IsUnreadableCause entries it.cause in
-          let told = as_told variables entries are v.name.now _ c.is_unreadable.ensures in
-          subst (All P) (sym more)
-          (All-push P l.faults.items fault (l.invariant.unreadable entries are)
-          (named_cause entries v.name.now fault.cause c.in_ok-unreadable.ensures
-          (told ∙ c.if-is_unreadable.true)));
+          let P = IsUnreadableAmong entries (map variable_of c.args.list.items) in
+          let told = as_told c.args.variables.now entries are v.name.now _ c.is_unreadable.ensures in
+          rw more (All-push P l.faults.items fault (l.invariant.unreadable entries are) (
+            variable_of v,
+            contains_done _ l.yielded _ v all,
+            told ∙ c.if-is_unreadable.true,
+            c.in_ok-unreadable.ensures,
+          ));
     }

@@ -1,8 +1,9 @@
 -- Each variable so far can be read, or there is a fault.
-use Rattle.std.proofs.Common.{◌≡◌, [], ◌++◌, List}
+use Rattle.std.proofs.Common.{◌≡◌, [], ◌++◌, List, map}
 use Rattle.std.specs.List.{All}
 use Rattle.std.specs.Vec.Iter.{into_iter_items}
-use Rattle.subst_cli.specs.Faults.{IsUnreadableCause}
+use Rattle.subst.specs.Calls.Variables.{variable_of}
+use Rattle.subst_cli.specs.Faults.{IsUnreadableAmong}
 use Rattle.subst_cli.specs.Layers.{AreVariablesOf, Entry, IsUnreadable}
 use Rattle.subst_cli.proofs.part.unreadable_of.Given as goal
 
@@ -12,5 +13,5 @@ invariant-loop-variable l = record {
   readable : (entries : List Entry) → AreVariablesOf l.variables entries → l.faults.items ≡ []
       → All (λ it. ¬ (IsUnreadable entries it.name.now)) l.yielded;
   unreadable : (entries : List Entry) → AreVariablesOf l.variables entries
-      → All (λ it. IsUnreadableCause entries it.cause) l.faults.items;
+      → All (IsUnreadableAmong entries (map variable_of l.fn.list.items)) l.faults.items;
 }

@@ -4,6 +4,15 @@ use Rattle.std.proofs.lemmas.List.Elements.{Contains-push}
 use Rattle.std.proofs.lemmas.Result.{on_ok_weaker}
 use Rattle.subst_cli.proofs.filling.Filling.add.Goals as goal
 
+pub returns-then-is_its_own_output : goal.returns-then-is_its_own_output
+returns-then-is_its_own_output c = λ entries are.
+    on_ok_weaker c.append.result (λ is. inl (
+      c.args.source.bytes.items,
+      rw c.deref.ensures.value at (c.is_its_own_output.ensures c.if-is_its_own_output.true entries),
+      is,
+      refl,
+    )) c.append.ensures
+
 pub returns-in-Ok : goal.returns-in-Ok
 returns-in-Ok c = λ entries are.
     on_ok_weaker c.append-in-Ok.result (λ is. inl (

@@ -1,44 +1,31 @@
 -- Each source is done after those before it.
-use Rattle.std.proofs.Common.{◌≡◌, ◌∙◌, ◌++◌, ◌∷◌, [], List, ap, append_assoc, append-nil, arith, length, map, rules, subst, sym}
-use Rattle.std.proofs.lemmas.List.{map_push, nil_from_length}
+use Rattle.std.proofs.Common.{◌≡◌, [], ap, map, rules, subst}
+use Rattle.std.proofs.lemmas.List.{map_push}
 use Rattle.std.specs.List.{All}
-use Rattle.std.specs.Vec.Iter.{into_iter_items}
 use Rattle.subst_cli.specs.Run.{bytes_of, IsRefusalOf}
-use Rattle.subst_cli.specs.declared.source.Source.{Source}
 use Rattle.subst_cli.proofs.FillingLemmas.{done_more}
+use Rattle.subst_cli.proofs.ListLemmas.{vec_yielded}
 use Rattle.subst_cli.proofs.filling.Filling.fill_all.Goals as goal
 
 pub loop-source-preserved : goal.loop-source-preserved
-loop-source-preserved c =
+loop-source-preserved c = λ entries are.
     let l = c.loop-source in
-    let v = c.in-Some.source in
-    let left = into_iter_items c.next.new.self in
-    let steps : into_iter_items l.source-iterator ≡ v ∷ left = c.in-Some.ensures.steps.0 in
+    let source = c.in-Some.source in
     let filling = c.args.self.now in
-    record {
-      left = l.invariant.left ∙ ap (λ vs. l.yielded ++ vs) steps ∙ sym (append_assoc l.yielded (v ∷ []) left);
-      counted =
-          let was = l.invariant.counted in
-          let gone = c.in-Some.ensures.steps.1 in
-          let short = ap length steps in
-          omega arith;
-      done = λ entries are. rw (map_push bytes_of l.yielded v)
-          (done_more filling.form filling.placeholders.now entries (map bytes_of l.yielded) (bytes_of v)
-          l.all.items c.add.new.all.items l.refused.items c.add.new.refused.items
-          (l.invariant.done entries are) (c.in_ok-add.ensures entries are));
-    }
+    rw (map_push bytes_of l.yielded source)
+    (done_more filling.form filling.placeholders.now entries (map bytes_of l.yielded) (bytes_of source)
+    l.all.items c.add.new.all.items l.refused.items c.add.new.refused.items (l.invariant entries are)
+    (c.in_ok-add.ensures entries are))
 
 pub returns-else-is_empty-clause-refused : goal.returns-else-is_empty-clause-refused
 returns-else-is_empty-clause-refused c = λ entries are.
     let l = c.loop-source in
     let filling = c.args.self.now in
     let some : ¬ (l.refused.items ≡ []) = search rules in
-    let none : into_iter_items l.source-iterator ≡ [] =
-    nil_from_length (into_iter_items l.source-iterator)
-    (sym l.invariant.counted ∙ c.in-None.ensures.steps.0) in
-    let whole : l.yielded ≡ c.args.sources.items =
-    sym (l.invariant.left ∙ ap (λ vs. l.yielded ++ vs) none ∙ append-nil l.yielded) in (
+    let gives = c.into_iter-source-iterator.ensures.into_iter_gives in
+    let all = vec_yielded c.args.sources c.into_iter-source-iterator.result l.source-iterator c.next.new.self
+    l.yielded c.next.result gives.0 gives.1 l.yielded_by c.next.ensures.steps c.in-None.is in (
       some,
-      subst (λ (sources : List Source). All (IsRefusalOf filling.form filling.placeholders.now entries
-          (map bytes_of sources)) l.refused.items) whole (l.invariant.done entries are).1,
+      subst (λ sources. All (IsRefusalOf filling.form filling.placeholders.now entries sources)
+          l.refused.items) (ap (map bytes_of) all) (l.invariant entries are).1,
     )

@@ -1,0 +1,225 @@
+//! The formats of documents.
+
+ghost use Rattle.std.specs.Prelude.{◌≡◌, ℕ, List, Err, Ok, Some, IfErr, IfOk, IsOkAnd, map, string_bytes};
+ghost use Rattle.std.specs.List.{All};
+ghost use Rattle.subst.specs.Json.Outcome.{OnJson};
+ghost use Rattle.subst.specs.Toml.Outcome.{OnToml};
+ghost use Rattle.subst_cli.specs.Faults.{IsNoDocument, IsUnread, StandsIn};
+ghost use Rattle.subst_cli.specs.Fill.{GivesFor, IsDocumentOutput};
+ghost use Rattle.subst_cli.specs.Layers.{Entry, AreVariablesOf};
+ghost use Rattle.subst_cli.specs.Strings.{string_of, IsFilledFrom};
+ghost use Rattle.subst_cli.specs.declared.layers.Variables.{Variables as SpecVariables};
+
+use super::filler::StringFiller;
+use crate::fault::Cause;
+use std::alloc::{AllocError, Global};
+use std::fmt;
+use std::ops::Range;
+use subst::json::{RangeFinder, ReaderStop};
+use subst::{json, toml};
+use subst_walk::{RefusalAt, StringAt};
+
+/// A format of documents.
+#[derive(Clone, Copy, PartialEq, Eq)]
+pub enum Format {
+    Json,
+    Toml,
+}
+
+/// Why a document isn't filled in.
+#[derive(Drop)]
+pub(crate) enum Unfilled {
+    /// It is none, or isn't confirmed: where, and which.
+    Unread(Range<usize>, Cause),
+    /// A string of it is refused.
+    Refused,
+}
+
+/// A string of a document that is refused, with the path that leads to it.
+pub(crate) type RefusedAt = (String, StringAt);
+
+impl Format {
+    /// Returns a text with its strings filled in.
+    pub(crate) fn fill_in(
+        self,
+        alloc: Global,
+        text: &str,
+        filler: &StringFiller<'_>,
+    ) -> Result<Result<String, Unfilled>, AllocError>
+        ensures given { (variables : SpecVariables) → (entries : List Entry)
+            → IsFilledFrom filler.now variables → AreVariablesOf variables entries
+            → IfOk result (λ filled. IfOk filled (λ output. IsDocumentOutput self
+            (GivesFor filler.now.placeholders.now entries) text.now (string_bytes output))) }
+        ensures unread { IfOk result
+            (λ filled. IfErr filled (IsUnread (IsNoDocument self text.now))) }
+    {
+        match self {
+            Format::Json => of_json(alloc, text, json::fill_in_by(alloc, text, filler)),
+            Format::Toml => of_toml(alloc, toml::fill_in_by(alloc, text, filler)),
+        }
+    }
+
+    /// Returns the strings that are refused, in the order of the text, each with the path that leads to it.
+    /// That is empty where the document is a string.
+    pub(crate) fn refused(
+        self,
+        alloc: Global,
+        text: &str,
+        filler: &StringFiller<'_>,
+    ) -> Result<Result<Vec<RefusedAt>, Unfilled>, AllocError>
+        ensures stand { IfOk result (λ refused. IfOk refused
+            (λ refused. All (StandsIn self text.now) (map string_of refused.items))) }
+        ensures unread { IfOk result
+            (λ refused. IfErr refused (IsUnread (IsNoDocument self text.now))) }
+    {
+        match self {
+            Format::Json => {
+                let found = of_json(alloc, text, json::refusals_by(alloc, text, filler))?;
+                with_paths(alloc, found)
+            }
+            Format::Toml => {
+                let found = of_toml(alloc, toml::refusals_by(alloc, text, filler))?;
+                with_paths(alloc, found)
+            }
+        }
+    }
+
+    /// Returns the strings, in the order of the text.
+    pub(crate) fn strings(
+        self,
+        alloc: Global,
+        text: &str,
+    ) -> Result<Result<Vec<StringAt>, Unfilled>, AllocError> {
+        match self {
+            Format::Json => of_json(alloc, text, json::strings(alloc, text)),
+            Format::Toml => of_toml(alloc, toml::strings(alloc, text)),
+        }
+    }
+}
+
+/// Returns what the library returns of a JSON text, or why it returns nothing.
+fn of_json<T: Drop>(
+    alloc: Global,
+    text: &str,
+    returned: Result<Option<T>, json::Error>,
+) -> Result<Result<T, Unfilled>, AllocError>
+    ensures it { IfOk result (λ outcome. IfOk outcome (λ it. returned ≡ Ok (Some it))) }
+    ensures unread { IfOk result
+        (λ outcome. IfErr outcome (IsUnread (¬ (OnJson returned ⊥)))) }
+{
+    match returned {
+        Ok(Some(it)) => Ok(Ok(it)),
+        Ok(None) => Ok(Err(Unfilled::Unread(0..0, Cause::NotConfirmed))),
+        Err(json::Error::Json(e)) => {
+            let ReaderStop { offset, message } = json::reader_stop(alloc, text, &e)?;
+            let cause = Cause::NotADocument(message);
+            Ok(Err(Unfilled::Unread(offset..offset, cause)))
+        }
+        Err(json::Error::Subst(_)) => Ok(Err(Unfilled::Refused)),
+        Err(json::Error::OutOfMemory(e)) => Err(e),
+    }
+}
+
+/// Returns what the library returns of a TOML text, or why it returns nothing.
+fn of_toml<T: Drop>(
+    alloc: Global,
+    returned: Result<Option<T>, toml::Error>,
+) -> Result<Result<T, Unfilled>, AllocError>
+    ensures it { IfOk result (λ outcome. IfOk outcome (λ it. returned ≡ Ok (Some it))) }
+    ensures unread { IfOk result
+        (λ outcome. IfErr outcome (IsUnread (¬ (OnToml returned ⊥)))) }
+{
+    match returned {
+        Ok(Some(it)) => Ok(Ok(it)),
+        Ok(None) | Err(toml::Error::InvalidUtf8(_)) => {
+            Ok(Err(Unfilled::Unread(0..0, Cause::NotConfirmed)))
+        }
+        Err(toml::Error::Toml(e)) => {
+            let cause = Cause::NotADocument(String::from_str(alloc, e.message())?);
+            Ok(Err(Unfilled::Unread(e.span().unwrap_or(0..0), cause)))
+        }
+        Err(toml::Error::Subst(_)) => Ok(Err(Unfilled::Refused)),
+        Err(toml::Error::OutOfMemory(e)) => Err(e),
+    }
+}
+
+/// Returns refused strings, if any were returned, each with the text of the path that leads to it.
+fn with_paths<P: fmt::Display + Drop>(
+    alloc: Global,
+    found: Result<Vec<RefusalAt<P>>, Unfilled>,
+) -> Result<Result<Vec<RefusedAt>, Unfilled>, AllocError>
+    ensures strings { IfOk result (λ outcome. IfOk outcome (λ strings. IsOkAnd found
+        (λ found. map string_of strings.items ≡ map (λ it. string_bytes it.text) found.items))) }
+    ensures unfilled { IfOk result (λ outcome. IfErr outcome (λ why. found ≡ Err why)) }
+{
+    let found = match found {
+        Ok(found) => found,
+        Err(why) => return Ok(Err(why)),
+    };
+    let mut strings = Vec::with_capacity(alloc, found.len())?;
+    for RefusalAt {
+        path,
+        text,
+        span,
+        ..
+    } in found {
+        strings.push((format!(in alloc; "{path}")?, StringAt { text, span }))?;
+    }
+    Ok(Ok(strings))
+}
+
+/// What finds places, which is kept from one string to the next.
+#[derive(Drop)]
+pub(crate) enum Finder {
+    Json(RangeFinder),
+    Toml,
+}
+
+impl Finder {
+    /// Returns one for documents of a format.
+    pub fn new(alloc: Global, format: Format) -> Self {
+        match format {
+            Format::Json => Finder::Json(RangeFinder::new(alloc)),
+            Format::Toml => Finder::Toml,
+        }
+    }
+
+    /// Returns where these ranges of a string, which go up, are in the text, or nothing where they aren't
+    /// found.
+    ///
+    /// # Errors
+    ///
+    /// When allocation fails.
+    pub fn places(
+        &mut self,
+        alloc: Global,
+        text: &str,
+        span: Range<usize>,
+        ranges: &[Range<usize>],
+    ) -> Result<Vec<Range<usize>>, AllocError> {
+        let found = match self {
+            Finder::Json(finder) => finder.find(alloc, text, span, ranges)?,
+            Finder::Toml => places_in_toml(alloc, text, span, ranges)?,
+        };
+        Ok(found.unwrap_or(Vec::new(alloc)))
+    }
+}
+
+/// Returns where these ranges of a string are in a TOML text. Where a single range ends within a newline,
+/// `place_in` alone has its place.
+fn places_in_toml(
+    alloc: Global,
+    text: &str,
+    span: Range<usize>,
+    ranges: &[Range<usize>],
+) -> Result<Option<Vec<Range<usize>>>, AllocError> {
+    let [Range { start, end }] = ranges else {
+        return toml::places_in(alloc, text, span, ranges);
+    };
+    let Some(place) = toml::place_in(alloc, text, span, *start..*end)? else {
+        return Ok(None);
+    };
+    let mut places = Vec::new(alloc);
+    places.push(place)?;
+    Ok(Some(places))
+}

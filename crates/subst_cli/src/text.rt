@@ -1,0 +1,61 @@
+//! What of the bytes of a source is text.
+
+ghost use Rattle.std.specs.Prelude.{◌≡◌, IfOk, IsUtf8, MatchOption};
+ghost use Rattle.std.specs.List.{Any};
+ghost use Rattle.subst_cli.specs.Faults.{IsNoText};
+ghost use Rattle.subst_cli.specs.Mark.{after_mark, filled_of, kept_of, mark_in};
+
+use crate::fault::{Cause, Fault, one_fault};
+use crate::options::{Format, InputFormat};
+use std::alloc::{AllocError, Global};
+
+/// What a text may begin with, in UTF-8.
+const BYTE_ORDER_MARK: &[u8] = b"\xEF\xBB\xBF";
+
+/// Returns the byte order mark that bytes begin with, which may be empty, and what is after it.
+pub(crate) fn split_mark(bytes: &[u8]) -> (&[u8], &[u8])
+    ensures mark { result.0.now ≡ mark_in bytes.now }
+    ensures rest { result.1.now ≡ after_mark bytes.now }
+{
+    let Some(rest) = bytes.strip_prefix(BYTE_ORDER_MARK) else {
+        return (&[], bytes);
+    };
+    (BYTE_ORDER_MARK, rest)
+}
+
+/// Returns what comes before the bytes of a source that are filled in, and these, in which places are
+/// counted. A byte order mark comes before a JSON text, whose reader doesn't pass over it.
+pub(crate) fn split_source(form: InputFormat, source: &[u8]) -> (&[u8], &[u8])
+    ensures kept { result.0.now ≡ kept_of form source.now }
+    ensures filled { result.1.now ≡ filled_of form source.now }
+{
+    match form {
+        InputFormat::Document(Format::Json) => split_mark(source),
+        InputFormat::Document(Format::Toml) | InputFormat::Text | InputFormat::Bytes => {
+            (&[], source)
+        }
+    }
+}
+
+/// Returns the text that these bytes are, if they are UTF-8.
+pub(crate) fn text_of(bytes: &[u8]) -> Option<&str>
+    ensures { MatchOption result (¬ (IsUtf8 bytes.now)) (λ text. text.now ≡ bytes.now) }
+{
+    simdutf8::basic::from_utf8(bytes).ok()
+}
+
+/// Returns the fault of bytes that aren't UTF-8, from where on they aren't.
+///
+/// # Errors
+///
+/// When allocation fails.
+pub(crate) fn not_utf8(alloc: Global, bytes: &[u8]) -> Result<Vec<Fault>, AllocError>
+    ensures { ¬ (IsUtf8 bytes.now)
+        → IfOk result (λ faults. Any (IsNoText bytes.now) faults.items) }
+{
+    let start = match str::from_utf8(bytes) {
+        Ok(text) => text.len(),
+        Err(e) => e.valid_up_to(),
+    };
+    one_fault(alloc, start..start.saturating_add(1), Cause::NotUtf8)
+}
