@@ -1,45 +1,70 @@
-//! Lines of a log, each written in a buffer that has capacity for the longest, so that no line takes memory.
+//! Lines of a log, which has capacity for them before they are written, so that no line takes memory.
 
-ghost use Rattle.std.specs.Prelude.{◌≡◌, ◌≤◌, ◌+◌, ◌++◌, ℕ, List, Some, codes, length, IfErr, OnErr, OnOk, vec_capacity, vec_len};
-ghost use Rattle.subst.specs.Fault.{NoSuchVariable};
-ghost use Rattle.subst.specs.Language.Answer.{Answers, Gives, Refuses};
-ghost use Rattle.subst_uses.specs.CommandLine.{texts_of};
+ghost use Rattle.std.specs.Prelude.{◌≡◌, ◌↔◌, ◌≤◌, ◌+◌, ◌++◌, length, max, codes, IfSome, IsSome, IsTrue, IsFalse, vec_capacity, vec_len};
+ghost use Rattle.subst_uses.specs.declared.log_line.TheConstants.{LONGEST};
 
-use std::collections::BTreeMap;
-use subst::ByteTemplate;
-use subst::error::{ExpandIntoError, NoSuchVariableRef};
+use subst::{ByteTemplate, VariableMap};
 
 /// What a line says, and how severe that is.
 pub const LINE: &[u8] = b"$level $message\n";
 
-/// The values of a line are at most so long.
+/// A field of a line has at most so many bytes.
 pub const LONGEST: usize = 200;
 
-/// Room for a line: the length of its source, and of a value for each dollar.
+/// Room for a line: the length of its source, and of a field for each dollar.
 pub const ROOM: usize = LINE.len() + 2 * LONGEST;
 
-/// Appends a line to a log that has capacity for it.
-///
-/// # Errors
-///
-/// The first variable that has no value; the log is as before. Never for memory.
-pub fn append_line<'t>(
-    line: &ByteTemplate<'t>,
-    fields: &BTreeMap<String, String>,
-    log: &mut Vec<u8>,
-) -> Result<(), NoSuchVariableRef<'t>>
-    requires line { line.now ≡ codes "$level $message\n" }
-    requires longest { (name x : List ℕ) → texts_of fields.now name ≡ Some x → length x ≤ LONGEST }
-    requires capacity { vec_len log.old + ROOM ≤ vec_capacity log.old }
-    ensures ok { OnOk result ((x : List ℕ) × Answers line.now (texts_of fields.now) (Gives x)
-        × (log.new.items ≡ log.old.items ++ x)) }
-    ensures missing { IfErr result (λ e. Answers line.now (texts_of fields.now)
-        (Refuses (NoSuchVariable e.position e.name.now))) }
-    ensures kept { OnErr result (log.new.items ≡ log.old.items) }
-{
-    match line.expand_into(log, fields) {
-        Ok(()) => Ok(()),
-        Err(ExpandIntoError::NoSuchVariable(missing)) => Err(missing),
-        Err(ExpandIntoError::OutOfMemory(_)) => unreachable!(),
+/// The variables `level` and `message`, of which none is longer than `LONGEST`.
+#[derive(Drop)]
+pub struct Fields<'f> {
+    pub level: &'f str,
+    pub message: &'f str,
+    pub ghost short: { max (length level.now) (length message.now) ≤ LONGEST },
+}
+
+impl<'f> Fields<'f> {
+    /// Returns the fields of a line, or `None` where one is too long.
+    pub fn new(level: &'f str, message: &'f str) -> Option<Fields<'f>>
+        ensures short { IsSome result ↔ (max (length level.now) (length message.now) ≤ LONGEST) }
+        ensures given { IfSome result (λ f. (f.level ≡ level.entry) × (f.message ≡ message.entry)) }
+    {
+        if level.len() > LONGEST || message.len() > LONGEST {
+            return None;
+        }
+        Some(Fields { level, message })
     }
+}
+
+impl<'a> VariableMap<'a> for Fields<'a> {
+    ghost use Rattle.std.specs.Prelude.{ℕ, List, Some, None, if◌then◌else◌, bytes_eq};
+
+    type Value = &'a str;
+
+    ghost Seen = { List ℕ };
+
+    ghost see = { λ v. v.now };
+
+    ghost look_up = { λ self key. if bytes_eq key (codes "level") then Some self.level.now
+        else (if bytes_eq key (codes "message") then Some self.message.now else None) };
+
+    fn get(&'a self, key: &str) -> Option<&'a str> {
+        match key {
+            "level" => Some(self.level),
+            "message" => Some(self.message),
+            _ => None,
+        }
+    }
+}
+
+/// Appends a line to a log: the level, a space, the message and a line feed. Returns whether it did: exactly
+/// where the log has room for the longest line, since no field is missing. Otherwise the log is as before.
+pub fn append_line(line: &ByteTemplate<'_>, fields: &Fields<'_>, log: &mut Vec<u8>) -> bool
+    requires { line.now ≡ LINE.now }
+    ensures room { IsTrue result ↔ (vec_len log.old + ROOM ≤ vec_capacity log.old) }
+    ensures line { IsTrue result → log.new.items ≡ log.old.items
+        ++ (fields.now.level.now ++ (codes " " ++ (fields.now.message.now ++ codes "\n"))) }
+    ensures kept { IsFalse result → log.new.items ≡ log.old.items }
+    ensures capacity { vec_capacity log.old ≤ vec_capacity log.new }
+{
+    log.capacity() - log.len() >= ROOM && line.expand_into(log, fields).is_ok()
 }

@@ -4,13 +4,13 @@
 use crate::expect::{expect, expect_bytes};
 use std::alloc::{AllocError, Global};
 use std::collections::BTreeMap;
-use subst::error::{ExpandError, NoSuchVariable, NoSuchVariableRef};
+use subst::error::{ExpandError, NoSuchVariable};
 use subst::steps::Turns;
 use subst::{ByteTemplate, Env, Error, NoSubstitution, Template};
 use subst_uses::cache::Cached;
 use subst_uses::greeting::{Guest, greet};
 use subst_uses::launcher::command_line;
-use subst_uses::log_line::{LINE, ROOM, append_line};
+use subst_uses::log_line::{Fields, LINE, LONGEST, ROOM, append_line};
 use subst_uses::missing::{Prompt, filled_or_asked, given_or_none};
 use subst_uses::own_map::{Colours, coloured, warning};
 use subst_uses::report::Outcome;
@@ -293,14 +293,20 @@ fn faults_that_stay_are_early(rt: HostRuntime) {
     assert_eq!(rt; is_early(rt.alloc(), "${a:"), Some(false));
 }
 
-/// No field has a value here: that values are short is what a caller proves, and no test does.
-#[test]
-fn a_line_whose_fields_are_missing(rt: HostRuntime) -> Result<(), Error> {
-    let alloc = rt.alloc();
+/// The lines of a log that is full after two of these messages; a longer one has no line.
+fn logged(alloc: Global) -> Result<Vec<u8>, Error> {
     let line = ByteTemplate::from_slice(alloc, LINE)?;
-    let mut log = Vec::with_capacity(alloc, ROOM)?;
-    let refused = append_line(&line, &BTreeMap::new(alloc), &mut log);
-    let (position, name) = (1, "level");
-    assert_eq!(rt; refused, Err(NoSuchVariableRef { position, name }));
-    Ok(())
+    let mut log = Vec::with_capacity(alloc, ROOM + 12)?;
+    let longer = "a".repeat(alloc, LONGEST + 1)?;
+    for message in [longer.as_str(), "$level", "b", "c"] {
+        if let Some(fields) = Fields::new("info", message) {
+            let _ = append_line(&line, &fields, &mut log);
+        }
+    }
+    Ok(log)
+}
+
+#[test]
+fn lines_of_a_log(rt: HostRuntime) {
+    expect_bytes(&rt, "a log", logged(rt.alloc()), "info $level\ninfo b\n");
 }

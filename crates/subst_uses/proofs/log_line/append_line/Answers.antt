@@ -1,31 +1,44 @@
--- The log has capacity for the longest line, so it isn't too short.
-use Rattle.std.proofs.Common.{◌≤◌, ◌+◌, ◌*◌, ◌==◌, length, count_by, refl, string_bytes, vec_capacity, vec_len}
-use Rattle.subst.specs.Language.Bytes.{dollar}
-use Rattle.subst.proofs.Calling.{given_into, missed_into, never_full}
-use Rattle.subst_uses.specs.CommandLine.{texts_of}
-use Rattle.subst_uses.specs.declared.log_line.TheConstants.{LONGEST}
+-- What a line gives is computed, and it fits where there is room for the longest.
+use Rattle.std.proofs.Common.{◌≡◌, ◌≤◌, ◌+◌, ◌++◌, ◌∷◌, [], ℕ, List, Result, Ok, Err, IsOk, OnOk, length, length-append, refl, arith, vec_capacity, vec_len}
+use Rattle.subst.specs.Language.Answer.{Answers, Gives}
+use Rattle.subst.specs.Language.LookUp.{LookUp}
+use Rattle.subst.proofs.Calling.{answer_unique, computed_gives, given_in_capacity, given_into}
 use Rattle.subst_uses.proofs.log_line.append_line.Goals as goal
 
-pub unreachable-requires : goal.unreachable-requires
-unreachable-requires c =
-    let source = c.args.line.now in
+pub returns-then-capacity-len-ge-ROOM-clause-room : goal.returns-then-capacity-len-ge-ROOM-clause-room
+returns-then-capacity-len-ge-ROOM-clause-room c =
     let expands = c.expand_into.ensures in
-    let capacity : vec_len c.args.log.now + (length source + count_by (λ b. b == dollar) source * LONGEST)
-    ≤ vec_capacity c.args.log.now = rw c.requires.line c.requires.capacity in
-    let never = never_full source (texts_of c.args.fields.now) LONGEST (vec_len c.args.log.now)
-    (vec_capacity c.args.log.now) c.expand_into.result expands.sentence c.requires.longest capacity
-    (expands.full (λ v. string_bytes v) (λ v. refl)) in
-    rw c.in-Err-OutOfMemory.field-0-is at (rw c.in-Err-OutOfMemory.is at never)
+    let fields = c.args.fields.now in
+    let end = 32 ∷ (fields.message.now ++ 10 ∷ []) in
+    let room : vec_len c.args.log.now + length (fields.level.now ++ end) ≤ vec_capacity c.args.log.now =
+    omega (
+      arith,
+      length-append fields.level.now end,
+      length-append fields.message.now (10 ∷ []),
+      fields.short,
+      c.if-capacity-len-ge-ROOM.true,
+      c.capacity.ensures,
+      c.len.ensures,
+    ) in
+    let given = given_in_capacity _ _ _ _ _ _ _ c.expand_into.result (computed_gives _ _ _ refl) room
+    (rw c.requires at (expands.value (λ v. v) (λ v. refl)))
+    (rw c.requires at (expands.full (λ v. v) (λ v. refl))) in (
+      λ did. omega (arith, c.if-capacity-len-ge-ROOM.true, c.capacity.ensures, c.len.ensures),
+      λ fits. rw c.is_ok.ensures.value given,
+    )
 
-pub returns-in-Ok-clause-ok : goal.returns-in-Ok-clause-ok
-returns-in-Ok-clause-ok c =
-    let expands = c.expand_into.ensures in
-    rw c.in-Ok.is at (given_into c.args.line.now (texts_of c.args.fields.now) _ _ c.expand_into.result
-    expands.sentence (expands.value (λ v. string_bytes v) (λ v. refl)))
+-- where bytes that a source gives are appended, these are
+appended : {T E : Type 0} (s x : List ℕ) (look : LookUp) (before after : List ℕ) (result : Result T E)
+    → Answers s look (Gives x)
+    → OnOk result ((y : List ℕ) × Answers s look (Gives y) × (after ≡ before ++ y))
+    → IsOk result → after ≡ before ++ x
+appended s x look before after (Ok done) known (y, gives, is) did =
+    let same = answer_unique s look (Gives y) (Gives x) gives known in cc
+appended s x look before after (Err e) known into did = absurd cc
 
-pub returns-in-Err-NoSuchVariable-clause-missing : goal.returns-in-Err-NoSuchVariable-clause-missing
-returns-in-Err-NoSuchVariable-clause-missing c =
+pub returns-then-capacity-len-ge-ROOM-clause-line : goal.returns-then-capacity-len-ge-ROOM-clause-line
+returns-then-capacity-len-ge-ROOM-clause-line c did =
     let expands = c.expand_into.ensures in
-    let refused = missed_into c.args.line.now (texts_of c.args.fields.now) _ _ c.expand_into.result
-    expands.sentence (expands.value (λ v. string_bytes v) (λ v. refl)) in
-    rw c.in-Err-NoSuchVariable.field-0-is at (rw c.in-Err-NoSuchVariable.is at refused)
+    appended _ _ _ _ _ c.expand_into.result (computed_gives _ _ _ refl)
+    (given_into _ _ _ _ c.expand_into.result (rw c.requires at expands.sentence)
+    (rw c.requires at (expands.value (λ v. v) (λ v. refl)))) (rw c.is_ok.ensures.value at did)
