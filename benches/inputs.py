@@ -271,9 +271,10 @@ def some_value(rng, names):
     return words if which < 0.6 else f"{words}/${{{rng.choice(names)}}}"
 
 
-def document(kind):
-    """A document: objects with ten members each."""
+def document(kind, length=None):
+    """A document: objects with ten members each, up to the bytes that it has, or up to this length."""
     rng, (text_of, size, _) = random.Random(7), DOCUMENTS[kind]
+    size = length or size
     names = [f"NAME_{number}" for number in range(300)]
     variables = {name: "".join(rng.choices("abcdefghij/.-", k=rng.randrange(4, 24))) for name in names}
     objects = []

@@ -15,7 +15,6 @@ import random
 import re
 import resource
 import shutil
-import signal
 import subprocess
 import sys
 import tomllib
@@ -25,8 +24,8 @@ import command_files
 from command_running import (NO_NAME, PROGRAM, expect_fault, expect_file, expect_files, failed, missing, mode_of, read,
                              subst, tests_of, told, told_without_line, write, wrong_words)
 from faults import invalid_escape, missing_brace, no_such_variable, unexpected
-from running import (HIDDEN, KIB, MIB, TOP, as_told, expect, expect_that, in_memory, need, path_of, run_tests, shown,
-                     version)
+from running import (HIDDEN, KIB, MIB, TOP, as_told, expect, expect_that, in_memory, limited, need, path_of, run_tests,
+                     shown, some_size, version)
 
 TEMPLATES = TOP / 'tests/data/templates'
 
@@ -253,7 +252,7 @@ def test_entries_of_one_name():
 
 
 def test_many_values_that_are_not_utf8():
-    names = [f'n{number}' for number in range(8000)]
+    names = [f'n{number}' for number in range(some_size(1000, 16000))]
     source = ' '.join(f'${name}' for name in names).encode()
     ended = subst(['-e'], source, env={name.encode(): b'\xff' for name in names})
     heads = [line for line in ended.errors.splitlines() if line.startswith(b'<stdin>:')]
@@ -363,6 +362,7 @@ def test_json_with_a_byte_order_mark():
     expect(subst(['--json', '--names'], mark + b'\n["$A"]'), 0, b'A\t<stdin>:2:4\trequired\n')
     expect_fault(subst(['--json'], mark + b'[\n"$A"]'), missing('A', '<stdin>:2:3: /0', '"$A"]', '  ^'))
     expect_fault(subst(['--json'], mark + b'[\n1,]'), told('<stdin>:2:3', 'invalid JSON', '1,]', '  ^'))
+    expect_fault(subst(['--json'], mark + b'["\xff"]'), told('<stdin>:1:3', 'invalid UTF-8', '["\ufffd"]', '  ^'))
 
 
 # A TOML document, and what it gives where A is 1.
@@ -584,7 +584,7 @@ def test_names_that_are_very_long():
     """Of a fault of more than 240 columns the start is shown, and of a path of more than 120."""
     line, carets = '$' + 'n' * 58 + '\u2026', ' ' + '^' * 58
     room = 240 - len(no_such_variable(''))
-    for count in (room, room + 1, MIB):
+    for count in (room, room + 1, some_size(KIB)):
         what = no_such_variable('n' * min(count, room)) + '\u2026' * (count > room)
         expect_fault(subst([], b'$' + b'n' * count), told('<stdin>:1:2', what, line, carets))
     key, line = 'k' * 118, '\u2026' + 'k' * 51 + '": "$x"}'
@@ -618,7 +618,7 @@ def test_characters_that_cannot_be_seen():
 
 def test_check_keeps_no_output():
     for name in range(40):
-        write(f'{name}', b'${A}' + b'a' * (4 * MIB))
+        write(f'{name}', b'${A}' + b'a' * some_size(3 * MIB, 6 * MIB))
     expect(subst(['--check', '-sA=1', *map(str, range(40))], **in_memory(64 * MIB)), 0)
 
 
@@ -667,63 +667,27 @@ def test_names_of_documents():
 
 
 def test_places_of_many_faults():
+    count = some_size(10000, 100000)
     for option, start, between, end in (('--json', b'["', b' ', b'"]'), ('--json', b'["', b'","', b'"]'),
                                         ('--toml', b'a = """\n', b'\\\n ', b'"""\n'),
                                         ('--toml', b'a = ["', b'",\n"', b'"]\n')):
-        source = start + between.join([b'$' + b'n' * 24] * 40000) + end
+        source = start + between.join([b'$' + b'n' * 24] * count) + end
         ended = subst([option], source)
         heads = [line for line in ended.errors.splitlines() if line.startswith(b'<stdin>:')]
         last = source.rindex(b'$') + 1
         place = b'<stdin>:%d:%d: ' % (source.count(b'\n', 0, last) + 1, last - source.rfind(b'\n', 0, last))
-        expect_that(ended.status == 1 and len(heads) == 40000, f'{option}: {ended.status}, {len(heads)} faults')
+        expect_that(ended.status == 1 and len(heads) == count, f'{option}: {ended.status}, {len(heads)} faults')
         expect_that(heads[-1].startswith(place), f'{option}: {shown(heads[-1])}')
 
 
 def test_names_of_large_documents():
-    source = b'["$x", "' + b'a' * (9 << 20) + b'", "$y $x"]'
+    source = b'["$x", "' + b'a' * some_size(MIB, 32 * MIB) + b'", "$y $x"]'
     expect(subst(['--json', '--names'], source), 0,
            f'x\t<stdin>:1:4\trequired\ny\t<stdin>:1:{source.index(b"$y") + 2}\trequired\n'.encode())
-    members = b','.join(b'\n"k%05d": "$n%05d"' % (at, at) for at in range(40000, 0, -1))
-    wanted = b''.join(b'n%05d\t<stdin>:%d:13\trequired\n' % (at, 40002 - at) for at in range(40000, 0, -1))
+    count = some_size(10000, 99999)
+    members = b','.join(b'\n"k%05d": "$n%05d"' % (at, at) for at in range(count, 0, -1))
+    wanted = b''.join(b'n%05d\t<stdin>:%d:13\trequired\n' % (at, count + 2 - at) for at in range(count, 0, -1))
     expect(subst(['--json', '--names'], b'{' + members + b'}'), 0, wanted)
-
-
-# Tests of time
-
-
-# How often a line, a string or a name is repeated, at the least.
-COUNT = 4000
-
-
-def repeated_in_json(count):
-    return b'[' + b'"$a $a",' * count + b'""]'
-
-
-def repeated_in_toml(count):
-    return b''.join(b'k%d = "$a $a"\n' % number for number in range(count))
-
-
-def seconds(words, source):
-    """The processor time of a run, the least of three."""
-    times = []
-    for _ in range(3):
-        before = resource.getrusage(resource.RUSAGE_CHILDREN)
-        subst(words, source)
-        after = resource.getrusage(resource.RUSAGE_CHILDREN)
-        times.append(after.ru_utime + after.ru_stime - before.ru_utime - before.ru_stime)
-    return min(times)
-
-
-def test_time_goes_with_the_size():
-    """Faults, names and values files of eight times the size take less than sixteen times as long."""
-    lines = (b'$a ${a}\n').__mul__
-    names = lambda count: b''.join(b'$n%d ' % number for number in range(count))
-    for words, source_of in (([], lines), (['--bytes'], lines), (['--envsubst'], lines), (['--only=a'], lines),
-                             (['--names'], names), (['--names', '--envsubst'], names), ([], names),
-                             (['--json'], repeated_in_json), (['--toml'], repeated_in_toml),
-                             (['--json', '--names'], repeated_in_json), (['-f', '-', '/dev/null'], b'a=1\n'.__mul__)):
-        small, large = (seconds(words, source_of(count)) for count in (COUNT, 8 * COUNT))
-        expect_that(large < 16 * max(small, 0.01), f'{words}: {small:.3f} s, and {large:.3f} s for eight times as much')
 
 
 # Tests of templates of other programs
@@ -793,8 +757,6 @@ def test_templates_of_other_programs_in_our_language():
 
 # What a source is read as, and how that spells a text in quotes.
 FORMS = (([], '{}'), (['--bytes'], '{}'), (['--json'], '["{}"]'), (['--toml'], 'a = "{}"\n'))
-# A size that is no multiple of any buffer's.
-LARGE = 64 * MIB + 12345
 
 
 def in_each_form(text):
@@ -886,22 +848,21 @@ def in_braces(value):
 # Tests of sources past the size of each buffer
 
 
-def drawn(size, seed):
+def drawn(size):
     """A source of this size, in which a variable stands every some kilobytes, and what it gives where A is `<value>`."""
-    draw = random.Random(seed)
-    block = bytes(draw.choices(b'abcdefghij klmnop\n', k=64 * KIB))
+    block = bytes(random.choices(b'abcdefghij klmnop\n', k=64 * KIB))
     parts, count = [], 0
     while count < size:
-        part = block[:min(draw.randint(1, len(block)), size - count)]
+        part = block[:min(random.randint(1, len(block)), size - count)]
         parts.append(part)
         count += len(part)
     return b'${A}'.join(parts), b'<value>'.join(parts)
 
 
 def test_large_sources():
-    source, output = drawn(LARGE, 1)
-    write('source', source)
     for words in ([], ['--bytes'], ['--envsubst'], ['--only=A']):
+        source, output = drawn(some_size(MIB))
+        write('source', source)
         expect(subst([*words, '-sA=<value>', 'source']), 0, output)
     expect(subst(['-sA=<value>'], source), 0, output)
     expect(subst(['-sA=<value>', '-o', 'output', 'source']), 0)
@@ -913,17 +874,19 @@ def test_large_sources():
 
 
 def test_large_documents():
-    members = {f'key{number}': [f'$A{number % 7}', {'x': '${A}', 'y': f'\u00e4{number}'}] for number in range(100000)}
+    members = {f'key{number}': [f'$A{number % 7}', {'x': '${A}', 'y': f'\u00e4{number}'}]
+               for number in range(some_size(30000, 300000))}
     filled = {key: [f'{item[0].replace("$A", "$B")}', {**item[1], 'x': '$B"'}] for key, item in members.items()}
     words = ['-sA=$B"', *(f'-sA{number}=$B{number}' for number in range(7))]
     source = json.dumps(members)
     expect_tree(subst(['--json', *words], source.encode()), json.loads, filled)
-    source = toml_of({key: members[key] for key in list(members)[:30000]})
-    expect_tree(subst(['--toml', *words], source.encode()), tomllib.loads, dict(list(filled.items())[:30000]))
+    few = list(members)[:some_size(5000, 30000)]
+    source = toml_of({key: members[key] for key in few})
+    expect_tree(subst(['--toml', *words], source.encode()), tomllib.loads, {key: filled[key] for key in few})
 
 
 def test_several_large_files():
-    first, second = drawn(8 * MIB + 1, 2), drawn(8 * MIB + 3, 3)
+    first, second = drawn(some_size(MIB)), drawn(some_size(64 * KIB, 4 * MIB))
     write('first', first[0])
     write('second', second[0])
     expect(subst(['-sA=<value>', 'first', 'second', 'first']), 0, first[1] + second[1] + first[1])
@@ -940,13 +903,13 @@ def test_several_large_files():
 
 
 def test_many_values():
-    names = [f'n{number}' for number in range(10000)]
+    names = [f'n{number}' for number in range(some_size(10000, 40000))]
     source = ' '.join(f'${name}' for name in names).encode()
     wanted = source.replace(b'$n', b'v')
     write('values', b''.join(b'%s=v%s\n' % (name.encode(), name[1:].encode()) for name in names))
     expect(subst(['-f', 'values'], source), 0, wanted)
     expect(subst(['-e'], source, env={name: f'v{name[1:]}' for name in names}), 0, wanted)
-    few = names[:1000]
+    few = names[:some_size(100, 4000)]
     source = ' '.join(f'${name}' for name in few).encode()
     expect(subst([f'-s{name}=v{name[1:]}' for name in few], source), 0, source.replace(b'$n', b'v'))
     expect(subst([*(f'-s{name}=v{name[1:]}' for name in few), f'--only={",".join(few)}'], source + b'$m'), 0,
@@ -954,15 +917,16 @@ def test_many_values():
 
 
 def test_long_values():
-    value = 'x$A\\' * (25 * KIB)
+    value = 'x$A\\' * some_size(KIB, 4 * MIB)
     write('values', f'A={value}\nB=1\\\nC=2'.encode())
     expect(subst(['-f', 'values'], b'$A|$B|$C'), 0, f'{value}|1\\|2'.encode())
+    value = value[:some_size(KIB, 127 * KIB)]
     expect(subst([f'-sA={value}'], b'$A'), 0, value.encode())
     expect(subst(['-e'], b'$A', env={'A': value}), 0, value.encode())
 
 
 def test_many_files():
-    names = [f'f{number}' for number in range(1000)]
+    names = [f'f{number}' for number in range(some_size(300, 3000))]
     for name in names:
         write(name, f'{name} $A\n'.encode())
     expect(subst(['-sA=1', *names]), 0, ''.join(f'{name} 1\n' for name in names).encode())
@@ -972,7 +936,7 @@ def test_many_files():
 
 
 def test_many_names_that_are_missing():
-    names = [f'n{number}' for number in range(2000)]
+    names = [f'n{number}' for number in range(some_size(1000, 8000))]
     ended = subst([], '\n'.join(f'${name}' for name in names).encode())
     wanted = b''.join(told(f'<stdin>:{line}:2', no_such_variable(name), f'${name}', ' ' + '^' * len(name))
                       for line, name in enumerate(names, 1))
@@ -989,7 +953,7 @@ def test_in_place_of_what_gives_nothing():
 
 
 def test_new_file_is_private_while_it_is_written():
-    source, _ = drawn(LARGE, 4)
+    source, _ = drawn(64 * MIB)
     seen = set()
     for _ in range(5):
         write('file', source, 0o600)
@@ -1002,17 +966,12 @@ def test_new_file_is_private_while_it_is_written():
 
 
 def test_large_file_stays_where_the_new_one_cannot_be_written():
-    source, _ = drawn(4 * MIB + 1, 5)
+    source, _ = drawn(some_size(2 * MIB))
     write('file', source)
-    ended = subst(['-sA=1', '-i', 'file'], preexec_fn=write_at_most_a_megabyte)
+    ended = subst(['-sA=1', '-i', 'file'], restore_signals=False, **limited(resource.RLIMIT_FSIZE, MIB))
     expect(ended, 3, errors=failed('file', errno.EFBIG))
     expect_file('file', source)
     expect_files('file')
-
-
-def write_at_most_a_megabyte():
-    signal.signal(signal.SIGXFSZ, signal.SIG_IGN)
-    resource.setrlimit(resource.RLIMIT_FSIZE, (MIB, MIB))
 
 
 def modes_of(name):

@@ -21,7 +21,7 @@ import tty
 sys.dont_write_bytecode = True
 from faults import invalid_escape, missing_brace, missing_name, no_such_variable, unexpected
 from running import (GIB, KIB, MIB, SECONDS, End, Skipped, Wrong, builds_of, expect, expect_that, fill, in_memory,
-                     left_in, limited, path_of, pipe, preloading, run, run_tests, shown, unread_pipe, without)
+                     left_in, limited, path_of, pipe, preloading, run, run_tests, shown, some_size, unread_pipe, without)
 
 PROGRAM = 'subst_filter'
 NOT_UTF8 = b'subst: input is not UTF-8\n'
@@ -35,7 +35,6 @@ SPECIAL = b'\\${}:'
 PLAIN = bytes(byte for byte in range(256) if byte not in b'\\$')
 # The bytes that names of variables are made of.
 NAME_BYTES = b'0123456789ABCDEFGHIJKLMNOPQRSTUVWXYZ_abcdefghijklmnopqrstuvwxyz'
-# Text that gives itself: all of it is more than a pipe holds.
 TEXT = b'Each line of this text is the same as all others.\n'
 # Each first argument of the filter, with a variable for those that take one.
 WORDS = (['bytes', 'name=world'], ['text', 'name=world'], ['env'])
@@ -228,8 +227,8 @@ def test_filter_takes_the_first_of_two_entries_with_a_name():
     expect(End(ran.returncode, ran.stdout, ran.stderr), 0, b'2')
 
 
-def test_filter_takes_an_environment_of_10000_variables():
-    variables = {f'NAME_{number}': f'value {number}' for number in range(10000)}
+def test_filter_takes_an_environment_of_many_variables():
+    variables = {f'NAME_{number}': f'value {number}' for number in range(some_size(1000, 30000))}
     source = ''.join(f'${{{name}}}\n' for name in variables)
     output = ''.join(f'{value}\n' for value in variables.values())
     expect(fill_in_from(variables, source.encode()), 0, output.encode())
@@ -353,7 +352,7 @@ def test_filter_fails_where_a_read_fails():
 
 def test_filter_fails_where_a_write_fails():
     with open('/dev/full', 'wb') as full:
-        for source in (b'a', b'a' * MIB):
+        for source in (b'a', b'a' * some_size(KIB)):
             expect(fill_in([], source, stdout=full), 3, errors=WRITE_FAILED)
             expect(fill_text_in([], source, stdout=full), 3, errors=WRITE_FAILED)
             expect(fill_in_from({}, source, stdout=full), 3, errors=WRITE_FAILED)
@@ -374,10 +373,15 @@ def test_filter_fails_where_a_read_fails_half_way():
         expect(run_on_failing_read(words, b'Hello $name!'), 3, errors=READ_FAILED)
 
 
+def long_text():
+    """A text that gives itself, and is more than a pipe holds."""
+    return TEXT * some_size(3000, 300000)
+
+
 def test_filter_fails_where_a_pipe_is_closed_half_way():
     for words in WORDS:
-        end = run_and_close(words, TEXT * 10000)
-        expect(end, 3, (TEXT * 10000)[:10], WRITE_FAILED)
+        text = long_text()
+        expect(run_and_close(words, text), 3, text[:10], WRITE_FAILED)
 
 
 def test_filter_fails_where_a_read_is_interrupted():
@@ -390,19 +394,21 @@ def test_filter_fails_where_a_read_is_interrupted():
 
 
 def test_filter_goes_on_after_a_write_that_a_signal_cut_short():
+    text = long_text()
     with open('text', 'w+b') as file:
-        file.write(TEXT * 10000)
+        file.write(text)
         for words in WORDS:
             file.seek(0)
             with started(words, stdin=file) as ran:
                 # The pipe is full: the write ends with the bytes that it has moved, and the program writes the rest.
                 interrupt(ran)
-                expect(end_of(ran), 0, TEXT * 10000)
+                expect(end_of(ran), 0, text)
 
 
 def test_filter_fails_where_a_write_is_interrupted():
+    text = long_text()
     with open('text', 'w+b') as file:
-        file.write(TEXT * 10000)
+        file.write(text)
         for words in WORDS:
             file.seek(0)
             with started(words, stdin=file) as ran:
@@ -410,8 +416,8 @@ def test_filter_fails_where_a_write_is_interrupted():
                 interrupt(ran)
                 interrupt(ran)
                 end = end_of(ran)
-            expect(end, 3, (TEXT * 10000)[:len(end.output)], WRITE_FAILED)
-            expect_that(0 < len(end.output) < len(TEXT * 10000), f'{len(end.output)} bytes were written')
+            expect(end, 3, text[:len(end.output)], WRITE_FAILED)
+            expect_that(0 < len(end.output) < len(text), f'{len(end.output)} bytes were written')
 
 
 def test_filter_takes_reads_and_writes_of_1_byte():
@@ -424,7 +430,7 @@ def test_filter_takes_reads_and_writes_of_1_byte():
 
 
 def test_filter_writes_a_prefix_where_a_later_write_fails():
-    result = PLAIN * 1000
+    result = PLAIN * some_size(500, 50000)
     with pipe() as (reader, writer):
         os.set_blocking(writer, False)
         expect(fill_in([], result, stdout=writer), 3, errors=WRITE_FAILED)
@@ -501,13 +507,15 @@ def test_filter_says_out_of_memory_at_input_that_is_too_long():
 # Tests of subst_filter: large runs, which memory is enough for
 
 
-def test_filter_copies_80_mib():
-    source = (PLAIN * (80 * MIB // len(PLAIN) + 1))[:80 * MIB]
-    expect(fill_in([], source), 0, source)
+def test_filter_copies_large_sources():
+    for least in (KIB, MIB, 16 * MIB):
+        size = some_size(least)
+        source = (PLAIN * (size // len(PLAIN) + 1))[:size]
+        expect(fill_in([], source), 0, source)
 
 
-def test_filter_reads_1_mib_of_escapes():
-    output = bytes(random.Random(1).choices(SPECIAL, k=MIB // 2))
+def test_filter_reads_many_escapes():
+    output = bytes(random.choices(SPECIAL, k=some_size(64 * KIB, 4 * MIB)))
     expect(fill_in([], b''.join(b'\\%c' % byte for byte in output)), 0, output)
 
 
@@ -522,49 +530,49 @@ def test_filter_reads_8_mib_of_escapes_in_100_mib():
         expect(run(PROGRAM, words, b'\\$' * (4 * MIB), **in_memory(100 * MIB)), 0, b'$' * (4 * MIB))
 
 
-def test_filter_takes_10000_words_of_one_variable():
-    words = [f'a={number}' for number in range(10000)]
-    expect(fill_in(words, b'$a'), 0, b'9999')
-    expect(fill_text_in(words, b'$a'), 0, b'9999')
+def test_filter_takes_many_words_of_one_variable():
+    words = [f'a={number}' for number in range(some_size(1000, 50000))]
+    for fill in (fill_in, fill_text_in):
+        expect(fill(words, b'$a'), 0, words[-1][2:].encode())
 
 
-def test_filter_takes_names_of_100_kb():
-    name = b'n' * 100000
+def test_filter_takes_long_names():
+    name = b'n' * some_size(KIB, 127 * KIB)
     expect(fill_in([name + b'=1'], b'$' + name), 0, b'1')
     for word in ('bytes', 'text'):
         end = run(PROGRAM, [word], b'${%b}' % name)
         expect(end, 1, errors=refused(no_such_variable(name.decode())))
 
 
-def test_filter_takes_4000_words():
-    words = [f'name{number % 2000}=value{number}' for number in range(4000)]
-    source = ''.join(f'${{name{number}}} $name{number}\n' for number in range(2000))
+def test_filter_takes_many_words():
+    count = some_size(500, 20000)
+    words = [f'name{number % count}=value{number}' for number in range(2 * count)]
+    source = ''.join(f'${{name{number}}} $name{number}\n' for number in range(count))
     # The last argument of a name counts.
-    output = ''.join(f'value{number} value{number}\n' for number in range(2000, 4000))
+    output = ''.join(f'value{number} value{number}\n' for number in range(count, 2 * count))
     expect(fill_in(words, source.encode()), 0, output.encode())
 
 
-def test_filter_reads_200000_braces_in_a_default():
-    for braces in (b'{' * 100000 + b'}' * 100000, b'{}' * 100000):
+def test_filter_reads_many_braces_in_a_default():
+    count = some_size(10000, MIB)
+    for braces in (b'{' * count + b'}' * count, b'{}' * count):
         expect(fill_in([], b'${a:' + braces + b'}'), 0, braces)
         expect(fill_in(['a=1'], b'${a:' + braces + b'}'), 0, b'1')
         expect(fill_in([], b'${a:' + braces), 1, errors=refused(missing_brace()))
 
 
-def test_filter_reads_200000_nested_defaults():
-    opened, closed = 200000 * b'${a:', 200000 * b'}'
+def test_filter_reads_many_nested_defaults():
+    count = some_size(10000, MIB)
+    opened, closed = count * b'${a:', count * b'}'
     expect(fill_in([], opened + b'x' + closed), 0, b'x')
     expect(fill_in([], opened + b'\\x' + closed), 1, errors=refused(invalid_escape('x')))
     expect(fill_in([], opened + b'$b' + closed), 1, errors=refused(no_such_variable('b')))
-    expect(fill_in([], opened + closed[1:]), 1, errors=refused(missing_brace()))
+    for fill in (fill_in, fill_text_in):
+        expect(fill([], opened + closed[1:]), 1, errors=refused(missing_brace()))
 
 
-def test_filter_refuses_100000_levels_of_which_one_is_not_closed():
-    expect(fill_text_in([], 100000 * b'${a:' + 99999 * b'}'), 1, errors=refused(missing_brace()))
-
-
-def test_filter_reads_1000000_levels_on_a_stack_of_64_kib():
-    count, limit = 1000000, limited(resource.RLIMIT_STACK, 64 * KIB)
+def test_filter_reads_many_levels_on_a_stack_of_64_kib():
+    count, limit = some_size(300000, 2 * MIB), limited(resource.RLIMIT_STACK, 64 * KIB)
     opened, closed, braces = count * b'${a:', count * b'}', count * b'{'
     missing = refused(missing_brace())
     rows = [
@@ -581,20 +589,18 @@ def test_filter_reads_1000000_levels_on_a_stack_of_64_kib():
             expect(end, *wanted)
 
 
-def test_filter_writes_100_mib():
-    value = 2048 * ('0123456789abcdef\u00e4\u20ac' + 29 * '.')
-    words, output = ['a=' + value], 1024 * value.encode()
-    expect_that(len(output) >= 100 * MIB, 'the output is too short for this test')
-    expect(fill_in(words, 1024 * b'${a}'), 0, output)
+def test_filter_writes_large_outputs():
+    value, count = 2048 * ('0123456789abcdef\u00e4\u20ac' + 29 * '.'), some_size(64, 1024)
+    expect(fill_in(['a=' + value], count * b'${a}'), 0, count * value.encode())
 
 
-def test_filter_reads_4_mib_with_many_variables():
+def test_filter_reads_large_sources_with_many_variables():
     values = ('', 'v', '$none', '\\}', '${', 'a=b', 'line\nline', '\u00e4\u20ac', 'long ' * 20) * 4
     words = [f'name_{number}={value}' for number, value in enumerate(values)]
-    source = 2500 * ''.join(f'\\$ {{}} $name_{number}-${{name_{number}:$none}}${{no:<$name_{number}>}}${{no?}}\n'
-                            for number in range(len(values)))
-    output = 2500 * ''.join(f'$ {{}} {value}-{value}<{value}>\n' for value in values)
-    expect_that(len(source) > 4 * MIB, 'the source is too short for this test')
+    count = some_size(250, 10000)
+    source = count * ''.join(f'\\$ {{}} $name_{number}-${{name_{number}:$none}}${{no:<$name_{number}>}}${{no?}}\n'
+                             for number in range(len(values)))
+    output = count * ''.join(f'$ {{}} {value}-{value}<{value}>\n' for value in values)
     with open('source', 'w+b') as file:
         file.write(source.encode())
         file.seek(0)

@@ -5,9 +5,9 @@ Half of the sources are of the grammar, and half are damaged at one place. What 
 each, which are written from the rules of the language, is in rows as in crates/subst_vectors/data: the output, or the
 fault and its position, the lists of variables and of those that are missing, and of a text the answer to the JSON
 document of this one string. The program `subst_vectors` runs each row in every way, and the installed library each
-source from Python. Some sources are then given to `subst_filter` and `subst`. With --unproved `rt try` runs the first
-program over the rows of fewer sources, 6,000, and nothing is proved or built. The seed is fixed, unless SEED gives
-another; each failure names it. Each test prints a line, and the last line is 'N passed, M failed, K skipped'.
+source from Python. Some are then given to `subst_filter` and `subst`, also many as one. With --unproved `rt try` runs
+the first program over the rows of fewer sources, 6,000, and nothing is proved or built. The seed is fixed, unless SEED
+gives another; each failure names it. Each test prints a line, and the last line is 'N passed, M failed, K skipped'.
 """
 import argparse
 import functools
@@ -20,7 +20,7 @@ from concurrent.futures import ProcessPoolExecutor
 
 sys.dont_write_bytecode = True
 import installed
-from running import CRATES, Wrong, as_told, expect, run, run_tests
+from running import CRATES, Wrong, as_told, expect, run, run_tests, some_size
 from vectors import decode, encode, pairs_column, ruled_answer, ruled_lists
 
 # How many sources there are in one file of rows.
@@ -207,12 +207,23 @@ def expect_subst_ends(source, variables, output, error):
     expect(end._replace(errors=end.errors[:len(first) or None]), 1 if error else 0, output, first)
 
 
+def programs_fill_in_large_texts(seed):
+    """Gives the programs many texts at once, again and again up to a size that is drawn."""
+    sources, variables = some_sources(seed, 'texts_of_the_grammar', 'large')
+    variables.update({b'none': b'$a', b'none_2': b''})
+    source, times = b''.join(sources), some_size(1, 100)
+    output = decode(ruled_answer(source, variables)[1])
+    expect_filter_ends(times * source, variables, times * output, None)
+    expect_subst_ends(times * source, variables, times * output, None)
+
+
 def tests(seed, count, prefix):
     """The tests, each with its name."""
     files = {name: max(1, round(count * share / 10 / CHUNK)) for name, (*_, share) in MAKES.items()}
     compared = [(f'{many * CHUNK}_{name}', functools.partial(compare, seed, prefix, name, many))
                 for name, many in files.items()]
-    return [*compared, (f'programs_on_{RUN}_texts', functools.partial(programs_end_as_the_library_says, seed, prefix))]
+    return [*compared, (f'programs_on_{RUN}_texts', functools.partial(programs_end_as_the_library_says, seed, prefix)),
+            ('programs_on_large_texts', functools.partial(programs_fill_in_large_texts, seed))]
 
 
 def main():

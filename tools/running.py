@@ -5,6 +5,7 @@ import contextlib
 import functools
 import os
 import pathlib
+import random
 import re
 import resource
 import shutil
@@ -24,6 +25,8 @@ SECONDS = 30
 KIB = 1 << 10
 MIB = 1 << 20
 GIB = 1 << 30
+# What tests draw their sizes from, which a failure names: given in the environment, it has the same drawn again.
+SEED = os.environ.get('SEED') or str(random.randrange(10 ** 6))
 
 
 class End(NamedTuple):
@@ -202,6 +205,11 @@ def left_in(reader):
 # Tests
 
 
+def some_size(least, most=64 * MIB):
+    """A size between these two, in each doubling as likely as in any other, so that no program has a limit past it."""
+    return round(least * (most / least) ** random.random())
+
+
 def need(program):
     """Skips the test unless a program is there."""
     if shutil.which(program) is None:
@@ -211,6 +219,7 @@ def need(program):
 def outcome(name, test):
     """Runs a test, prints its line, and returns the word that it is counted under."""
     begin, why, word = time.monotonic(), '', 'passed'
+    random.seed(f'{SEED} {name}')
     try:
         test()
     except Skipped as reason:
@@ -220,6 +229,7 @@ def outcome(name, test):
     except subprocess.TimeoutExpired:
         why, word = f'no end in {SECONDS} s', 'failed'
     took = time.monotonic() - begin
+    why += f' (SEED={SEED})' if word == 'failed' else ''
     print(f'{name}: {took:.1f} s' if word == 'passed' else f'{name}: {word.upper()}: {why}', flush=True)
     return word
 

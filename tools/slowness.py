@@ -1,18 +1,22 @@
 #!/usr/bin/env python3
-"""slowness.py   Compares what the built programs take for n of something with what they take for eight times as many.
+"""slowness.py   Compares what the built programs, and calls of the library from Python, take for n of something with
+what they take for eight times as many.
 
-Each work takes less than 24 times as much processor time for 8n as for n: where the time grows with the square of n, it
-is 64 times as much. Contracts bound the reads and the turns of a loop, and nothing else here. Of some runs the least time
-counts, and where it is too much, of more runs. Less than 10 ms for 8n is never too much, since the square of 8n, which is
-40,000 or more, is more steps than that. The last line is 'N passed, M failed, K skipped'.
+Each work takes less than 24 times as much processor time for 8n as for n: where the time grows with the square of n,
+it is 64 times as much. Contracts bound the reads and the turns of a loop, and nothing else here. Of some runs the least
+time counts, and where it is too much, of more runs. Less than 10 ms for 8n is never too much, since the square of 8n,
+which is 32,000 or more, is more steps than that. The last line is 'N passed, M failed, K skipped'.
 """
 import functools
+import operator
 import re
 import resource
 import sys
-from typing import NamedTuple
+import time
+from typing import Callable, NamedTuple
 
 sys.dont_write_bytecode = True
+import installed
 from running import KIB, MIB, expect_that, run, run_tests
 
 # How often each work is done at a time, how often at most, how many times as much is done, how many times as long that
@@ -28,154 +32,153 @@ class Run(NamedTuple):
     output: bytes = b''
     faults: int = 0
 
+    def seconds(self, _):
+        """The processor time of the run, which fails the test if it ended early: then it is fast."""
+        with open('source', 'w+b') as source:
+            source.write(self.source)
+            source.seek(0)
+            before = resource.getrusage(resource.RUSAGE_CHILDREN)
+            ended = run(self.program, self.words, stdin=source)
+            after = resource.getrusage(resource.RUSAGE_CHILDREN)
+        faults = len(re.findall(rb'^<stdin>:', ended.errors, re.MULTILINE)) if self.faults > 1 else bool(ended.errors)
+        expect_that((ended.status, ended.output, faults) == (self.faults > 0, self.output, self.faults),
+                    f'{ended.status}, {len(ended.output)} bytes and {faults} faults')
+        return after.ru_utime + after.ru_stime - before.ru_utime - before.ru_stime
+
+
+class Call(NamedTuple):
+    """A call of the module over the library, and what it returns, or the position of its fault."""
+    call: Callable
+    wanted: object
+
+    def seconds(self, module):
+        before = time.process_time()
+        try:
+            came = self.call(module)
+        except module.SubstError as refused:
+            came = refused.position
+        spent = time.process_time() - before
+        expect_that(came == self.wanted, 'it returns something else')
+        return spent
+
+
+def call(name, *arguments, wanted):
+    return Call(operator.methodcaller(name, *arguments), wanted)
+
 
 def check(source, *words, faults=1):
     return Run('subst_program', words, source, faults=faults)
-
-
-def fault_after_a_line(count):
-    return check(count * b'a' + b'$')
-
-
-def fault_after_lines(count):
-    return check(count * b'a\n' + b'$')
-
-
-def highlighting(count):
-    return Run('subst_filter', ['text'], count * b'a\n' + b'$', faults=1)
 
 
 def names(count):
     return [f'name_{number}' for number in range(count)]
 
 
-def source_of(count):
-    return ''.join(f'${{{name}}}' for name in names(count)).encode()
+def values(count):
+    return {name: '1' for name in names(count)}
 
 
-def words(count):
-    return Run('subst_filter', ['bytes', *(f'{name}=1' for name in names(count))], b'$name_0', b'1')
+def settings(count, before=''):
+    return [f'{before}{name}=1' for name in names(count)]
 
 
-def words_of_one_name(count):
-    return Run('subst_filter', ['bytes', *(count * ['name=1'])], b'$name', b'1')
+def source_of(count, form='${{{}}}'):
+    return ''.join(map(form.format, names(count)))
 
 
-def variables_in_a_hash_map(count):
-    return Run('subst_filter', ['bytes', *(f'{name}=1' for name in names(count))], 8 * source_of(count), 8 * count * b'1')
+def fill_in_names(count, program, *words):
+    """Each name is filled in eight times."""
+    return Run(program, words, 8 * source_of(count).encode(), 8 * count * b'1')
 
 
-def sets(count):
-    given = [word for name in names(count) for word in ('-s', f'{name}=1')]
-    return Run('subst_program', given, 8 * source_of(count), 8 * count * b'1')
+def names_in(source):
+    """The names of a source, which are all in braces and required, as the library lists them."""
+    return [(0, it[1], it.start(1)) for it in re.finditer(r'{(\w+)}', source)]
 
 
-def missing_names(count):
-    return check(source_of(count), faults=count)
+def print_names(source, *words):
+    lines = (f'{name}\t<stdin>:1:{at + 1}\trequired\n' for _, name, at in names_in(source))
+    return Run('subst_program', ['--names', *words], source.encode(), ''.join(lines).encode())
 
 
-def listed_names(count):
-    source = source_of(count)
-    listed = (b'%s\t<stdin>:1:%d\trequired\n' % (it[1], it.start(1) + 1) for it in re.finditer(rb'{(\w+)}', source))
-    return Run('subst_program', ['--names'], source, b''.join(listed))
+def numbered(count, document, member):
+    """A document with so many members, each with its number."""
+    return document % b''.join(member % number for number in range(count))
 
 
-def variables(count):
-    return Run('subst_filter', ['bytes', 'a=1'], count * b'$a ', count * b'1 ')
-
-
-def escapes(count):
-    return Run('subst_filter', ['bytes'], count * b'\\$', count * b'$')
-
-
-def nested_defaults(count):
-    return Run('subst_filter', ['bytes'], count * b'${a:' + count * b'}')
-
-
-def braces_in_a_default(count):
-    return Run('subst_filter', ['bytes'], b'${a:' + count * b'{' + count * b'}' + b'}', count * b'{' + count * b'}')
-
-
-def unclosed_defaults(count):
-    return Run('subst_filter', ['bytes'], count * b'${a:\\x', faults=1)
-
-
-def fault_after_members_of_json(count):
-    members = b''.join(b'"a%d":"$a",' % number for number in range(count))
-    return check(b'{' + members + b'"b":"$"}', '--json', '-s', 'a=1')
-
-
-def faults_of_json(count):
-    return check(b'[' + count * b'"$",' + b'1]', '--json', faults=count)
-
-
-def fault_after_escapes_of_json(count):
-    return check(b'"' + count * b'\\u0061' + b'$"', '--json')
-
-
-def fault_after_pairs_of_toml(count):
-    pairs = b''.join(b'a%d = "$a"\n' % number for number in range(count))
-    return check(pairs + b'b = "$"\n', '--toml', '-s', 'a=1')
-
-
-def faults_of_toml(count):
-    return check(b'a = [' + count * b'"$",' + b']\n', '--toml', faults=count)
-
-
-def fault_after_escapes_of_toml(count):
-    return check(b'a = "' + count * b'\\u0061' + b'$"\n', '--toml')
-
-
-# Each work, with its n.
+# A string of a document.
+STRING = '"${{{}}}",'
+# Each work, with its n, and what does so many of it.
 WORKS = {
-    fault_after_a_line: 4 * MIB, fault_after_lines: 4 * MIB, highlighting: 4 * MIB,
-    words: 10000, words_of_one_name: 10000, variables_in_a_hash_map: 5000, sets: 5000, variables: 256 * KIB,
-    missing_names: 5000, listed_names: 5000,
-    escapes: 256 * KIB, nested_defaults: 256 * KIB, braces_in_a_default: 2 * MIB, unclosed_defaults: 512 * KIB,
-    fault_after_members_of_json: 20000, faults_of_json: 20000, fault_after_escapes_of_json: 256 * KIB,
-    fault_after_pairs_of_toml: 5000, faults_of_toml: 20000, fault_after_escapes_of_toml: 256 * KIB,
+    'fault after a line': (4 * MIB, lambda n: check(n * b'a' + b'$')),
+    'fault after lines': (4 * MIB, lambda n: check(n * b'a\n' + b'$')),
+    'highlighting': (4 * MIB, lambda n: Run('subst_filter', ['text'], n * b'a\n' + b'$', faults=1)),
+    'words': (10000, lambda n: Run('subst_filter', ['bytes', *settings(n)], b'$name_0', b'1')),
+    'words of one name': (10000, lambda n: Run('subst_filter', ['bytes', *n * ['name=1']], b'$name', b'1')),
+    'words in a hash map': (5000, lambda n: fill_in_names(n, 'subst_filter', 'bytes', *settings(n))),
+    'variables': (256 * KIB, lambda n: Run('subst_filter', ['bytes', 'a=1'], n * b'$a ', n * b'1 ')),
+    'escapes': (256 * KIB, lambda n: Run('subst_filter', ['bytes'], n * b'\\$', n * b'$')),
+    'nested defaults': (256 * KIB, lambda n: Run('subst_filter', ['bytes'], n * b'${a:' + n * b'}')),
+    'braces in a default': (2 * MIB, lambda n: Run('subst_filter', ['bytes'], b'${a:' + n * b'{' + n * b'}' + b'}',
+                                                          n * b'{' + n * b'}')),
+    'unclosed defaults': (512 * KIB, lambda n: Run('subst_filter', ['bytes'], n * b'${a:\\x', faults=1)),
+    'sets': (5000, lambda n: fill_in_names(n, 'subst_program', *settings(n, '-s'))),
+    'lines of values': (5000, lambda n: Run('subst_program', ['-f', '-', '/dev/null'], source_of(n, '{}=\n').encode())),
+    'lines of one name': (5000, lambda n: Run('subst_program', ['-f', '-', '/dev/null'], n * b'name=1\n')),
+    'files': (5000, lambda n: Run('subst_program', n * ['/dev/null'], b'')),
+    'missing in lines': (4000, lambda n: check(n * b'$a ${a}\n', faults=2 * n)),
+    'missing in bytes': (4000, lambda n: check(n * b'$a ${a}\n', '--bytes', faults=2 * n)),
+    'missing in texts of envsubst': (4000, lambda n: check(n * b'$a ${a}\n', '--envsubst', faults=2 * n)),
+    'missing names': (5000, lambda n: check(source_of(n).encode(), faults=n)),
+    'listed names': (5000, lambda n: print_names(source_of(n))),
+    'listed names of envsubst': (5000, lambda n: print_names(source_of(n), '--envsubst')),
+    'fault after members of json': (20000, lambda n: check(numbered(n, b'{%b"b":"$"}', b'"a%d":"$a",'),
+                                                           '--json', '-sa=1')),
+    'faults of json': (20000, lambda n: check(b'[' + n * b'"$",' + b'1]', '--json', faults=n)),
+    'missing in json': (4000, lambda n: check(b'[' + n * b'"$a $a",' + b'1]', '--json', faults=2 * n)),
+    'listed names of json': (4000, lambda n: Run('subst_program', ['--json', '--names'], b'[' + n * b'"$a $a",' + b'1]',
+                                                 b'a\t<stdin>:1:4\trequired\n')),
+    'fault after escapes of json': (256 * KIB, lambda n: check(b'"' + n * b'\\u0061' + b'$"', '--json')),
+    'fault after pairs of toml': (5000, lambda n: check(numbered(n, b'%bb = "$"', b'a%d = "$a"\n'), '--toml', '-sa=1')),
+    'faults of toml': (20000, lambda n: check(b'a = [' + n * b'"$",' + b']\n', '--toml', faults=n)),
+    'missing in toml': (4000, lambda n: check(numbered(n, b'%b', b'a%d = "$a $a"\n'), '--toml', faults=2 * n)),
+    'fault after escapes of toml': (256 * KIB, lambda n: check(b'a = "' + n * b'\\u0061' + b'$"\n', '--toml')),
+    'call for variables': (20000, lambda n: call('variables', source_of(n), wanted=names_in(source_of(n)))),
+    'call for what is missing': (10000, lambda n: call('missing', source_of(2 * n), values(n),
+                                                       wanted=names_in(source_of(2 * n))[n:])),
+    'call with pairs': (20000, lambda n: call('fill_in', source_of(n), values(n), wanted=n * '1')),
+    'call with rows': (20000, lambda n: Call(
+        lambda module, rows=n * [{'a': '1'}]: module.Template('$a').fill_in_each(rows), n * ['1'])),
+    'call for a fault': (MIB, lambda n: call('fill_in', n * 'a\n' + '$', {}, wanted=2 * n)),
+    'call for json': (10000, lambda n: call('fill_in_json', f'[{source_of(n, STRING)}1]', values(n),
+                                            wanted='[' + n * '"1",' + '1]')),
+    'call for a fault of json': (20000, lambda n: call('fill_in_json', '[' + n * '"a",' + '"$"]', {},
+                                                       wanted=4 * n + 2)),
+    'call for toml': (10000, lambda n: call('fill_in_toml', f'a = [{source_of(n, STRING)}]', values(n),
+                                            wanted='a = [' + n * '"1",' + ']')),
 }
 
 
-def time_of(it):
+def time_of(it, module):
     """The least processor time of some runs, in seconds."""
-    def spent():
-        used = resource.getrusage(resource.RUSAGE_CHILDREN)
-        return used.ru_utime + used.ru_stime
-
-    times = []
-    with open('source', 'w+b') as source:
-        source.write(it.source)
-        for _ in range(RUNS):
-            source.seek(0)
-            before = spent()
-            ended = run(it.program, it.words, stdin=source)
-            times.append(spent() - before)
-            look_at(ended, it)
-    return min(times)
+    return min(it.seconds(module) for _ in range(RUNS))
 
 
-def look_at(ended, it):
-    """Fails the test unless a run gave its output, or reported its faults: one that ends early is fast."""
-    faults = len(re.findall(rb'^<stdin>:', ended.errors, re.MULTILINE)) if it.faults > 1 else bool(ended.errors)
-    expect_that((ended.status, ended.output, faults) == (it.faults > 0, it.output, it.faults),
-                f'{ended.status}, {len(ended.output)} bytes and {faults} faults')
-
-
-def grows_little(work, count):
+def grows_little(work, count, module):
     """Fails the test where more of it takes too long."""
-    few, many = time_of(work(count)), time_of(work(MORE * count))
+    few, many = time_of(work(count), module), time_of(work(MORE * count), module)
     for _ in range(RUNS, MOST_RUNS, RUNS):
         if many < max(MOST * few, LEAST):
             return
-        few, many = min(few, time_of(work(count))), min(many, time_of(work(MORE * count)))
+        few, many = min(few, time_of(work(count), module)), min(many, time_of(work(MORE * count), module))
     expect_that(many < max(MOST * few, LEAST), f'{few:.3f} s for {count} and {many:.3f} s for {MORE * count}')
 
 
 def main():
-    tests = [(work.__name__.replace('_', ' '), functools.partial(grows_little, work, count))
-             for work, count in WORKS.items()]
-    run_tests(tests, ['subst_filter', 'subst_program'])
+    with installed.installed() as prefix:
+        module = installed.module(prefix)
+        tests = [(name, functools.partial(grows_little, work, count, module)) for name, (count, work) in WORKS.items()]
+        run_tests(tests, ['subst_filter', 'subst_program'])
 
 
 main()

@@ -1,0 +1,83 @@
+#!/usr/bin/env python3
+"""instructions.py [--write]   Compares the instructions that works of the built programs take with those stored in
+tests/data/instructions.tsv.
+
+Contracts bound the reads and the turns of a loop, and don't say what each takes: work that is done twice is seen here.
+Callgrind counts, start-up included. A work fails where it takes more than a tenth above what is stored; where it takes
+a tenth less, that is said, and --write stores all anew. The last line is 'N passed, M failed, K skipped'.
+"""
+import functools
+import sys
+
+sys.dont_write_bytecode = True
+from running import MIB, TOP, expect_that, need, run_tests
+
+sys.path.insert(0, str(TOP / 'benches'))
+import inputs
+import run as benches
+
+TABLE = TOP / 'tests/data/instructions.tsv'
+HEAD = '# Written by tools/instructions.py --write alone: the instructions of each work.\n'
+# How many times as many instructions as are stored are too many, and how many are so few that they are stored anew.
+MOST, FEW = 1.1, 0.9
+# Without the copies by `rep movsb`, which count once for each byte from a length on that depends on the machine.
+COPIES = {'GLIBC_TUNABLES': 'glibc.cpu.hwcaps=-ERMS,-FSRM'}
+TEXT = 'A line of prose, in which no byte is special - but Ŵörds are wide.\n'
+NAMES = ('HOST', 'PORT', 'USER_NAME', 'DB', 'REGION', 'TOKEN')
+SETTINGS = [f'{name}=the value of {name}' for name in NAMES]
+
+
+def filled(word, text, size=MIB):
+    """A run of the filter over a text, again and again up to this size."""
+    source = text.encode()
+    source *= size // len(source)
+    return benches.run_on(source, benches.program('subst_filter'), word, *SETTINGS, **COPIES)
+
+
+def command(source, *words):
+    return benches.run_on(source, benches.program('subst_program'), *words, **COPIES)
+
+
+def filled_document(kind):
+    made = inputs.document(kind, 100_000)
+    return command(made.source, f'--{kind}', *(f'-s{name}={value}' for name, value in made.variables.items()))
+
+
+WORKS = {
+    'the filter starts': lambda: filled('bytes', TEXT, 0),
+    'prose': lambda: filled('bytes', TEXT),
+    'prose as a text': lambda: filled('text', TEXT),
+    'settings': lambda: filled('bytes', inputs.CONFIGURATION),
+    'escapes': lambda: filled('bytes', ''.join(inputs.ESCAPES)),
+    'nested defaults': lambda: filled('bytes', inputs.nested_defaults(50)),
+    'subst starts': lambda: command(b''),
+    'subst of settings': lambda: command(1000 * inputs.CONFIGURATION.encode(), *(f'-s{it}' for it in SETTINGS)),
+    'JSON': lambda: filled_document('json'),
+    'TOML': lambda: filled_document('toml'),
+}
+
+
+def stored():
+    lines = TABLE.read_text(encoding='utf-8').splitlines()[1:]
+    return {name: int(count) for name, count in (line.split('\t') for line in lines)}
+
+
+def compare(name):
+    """Fails the test where a work takes more than is stored."""
+    need('valgrind')
+    count, known = benches.instructions(WORKS[name]()), stored().get(name, 0)
+    expect_that(count <= MOST * known, f'{count:,} instructions, and {known:,} are stored')
+    if count < FEW * known:
+        print(f'{name}: {count:,} instructions alone, and {known:,} are stored: --write stores them anew')
+
+
+def main():
+    if sys.argv[1:] == ['--write']:
+        lines = [f'{name}\t{benches.instructions(make())}\n' for name, make in WORKS.items()]
+        TABLE.write_text(HEAD + ''.join(lines), encoding='utf-8')
+    else:
+        run_tests([(name, functools.partial(compare, name)) for name in WORKS], ['subst_filter', 'subst_program'],
+                  ['valgrind'])
+
+
+main()
