@@ -210,7 +210,7 @@ def test_values_that_cannot_be_read():
     errors = failed('nothing', errno.ENOENT) + failed('.', errno.EISDIR)
     expect(subst(['-f', 'nothing', '-f', '.'], b'$none'), 3, errors=errors)
     write('values', b'A')
-    errors = told_without_line('values:1:1', "missing '='") + failed('nothing', errno.ENOENT)
+    errors = failed('nothing', errno.ENOENT) + told_without_line('values:1:1', "missing '='")
     expect(subst(['-f', 'values', '-f', 'nothing'], b'$none'), 3, errors=errors)
 
 
