@@ -30,7 +30,8 @@ mod variable;
 ///
 /// When allocation fails.
 pub fn from_envsubst(alloc: Global, text: &str) -> Result<String, AllocError>
-    ensures { IfOk result (λ template. IsTemplateFor IsShellName text.now (string_bytes template)) }
+    ensures template { IfOk result
+        (λ template. IsTemplateFor IsShellName text.now (string_bytes template)) }
 {
     text_template_for(alloc, text, &ShellNames)
 }
@@ -41,7 +42,8 @@ pub fn from_envsubst(alloc: Global, text: &str) -> Result<String, AllocError>
 ///
 /// When allocation fails.
 pub fn bytes_from_envsubst(alloc: Global, source: &[u8]) -> Result<Vec<u8>, AllocError>
-    ensures { IfOk result (λ template. IsTemplateFor IsShellName source.now template.items) }
+    ensures template { IfOk result
+        (λ template. IsTemplateFor IsShellName source.now template.items) }
 {
     template_for(alloc, source, &ShellNames)
 }
@@ -59,8 +61,8 @@ pub fn bytes_from_envsubst(alloc: Global, source: &[u8]) -> Result<Vec<u8>, Allo
 ///
 /// When allocation fails.
 pub fn with_only(alloc: Global, text: &str, names: &[&str]) -> Result<String, AllocError>
-    ensures { IfOk result (λ template.
-        IsTemplateFor (IsListed names.now) text.now (string_bytes template)) }
+    ensures template { IfOk result
+        (λ template. IsTemplateFor (IsListed names.now) text.now (string_bytes template)) }
 {
     text_template_for(alloc, text, &ListedNames { names })
 }
@@ -71,8 +73,8 @@ pub fn with_only(alloc: Global, text: &str, names: &[&str]) -> Result<String, Al
 ///
 /// When allocation fails.
 pub fn bytes_with_only(alloc: Global, source: &[u8], names: &[&str]) -> Result<Vec<u8>, AllocError>
-    ensures { IfOk result (λ template.
-        IsTemplateFor (IsListed names.now) source.now template.items) }
+    ensures template { IfOk result
+        (λ template. IsTemplateFor (IsListed names.now) source.now template.items) }
 {
     template_for(alloc, source, &ListedNames { names })
 }

@@ -1,5 +1,5 @@
 -- What callers need beside the contracts of the calls: known answers, which memory alone can prevent.
-use Rattle.std.proofs.Common.{◌≡◌, ◌≤◌, ◌<◌, ◌+◌, ◌*◌, ◌==◌, ℕ, List, length, count_by, Option, Some, None, Result, Ok, Err, IfNone, IfOk, IfSome, IsOk, IsTrue, OnOk, ◌++◌, refl, ap, subst, sym, arith}
+use Rattle.std.proofs.Common.{◌≡◌, ◌≤◌, ◌<◌, ◌+◌, ◌*◌, ◌==◌, ℕ, List, length, count_by, Option, Some, None, Result, Ok, Err, IfErr, IfNone, IfOk, IfSome, IsOk, IsTrue, OnOk, ◌++◌, refl, ap, subst, sym, arith}
 use Rattle.std.proofs.Math.Path.{fun_ext}
 use Rattle.std.proofs.lemmas.Iterator.Adapters.{option_map_id}
 use Rattle.std.specs.List.{All}
@@ -20,18 +20,20 @@ use Rattle.subst_language.specs.Language.Value.{Value, Bytes, value}
 use Rattle.subst_language.specs.Language.Written.{written}
 use Rattle.subst_language.specs.Language.BadItem.{HasFault}
 use Rattle.subst_language.specs.Language.Answer.{Answer, Answers, Gives, Refuses, IsMissing}
-use Rattle.subst_language.specs.Calls.VariableMap.{look_up_of}
+use Rattle.subst_language.specs.Language.Several.{IsFirstRefusal, RefusesFirst, under}
+use Rattle.subst_language.specs.Calls.Clauses.{AnswersText}
+use Rattle.subst_language.specs.Calls.VariableMap.{look_up_of, ByLookUp}
 use Rattle.subst_language.specs.Calls.Outcome.{Expands, ExpandsInto, OnFault, OnOutOfMemory, answer_of}
 use Rattle.subst_language.proofs.Language.FaultLemmas.{exclusive}
 use Rattle.subst_language.proofs.Language.ListLemmas.{each_by_recursion}
 use Rattle.subst_language.proofs.Language.PlainLemmas.{plains, text-plains, value-plains, well_formed_plains}
 use Rattle.subst_language.proofs.WorkedExamples.Forms.{is_well_formed, well_formed_from_test}
+use Rattle.subst_language.proofs.Language.AlikeLemmas.{found_as_read}
 use Rattle.subst_language.proofs.Language.AnswerLemmas.{answer_unique, refused_for}
 use Rattle.subst_language.proofs.Language.RangeLemmas.{error_in_text}
+use Rattle.subst_language.proofs.Language.SeveralLemmas.{first_weaker}
 use Rattle.subst_language.proofs.Language.RangeWithinLemmas.{refusal_within}
-use Rattle.subst_language.proofs.Language.ValueLengthLemmas.{value_length_within}
-use Rattle.subst_language.proofs.Language.StepsLemmas.{Tells, value_tells, written_at_most}
-use Rattle.subst_language.specs.Language.Steps.{steps_of}
+use Rattle.subst_language.proofs.Language.ValueLengthLemmas.{value_length_within, written_exact, written_length_at_most}
 
 -- a tree that passes the test and whose text the source is, is the source's tree
 pub spells : (s : List ℕ) (t : Tree) → IsTrue (is_well_formed t) → s ≡ text t → Spells t s
@@ -128,8 +130,7 @@ given_in_capacity s x look before after len capacity (Err e) (t, spells, gives) 
     no_error : (o : Option Fault) → IfSome o (IsMissing (value 0 t look))
         → IfNone o (capacity < len + length (written 0 t look)) → ⊥
     no_error None missing short =
-        let tells = subst (Tells (steps_of 0 t look)) gives (value_tells 0 t look) in
-        omega (arith, enough, short, ap length tells.0)
+        omega (arith, enough, short, ap length (written_exact 0 t look x gives))
     no_error (Some f) (position, name, missing, is) short = absurd cc
 
 -- Where no value is longer than `longest`, an output with enough for the source, and for `longest` for each
@@ -147,13 +148,29 @@ never_full s look longest len capacity (Err e) (t, spells) short enough full =
     of : (o : Option Fault) → IfNone o (capacity < len + length (written 0 t look)) → IfNone o ⊥
     of None too_short =
         let bound = value_length_within s t look longest spells short in
-        let most = written_at_most (steps_of 0 t look) in
+        let most = written_length_at_most 0 t look in
         absurd (omega (arith, enough, too_short, bound, most))
     of (Some f) too_short = tt
 
 -- values that are bytes already leave a look-up as it is
 pub same_look_up : (look : LookUp) → look_up_of (λ bytes. bytes) look ≡ look
 same_look_up look = fun_ext (λ name. option_map_id (look name))
+
+-- what is known of a map's answer to a text is so under its look-up of bytes
+pub answer_by_map : {V Seen : Type 0} (items : V → List ℕ) (see : V → Seen) (look_up : List ℕ → Option Seen)
+    (s : List ℕ) (answer : Answer) → AnswersText items see look_up s answer
+    → ByLookUp items see look_up (λ look. Answers s look answer)
+answer_by_map items see look_up s (Gives x) h = h.1
+answer_by_map items see look_up s (Refuses f) h = λ bytes reads.
+    h.0 (look_up_of bytes look_up) (λ name. found_as_read bytes (look_up name))
+
+-- so of the first refusal of several texts
+pub first_by_map : {V Seen : Type 0} (items : V → List ℕ) (see : V → Seen) (look_up : List ℕ → Option Seen)
+    (texts : List (List ℕ)) (f : Fault) → RefusesFirst (AnswersText items see look_up) texts f
+    → ByLookUp items see look_up (λ look. IsFirstRefusal look texts f)
+first_by_map items see look_up texts f h = λ bytes reads.
+    first_weaker (AnswersText items see look_up) (under (look_up_of bytes look_up))
+    (λ s answer known. answer_by_map items see look_up s answer known bytes reads) texts f h
 
 -- an answer under a look-up whose values are bytes already, read as they are, is one under the look-up
 pub answer_as_read : (s : List ℕ) (look : LookUp) (found : Option Answer)
@@ -168,6 +185,15 @@ pub given_as_read : {T : Type 0} (bytes_of : T → List ℕ) (s x : List ℕ) (l
     → IfOk result (λ output. bytes_of output ≡ x)
 given_as_read bytes_of s x look result known h =
     given bytes_of s x look result known (answer_as_read s look (answer_of bytes_of result) h)
+
+-- an error of such a substitution says that memory ran out
+pub alone_as_read : {T : Type 0} (bytes_of : T → List ℕ) (s x : List ℕ) (look : LookUp)
+    (result : Result T Error) → Answers s look (Gives x)
+    → IfSome (answer_of bytes_of result) (Answers s (look_up_of (λ bytes. bytes) look))
+    → IfErr result (λ e. error_fault e ≡ None)
+alone_as_read bytes_of s x look (Ok output) known h = tt
+alone_as_read bytes_of s x look (Err e) known h =
+    memory_alone s x look e known (answer_as_read s look (answer_of bytes_of (Err e)) h)
 
 -- a source without dollars and backslashes gives itself, whatever the look-up
 pub plain_answer : (s : List ℕ) (look : LookUp) → All IsPlain s → Answers s look (Gives s)

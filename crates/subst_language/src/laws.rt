@@ -24,6 +24,7 @@ ghost use Rattle.subst_language.specs.Language.Value.{Bytes, Missing, value};
 ghost use Rattle.subst_language.specs.Language.Variables.{Variable, all_missing, is_required, name_of, required};
 ghost use Rattle.subst_language.specs.Language.Variables.{variables_of};
 ghost use Rattle.subst_language.specs.Language.ValueLength.{length_of, value_length, visited_length};
+ghost use Rattle.subst_language.specs.Language.Written.{written};
 ghost use Rattle.subst_language.specs.Language.Counts.{part_count, visited_count};
 
 /// The law of one reading. Each byte string is a sentence of the template language or has a fault, never
@@ -169,6 +170,16 @@ pub fn outputs_are_bounded()
         → value_length t look ≤ length (text t) + visited_length t look }
     ensures values { (t : Tree) (look : LookUp)
         → visited_length t look ≤ sum_by (length_of look) (names_in t) }
+{}
+
+/// The law of writing. What an evaluation writes is the bytes of the value, where it is bytes. It is at most as
+/// long as the plain and escaped bytes of the tree and the values of the variables that are visited, also
+/// where a variable is missing.
+pub fn writes_are_bounded()
+    ensures exact { (p : ℕ) (t : Tree) (look : LookUp) (x : List ℕ) → value p t look ≡ Bytes x
+        → written p t look ≡ x }
+    ensures bound { (p : ℕ) (t : Tree) (look : LookUp)
+        → length (written p t look) ≤ value_length t look }
 {}
 
 /// The law of texts. Where a source is UTF-8, and so is each value of a look-up, the value of the source's

@@ -7,7 +7,7 @@ ghost use Rattle.subst_language.specs.Language.Name.{BeginsWithNo, IsName, IsNam
 
 /// Returns whether bytes are a name: one or more of the letters, digits and the underscore of ASCII.
 pub fn is_name(bytes: &[u8]) -> bool
-    ensures { IsTrue result ↔ IsName bytes.now }
+    ensures name { IsTrue result ↔ IsName bytes.now }
 {
     !bytes.is_empty() && are_name_bytes(bytes)
 }

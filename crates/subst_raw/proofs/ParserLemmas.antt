@@ -1,8 +1,9 @@
 -- The parser's states, from one to the next.
-use Rattle.std.proofs.Common.{◌≡◌, ◌≢◌, ℕ, suc, ◌+◌, ◌-◌, ◌<◌, ◌≤◌, true, List, [], ◌∷◌, ◌++◌, length, drop, reverse, Option, Some, None, Result, Ok, Err, OnErr, OnOk, Vec, Global, Bor, refl, sym, ap, ◌∙◌, subst, append-nil, length-append, length-drop, arith}
+use Rattle.std.proofs.Common.{◌≡◌, ◌≢◌, ℕ, suc, ◌+◌, ◌-◌, ◌<◌, ◌≤◌, true, List, [], ◌∷◌, ◌++◌, length, drop, take, reverse, Option, Some, None, Result, Ok, Err, OnErr, OnOk, Vec, Global, Bor, refl, sym, ap, ◌∙◌, subst, append-nil, length-append, length-drop, arith}
 use Rattle.std.proofs.Math.Decide.{ℕ_discrete}
-use Rattle.std.proofs.lemmas.List.{reverse-append, drop_all}
-use Rattle.std.specs.List.{slice_get}
+use Rattle.std.proofs.lemmas.List.{reverse-append, drop_all, take-append-drop}
+use Rattle.std.proofs.lemmas.List.Elements.{Contains-append_right}
+use Rattle.std.specs.List.{slice_get, Contains}
 use Rattle.subst_language.specs.Language.Bytes.{colon, closing_brace, backslash, dollar, opening_brace}
 use Rattle.subst_raw.specs.ByteRun.{IsRun}
 use Rattle.subst_raw.specs.Inner.{IsInner}
@@ -16,9 +17,10 @@ use Rattle.subst_raw.specs.Sink.{HoldsFrom, HoldsSome, since, CanClose, CanTake,
 use Rattle.subst_raw.specs.Halt.{halt_fault}
 use Rattle.subst_raw.specs.Packed.{FitsBelow}
 use Rattle.subst_raw.specs.declared.halt.Halt.{Halt}
-use Rattle.std.specs.Option.{IfSome, IsSomeAnd}
+use Rattle.std.specs.Option.{IsSomeAnd}
 use Rattle.subst_raw.specs.Placeholder.{IsInBraces, IsNameAt, IsOptional, IsBadWhenCut}
 use Rattle.subst_raw.specs.Parsing.{StackHolds, StackHoldsFlushed, IsReading, FromReading, ReadsOn, StepsOrFails, IsFlushed, IsPart, HoldsTemplate}
+use Rattle.subst_raw.specs.Span.{span_bytes}
 use Rattle.subst_raw.specs.declared.part.Span.{Span}
 use Rattle.subst_raw.specs.declared.part.Part.{Part}
 use Rattle.subst_raw.specs.declared.part.Part.TheVariants.{Literal, Default}
@@ -41,7 +43,7 @@ dollar_if_not_plain b special other = of (ℕ_discrete b dollar)
     of (no n) = absurd (special (n, other))
 
 -- reads leave what has been read as it is
-pub reading_with : {S : Type 0} {holds : S → List Part → Type 0} {limit : ℕ} (p : Parser S) (tape : Tape)
+reading_with : {S : Type 0} {holds : S → List Part → Type 0} {limit : ℕ} (p : Parser S) (tape : Tape)
     → tape.source ≡ p.tape.source
     → IsReading holds limit p
     → IsReading holds limit (record p { tape = tape })
@@ -135,18 +137,19 @@ stepped old new first reading step =
     let stepped = step first reading in (λ first reading. (step first reading).0, stepped.1, stepped.2)
 
 -- a step after what was read before
-pub steps_after : {S First : Type 0} {holds : HoldsFrom S First} {limit : ℕ} (old mid : Parser S)
-    (result : Result (Unit {0}) Halt) (new : Parser S) → ReadsOn holds limit old mid
-    → mid.tape.source ≡ old.tape.source → old.at ≤ mid.at → StepsOrFails holds limit mid result new
-    → StepsOrFails holds limit old result new
-steps_after old mid (Ok done) new reads same forward steps = (
+pub steps_after : {S First : Type 0} {holds : HoldsFrom S First} {limit : ℕ} (asks : Type 0)
+    (old mid : Parser S) (result : Result (Unit {0}) Halt) (new : Parser S) → ReadsOn holds limit old mid
+    → mid.tape.source ≡ old.tape.source → old.at ≤ mid.at → StepsOrFails holds limit asks mid result new
+    → StepsOrFails holds limit asks old result new
+steps_after asks old mid (Ok done) new reads same forward steps = (
   λ first reading. steps.0 first (reads first reading),
   steps.1 ∙ same,
   omega (arith, forward, steps.2),
 )
-steps_after old mid (Err e) new reads same forward fails = (
-  subst (λ (source : Bor (List ℕ)). IfSome (halt_fault e) (HasFault 0 source.now)) same fails.0,
+steps_after asks old mid (Err e) new reads same forward fails = (
+  rw (← same) fails.0,
   λ first reading. fails.1 first (reads first reading),
+  λ none. rw (← same) (fails.2 none),
 )
 
 -- what the sink still holds after a step that failed, after what was read before
@@ -212,6 +215,12 @@ head_inside s at name b front inside =
       front.named.inside.within,
       simp (length-drop, length-append) at (ap length front.spelled),
     )
+
+-- the byte after a name in braces is one of the source
+pub head_contains : (s : List ℕ) (at : ℕ) (name : Span) (b : ℕ) → IsInBraces s at name b → Contains s b
+head_contains s at name b front =
+    rw (← take-append-drop at s, front.spelled) (Contains-append_right (take at s) _ b
+    (Contains-append_right (dollar ∷ opening_brace ∷ span_bytes name s) _ b (0, omega arith, refl)))
 
 -- a default opens
 pub reading_opened : {S : Type 0} {holds : S → List Part → Type 0} {limit : ℕ} (old mid : Parser S) (sink : S)
@@ -448,20 +457,20 @@ reading_opening p reading inside some reads =
           reading.nested));
     }
 
--- where no brace is open, a run of plain bytes
-pub reading_run : {S : Type 0} {holds : S → List Part → Type 0} {limit : ℕ} (p : Parser S) (to : ℕ)
-    → IsReading holds limit p → p.depth ≡ 0
-    → p.at ≤ to
-    → to ≤ length p.tape.source.now
-    → IsRun IsPlain p.tape.source.now p.at to → IsReading holds limit (record p { at = to })
-reading_run p to reading top forward within run =
+-- where no brace is open, a run of plain bytes, and other reads
+pub reading_run : {S : Type 0} {holds : S → List Part → Type 0} {limit : ℕ} (p : Parser S) (tape : Tape)
+    (to : ℕ)
+    → tape.source ≡ p.tape.source → IsReading holds limit p → p.depth ≡ 0
+    → to ≤ length p.tape.source.now → IsRun IsPlain p.tape.source.now p.at to
+    → IsReading holds limit (record p { tape = tape; at = to })
+reading_run p tape to same reading top within run =
     let s = p.tape.source.now in
     let stack =
     holds_top s (reverse p.defaults.items) p.depth reading.parts p.literal_start p.at top reading.nested in
     let nested : StackHolds true s [] 0 reading.parts p.literal_start p.at =
     subst (λ d. StackHolds true s [] d reading.parts p.literal_start p.at) top
     (subst (λ ds. StackHolds true s ds p.depth reading.parts p.literal_start p.at) stack reading.nested) in
-    record {
+    reading_with (record p { at = to }) tape same (record {
       parts = reading.parts;
       held = reading.held;
       fits = reading.fits;
@@ -470,7 +479,7 @@ reading_run p to reading top forward within run =
       within = within;
       shallow = omega arith;
       nested = rw (stack, top) (holds_run s reading.parts p.literal_start p.at to run nested);
-    }
+    })
 
 -- how far the parser has read, whether the innermost text is fresh or not
 reading_within : {S : Type 0} {holds : S → List Part → Type 0} {limit : ℕ} (p : Parser S)
@@ -570,13 +579,14 @@ fault_at_end p outermost reading end first =
 pub fault_known : {S : Type 0} {holds : S → List Part → Type 0} {limit : ℕ} (p : Parser S) (e : Halt)
     → IsReading holds limit p
     → IsSomeAnd (halt_fault e) (IsBadWhenCut p.at (drop p.at p.tape.source.now))
-    → ClosesAll p.depth (drop p.at p.tape.source.now) → IfSome (halt_fault e) (HasFault 0 p.tape.source.now)
+    → ClosesAll p.depth (drop p.at p.tape.source.now)
+    → IsSomeAnd (halt_fault e) (HasFault 0 p.tape.source.now)
 fault_known p e reading bad closes = of (halt_fault e) bad
   where
     of : (o : Option Fault) → IsSomeAnd o (IsBadWhenCut p.at (drop p.at p.tape.source.now))
-        → IfSome o (HasFault 0 p.tape.source.now)
+        → IsSomeAnd o (HasFault 0 p.tape.source.now)
     of (Some f) known = fault_closed p f reading known closes
-    of None known = tt
+    of None known = known
 
 -- at the end of the source, where no default is open, the sink holds the parts of its template
 pub holds_template : {S : Type 0} {holds : S → List Part → Type 0} {limit : ℕ} (old mid : Parser S)

@@ -1,5 +1,5 @@
 -- How far the parser has read a source, and what its parts and its open defaults stand for.
-use Rattle.std.specs.Prelude.{◌≡◌, ℕ, suc, ◌+◌, ◌^◌, ◌<◌, ◌≤◌, List, [], ◌∷◌, ◌++◌, length, drop, reverse, Bool, true, false, IsTrue, Result, Ok, Err, IfSome}
+use Rattle.std.specs.Prelude.{◌≡◌, ℕ, suc, ◌+◌, ◌^◌, ◌<◌, ◌≤◌, List, [], ◌∷◌, ◌++◌, length, drop, reverse, Bool, true, false, IsTrue, Result, Ok, Err, IfNone, IfSome, Contains}
 use Rattle.subst_language.specs.Language.Bytes.{colon, IsPlain}
 use Rattle.subst_language.specs.Language.Tree.{Tree, text}
 use Rattle.subst_language.specs.Language.WellFormed.{IsWellFormed}
@@ -127,11 +127,13 @@ FromReading {First = First} holds limit old Q =
 abbrev pub ReadsOn : {S First : Type 0} → HoldsFrom S First → ℕ → Parser S → Parser S → Type 0
 ReadsOn holds limit old new = FromReading holds limit old (λ first. IsReading (since holds first) limit new)
 
--- one step of the parser: it goes on, or returns the fault of the source, or memory ran out
-abbrev pub StepsOrFails : {S First : Type 0} → HoldsFrom S First → ℕ → Parser S → Result (Unit {0}) Halt
-    → Parser S → Type 0
-StepsOrFails holds limit old (Ok _) new =
+-- One step of the parser: it goes on, or returns the fault of the source, or memory ran out; where the sink
+-- asks for none, only if the source has a colon.
+abbrev pub StepsOrFails : {S First : Type 0} → HoldsFrom S First → ℕ → (asks : Type 0) → Parser S
+    → Result (Unit {0}) Halt → Parser S → Type 0
+StepsOrFails holds limit asks old (Ok _) new =
     ReadsOn holds limit old new × (new.tape.source ≡ old.tape.source) × (old.at < new.at)
-StepsOrFails holds limit old (Err e) new =
+StepsOrFails holds limit asks old (Err e) new =
     IfSome (halt_fault e) (HasFault 0 old.tape.source.now)
     × FromReading holds limit old (HoldsSome holds new.sink)
+    × (¬ asks → IfNone (halt_fault e) (Contains old.tape.source.now colon))

@@ -1,15 +1,16 @@
 //! A source is parsed and expanded at once, without a list of its parts.
 
-ghost use Rattle.std.specs.Prelude.{◌≡◌, ◌+◌, ◌<◌, ◌≤◌, [], length, IfErr, IfNone, IfOk, IfSome, OnErr, OnOk};
+ghost use Rattle.std.specs.Prelude.{◌≡◌, ◌+◌, ◌<◌, ◌≤◌, [], length, IfErr, IfNone, IfOk, IfSome, OnErr, OnOk, Contains};
 ghost use Rattle.std.specs.Prelude.{string_bytes, string_capacity, string_len, vec_capacity, vec_len};
 ghost use Rattle.subst_error.specs.ErrorFault.{error_fault, expand_into_fault, parse_fault, substitute_into_fault};
 ghost use Rattle.subst_error.specs.Range.{range_of, IsRangeIn};
 ghost use Rattle.subst_language.specs.Language.Answer.{Answers, Refuses};
 ghost use Rattle.subst_language.specs.Language.BadItem.{HasFault};
-ghost use Rattle.subst_language.specs.Language.Bytes.{IsPlain};
+ghost use Rattle.subst_language.specs.Language.Bytes.{IsPlain, colon};
 ghost use Rattle.subst_language.specs.Language.Sentence.{ByTree, IsSentence};
 ghost use Rattle.subst_language.specs.Language.Written.{written};
-ghost use Rattle.subst_language.specs.Calls.Outcome.{answer_of, refusal_of, IfRefused, OnFault, SubstitutesInto};
+ghost use Rattle.subst_language.specs.Calls.Clauses.{NeedsMemory};
+ghost use Rattle.subst_language.specs.Calls.Outcome.{answer_of, refusal_of, IfRefused, OnFault, OnOutOfMemory, SubstitutesInto};
 ghost use Rattle.subst_language.specs.Calls.VariableMap.{ByLookUp, ByNames};
 ghost use Rattle.subst_raw.specs.ByteRun.{IsRun};
 ghost use Rattle.subst_raw.specs.Expansion.{AppendsTemplate, IsExpansion};
@@ -33,7 +34,7 @@ use subst_map::VariableMap;
 /// # Errors
 ///
 /// The fault of the source where it is no sentence. Otherwise `NoSuchVariable` for the first needed name that
-/// `variables` has no value for. Out of memory. The items of `output` are then as before.
+/// `variables` has no value for. Out of memory, with cause. The items of `output` are then as before.
 pub fn substitute_into<'s, 'a, M: VariableMap<'a>, R: ReadValue<M::Value>>(
     alloc: Global,
     source: &'s [u8],
@@ -49,11 +50,13 @@ where
     ensures kept { OnErr result (output.new.items ≡ output.old.items) }
     ensures capacity { vec_capacity output.old ≤ vec_capacity output.new }
 
-    // After the parse, out of memory only with cause: the capacity is less than what is written.
+    // Out of memory only with cause: the capacity is less than what is written, or in the parse the source has
+    // a colon.
     ensures full { ByLookUp R.read M.see (M.look_up variables.now)
         (λ look. ByTree source.now (λ t. IfRefused result (λ e. Unit {0})
         (λ e. IfNone (expand_into_fault e)
         (vec_capacity output.old < vec_len output.old + length (written 0 t look))))) }
+    ensures cause { NeedsMemory source.now result }
     ensures sentence { IfOk result (λ done. IsSentence source.now) }
     ensures kind { IfRefused result (λ e. IfSome (parse_fault e) (HasFault 0 source.now))
         (λ e. IsSentence source.now) }
@@ -126,6 +129,7 @@ where
         (λ look. ByTree source.now (λ t. IfRefused result (λ e. Unit {0})
         (λ e. IfNone (expand_into_fault e)
         (string_capacity output.old < string_len output.old + length (written 0 t look))))) }
+    ensures cause { NeedsMemory source.now result }
     ensures sentence { IfOk result (λ done. IsSentence source.now) }
     ensures kind { IfRefused result (λ e. IfSome (parse_fault e) (HasFault 0 source.now))
         (λ e. IsSentence source.now) }
@@ -172,10 +176,10 @@ where
 ///
 /// # Errors
 ///
-/// That of the parse: the fault of the source where it is no sentence, or out of memory. Then that of the
-/// expansion: `NoSuchVariable` for the first needed name that `variables` has no value for, or out of memory
-/// where the capacity that `output` had is shorter than what is written. The items of `output` are then as
-/// before.
+/// That of the parse: the fault of the source where it is no sentence, or out of memory where it has a colon.
+/// Then that of the expansion: `NoSuchVariable` for the first needed name that `variables` has no value for,
+/// or out of memory where the capacity that `output` had is shorter than what is written. The items of
+/// `output` are then as before.
 fn expand_in_one_pass<'s, 'a, M: VariableMap<'a>, R: ReadValue<M::Value>>(
     alloc: Global,
     source: &'s [u8],
@@ -187,6 +191,7 @@ where
     M::Value: Drop,
     requires { IsRun IsPlain source.now 0 plain }
     ensures refused { OnFault parse_fault result (HasFault 0 source.now) }
+    ensures cause { OnOutOfMemory parse_fault result (Contains source.now colon) }
     ensures kept { OnErr result (output.new.items ≡ output.old.items) }
     ensures capacity { vec_capacity output.old ≤ vec_capacity output.new }
     ensures expanded { let before = output.old in IfOk result (IsExpansion R.read R.is_read M.see

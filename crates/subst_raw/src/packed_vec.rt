@@ -102,6 +102,8 @@ impl<O: Offset> Sink for PackedVec<O> {
 
     ghost limit = { O.limit };
 
+    ghost asks = { Unit {0} };
+
     #[inline(always)]
     fn take(&mut self, part: Part) -> Result<(), AllocError> {
         self.push(part)

@@ -1,13 +1,13 @@
 //! The pass: a source is read once, from the left, and its parts are given to a sink, as a list. It returns
 //! the parts of the source's template, or the source's fault, or that memory ran out.
 
-ghost use Rattle.std.specs.Prelude.{◌≡◌, ◌+◌, ◌-◌, ◌*◌, ◌<◌, ◌≤◌, ℕ, List, [], ◌∷◌, length, drop, slice_get, vec_len, IfOk, IfErr, OnErr, OnOk, IfSome, IsTrue, ◌↔◌};
+ghost use Rattle.std.specs.Prelude.{◌≡◌, ◌+◌, ◌-◌, ◌*◌, ◌<◌, ◌≤◌, ℕ, List, [], ◌∷◌, length, drop, slice_get, vec_len, IfOk, IfErr, OnErr, OnOk, IsSomeAnd, IsTrue, ◌↔◌, Contains};
 ghost use Rattle.subst_error.specs.ErrorFault.{parse_fault};
 ghost use Rattle.subst_error.specs.Fault.{MissingClosingBrace};
 ghost use Rattle.subst_error.specs.Range.{range_of};
 ghost use Rattle.subst_language.specs.Language.Bytes.{IsPlain, dollar, colon, backslash, closing_brace};
 ghost use Rattle.subst_language.specs.Language.BadItem.{HasFault};
-ghost use Rattle.subst_language.specs.Calls.Outcome.{OnFault};
+ghost use Rattle.subst_language.specs.Calls.Outcome.{OnFault, OnOutOfMemory};
 ghost use Rattle.subst_raw.specs.ByteRun.{IsRun};
 ghost use Rattle.subst_raw.specs.Cost.{GrowsBetween, StepReads, StepReadsAfterFirst};
 ghost use Rattle.subst_raw.specs.Halt.{halt_fault};
@@ -122,6 +122,7 @@ pub(crate) fn parse_into<S: Sink>(
     ensures ok { OnOk result.2 ((first : S.First) → S.holds sink first []
         → HoldsTemplate (since S.holds first) source.now result.0) }
     ensures err { OnFault halt_fault result.2 (HasFault 0 source.now) }
+    ensures cause { ¬ S.asks → OnOutOfMemory halt_fault result.2 (Contains source.now colon) }
     ensures held { OnErr result.2 ((first : S.First) → S.holds sink first []
         → HoldsSome S.holds result.0 first) }
     ensures bound { result.1 + 3 * plain ≤ reads + 3 * length source.now + 8 }
@@ -167,6 +168,8 @@ impl<'s, S: Sink> Parser<'s, S> {
         ensures held { OnErr result
             (FromReading S.holds S.limit self.old (HoldsSome S.holds self.new.sink)) }
         ensures err { OnFault halt_fault result (HasFault 0 self.old.tape.source.now) }
+        ensures cause { ¬ S.asks
+            → OnOutOfMemory halt_fault result (Contains self.old.tape.source.now colon) }
         ensures bound { self.new.tape.reads + 3 * self.old.at
             ≤ self.old.tape.reads + 3 * length self.old.tape.source.now + 8 }
         ensures grows { self.old.tape.reads ≤ self.new.tape.reads }
@@ -186,7 +189,7 @@ impl<'s, S: Sink> Parser<'s, S> {
     fn read_item(&mut self) -> Result<(), Halt>
         requires reading { IsReadingSince S.holds S.source S.limit self.old }
         requires more { self.old.at < length self.old.tape.source.now }
-        ensures answer { StepsOrFails S.holds S.limit self.old result self.new }
+        ensures answer { StepsOrFails S.holds S.limit S.asks self.old result self.new }
         ensures cost { StepReads self.old result self.new }
     {
         if self.is_at_top() {
@@ -210,7 +213,7 @@ impl<'s, S: Sink> Parser<'s, S> {
         requires reading { IsReadingSince S.holds S.source S.limit self.old }
         requires more { self.old.at < length self.old.tape.source.now }
         requires top { self.old.depth ≡ 0 }
-        ensures answer { StepsOrFails S.holds S.limit self.old result self.new }
+        ensures answer { StepsOrFails S.holds S.limit S.asks self.old result self.new }
         ensures cost { StepReads self.old result self.new }
     {
         self.at = self.tape.find_special(self.at);
@@ -227,7 +230,7 @@ impl<'s, S: Sink> Parser<'s, S> {
         requires reading { IsReadingSince S.holds S.source S.limit self.old }
         requires more { self.old.at < length self.old.tape.source.now }
         requires inside { 0 < self.old.depth }
-        ensures answer { StepsOrFails S.holds S.limit self.old result self.new }
+        ensures answer { StepsOrFails S.holds S.limit S.asks self.old result self.new }
         ensures cost { StepReads self.old result self.new }
     {
         self.at = self.tape.find_inner(self.at);
@@ -250,7 +253,7 @@ impl<'s, S: Sink> Parser<'s, S> {
         requires reading { IsReadingSince S.holds S.source S.limit self.old }
         requires spelled { (rest : List ℕ)
             × (drop self.old.at self.old.tape.source.now ≡ backslash ∷ rest) }
-        ensures answer { StepsOrFails S.holds S.limit self.old result self.new }
+        ensures answer { StepsOrFails S.holds S.limit S.asks self.old result self.new }
         ensures cost { StepReadsAfterFirst self.old result self.new }
     {
         match escape_at(&mut self.tape, self.at) {
@@ -265,7 +268,7 @@ impl<'s, S: Sink> Parser<'s, S> {
         requires reading { IsReadingSince S.holds S.source S.limit self.old }
         requires spelled { (rest : List ℕ)
             × (drop self.old.at self.old.tape.source.now ≡ dollar ∷ rest) }
-        ensures answer { StepsOrFails S.holds S.limit self.old result self.new }
+        ensures answer { StepsOrFails S.holds S.limit S.asks self.old result self.new }
         ensures cost { StepReadsAfterFirst self.old result self.new }
     {
         match placeholder_at(&mut self.tape, self.at) {
@@ -289,6 +292,7 @@ impl<'s, S: Sink> Parser<'s, S> {
             (FromReading S.holds S.limit self.old (HoldsSome S.holds self.new.sink)) }
         ensures same { self.new.tape ≡ self.old.tape }
         ensures some { IfErr result (λ e. 0 < self.old.at) }
+        ensures cause { OnErr result S.asks }
     {
         if self.literal_start < self.at {
             self.sink.take(Part::Literal(Span {
@@ -308,7 +312,7 @@ impl<'s, S: Sink> Parser<'s, S> {
         requires part { (i : ℕ) → IsPart self.old.tape.source.now self.old.at end i part }
         requires within { end ≤ length self.old.tape.source.now }
         requires forward { self.old.at < end }
-        ensures answer { StepsOrFails S.holds S.limit self.old result self.new }
+        ensures answer { StepsOrFails S.holds S.limit S.asks self.old result self.new }
         ensures position { OnOk result (self.new.at ≡ end) }
         ensures same { self.new.tape ≡ self.old.tape }
     {
@@ -324,7 +328,7 @@ impl<'s, S: Sink> Parser<'s, S> {
     fn add_optional(&mut self, name: Span) -> Result<(), Halt>
         requires reading { IsReadingSince S.holds S.source S.limit self.old }
         requires optional { IsOptional self.old.tape.source.now self.old.at name }
-        ensures answer { StepsOrFails S.holds S.limit self.old result self.new }
+        ensures answer { StepsOrFails S.holds S.limit S.asks self.old result self.new }
         ensures position { OnOk result (self.new.at ≡ name.end + 2) }
         ensures same { self.new.tape ≡ self.old.tape }
     {
@@ -340,7 +344,7 @@ impl<'s, S: Sink> Parser<'s, S> {
     fn open_default(&mut self, name: Span) -> Result<(), Halt>
         requires reading { IsReadingSince S.holds S.source S.limit self.old }
         requires head { IsInBraces self.old.tape.source.now self.old.at name colon }
-        ensures answer { StepsOrFails S.holds S.limit self.old result self.new }
+        ensures answer { StepsOrFails S.holds S.limit S.asks self.old result self.new }
         ensures position { OnOk result (self.new.at ≡ name.end + 1) }
         ensures same { self.new.tape ≡ self.old.tape }
     {
@@ -363,7 +367,7 @@ impl<'s, S: Sink> Parser<'s, S> {
         requires inside { 0 < self.old.depth }
         requires spelled { drop self.old.at self.old.tape.source.now
             ≡ closing_brace ∷ drop (self.old.at + 1) self.old.tape.source.now }
-        ensures answer { StepsOrFails S.holds S.limit self.old result self.new }
+        ensures answer { StepsOrFails S.holds S.limit S.asks self.old result self.new }
         ensures position { OnOk result (self.new.at ≡ self.old.at + 1) }
         ensures same { self.new.tape ≡ self.old.tape }
     {
@@ -385,7 +389,7 @@ impl<'s, S: Sink> Parser<'s, S> {
         requires closes { innermost.depth + 1 ≡ self.old.depth }
         requires spelled { drop self.old.at self.old.tape.source.now
             ≡ closing_brace ∷ drop (self.old.at + 1) self.old.tape.source.now }
-        ensures answer { StepsOrFails S.holds S.limit self.old result self.new }
+        ensures answer { StepsOrFails S.holds S.limit S.asks self.old result self.new }
         ensures position { OnOk result (self.new.at ≡ self.old.at + 1) }
         ensures same { self.new.tape ≡ self.old.tape }
     {
@@ -405,7 +409,7 @@ impl<'s, S: Sink> Parser<'s, S> {
     fn fault_of_source(&mut self, halt: Halt) -> Halt
         requires reading { IsReadingSince S.holds S.source S.limit self.old }
         requires bad { StatesBadItem halt self.old.tape.source.now self.old.at }
-        ensures answer { IfSome (halt_fault result) (HasFault 0 self.old.tape.source.now) }
+        ensures answer { IsSomeAnd (halt_fault result) (HasFault 0 self.old.tape.source.now) }
         ensures sink { self.new.sink ≡ self.old.sink }
         ensures cost { GrowsBetween 0 (length self.old.tape.source.now - self.old.at + 1)
             self.old.tape.reads self.new.tape.reads }
@@ -429,6 +433,8 @@ impl<'s, S: Sink> Parser<'s, S> {
         ensures held { OnErr result
             (FromReading S.holds S.limit self.old (HoldsSome S.holds self.new.sink)) }
         ensures err { OnFault halt_fault result (HasFault 0 self.old.tape.source.now) }
+        ensures cause { ¬ S.asks
+            → OnOutOfMemory halt_fault result (Contains self.old.tape.source.now colon) }
         ensures same { self.new.tape ≡ self.old.tape }
         ensures some { IfErr result (λ e. 0 < self.old.at) }
     {

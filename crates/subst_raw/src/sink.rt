@@ -12,7 +12,8 @@ use std::alloc::AllocError;
 /// closed after its parts were taken.
 ///
 /// Contracts see which lists of parts a sink holds, from whatever it was at first (`holds`), of which source
-/// these are (`source`), and that the numbers in parts are below a limit (`limit`).
+/// these are (`source`), that the numbers in parts are below a limit (`limit`), and whether the sink asks for
+/// memory (`asks`).
 pub(crate) trait Sink {
     ghost First: { Type 0 };
 
@@ -21,6 +22,8 @@ pub(crate) trait Sink {
     ghost source: { First → List ℕ → Type 0 };
 
     ghost limit: { ℕ };
+
+    ghost asks: { Type 0 };
 
     /// Takes a part.
     ///
@@ -31,7 +34,8 @@ pub(crate) trait Sink {
         requires fits { CanTake holds source limit self.old (λ _. part) }
         requires closed { (index : ℕ) → IsClosed (index + 1) part }
         ensures taken { OnOk result (Adds holds self.old (λ _. part) self.new) }
-        ensures kept { OnErr result (Keeps holds self.old self.new) };
+        ensures kept { OnErr result (Keeps holds self.old self.new) }
+        ensures cause { OnErr result asks };
 
     /// Takes the part of an optional variable: a default without parts, whose jump leads to the part right
     /// after it.
@@ -43,7 +47,8 @@ pub(crate) trait Sink {
         requires { CanTake holds source limit self.old (λ index. parts.Default name (index + 1)) }
         ensures taken { OnOk result
             (Adds holds self.old (λ index. parts.Default name (index + 1)) self.new) }
-        ensures kept { OnErr result (Keeps holds self.old self.new) };
+        ensures kept { OnErr result (Keeps holds self.old self.new) }
+        ensures cause { OnErr result asks };
 
     /// Takes the part of a default that opens, and returns its index.
     ///
@@ -54,7 +59,8 @@ pub(crate) trait Sink {
         requires { CanTake holds source limit self.old (λ _. parts.Default name 0) }
         ensures taken { OnOk result (Adds holds self.old (λ _. parts.Default name 0) self.new) }
         ensures index { IfOk result (λ index. HasLength holds self.old index) }
-        ensures kept { OnErr result (Keeps holds self.old self.new) };
+        ensures kept { OnErr result (Keeps holds self.old self.new) }
+        ensures cause { OnErr result asks };
 
     /// Closes the innermost default that is open, whose part has this index and this name: its parts end
     /// here.

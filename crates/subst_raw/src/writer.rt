@@ -140,6 +140,8 @@ where
 
     ghost limit = { 2 ^ 64 };
 
+    ghost asks = { ⊥ };
+
     #[inline(always)]
     fn take(&mut self, part: Part) -> Result<(), AllocError> {
         let _ = self.write(part);

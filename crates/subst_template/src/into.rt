@@ -6,7 +6,7 @@ ghost use Rattle.subst_error.specs.ErrorFault.{substitute_into_fault};
 ghost use Rattle.subst_language.specs.Language.Sentence.{IsSentence};
 ghost use Rattle.subst_language.specs.Calls.VariableMap.{ByLookUp};
 ghost use Rattle.subst_language.specs.Calls.Outcome.{SubstitutesInto};
-ghost use Rattle.subst_language.specs.Calls.Clauses.{ByWritten, OverflowsParsed, StatesRefusal, StatesKind, EndsWithin, IsRangedIn};
+ghost use Rattle.subst_language.specs.Calls.Clauses.{ByWritten, NeedsMemory, OverflowsParsed, StatesRefusal, StatesKind, EndsWithin, IsRangedIn};
 
 use std::alloc::Global;
 use std::convert::{AsSlice, AsStr};
@@ -25,9 +25,10 @@ use subst_raw::{SliceBytes, one_pass, plain_len};
 /// # Errors
 ///
 /// As [`substitute_bytes`](crate::substitute_bytes), with the name of a missing variable borrowed from the
-/// source. `Parse` of `OutOfMemory` where the parse runs out of memory; `Expand` of `OutOfMemory` only where
-/// the capacity that `output` has left is less than what is written, which are all the bytes, or those before
-/// the missing variable. The items of `output` are then as before.
+/// source. `Parse` of `OutOfMemory` only where the source has a colon, and no memory is there for what keeps
+/// open defaults; `Expand` of `OutOfMemory` only where the capacity that `output` has left is less than what is
+/// written, which are all the bytes, or those before the missing variable. The items of `output` are then as
+/// before.
 pub fn substitute_bytes_into<'s, 'a, M: VariableMap<'a>>(
     alloc: Global,
     source: &'s [u8],
@@ -45,7 +46,9 @@ where
     ensures kept { OnErr result (output.new.items ≡ output.old.items) }
     ensures capacity { vec_capacity output.old ≤ vec_capacity output.new }
 
-    // After the parse, out of memory only with cause: the capacity is less than what is written.
+    // Out of memory only with cause: in the parse the source has a colon, and after it the capacity is less
+    // than what is written.
+    ensures cause { NeedsMemory source.now result }
     ensures full { ByWritten M.Value.items M.see (M.look_up variables.now) source.now
         (OverflowsParsed (vec_capacity output.old) (vec_len output.old) result) }
 
@@ -90,7 +93,9 @@ where
     ensures kept { OnErr result (string_bytes output.new ≡ string_bytes output.old) }
     ensures capacity { string_capacity output.old ≤ string_capacity output.new }
 
-    // After the parse, out of memory only with cause: the capacity is less than what is written.
+    // Out of memory only with cause: in the parse the source has a colon, and after it the capacity is less
+    // than what is written.
+    ensures cause { NeedsMemory source.now result }
     ensures full { ByWritten M.Value.text M.see (M.look_up variables.now) source.now
         (OverflowsParsed (string_capacity output.old) (string_len output.old) result) }
 

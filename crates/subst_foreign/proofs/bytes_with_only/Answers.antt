@@ -3,5 +3,7 @@ use Rattle.subst_foreign.proofs.ForeignLemmas.{templates}
 use Rattle.subst_foreign.proofs.bytes_with_only.Goals as goal
 
 pub returns : goal.returns
-returns c =
-    templates _ c.args.source.now (λ (t : Vec ℕ Global). t.items) c.template_for.result c.template_for.ensures
+returns c = record {
+  template = templates _ c.args.source.now (λ (t : Vec ℕ Global). t.items) c.template_for.result
+      c.template_for.ensures;
+}

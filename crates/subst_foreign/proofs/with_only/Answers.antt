@@ -3,4 +3,6 @@ use Rattle.subst_foreign.proofs.ForeignLemmas.{templates}
 use Rattle.subst_foreign.proofs.with_only.Goals as goal
 
 pub returns : goal.returns
-returns c = templates _ c.args.text.now string_bytes c.text_template_for.result c.text_template_for.ensures
+returns c = record {
+  template = templates _ c.args.text.now string_bytes c.text_template_for.result c.text_template_for.ensures;
+}

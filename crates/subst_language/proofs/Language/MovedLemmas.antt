@@ -50,11 +50,6 @@ abbrev pub moved_value : ℕ → Value → Value
 moved_value n (Bytes x) = Bytes x
 moved_value n (Missing position name) = Missing (position + n) name
 
--- it is bytes where the value is
-pub moved_bytes : (n : ℕ) (v : Value) (x : List ℕ) → moved_value n v ≡ Bytes x → v ≡ Bytes x
-moved_bytes n (Bytes y) x is = is
-moved_bytes n (Missing position name) x is = absurd cc
-
 -- moved values joined are the joined value, moved
 joined_moved : (n : ℕ) (v w : Value) → joined (moved_value n v) (moved_value n w) ≡ moved_value n (joined v w)
 joined_moved n (Bytes x) (Bytes y) = refl

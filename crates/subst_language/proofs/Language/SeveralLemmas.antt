@@ -4,16 +4,16 @@ use Rattle.std.proofs.Common.{◌≡◌, ◌⊎◌, ℕ, suc, ◌+◌, ◌<◌, 
 use Rattle.std.proofs.lemmas.List.{drop_more, length-take-le, take-append-drop}
 use Rattle.subst_error.specs.Fault.{Fault, NoSuchVariable}
 use Rattle.subst_language.specs.Language.LookUp.{LookUp}
-use Rattle.subst_language.specs.Language.Answer.{Answers, Gives, Refuses}
+use Rattle.subst_language.specs.Language.Answer.{Answer, Answers, Gives, Refuses}
 use Rattle.subst_language.specs.Language.Sentence.{Spells}
-use Rattle.subst_language.specs.Language.Several.{AreGiven, EachGives, HasAnswer, IsFirstRefusal, Question, RefusesAt, under}
+use Rattle.subst_language.specs.Language.Several.{AreGiven, EachGives, RefusesAt, RefusesFirst, under}
 use Rattle.subst_language.specs.Language.Tree.{Tree}
 use Rattle.subst_language.specs.Language.Value.{Value, value, Bytes, Missing}
 use Rattle.subst_language.proofs.Language.AnswerLemmas.{answer_unique}
 use Rattle.subst_language.proofs.Language.ReadingLemmas.{one_reading}
 
 -- elements and their outputs, and more of them
-each_append : {T : Type 0} (ask : T → Question) (xs more : List T) (outputs others : List (List ℕ))
+each_append : {T : Type 0} (ask : T → Answer → Type 0) (xs more : List T) (outputs others : List (List ℕ))
     → EachGives ask xs outputs → EachGives ask more others → EachGives ask (xs ++ more) (outputs ++ others)
 each_append ask [] more [] others h k = k
 each_append ask (x ∷ xs) more (output ∷ outputs) others h k =
@@ -22,13 +22,13 @@ each_append ask [] more (output ∷ outputs) others h k = absurd h
 each_append ask (x ∷ xs) more [] others h k = absurd h
 
 -- one more element and its output
-pub each_more : {T : Type 0} (ask : T → Question) (xs : List T) (outputs : List (List ℕ)) (x : T)
-    (output : List ℕ) → EachGives ask xs outputs → HasAnswer (ask x) (Gives output)
+pub each_more : {T : Type 0} (ask : T → Answer → Type 0) (xs : List T) (outputs : List (List ℕ)) (x : T)
+    (output : List ℕ) → EachGives ask xs outputs → ask x (Gives output)
     → EachGives ask (xs ++ x ∷ []) (outputs ++ output ∷ [])
 each_more ask xs outputs x output h k = each_append ask xs (x ∷ []) outputs (output ∷ []) h (k, tt)
 
 -- there are as many outputs as elements
-pub length_each : {T : Type 0} (ask : T → Question) (xs : List T) (outputs : List (List ℕ))
+pub length_each : {T : Type 0} (ask : T → Answer → Type 0) (xs : List T) (outputs : List (List ℕ))
     → EachGives ask xs outputs → length outputs ≡ length xs
 length_each ask [] [] h = refl
 length_each ask (x ∷ xs) (output ∷ outputs) h = ap suc (length_each ask xs outputs h.1)
@@ -36,13 +36,13 @@ length_each ask [] (output ∷ outputs) h = absurd h
 length_each ask (x ∷ xs) [] h = absurd h
 
 -- elements whose sources give bytes, and more of them
-pub given_append : {T : Type 0} (ask : T → Question) (xs more : List T) → AreGiven ask xs → AreGiven ask more
+pub given_append : {T : Type 0} (ask : T → Answer → Type 0) (xs more : List T) → AreGiven ask xs → AreGiven ask more
     → AreGiven ask (xs ++ more)
 given_append ask xs more h k = (h.0 ++ k.0, each_append ask xs more h.0 k.0 h.1 k.1)
 
 -- the refusal of the element at an index, after elements whose sources give bytes
-pub refused_at : {T : Type 0} (ask : T → Question) (xs : List T) (i : ℕ) (d : T) (f : Fault) → i < length xs
-    → AreGiven ask (take i xs) → HasAnswer (ask (get_or xs i d)) (Refuses f) → RefusesAt ask xs i f
+pub refused_at : {T : Type 0} (ask : T → Answer → Type 0) (xs : List T) (i : ℕ) (d : T) (f : Fault) → i < length xs
+    → AreGiven ask (take i xs) → ask (get_or xs i d) (Refuses f) → RefusesAt ask xs i f
 refused_at ask xs i d f h given refused = record {
   before = take i xs;
   here = get_or xs i d;
@@ -53,18 +53,18 @@ refused_at ask xs i d f h given refused = record {
   refused = refused;
 }
 
--- the refusal of the only source
-pub refusal_alone : (look : LookUp) (s : List ℕ) (f : Fault) → Answers s look (Refuses f)
-    → IsFirstRefusal look (s ∷ []) f
-refusal_alone look s f h = (
+-- the refusal of the only element
+pub refusal_alone : {T : Type 0} (ask : T → Answer → Type 0) (x : T) (f : Fault) → ask x (Refuses f)
+    → RefusesFirst ask (x ∷ []) f
+refusal_alone ask x f h = (
   0,
-  record { before = []; here = s; after = []; cut = refl; index = refl; given = ([], tt); refused = h },
+  record { before = []; here = x; after = []; cut = refl; index = refl; given = ([], tt); refused = h },
 )
 
--- the first refusal of some sources is that of these with any sources after them
-pub refusal_before : (look : LookUp) (xs more : List (List ℕ)) (f : Fault) → IsFirstRefusal look xs f
-    → IsFirstRefusal look (xs ++ more) f
-refusal_before look xs more f (i, h) = (
+-- the first refusal of some elements is that of these with any elements after them
+pub refusal_before : {T : Type 0} (ask : T → Answer → Type 0) (xs more : List T) (f : Fault)
+    → RefusesFirst ask xs f → RefusesFirst ask (xs ++ more) f
+refusal_before ask xs more f (i, h) = (
   i,
   record {
     before = h.before;
@@ -77,10 +77,10 @@ refusal_before look xs more f (i, h) = (
   },
 )
 
--- the first refusal of some sources is that of these with sources before them that give bytes
-pub refusal_after : (look : LookUp) (xs more : List (List ℕ)) (f : Fault) → AreGiven (under look) xs
-    → IsFirstRefusal look more f → IsFirstRefusal look (xs ++ more) f
-refusal_after look xs more f given (i, h) = (
+-- the first refusal of some elements is that of these with elements before them that give bytes
+pub refusal_after : {T : Type 0} (ask : T → Answer → Type 0) (xs more : List T) (f : Fault)
+    → AreGiven ask xs → RefusesFirst ask more f → RefusesFirst ask (xs ++ more) f
+refusal_after ask xs more f given (i, h) = (
   length (xs ++ h.before),
   record {
     before = xs ++ h.before;
@@ -88,59 +88,117 @@ refusal_after look xs more f given (i, h) = (
     after = h.after;
     cut = ap (λ ys. xs ++ ys) h.cut ∙ sym (append_assoc xs h.before (h.here ∷ h.after));
     index = refl;
-    given = given_append (under look) xs h.before given h.given;
+    given = given_append ask xs h.before given h.given;
     refused = h.refused;
   },
 )
 
--- a source that is refused gives no bytes
-not_both : (question : Question) (x : List ℕ) (f : Fault) → HasAnswer question (Gives x)
-    → ¬ (HasAnswer question (Refuses f))
-not_both question x f h k =
-    let same = answer_unique question.0 question.1 (Gives x) (Refuses f) h k in absurd cc
+-- where each element gives bytes or is refused, they all give bytes, or one is refused first
+pub given_or_refused : {T : Type 0} (ask : T → Answer → Type 0)
+    → ((x : T) → ((y : List ℕ) × ask x (Gives y)) ⊎ ((f : Fault) × ask x (Refuses f))) → (xs : List T)
+    → AreGiven ask xs ⊎ ((f : Fault) × RefusesFirst ask xs f)
+given_or_refused ask has [] = inl ([], tt)
+given_or_refused {T} ask has (x ∷ xs) = elim (has x) [
+  | inl (y, gives) ↦ after_given (y ∷ [], (gives, tt)) (given_or_refused ask has xs)
+  | inr (f, refused) ↦ inr (f, refusal_before ask (x ∷ []) xs f (refusal_alone ask x f refused))
+]
+  where
+    after_given : AreGiven ask (x ∷ []) → AreGiven ask xs ⊎ ((f : Fault) × RefusesFirst ask xs f)
+        → AreGiven ask (x ∷ xs) ⊎ ((f : Fault) × RefusesFirst ask (x ∷ xs) f)
+    after_given here (inl given) = inl (given_append ask (x ∷ []) xs here given)
+    after_given here (inr (f, h)) = inr (f, refusal_after ask (x ∷ []) xs f here h)
 
--- where each source gives bytes none is refused
-pub given_not_refused : {T : Type 0} (ask : T → Question) (xs : List T) (i : ℕ) (f : Fault) → AreGiven ask xs
-    → ¬ (RefusesAt ask xs i f)
-given_not_refused {T} ask xs i f (outputs, h) k =
+-- of elements that give bytes, each of two parts does
+pub given_apart : {T : Type 0} (ask : T → Answer → Type 0) (xs more : List T) → AreGiven ask (xs ++ more)
+    → AreGiven ask xs × AreGiven ask more
+given_apart ask [] more given = (([], tt), given)
+given_apart ask (x ∷ xs) more ([], h) = absurd h
+given_apart ask (x ∷ xs) more (output ∷ outputs, h) =
+    let (left, right) = given_apart ask xs more (outputs, h.1) in
+    ((output ∷ left.0, (h.0, left.1)), right)
+
+-- what is said by answers, is said by answers that follow from them
+each_weaker : {T : Type 0} (ask other : T → Answer → Type 0)
+    → ((x : T) (answer : Answer) → ask x answer → other x answer) → (xs : List T) (outputs : List (List ℕ))
+    → EachGives ask xs outputs → EachGives other xs outputs
+each_weaker ask other follows [] [] h = tt
+each_weaker ask other follows (x ∷ xs) (output ∷ outputs) h =
+    (follows x (Gives output) h.0, each_weaker ask other follows xs outputs h.1)
+each_weaker ask other follows [] (output ∷ outputs) h = absurd h
+each_weaker ask other follows (x ∷ xs) [] h = absurd h
+
+pub first_weaker : {T : Type 0} (ask other : T → Answer → Type 0)
+    → ((x : T) (answer : Answer) → ask x answer → other x answer) → (xs : List T) (f : Fault)
+    → RefusesFirst ask xs f → RefusesFirst other xs f
+first_weaker ask other follows xs f (i, h) = (
+  i,
+  record {
+    before = h.before;
+    here = h.here;
+    after = h.after;
+    cut = h.cut;
+    index = h.index;
+    given = (h.given.0, each_weaker ask other follows h.before h.given.0 h.given.1);
+    refused = follows h.here (Refuses f) h.refused;
+  },
+)
+
+-- an element has at most one answer
+abbrev pub HasOneAnswer : {T : Type 0} → (T → Answer → Type 0) → Type 0
+HasOneAnswer {T} ask = (x : T) (a b : Answer) → ask x a → ask x b → a ≡ b
+
+-- so has a source under a look-up
+pub one_under : (look : LookUp) → HasOneAnswer (under look)
+one_under look s a b h k = answer_unique s look a b h k
+
+-- an element that is refused gives no bytes
+not_both : {T : Type 0} (ask : T → Answer → Type 0) → HasOneAnswer ask → (x : T) (y : List ℕ) (f : Fault)
+    → ask x (Gives y) → ¬ (ask x (Refuses f))
+not_both ask one x y f h k = let same = one x (Gives y) (Refuses f) h k in absurd cc
+
+-- where each element gives bytes none is refused
+pub given_not_refused : {T : Type 0} (ask : T → Answer → Type 0) → HasOneAnswer ask → (xs : List T) (i : ℕ)
+    (f : Fault) → AreGiven ask xs → ¬ (RefusesAt ask xs i f)
+given_not_refused {T} ask one xs i f (outputs, h) k =
     at k.before outputs (subst (λ (ys : List T). EachGives ask ys outputs) k.cut h)
   where
     at : (before : List T) (outputs : List (List ℕ)) → EachGives ask (before ++ k.here ∷ k.after) outputs → ⊥
     at [] [] h = h
-    at [] (x ∷ outputs) h = not_both (ask k.here) x f h.0 k.refused
+    at [] (x ∷ outputs) h = not_both ask one k.here x f h.0 k.refused
     at (y ∷ before) [] h = h
     at (y ∷ before) (x ∷ outputs) h = at before outputs h.1
 
--- the first refusal in a list that begins in two ways with elements whose sources give bytes is one
-same_refusal : {T : Type 0} (ask : T → Question) (xs ys : List T) (s t : T) (more rest : List T)
-    (outputs others : List (List ℕ)) (f g : Fault) → xs ++ s ∷ more ≡ ys ++ t ∷ rest
-    → EachGives ask xs outputs → EachGives ask ys others → HasAnswer (ask s) (Refuses f)
-    → HasAnswer (ask t) (Refuses g) → (length xs ≡ length ys) × (f ≡ g)
-same_refusal ask [] [] s t more rest outputs others f g is h k refused also =
+-- the first refusal in a list that begins in two ways with elements that give bytes is one
+same_refusal : {T : Type 0} (ask : T → Answer → Type 0) → HasOneAnswer ask → (xs ys : List T) (s t : T)
+    (more rest : List T) (outputs others : List (List ℕ)) (f g : Fault) → xs ++ s ∷ more ≡ ys ++ t ∷ rest
+    → EachGives ask xs outputs → EachGives ask ys others → ask s (Refuses f) → ask t (Refuses g)
+    → (length xs ≡ length ys) × (f ≡ g)
+same_refusal ask one [] [] s t more rest outputs others f g is h k refused also =
     let here : s ≡ t = cc in
-    let moved = subst (λ x. HasAnswer (ask x) (Refuses f)) here refused in
-    let same = answer_unique (ask t).0 (ask t).1 (Refuses f) (Refuses g) moved also in (refl, cc)
-same_refusal ask [] (y ∷ ys) s t more rest outputs (x ∷ others) f g is h k refused also =
+    let same = one t (Refuses f) (Refuses g) (subst (λ x. ask x (Refuses f)) here refused) also in
+    (refl, cc)
+same_refusal ask one [] (y ∷ ys) s t more rest outputs (x ∷ others) f g is h k refused also =
     let here : s ≡ y = cc in
-    absurd (not_both (ask y) x f k.0 (subst (λ x. HasAnswer (ask x) (Refuses f)) here refused))
-same_refusal ask [] (y ∷ ys) s t more rest outputs [] f g is h k refused also = absurd k
-same_refusal ask (y ∷ xs) [] s t more rest (x ∷ outputs) others f g is h k refused also =
+    absurd (not_both ask one y x f k.0 (subst (λ x. ask x (Refuses f)) here refused))
+same_refusal ask one [] (y ∷ ys) s t more rest outputs [] f g is h k refused also = absurd k
+same_refusal ask one (y ∷ xs) [] s t more rest (x ∷ outputs) others f g is h k refused also =
     let here : y ≡ t = cc in
-    absurd (not_both (ask t) x g (subst (λ u. HasAnswer (ask u) (Gives x)) here h.0) also)
-same_refusal ask (y ∷ xs) [] s t more rest [] others f g is h k refused also = absurd h
-same_refusal ask (x ∷ xs) (y ∷ ys) s t more rest (a ∷ outputs) (b ∷ others) f g is h k refused also =
+    absurd (not_both ask one t x g (subst (λ u. ask u (Gives x)) here h.0) also)
+same_refusal ask one (y ∷ xs) [] s t more rest [] others f g is h k refused also = absurd h
+same_refusal ask one (x ∷ xs) (y ∷ ys) s t more rest (a ∷ outputs) (b ∷ others) f g is h k refused also =
     let tails : xs ++ s ∷ more ≡ ys ++ t ∷ rest = cc in
-    let (lengths, faults) = same_refusal ask xs ys s t more rest outputs others f g tails h.1 k.1 refused also
-    in (ap suc lengths, faults)
-same_refusal ask (x ∷ xs) (y ∷ ys) s t more rest [] others f g is h k refused also = absurd h
-same_refusal ask (x ∷ xs) (y ∷ ys) s t more rest (a ∷ outputs) [] f g is h k refused also = absurd k
+    let (lengths, faults) =
+    same_refusal ask one xs ys s t more rest outputs others f g tails h.1 k.1 refused also in
+    (ap suc lengths, faults)
+same_refusal ask one (x ∷ xs) (y ∷ ys) s t more rest [] others f g is h k refused also = absurd h
+same_refusal ask one (x ∷ xs) (y ∷ ys) s t more rest (a ∷ outputs) [] f g is h k refused also = absurd k
 
 -- there is one first refusal at most, and at one index
-pub refusal_unique : {T : Type 0} (ask : T → Question) (xs : List T) (i j : ℕ) (f g : Fault)
-    → RefusesAt ask xs i f → RefusesAt ask xs j g → (i ≡ j) × (f ≡ g)
-refusal_unique ask xs i j f g h k =
+pub refusal_unique : {T : Type 0} (ask : T → Answer → Type 0) → HasOneAnswer ask → (xs : List T) (i j : ℕ)
+    (f g : Fault) → RefusesAt ask xs i f → RefusesAt ask xs j g → (i ≡ j) × (f ≡ g)
+refusal_unique ask one xs i j f g h k =
     let (lengths, faults) =
-    same_refusal ask h.before k.before h.here k.here h.after k.after h.given.0 k.given.0 f g
+    same_refusal ask one h.before k.before h.here k.here h.after k.after h.given.0 k.given.0 f g
     (sym h.cut ∙ k.cut) h.given.1 k.given.1 h.refused k.refused in
     (h.index ∙ lengths ∙ sym k.index, faults)
 

@@ -1,5 +1,5 @@
 -- How long values are: exactly, and at most.
-use Rattle.std.proofs.Common.{◌≡◌, ℕ, ◌+◌, ◌*◌, ◌≤◌, ◌==◌, List, [], ◌∷◌, ◌++◌, length, Option, Some, None, unwrap_or, refl, sym, ◌∙◌, subst, count_by, sum_by, length-append, arith}
+use Rattle.std.proofs.Common.{◌≡◌, ℕ, ◌+◌, ◌*◌, ◌≤◌, ◌==◌, List, [], ◌∷◌, ◌++◌, length, Option, Some, None, unwrap_or, refl, ◌∙◌, subst, count_by, sum_by, length-append, arith}
 use Rattle.std.proofs.lemmas.List.Sums.{sum_by-append, sum_by-cons, sum_by-le}
 use Rattle.std.proofs.Math.Nat.{mul-le-mul_right}
 use Rattle.subst_language.specs.Language.Bytes.{dollar, colon, question_mark, opening_brace, closing_brace}
@@ -9,17 +9,54 @@ use Rattle.subst_language.specs.Language.LookUp.{LookUp}
 use Rattle.subst_language.specs.Language.Steps.{Step, Lacks, given_or, item_steps, steps_of}
 use Rattle.subst_language.specs.Language.Value.{Bytes, value}
 use Rattle.subst_language.specs.Language.ValueLength.{length_of, given_length, step_length, value_length, visited_length}
+use Rattle.subst_language.specs.Language.Written.{written}
 use Rattle.subst_language.specs.Language.Answer.{Answers, Gives}
 use Rattle.subst_language.specs.Language.Sentence.{Spells}
-use Rattle.subst_language.proofs.Language.MovedLemmas.{moved_bytes, value_moved}
-use Rattle.subst_language.proofs.Language.StepsLemmas.{Tells, value_tells}
+use Rattle.subst_language.proofs.Language.StepsLemmas.{Tells, value_tells, written_at_most}
+
+-- steps that give as many bytes, where nothing was found, do so in any case
+given_long : (o : Option (List ℕ)) (xs ys : List Step) → sum_by step_length xs ≡ sum_by step_length ys
+    → sum_by step_length (given_or o xs) ≡ sum_by step_length (given_or o ys)
+given_long (Some x) xs ys same = refl
+given_long None xs ys same = same
+
+module _ (look : LookUp) where
+  mutual
+    -- an item gives as many bytes wherever it is
+    item_steps_long : (item : Item) (p q : ℕ)
+        → sum_by step_length (item_steps p item look) ≡ sum_by step_length (item_steps q item look)
+    item_steps_long (Plain b) p q = refl
+    item_steps_long (Escaped b) p q = refl
+    item_steps_long (Short n) p q = given_long (look n) (Lacks (p + 1) n ∷ []) (Lacks (q + 1) n ∷ []) refl
+    item_steps_long (Braced n) p q = given_long (look n) (Lacks (p + 2) n ∷ []) (Lacks (q + 2) n ∷ []) refl
+    item_steps_long (Optional n) p q = refl
+    item_steps_long (Default n t) p q =
+        given_long (look n) _ _ (steps_long t (p + 3 + length n) (q + 3 + length n))
+
+    -- so does a tree
+    steps_long : (t : Tree) (p q : ℕ)
+        → sum_by step_length (steps_of p t look) ≡ sum_by step_length (steps_of q t look)
+    steps_long Empty p q = refl
+    steps_long (Then item rest) p q =
+        let first = item_steps_long item p q in
+        let after = steps_long rest (p + length (item_text item)) (q + length (item_text item)) in
+        simp (sum_by-append, first, after)
 
 -- the length of a value that is bytes is that of the bytes
 pub value_length_exact : (p : ℕ) (t : Tree) (look : LookUp) (x : List ℕ) → value p t look ≡ Bytes x
     → value_length t look ≡ length x
 value_length_exact p t look x gives =
-    let here = moved_bytes p (value 0 t look) x (sym (value_moved t 0 p p look (omega arith)) ∙ gives) in
-    (subst (Tells (steps_of 0 t look)) here (value_tells 0 t look)).1
+    steps_long look t 0 p ∙ (subst (Tells (steps_of p t look)) gives (value_tells p t look)).1
+
+-- what is written is at most as long as all that is counted
+pub written_length_at_most : (p : ℕ) (t : Tree) (look : LookUp)
+    → length (written p t look) ≤ value_length t look
+written_length_at_most p t look = omega (arith, written_at_most (steps_of p t look), steps_long look t p 0)
+
+-- where the value is bytes, these are what is written
+pub written_exact : (p : ℕ) (t : Tree) (look : LookUp) (x : List ℕ) → value p t look ≡ Bytes x
+    → written p t look ≡ x
+written_exact p t look x gives = (subst (Tells (steps_of p t look)) gives (value_tells p t look)).0
 
 -- Steps give at most as many bytes as these of their own and what was found, and found at most is this.
 record IsBounded (own found : ℕ) (steps : List Step) : Type 0 where

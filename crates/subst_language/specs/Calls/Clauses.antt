@@ -1,8 +1,8 @@
 -- Clauses of many calls: what holds of the value of a source's tree, what an error states, what a list has.
 -- `items`, `see` and `look_up` tell a map's look-up, as those of `ByLookUp`; `fault_of` tells the fault of an
 -- error.
-use Rattle.std.specs.Prelude.{◌≡◌, ◌≤◌, ◌<◌, ◌+◌, ℕ, List, length, map, Option, Result, Vec, IfErr, IfNone, IfOk, IfSome}
-use Rattle.std.specs.List.{All}
+use Rattle.std.specs.Prelude.{◌≡◌, ◌≤◌, ◌<◌, ◌+◌, ℕ, List, length, map, Option, Some, Result, Vec, IfErr, IfNone, IfOk, IfSome}
+use Rattle.std.specs.List.{All, Contains}
 use Rattle.std.specs.declared.ops.Range.{Range}
 use Rattle.subst_error.specs.Fault.{Fault}
 use Rattle.subst_error.specs.ErrorFault.{expand_into_fault, parse_fault}
@@ -10,8 +10,9 @@ use Rattle.subst_error.specs.Range.{range_of, IsRangeIn}
 use Rattle.subst_error.specs.declared.NoSuchVariable.{NoSuchVariable}
 use Rattle.subst_error.specs.declared.borrowed.ExpandIntoError.{ExpandIntoError}
 use Rattle.subst_error.specs.declared.borrowed.SubstituteIntoError.{SubstituteIntoError}
-use Rattle.subst_language.specs.Language.Answer.{Answers, Refuses, IsMissing}
+use Rattle.subst_language.specs.Language.Answer.{Answer, Answers, Gives, Refuses, IsMissing}
 use Rattle.subst_language.specs.Language.BadItem.{HasFault}
+use Rattle.subst_language.specs.Language.Bytes.{colon}
 use Rattle.subst_language.specs.Language.Sentence.{ByTree, IsSentence}
 use Rattle.subst_language.specs.Language.Value as tree
 use Rattle.subst_language.specs.Language.Variables.{all_missing, variables_of}
@@ -42,6 +43,10 @@ abbrev pub OverflowsParsed : {T : Type 0} → (capacity len : ℕ) → Result T 
     → Type 0
 OverflowsParsed capacity len result x =
     IfRefused result (λ e. Unit {0}) (λ e. IfNone (expand_into_fault e) (capacity < len + length x))
+
+-- where the parse runs out of memory, the source s has a colon, as each default has
+abbrev pub NeedsMemory : {T : Type 0} → List ℕ → Result T SubstituteIntoError → Type 0
+NeedsMemory s result = IfRefused result (λ e. IfNone (parse_fault e) (Contains s colon)) (λ e. Unit {0})
 
 -- whatever the values of the map, an error states the variable that the source s is missing
 abbrev pub Misses : {Seen T E : Type 0} → (List ℕ → Option Seen) → List ℕ → (E → Option Fault)
@@ -85,3 +90,12 @@ EachEndsWithin s range list = All (λ it. (range it).end ≤ length s) list
 -- the range of each is in the text s, between two of its characters
 abbrev pub EachIsRangedIn : {A : Type 0} → List ℕ → (A → Range ℕ) → List A → Type 0
 EachIsRangedIn s range list = All (λ it. IsRangeIn s (range it)) list
+
+-- What is known of a map's answer to the text s: it is a sentence that gives these bytes, where those of the
+-- map's values are known; or it is refused for f, whatever they are, and the range of f is in the text.
+abbrev pub AnswersText : {Value Seen : Type 0} → (Value → List ℕ) → (Value → Seen)
+    → (List ℕ → Option Seen) → List ℕ → Answer → Type 0
+AnswersText items see look_up s (Gives x) =
+    IsSentence s × ByLookUp items see look_up (λ look. Answers s look (Gives x))
+AnswersText items see look_up s (Refuses f) =
+    ByNames look_up (λ look. Answers s look (Refuses f)) × IsRangeIn s (range_of (Some f))

@@ -17,6 +17,7 @@ named result (b ∷ bytes) is some = (
 )
 
 pub returns-then-not-is_empty : goal.returns-then-not-is_empty
-returns-then-not-is_empty c =
-    named _ c.args.bytes.now c.are_name_bytes.ensures
-    (sym c.if-not-is_empty.true ∙ c.is_empty.ensures)
+returns-then-not-is_empty c = record {
+  name = named _ c.args.bytes.now c.are_name_bytes.ensures
+      (sym c.if-not-is_empty.true ∙ c.is_empty.ensures);
+}

@@ -31,4 +31,5 @@ returns-in_err-take-clause-answer g c =
       λ first reading.
           let given = c.in_ok-flush_literal.ensures.flushed first reading in
           (given.parts, c.in_err-take.ensures.kept first given.parts given.held),
+      λ none. absurd (none c.in_err-take.ensures.cause),
     )

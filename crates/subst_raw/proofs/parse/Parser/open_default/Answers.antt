@@ -2,7 +2,7 @@ use Rattle.std.proofs.Common.{ap, arith}
 use Rattle.subst_language.specs.Language.Bytes.{colon}
 use Rattle.std.proofs.lemmas.Result.{err_from_is_err_and}
 use Rattle.subst_raw.specs.declared.parse.Parser.{Parser}
-use Rattle.subst_raw.proofs.ParserLemmas.{open_fits, reading_opened, head_inside, stepped}
+use Rattle.subst_raw.proofs.ParserLemmas.{open_fits, reading_opened, head_contains, head_inside, stepped}
 use Rattle.subst_raw.proofs.parse.Parser.open_default.Goals as goal
 
 pub open-requires : goal.open-requires
@@ -52,6 +52,7 @@ returns-in_err-part-clause-answer g c =
       λ first reading.
           let given = c.in_ok-flush_literal.ensures.flushed first reading in
           (given.parts, c.in_err-part.ensures.kept first given.parts given.held),
+      λ none. absurd (none c.in_err-part.ensures.cause),
     )
 
 pub returns-in_err-push-clause-answer : goal.returns-in_err-push-clause-answer
@@ -63,4 +64,6 @@ returns-in_err-push-clause-answer g c =
       λ first reading.
           let given = c.in_ok-flush_literal.ensures.flushed first reading in
           (_, c.in_ok-part.ensures.taken first given.parts given.held),
+      λ none. head_contains c.args.self.now.tape.source.now c.args.self.now.at c.args.name colon
+          c.requires.head,
     )

@@ -1,7 +1,7 @@
 use Rattle.std.proofs.Common.{◌+◌, length, drop, ap, ◌∙◌, subst, length-drop, arith}
 use Rattle.subst_language.specs.Language.Bytes.{IsPlain}
 use Rattle.subst_language.specs.Language.Name.{BeginsWithNo}
-use Rattle.subst_raw.proofs.ParserLemmas.{dollar_if_not_plain, reading_run, reading_with, steps_after}
+use Rattle.subst_raw.proofs.ParserLemmas.{dollar_if_not_plain, reading_run, steps_after}
 use Rattle.subst_raw.proofs.parse.Parser.read_at_top.Goals as goal
 
 pub read_escape-requires-clause-reading : goal.read_escape-requires-clause-reading
@@ -11,10 +11,8 @@ read_escape-requires-clause-reading g c =
     let (first, known, reading) = c.requires.reading in (
       first,
       rw (c.byte_at.ensures.same ∙ found.same) known,
-      reading_with (record p { at = c.find_special-self.result }) c.byte_at.new.self
-          (c.byte_at.ensures.same ∙ found.same)
-          (reading_run p c.find_special-self.result reading c.requires.top (omega (arith, found.run.ends))
-          found.within found.run),
+      reading_run p c.byte_at.new.self c.find_special-self.result (c.byte_at.ensures.same ∙ found.same)
+          reading c.requires.top found.within found.run,
     )
 
 pub read_placeholder-requires-clause-reading : goal.read_placeholder-requires-clause-reading
@@ -24,10 +22,8 @@ read_placeholder-requires-clause-reading g c =
     let (first, known, reading) = c.requires.reading in (
       first,
       rw (c.byte_at.ensures.same ∙ found.same) known,
-      reading_with (record p { at = c.find_special-self.result }) c.byte_at.new.self
-          (c.byte_at.ensures.same ∙ found.same)
-          (reading_run p c.find_special-self.result reading c.requires.top (omega (arith, found.run.ends))
-          found.within found.run),
+      reading_run p c.byte_at.new.self c.find_special-self.result (c.byte_at.ensures.same ∙ found.same)
+          reading c.requires.top found.within found.run,
     )
 
 pub returns-in-None-clause-answer : goal.returns-in-None-clause-answer
@@ -36,9 +32,8 @@ returns-in-None-clause-answer g c =
     let p = c.args.self.now in
     let same = c.byte_at.ensures.same ∙ found.same in
     let ends = rw found.same at c.in-None.ensures.byte in (
-      λ first reading. reading_with (record p { at = c.find_special-self.result }) c.byte_at.new.self same
-          (reading_run p c.find_special-self.result reading c.requires.top
-          (omega (arith, found.run.ends)) found.within found.run),
+      λ first reading. reading_run p c.byte_at.new.self c.find_special-self.result same reading
+          c.requires.top found.within found.run,
       same,
       omega (arith, c.requires.more, simp length-drop at (ap length ends)),
     )
@@ -62,21 +57,15 @@ read_placeholder-requires-clause-spelled g c =
 pub returns-in-Some-eq92-clause-answer : goal.returns-in-Some-eq92-clause-answer
 returns-in-Some-eq92-clause-answer g c =
     let found = c.find_special-self.ensures in
-    let p = c.args.self.now in
-    steps_after p _ c.read_escape.result _ (λ first reading.
-    reading_with (record p { at = c.find_special-self.result }) c.byte_at.new.self
-    (c.byte_at.ensures.same ∙ found.same)
-    (reading_run p c.find_special-self.result reading c.requires.top (omega (arith, found.run.ends))
-    found.within found.run))
-    (c.byte_at.ensures.same ∙ found.same) (omega (arith, found.run.ends)) c.read_escape.ensures.answer
+    let same = c.byte_at.ensures.same ∙ found.same in
+    steps_after _ c.args.self.now _ c.read_escape.result _ (λ first reading.
+    reading_run c.args.self.now c.byte_at.new.self c.find_special-self.result same reading c.requires.top
+    found.within found.run) same (omega (arith, found.run.ends)) c.read_escape.ensures.answer
 
 pub returns-in-Some-clause-answer : goal.returns-in-Some-clause-answer
 returns-in-Some-clause-answer g c =
     let found = c.find_special-self.ensures in
-    let p = c.args.self.now in
-    steps_after p _ c.read_placeholder.result _ (λ first reading.
-    reading_with (record p { at = c.find_special-self.result }) c.byte_at.new.self
-    (c.byte_at.ensures.same ∙ found.same)
-    (reading_run p c.find_special-self.result reading c.requires.top (omega (arith, found.run.ends))
-    found.within found.run))
-    (c.byte_at.ensures.same ∙ found.same) (omega (arith, found.run.ends)) c.read_placeholder.ensures.answer
+    let same = c.byte_at.ensures.same ∙ found.same in
+    steps_after _ c.args.self.now _ c.read_placeholder.result _ (λ first reading.
+    reading_run c.args.self.now c.byte_at.new.self c.find_special-self.result same reading c.requires.top
+    found.within found.run) same (omega (arith, found.run.ends)) c.read_placeholder.ensures.answer

@@ -87,7 +87,7 @@ pub returns-in-Some-eq92-clause-answer : goal.returns-in-Some-eq92-clause-answer
 returns-in-Some-eq92-clause-answer g c =
     let found = c.find_inner-self.ensures in
     let same = c.byte_at.ensures.same ∙ found.same in
-    steps_after c.args.self.now _ c.read_escape.result _ (λ first reading.
+    steps_after _ c.args.self.now _ c.read_escape.result _ (λ first reading.
     reading_inner c.args.self.now c.byte_at.new.self c.find_inner-self.result same reading
     c.requires.inside found.within found.run) same (omega (arith, found.run.ends))
     c.read_escape.ensures.answer
@@ -96,7 +96,7 @@ pub returns-in-Some-eq36-clause-answer : goal.returns-in-Some-eq36-clause-answer
 returns-in-Some-eq36-clause-answer g c =
     let found = c.find_inner-self.ensures in
     let same = c.byte_at.ensures.same ∙ found.same in
-    steps_after c.args.self.now _ c.read_placeholder.result _ (λ first reading.
+    steps_after _ c.args.self.now _ c.read_placeholder.result _ (λ first reading.
     reading_inner c.args.self.now c.byte_at.new.self c.find_inner-self.result same reading
     c.requires.inside found.within found.run) same (omega (arith, found.run.ends))
     c.read_placeholder.ensures.answer
@@ -105,7 +105,7 @@ pub returns-in-Some-clause-answer : goal.returns-in-Some-clause-answer
 returns-in-Some-clause-answer g c =
     let found = c.find_inner-self.ensures in
     let same = c.byte_at.ensures.same ∙ found.same in
-    steps_after c.args.self.now _ c.close_brace.result _ (λ first reading.
+    steps_after _ c.args.self.now _ c.close_brace.result _ (λ first reading.
     reading_inner c.args.self.now c.byte_at.new.self c.find_inner-self.result same reading
     c.requires.inside found.within found.run) same (omega (arith, found.run.ends))
     c.close_brace.ensures.answer
