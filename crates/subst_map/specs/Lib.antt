@@ -1,2 +1,3 @@
--- What the maps have, which contracts of the maps cite.
+-- What the maps have, which contracts of the maps cite, and lemmas of these, which the maps cite as well.
+pub mod LayeredLemmas
 pub mod Maps

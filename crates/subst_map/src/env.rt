@@ -2,7 +2,7 @@
 
 ghost use Rattle.std.specs.Prelude.{◌≡◌};
 
-use crate::VariableMap;
+use crate::{BytesMap, VariableMap};
 use std::marker::Model;
 
 /// Pairs of names and values, as those of an environment: the first pair with a name counts.
@@ -55,4 +55,15 @@ impl<'a> VariableMap<'a> for Env {
         let (_, value) = self.pairs.iter().find(|(name, _)| key == name.as_str())?;
         Some(value.as_str())
     }
+}
+
+/// The bytes of the value of the first pair with the name.
+impl<'a> BytesMap<'a> for Env {
+    ghost use Rattle.std.proofs.Common.{refl, sym};
+    ghost use Rattle.std.proofs.lemmas.Iterator.Adapters.{option_map_id};
+    ghost use Rattle.subst_map.specs.Maps.{first_value};
+
+    ghost look_up_bytes = { first_value };
+
+    ghost reads = { ((λ bytes. bytes), (λ v. refl), (λ self name. sym (option_map_id _))) };
 }

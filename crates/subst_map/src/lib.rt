@@ -1,19 +1,25 @@
 //! Maps from names of variables to their values: the trait `VariableMap`, whose `get` returns what the
-//! map's look-up has.
+//! map's look-up has, and the maps that are there.
 #![tactic(auto)]
 
 ghost use Rattle.std.specs.Prelude.{◌≡◌, ℕ, List, Option};
 ghost use Rattle.std.specs.Option.{option_map};
 
+pub use bytes_map::BytesMap;
 pub use env::Env;
+pub use layered::{Layered, OneOf};
 pub use never::{NeverValue, NoSubstitution};
+pub use no_empty::NoEmpty;
 
 mod btree;
+mod bytes_map;
 mod env;
 mod hash;
 mod index;
 pub mod laws;
+mod layered;
 mod never;
+mod no_empty;
 
 /// A map from names of variables to their values.
 ///

@@ -2,7 +2,7 @@
 
 ghost use Rattle.std.specs.Prelude.{◌≡◌};
 
-use crate::VariableMap;
+use crate::{BytesMap, VariableMap};
 use std::convert::{AsSlice, AsStr};
 
 /// The map without variables: every name is missing, so each default is used.
@@ -50,4 +50,13 @@ impl<'a> VariableMap<'a> for NoSubstitution {
     fn get(&'a self, _key: &str) -> Option<NeverValue> {
         None
     }
+}
+
+/// Nothing, whatever the name.
+impl<'a> BytesMap<'a> for NoSubstitution {
+    ghost use Rattle.std.specs.Prelude.{None, refl};
+
+    ghost look_up_bytes = { λ _ _. None };
+
+    ghost reads = { ((λ bytes. bytes), (λ v. refl), (λ self name. refl)) };
 }
