@@ -8,8 +8,8 @@ use Rattle.toml.specs.Parse.{parse_document}
 use Rattle.subst_error.specs.Display.{IsDisplayOfFault}
 use Rattle.subst_error.specs.Fault.{Fault}
 use Rattle.subst_error.specs.Range.{range_at, range_of}
-use Rattle.subst_language.specs.Language.Answer.{Answers, Gives}
 use Rattle.subst_language.specs.Language.LookUp.{LookUp}
+use Rattle.subst_language.specs.Language.Several.{GivesBy, under}
 use Rattle.subst_walk.specs.Paths.{AreRefusals, PathStep, Refusal}
 use Rattle.subst_json.specs.Filled as json
 use Rattle.subst_json.specs.Listed as json_listed
@@ -44,10 +44,10 @@ IsNoDocument Toml s = parse_document s ≡ None
 abbrev pub IsFilledIn : Format → LookUp → List ℕ → List ℕ → Type 0
 IsFilledIn Json look s x =
     json_outcome.ReadsAsTree s (λ d. json_outcome.ReadsAsTree x (json_tree.IsMapped look d))
-    × json.IsFilledJson (λ y z. Answers y look (Gives z)) s x
+    × json.IsFilledJson (GivesBy (under look)) s x
 IsFilledIn Toml look s x =
     toml_outcome.ReadsAsTree s (λ d. toml_outcome.ReadsAsTree x (toml_tree.IsMapped look d))
-    × toml.IsFilledIn (λ y z. Answers y look (Gives z)) s x
+    × toml.IsFilledIn (GivesBy (under look)) s x
 
 -- the span of the text is where the token spells this range of its string
 abbrev pub IsPlaceIn : Format → List ℕ → (token range place : Range ℕ) → Type 0
@@ -69,11 +69,11 @@ pub record Refused : Type 0 where
 -- the refusals of the strings of the text, in its order, begin with that of this one
 abbrev pub IsFirst : Format → LookUp → List ℕ → Refused → Type 0
 IsFirst Json look s it =
-    ((more : List Refusal) × AreRefusals look (json_listed.located_in [] (tokens s))
+    ((more : List Refusal) × AreRefusals (under look) (json_listed.located_in [] (tokens s))
     (record { path = it.path; text = it.text; fault = Some it.fault } ∷ more))
     × json.IsStringToken (slice_range s it.token.start it.token.end) it.text
 IsFirst Toml look s it =
-    ((more : List toml.RefusalIn) × toml.AreAllRefusals look s
+    ((more : List toml.RefusalIn) × toml.AreAllRefusals (under look) s
     (record { text = it.text; span = it.token; fault = Some it.fault } ∷ more))
     × toml.IsSpelledAt s it.token it.text
     × toml_outcome.ReadsAsTree s (λ d. toml_paths.Leads it.path d it.text)

@@ -2,15 +2,16 @@
 use Rattle.std.specs.Prelude.{◌≡◌, ◌⊎◌, ℕ, ◌+◌, List, [], ◌∷◌, length}
 use Rattle.std.specs.List.{concat}
 use Rattle.subst_error.specs.Fault.{Fault}
+use Rattle.subst_language.specs.Language.Answer.{Answer, Answers}
 use Rattle.subst_language.specs.Language.BadItem.{HasFault}
 use Rattle.subst_language.specs.Language.Sentence.{IsSentence}
-use Rattle.subst_language.specs.Language.Several.{EachGives, Question, RefusesAt}
+use Rattle.subst_language.specs.Language.Several.{EachGives, RefusesAt}
 use Rattle.subst_c.specs.Pairs.{pair_value}
 use Rattle.subst_c.specs.declared.pairs.Row.{Row}
 
--- the source under a row of pairs
-abbrev pub under_row : List ℕ → Row → Question
-under_row s row = (s, pair_value row.pairs.now)
+-- the answers of the source under a row of pairs
+abbrev pub under_row : List ℕ → Row → Answer → Type 0
+under_row s row = Answers s (pair_value row.pairs.now)
 
 -- where each of some outputs ends, if they come one after the other from this position on
 abbrev pub ends_from : ℕ → List (List ℕ) → List ℕ

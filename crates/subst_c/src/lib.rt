@@ -1,8 +1,9 @@
 //! The library under names of C: variables come as pairs, and what is returned goes into the caller's buffer.
 //!
 //! `include/subst.h.in` declares what is here, and docs/C.md shows how to call it. Each call returns
-//! one of the numbers of [`outcome`]. No pointer is null: where a length is 0, the header passes an address
-//! of its own. What is borrowed to be written overlaps nothing else that is passed.
+//! one of the numbers of [`outcome`]. No argument is null: where a length is 0, the header passes an address
+//! of its own. In a pair or a row a pointer beside a length of 0 may be null, of which contracts know nothing:
+//! it is only tested. What is borrowed to be written overlaps nothing else that is passed.
 #![tactic(auto)]
 
 ghost use Rattle.std.specs.Prelude.{◌≡◌, ◌≢◌, ◌⊎◌, ◌↔◌, ◌+◌, ◌*◌, ◌<◌, ◌≤◌, ◌++◌, ℕ, List, drop, length, take, true, false};
@@ -50,7 +51,7 @@ mod variables;
 /// Returns the version of the library as one number, as 102 for 0.1.2.
 #[unsafe(no_mangle)]
 pub extern "C" fn subst_version() -> u32
-    ensures { result ≡ 10000 * MAJOR + 100 * MINOR + PATCH }
+    ensures version { result ≡ 10000 * MAJOR + 100 * MINOR + PATCH }
 {
     10000 * MAJOR + 100 * MINOR + PATCH
 }

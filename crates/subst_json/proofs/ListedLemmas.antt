@@ -4,8 +4,7 @@ use Rattle.std.proofs.lemmas.List.{map-append}
 use Rattle.std.specs.List.{AllByRecursion}
 use Rattle.subst_error.specs.Fault.{Fault}
 use Rattle.subst_error.specs.Range.{range_of, IsRangeIn}
-use Rattle.subst_language.specs.Language.Answer.{Answers, Gives, Refuses}
-use Rattle.subst_language.specs.Language.LookUp.{LookUp}
+use Rattle.subst_language.specs.Language.Answer.{Answer, Gives, Refuses}
 use Rattle.subst_language.proofs.Language.ListLemmas.{each_append}
 use Rattle.subst_walk.specs.Edits.{AreSpelled}
 use Rattle.subst_walk.specs.Paths.{PathStep, Located, AreRefusals, step_of}
@@ -34,39 +33,37 @@ value_passed front old new s t was is h =
     ∙ sym (ap (λ xs. past_value (path_of xs)) was ∙ ap past_value (pushed_step front s))
 
 -- a string that is refused
-refused_alone : (look : LookUp) (path : List PathStep) (text : List ℕ) (fault : Option Fault)
-    → IsSomeAnd fault (λ f. Answers text look (Refuses f))
-    → AreRefusals look (located path text ∷ []) (refusal_of path text fault ∷ [])
-refused_alone look path text None h = absurd h
-refused_alone look path text (Some f) h = inr (f, [], h, refl, refl)
+refused_alone : (ask : List ℕ → Answer → Type 0) (path : List PathStep) (text : List ℕ) (fault : Option Fault)
+    → IsSomeAnd fault (λ f. ask text (Refuses f))
+    → AreRefusals ask (located path text ∷ []) (refusal_of path text fault ∷ [])
+refused_alone ask path text None h = absurd h
+refused_alone ask path text (Some f) h = inr (f, [], h, refl, refl)
 
-module _ (IsLookUp : LookUp → Type 0) (source : List ℕ) where
+module _ (ask : List ℕ → Answer → Type 0) (source : List ℕ) where
   -- no string is there
-  pub none_listed : (from : ℕ) (old : List RefusalAt) → AreListedRefusals IsLookUp source from from [] old old
-  none_listed from old = ([], sym (append-nil old), λ look asked. refl, λ more h. h, tt)
+  pub none_listed : (from : ℕ) (old : List RefusalAt) → AreListedRefusals ask source from from [] old old
+  none_listed from old = ([], sym (append-nil old), refl, λ more h. h, tt)
 
   -- a string is there that gives bytes
   pub given_listed : (from : ℕ) (here : Located) (old : List RefusalAt)
-      → ((look : LookUp) → IsLookUp look → (x : List ℕ) × Answers here.text look (Gives x))
-      → AreListedRefusals IsLookUp source from from (here ∷ []) old old
-  given_listed from here old gives =
-      ([], sym (append-nil old), λ look asked. inl (gives look asked, refl), λ more h. h, tt)
+      → (x : List ℕ) × ask here.text (Gives x)
+      → AreListedRefusals ask source from from (here ∷ []) old old
+  given_listed from here old gives = ([], sym (append-nil old), inl (gives, refl), λ more h. h, tt)
 
   -- one is there that is refused
   pub refused_listed : (from : ℕ) (path : List PathStep) (text : List ℕ) (fault : Option Fault)
-      (it : StringAt)
-      (refusal : RefusalAt) (old new : List RefusalAt) → new ≡ old ++ refusal ∷ []
+      (it : StringAt) (refusal : RefusalAt) (old new : List RefusalAt) → new ≡ old ++ refusal ∷ []
       → refusal_at refusal ≡ refusal_of path text fault → string_of refusal ≡ it
       → AreSpelled IsStringToken source from (it ∷ []) → IsRangeIn text (range_of fault)
-      → ((look : LookUp) → IsLookUp look → IsSomeAnd fault (λ f. Answers text look (Refuses f)))
-      → AreListedRefusals IsLookUp source from it.span.end (located path text ∷ []) old new
+      → IsSomeAnd fault (λ f. ask text (Refuses f))
+      → AreListedRefusals ask source from it.span.end (located path text ∷ []) old new
   refused_listed from path text fault it refusal old new is same at
       (within, after, forwards, spells, none) range
       refuses = (
         refusal ∷ [],
         is,
-        λ look asked. subst (λ r. AreRefusals look (located path text ∷ []) (r ∷ [])) (sym same)
-            (refused_alone look path text fault (refuses look asked)),
+        subst (λ r. AreRefusals ask (located path text ∷ []) (r ∷ [])) (sym same)
+            (refused_alone ask path text fault refuses),
         λ more h. subst (λ s. AreSpelled IsStringToken source from (s ∷ more)) (sym at)
             (within, after, forwards, spells, h),
         (subst HasRangeInText (sym same) range, tt),
@@ -74,15 +71,14 @@ module _ (IsLookUp : LookUp → Type 0) (source : List ℕ) where
 
   -- one part after another
   pub refusals_then : (a b c : ℕ) (xs ys : List Located) (old mid new : List RefusalAt)
-      → AreListedRefusals IsLookUp source a b xs old mid → AreListedRefusals IsLookUp source b c ys mid new
-      → AreListedRefusals IsLookUp source a c (xs ++ ys) old new
+      → AreListedRefusals ask source a b xs old mid → AreListedRefusals ask source b c ys mid new
+      → AreListedRefusals ask source a c (xs ++ ys) old new
   refusals_then a b c xs ys old mid new (p, is_p, refused_p, before, range_p)
       (q, is_q, refused_q, after, range_q) = (
         p ++ q,
         is_q ∙ ap (λ l. l ++ q) is_p ∙ append_assoc old p q,
-        λ look asked. subst (AreRefusals look (xs ++ ys)) (sym (map-append refusal_at p q))
-            (refusals_append look xs ys (map refusal_at p) (map refusal_at q) (refused_p look asked)
-            (refused_q look asked)),
+        subst (AreRefusals ask (xs ++ ys)) (sym (map-append refusal_at p q))
+            (refusals_append ask xs ys (map refusal_at p) (map refusal_at q) refused_p refused_q),
         λ more h. subst (λ l. AreSpelled IsStringToken source a (l ++ more)) (sym (map-append string_of p q))
             (subst (AreSpelled IsStringToken source a) (sym (append_assoc (map string_of p)
             (map string_of q) more))
@@ -93,7 +89,7 @@ module _ (IsLookUp : LookUp → Type 0) (source : List ℕ) where
 
   -- all are listed
   pub all_spelled : (next : ℕ) (strings : List Located) (list : List RefusalAt)
-      → AreListedRefusals IsLookUp source 0 next strings [] list
+      → AreListedRefusals ask source 0 next strings [] list
       → AreSpelled IsStringToken source 0 (map string_of list)
   all_spelled next strings list (items, is, refused, spelled, range) =
       subst (AreSpelled IsStringToken source 0) (append-nil (map string_of items)

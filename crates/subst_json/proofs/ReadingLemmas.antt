@@ -5,29 +5,23 @@ use Rattle.serde_json.specs.Read.{read}
 use Rattle.serde_json.specs.View.{view}
 use Rattle.serde_json.specs.declared.value.Value.{Value}
 use Rattle.subst_error.specs.ErrorFault.{error_fault}
+use Rattle.subst_error.specs.Fault.{Fault}
 use Rattle.std.proofs.lemmas.Option.{IfSome_then}
-use Rattle.subst_language.specs.Language.LookUp.{LookUp}
-use Rattle.subst_language.specs.Language.Several.{IsFirstRefusal}
-use Rattle.subst_json.specs.Mapped.{strings, IsMapped}
 use Rattle.subst_json.specs.Outcome.{ReadsAsTree, OnSubst}
 use Rattle.subst_json.specs.declared.error.Error.{Error}
 use Rattle.subst_json.specs.declared.error.Error.TheVariants.{Json, Subst, OutOfMemory}
 
--- the tree that is mapped is the one that the text is read as
-pub mapped_as_read : (look : LookUp) (text : List ℕ) (d : Data) (result : Result Value Error)
-    → read text ≡ Some d
-    → IfOk result (λ tree. IsMapped look d (view tree))
-    → IfOk result (λ tree. ReadsAsTree text (λ e. IsMapped look e (view tree)))
-mapped_as_read look text d (Ok tree) is h = (d, is, h)
-mapped_as_read look text d (Err e) is h = tt
+module _ (text : List ℕ) (d : Data) (is : read text ≡ Some d) where
+  -- what holds of the tree that is returned, with the one that the text is read as
+  pub returned_as_read : (P : Data → Data → Type 0) (result : Result Value Error)
+      → IfOk result (λ tree. P d (view tree)) → IfOk result (λ tree. ReadsAsTree text (λ e. P e (view tree)))
+  returned_as_read P (Ok tree) h = (d, is, h)
+  returned_as_read P (Err e) h = tt
 
--- the strings are those of that tree
-pub refused_as_read : (look : LookUp) (text : List ℕ) (d : Data) (result : Result Value Error)
-    → read text ≡ Some d
-    → OnSubst result (IsFirstRefusal look (strings d))
-    → OnSubst result (λ f. ReadsAsTree text (λ e. IsFirstRefusal look (strings e) f))
-refused_as_read look text d (Ok tree) is h = tt
-refused_as_read look text d (Err (Json e)) is h = tt
-refused_as_read look text d (Err (Subst e)) is h =
-    IfSome_then (error_fault e) h (λ f refused. (d, is, refused))
-refused_as_read look text d (Err (OutOfMemory e)) is h = tt
+  -- what holds of the fault of a string of that tree
+  pub refused_as_read : (P : Data → Fault → Type 0) (result : Result Value Error)
+      → OnSubst result (P d) → OnSubst result (λ f. ReadsAsTree text (λ e. P e f))
+  refused_as_read P (Ok tree) h = tt
+  refused_as_read P (Err (Json e)) h = tt
+  refused_as_read P (Err (Subst e)) h = IfSome_then (error_fault e) h (λ f refused. (d, is, refused))
+  refused_as_read P (Err (OutOfMemory e)) h = tt

@@ -10,7 +10,7 @@ use Rattle.serde_json.specs.Find.{get_item, get_member}
 use Rattle.serde_json.specs.View.{view, items_view, members_view}
 use Rattle.serde_json.specs.declared.value.Value.{Value}
 use Rattle.serde_json.proofs.Views.{Entry, get_item_within}
-use Rattle.subst_language.specs.Language.LookUp.{LookUp}
+use Rattle.subst_language.specs.Language.Answer.{Answer}
 use Rattle.subst_walk.specs.Paths.{Key, Index, Refusal, AreRefusals, refusal_below}
 use Rattle.subst_walk.specs.Refused.{AreFound, IsMet}
 use Rattle.subst_walk.specs.declared.refused.HowMany.{HowMany}
@@ -26,38 +26,6 @@ cut_at vs i v within here =
     sym (take-append-drop i vs) ∙ ap (λ rest. take i vs ++ rest)
     (drop_more vs i v within ∙ ap (λ x. x ∷ drop (i + 1) vs) (sym here))
 
--- after an item, where more is wanted
-pub items_more : (look : LookUp) (wanted : HowMany) (vs : List Value) (i : ℕ) (v : Value)
-    (before part found : List Refusal) → i < length vs → v ≡ get_or vs i v
-    → AreRefusals look (located_items 0 (items_view (take i vs))) before
-    → AreFound look wanted (located (view v)) part
-    → found ≡ before ++ map (refusal_below (Index i)) part → ¬ (IsMet wanted found)
-    → AreRefusals look (located_items 0 (items_view (take (i + 1) vs))) found
-items_more look wanted vs i v before part found within here h k is more =
-    let long : length (take i vs) ≡ i = length-take-le i vs (omega arith) in
-    let cut : take (i + 1) vs ≡ take i vs ++ v ∷ [] =
-    take_more vs i v within ∙ ap (λ x. take i vs ++ x ∷ []) (sym here) in
-    let strings = ap (λ xs. located_items 0 (items_view xs)) cut ∙ one_more_item (take i vs) v in
-    let step = subst (λ n. found ≡ before ++ map (refusal_below (Index n)) part) (sym long) is in
-    subst (λ ss. AreRefusals look ss found) (sym strings)
-    (part_more look wanted (Index (length (take i vs))) _ (located (view v)) before part found h k step more)
-
--- after an item, where nothing more is wanted
-pub items_enough : (look : LookUp) (wanted : HowMany) (vs : List Value) (i : ℕ) (v : Value)
-    (before part found : List Refusal) → i < length vs → v ≡ get_or vs i v
-    → AreRefusals look (located_items 0 (items_view (take i vs))) before → ¬ (IsMet wanted before)
-    → AreFound look wanted (located (view v)) part
-    → found ≡ before ++ map (refusal_below (Index i)) part → IsMet wanted found
-    → AreFound look wanted (located_items 0 (items_view vs)) found
-items_enough look wanted vs i v before part found within here h more k is enough =
-    let n = 0 + length (take i vs) in
-    let long : n ≡ i = let taken = length-take-le i vs (omega arith) in omega arith in
-    let strings = ap (λ xs. located_items 0 (items_view xs)) (cut_at vs i v within here)
-    ∙ items_in_three 0 (take i vs) v (drop (i + 1) vs) in
-    let step = subst (λ m. found ≡ before ++ map (refusal_below (Index m)) part) (sym long) is in
-    subst (λ ss. AreFound look wanted ss found) (sym strings)
-    (part_enough look wanted (Index n) _ (located (view v)) _ before part found h more k step enough)
-
 -- the paths of an item's refusals lead on from the array
 pub items_lead : (vs : List Value) (i : ℕ) (v : Value) (before part found : List Refusal) → i < length vs
     → v ≡ get_or vs i v → AllByRecursion (λ it. Leads it.path (array (items_view vs)) it.text) before
@@ -70,29 +38,6 @@ items_lead vs i v before part found within here h k is =
     each_of_part (Index i) (λ it. Leads it.path (view v) it.text)
     (λ it. Leads it.path (array (items_view vs)) it.text) before part found
     (λ it leads. (view v, item, leads)) h k is
-
--- after a member, where more is wanted
-pub members_more : (look : LookUp) (wanted : HowMany) (done : List Entry) (e : Entry)
-    (before part found : List Refusal) → AreRefusals look (located_members (members_view done)) before
-    → AreFound look wanted (located (view e.1)) part
-    → found ≡ before ++ map (refusal_below (Key (string_bytes e.0))) part → ¬ (IsMet wanted found)
-    → AreRefusals look (located_members (members_view (done ++ e ∷ []))) found
-members_more look wanted done e before part found h k is more =
-    subst (λ ss. AreRefusals look ss found) (sym (one_more_member done e))
-    (part_more look wanted (Key (string_bytes e.0)) _ (located (view e.1)) before part found h k is more)
-
--- after a member, where nothing more is wanted
-pub members_enough : (look : LookUp) (wanted : HowMany) (es done : List Entry) (e : Entry) (left : List Entry)
-    (before part found : List Refusal) → es ≡ done ++ e ∷ left
-    → AreRefusals look (located_members (members_view done)) before → ¬ (IsMet wanted before)
-    → AreFound look wanted (located (view e.1)) part
-    → found ≡ before ++ map (refusal_below (Key (string_bytes e.0))) part → IsMet wanted found
-    → AreFound look wanted (located_members (members_view es)) found
-members_enough look wanted es done e left before part found all h more k is enough =
-    let strings = ap (λ xs. located_members (members_view xs)) all ∙ members_in_three done e left in
-    subst (λ ss. AreFound look wanted ss found) (sym strings)
-    (part_enough look wanted (Key (string_bytes e.0)) _ (located (view e.1)) _ before part found h more k is
-    enough)
 
 -- the paths of a member's refusals lead on from the object
 pub members_lead : (es done : List Entry) (e : Entry) (left : List Entry) (before part found : List Refusal)
@@ -116,3 +61,60 @@ pub alone_leads : (s : List ℕ) (found : List Refusal)
 alone_leads s [] h = tt
 alone_leads s (it ∷ found) ((root, text), h) =
     (subst (λ path. Leads path (string s) it.text) (sym root) (ap string (sym text)), alone_leads s found h)
+
+-- `ask` tells which answers a string has
+module _ (ask : List ℕ → Answer → Type 0) where
+  -- after an item, where more is wanted
+  pub items_more : (wanted : HowMany) (vs : List Value) (i : ℕ) (v : Value)
+      (before part found : List Refusal) → i < length vs → v ≡ get_or vs i v
+      → AreRefusals ask (located_items 0 (items_view (take i vs))) before
+      → AreFound ask wanted (located (view v)) part
+      → found ≡ before ++ map (refusal_below (Index i)) part → ¬ (IsMet wanted found)
+      → AreRefusals ask (located_items 0 (items_view (take (i + 1) vs))) found
+  items_more wanted vs i v before part found within here h k is more =
+      let long : length (take i vs) ≡ i = length-take-le i vs (omega arith) in
+      let cut : take (i + 1) vs ≡ take i vs ++ v ∷ [] =
+      take_more vs i v within ∙ ap (λ x. take i vs ++ x ∷ []) (sym here) in
+      let strings = ap (λ xs. located_items 0 (items_view xs)) cut ∙ one_more_item (take i vs) v in
+      let step = subst (λ n. found ≡ before ++ map (refusal_below (Index n)) part) (sym long) is in
+      subst (λ ss. AreRefusals ask ss found) (sym strings)
+      (part_more ask wanted (Index (length (take i vs))) _ (located (view v)) before part found h k step more)
+
+  -- after an item, where nothing more is wanted
+  pub items_enough : (wanted : HowMany) (vs : List Value) (i : ℕ) (v : Value)
+      (before part found : List Refusal) → i < length vs → v ≡ get_or vs i v
+      → AreRefusals ask (located_items 0 (items_view (take i vs))) before → ¬ (IsMet wanted before)
+      → AreFound ask wanted (located (view v)) part
+      → found ≡ before ++ map (refusal_below (Index i)) part → IsMet wanted found
+      → AreFound ask wanted (located_items 0 (items_view vs)) found
+  items_enough wanted vs i v before part found within here h more k is enough =
+      let n = 0 + length (take i vs) in
+      let long : n ≡ i = let taken = length-take-le i vs (omega arith) in omega arith in
+      let strings = ap (λ xs. located_items 0 (items_view xs)) (cut_at vs i v within here)
+      ∙ items_in_three 0 (take i vs) v (drop (i + 1) vs) in
+      let step = subst (λ m. found ≡ before ++ map (refusal_below (Index m)) part) (sym long) is in
+      subst (λ ss. AreFound ask wanted ss found) (sym strings)
+      (part_enough ask wanted (Index n) _ (located (view v)) _ before part found h more k step enough)
+
+  -- after a member, where more is wanted
+  pub members_more : (wanted : HowMany) (done : List Entry) (e : Entry)
+      (before part found : List Refusal) → AreRefusals ask (located_members (members_view done)) before
+      → AreFound ask wanted (located (view e.1)) part
+      → found ≡ before ++ map (refusal_below (Key (string_bytes e.0))) part → ¬ (IsMet wanted found)
+      → AreRefusals ask (located_members (members_view (done ++ e ∷ []))) found
+  members_more wanted done e before part found h k is more =
+      subst (λ ss. AreRefusals ask ss found) (sym (one_more_member done e))
+      (part_more ask wanted (Key (string_bytes e.0)) _ (located (view e.1)) before part found h k is more)
+
+  -- after a member, where nothing more is wanted
+  pub members_enough : (wanted : HowMany) (es done : List Entry) (e : Entry) (left : List Entry)
+      (before part found : List Refusal) → es ≡ done ++ e ∷ left
+      → AreRefusals ask (located_members (members_view done)) before → ¬ (IsMet wanted before)
+      → AreFound ask wanted (located (view e.1)) part
+      → found ≡ before ++ map (refusal_below (Key (string_bytes e.0))) part → IsMet wanted found
+      → AreFound ask wanted (located_members (members_view es)) found
+  members_enough wanted es done e left before part found all h more k is enough =
+      let strings = ap (λ xs. located_members (members_view xs)) all ∙ members_in_three done e left in
+      subst (λ ss. AreFound ask wanted ss found) (sym strings)
+      (part_enough ask wanted (Key (string_bytes e.0)) _ (located (view e.1)) _ before part found h more k is
+      enough)

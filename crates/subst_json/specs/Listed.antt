@@ -3,7 +3,7 @@ use Rattle.std.specs.Prelude.{◌≡◌, ℕ, ◌+◌, List, [], ◌∷◌, ◌+
 use Rattle.subst_error.specs.Fault.{Fault}
 use Rattle.std.specs.List.{AllByRecursion}
 use Rattle.json.specs.Token.{Token, begin_object, end_object, begin_array, end_array, key, string, number, boolean, null, bad}
-use Rattle.subst_language.specs.Language.LookUp.{LookUp}
+use Rattle.subst_language.specs.Language.Answer.{Answer}
 use Rattle.subst_walk.specs.Edits.{AreSpelled}
 use Rattle.subst_walk.specs.Paths.{PathStep, Key, Index, Located, Refusal, AreRefusals}
 use Rattle.subst_walk.specs.Refused.{HasRangeInText}
@@ -65,11 +65,11 @@ string_of it = record { text = it.text; span = it.span }
 
 -- What was appended to a list are the refusals of these strings, each spelled where it stands in a text from
 -- one position up to another one: whatever are spelled after it.
-abbrev pub AreListedRefusals : (LookUp → Type 0) → (source : List ℕ) → ℕ → ℕ → List Located
+abbrev pub AreListedRefusals : (List ℕ → Answer → Type 0) → (source : List ℕ) → ℕ → ℕ → List Located
     → (old : List RefusalAt) → (new : List RefusalAt) → Type 0
-AreListedRefusals IsLookUp source from next strings old new =
+AreListedRefusals ask source from next strings old new =
     (items : List RefusalAt) × (new ≡ old ++ items)
-    × ((look : LookUp) → IsLookUp look → AreRefusals look strings (map refusal_at items))
+    × AreRefusals ask strings (map refusal_at items)
     × ((more : List StringAt) → AreSpelled IsStringToken source next more
     → AreSpelled IsStringToken source from (map string_of items ++ more))
     × AllByRecursion HasRangeInText (map refusal_at items)

@@ -2,7 +2,7 @@
 use Rattle.std.specs.Prelude.{◌≡◌, ⊤, ℕ, List, [], ◌∷◌, ◌++◌}
 use Rattle.serde_json.specs.Data.{Data, null, boolean, number, string, array, object, Items, no_items, item, Members, no_members, member}
 use Rattle.subst_language.specs.Language.LookUp.{LookUp}
-use Rattle.subst_language.specs.Language.Answer.{Answers, Gives}
+use Rattle.subst_language.specs.Language.Several.{GivesBy, under}
 
 -- The strings of a tree: those of an array by index, those of an object in the byte order of its keys, as the
 -- reader's trees have them. A key is none of them.
@@ -48,10 +48,4 @@ abbrev mutual
 
 -- each string is what it gives
 abbrev pub IsMapped : LookUp → Data → Data → Type 0
-IsMapped look = IsEach (λ s x. Answers s look (Gives x))
-
-abbrev pub AreMapped : LookUp → Items → Items → Type 0
-AreMapped look = AreEach (λ s x. Answers s look (Gives x))
-
-abbrev pub HasMappedMembers : LookUp → Members → Members → Type 0
-HasMappedMembers look = HasEachMember (λ s x. Answers s look (Gives x))
+IsMapped look = IsEach (GivesBy (under look))

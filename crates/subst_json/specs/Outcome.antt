@@ -7,10 +7,10 @@ use Rattle.serde_json.specs.declared.error.Error as reading
 use Rattle.serde_json.specs.declared.value.Value.{Value}
 use Rattle.subst_error.specs.Fault.{Fault}
 use Rattle.subst_error.specs.ErrorFault.{error_fault}
-use Rattle.subst_language.specs.Calls.VariableMap.{ByLookUp}
-use Rattle.subst_language.specs.Language.LookUp.{LookUp}
-use Rattle.subst_language.specs.Language.Several.{IsFirstRefusal}
-use Rattle.subst_json.specs.Mapped.{strings, IsMapped}
+use Rattle.subst_language.specs.Calls.Clauses.{AnswersText}
+use Rattle.subst_language.specs.Language.Answer.{Answer}
+use Rattle.subst_language.specs.Language.Several.{GivesBy, RefusesFirst}
+use Rattle.subst_json.specs.Mapped.{strings, IsEach}
 use Rattle.subst_json.specs.declared.error.Error.{Error}
 use Rattle.subst_json.specs.declared.error.Error.TheVariants.{Json, Subst, OutOfMemory}
 
@@ -20,9 +20,10 @@ ReadsAsTree text P = (d : Data) × (read text ≡ Some d) × P d
 
 -- The result is what the step that reads a type returns for the tree with its strings filled in. That step
 -- is known by what it returns for a tree.
-abbrev pub IsReadFilledIn : {T : Type 0} → LookUp → (Data → Result T reading.Error → Type 0) → Data
+abbrev pub IsReadFilledIn : {T : Type 0} → (List ℕ → Answer → Type 0)
+    → (Data → Result T reading.Error → Type 0) → Data
     → Result T reading.Error → Type 0
-IsReadFilledIn look Reads d result = (e : Data) × IsMapped look d e × Reads e result
+IsReadFilledIn ask Reads d result = (e : Data) × IsEach (GivesBy ask) d e × Reads e result
 
 -- P holds of the reader's error, or of that of the step that reads a type, if that is the error
 abbrev if_json : Error → (reading.Error → Type 0) → Type 0
@@ -45,23 +46,23 @@ if_subst (OutOfMemory e) P = ⊤
 abbrev pub OnSubst : {T : Type 0} → Result T Error → (Fault → Type 0) → Type 0
 OnSubst result P = IfErr result (λ e. if_subst e P)
 
--- Clauses of calls that read the text s and fill in its tree from a map, whose look-up `items`, `see` and
--- `look_up` tell, as those of `ByLookUp`.
+-- Clauses of calls that read the text s and fill in its tree from a map, whose answers `items`, `see` and
+-- `look_up` tell, as those of `AnswersText`.
 
 -- the tree is that of the text, with its strings filled in
 abbrev pub ReturnsTree : {V Seen : Type 0} → (V → List ℕ) → (V → Seen) → (List ℕ → Option Seen) → List ℕ
     → Result Value Error → Type 0
-ReturnsTree items see look_up s result = ByLookUp items see look_up
-    (λ look. IfOk result (λ tree. ReadsAsTree s (λ d. IsMapped look d (view tree))))
+ReturnsTree items see look_up s result = IfOk result
+    (λ tree. ReadsAsTree s (λ d. IsEach (GivesBy (AnswersText items see look_up)) d (view tree)))
 
 -- the value is what the step that reads a type returns for that tree
 abbrev pub ReadsType : {V Seen T : Type 0} → (V → List ℕ) → (V → Seen) → (List ℕ → Option Seen)
     → (Data → Result T reading.Error → Type 0) → List ℕ → Result T Error → Type 0
-ReadsType items see look_up Reads s result = ByLookUp items see look_up
-    (λ look. IfOk result (λ value. ReadsAsTree s (λ d. IsReadFilledIn look Reads d (Ok value))))
+ReadsType items see look_up Reads s result = IfOk result
+    (λ value. ReadsAsTree s (λ d. IsReadFilledIn (AnswersText items see look_up) Reads d (Ok value)))
 
 -- the fault is that of the first string of the text's tree that is refused
 abbrev pub StatesFirst : {V Seen T : Type 0} → (V → List ℕ) → (V → Seen) → (List ℕ → Option Seen) → List ℕ
     → Result T Error → Type 0
-StatesFirst items see look_up s result = ByLookUp items see look_up
-    (λ look. OnSubst result (λ f. ReadsAsTree s (λ d. IsFirstRefusal look (strings d) f)))
+StatesFirst items see look_up s result = OnSubst result
+    (λ f. ReadsAsTree s (λ d. RefusesFirst (AnswersText items see look_up) (strings d) f))

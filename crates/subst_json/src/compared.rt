@@ -6,6 +6,7 @@ ghost use Rattle.json.specs.Reads.{token_of};
 ghost use Rattle.serde_json.specs.Data.{Num};
 ghost use Rattle.fast_float.specs.Text.{scan};
 ghost use Rattle.serde_json.specs.Read.{number_of, number_from};
+ghost use Rattle.subst_language.specs.Language.Several.{GivesBy};
 ghost use Rattle.subst_json.specs.Filled.{AreFilled, IsFilledToken};
 
 use fast_float::Numeral;
@@ -23,7 +24,7 @@ pub(crate) fn is_filled<F: Fill>(
     filler: &F,
 ) -> Result<bool, AllocError>
     ensures { IfOk result (λ is. IsTrue is
-        → AreFilled (F.gives filler.now) (tokens source.now)
+        → AreFilled (GivesBy (F.answers filler.now)) (tokens source.now)
         (tokens output.now)) }
 {
     let mut scratch = Scratch::new(alloc);
@@ -49,7 +50,7 @@ fn is_filled_token<F: Fill>(
     filler: &F,
 ) -> Result<bool, AllocError>
     ensures { IfOk result (λ is. IsTrue is
-        → IsFilledToken (F.gives filler.now) (token_of token.entry)
+        → IsFilledToken (GivesBy (F.answers filler.now)) (token_of token.entry)
         (token_of filled.entry)) }
 {
     match token {
@@ -64,7 +65,7 @@ fn is_filled_token<F: Fill>(
 /// Returns whether a string gives this value.
 fn gives<F: Fill>(alloc: Global, text: &str, value: &str, filler: &F) -> Result<bool, AllocError>
     ensures { IfOk result (λ is. IsTrue is
-        → F.gives filler.now text.now value.now) }
+        → GivesBy (F.answers filler.now) text.now value.now) }
 {
     match changed(alloc, text, filler) {
         Ok(None) => Ok(text == value),

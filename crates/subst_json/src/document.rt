@@ -6,14 +6,12 @@ ghost use Rattle.json.specs.Lex.{tokens};
 ghost use Rattle.serde_json.specs.Errors.{IsOfText};
 ghost use Rattle.serde_json.specs.Read.{max_depth, read};
 ghost use Rattle.subst_error.specs.ErrorFault.{error_fault};
-ghost use Rattle.subst_language.specs.Calls.VariableMap.{ByLookUp};
-ghost use Rattle.subst_language.specs.Language.Answer.{Answers, Gives};
-ghost use Rattle.subst_language.specs.Language.LookUp.{LookUp};
-ghost use Rattle.subst_language.specs.Language.Several.{IsFirstRefusal};
+ghost use Rattle.subst_language.specs.Calls.Clauses.{AnswersText};
+ghost use Rattle.subst_language.specs.Language.Several.{GivesBy, RefusesFirst};
 ghost use Rattle.subst_walk.specs.Texts.{HasRange};
 ghost use Rattle.subst_json.specs.Errors.{HasOwnMemory};
 ghost use Rattle.subst_json.specs.Filled.{strings_in, IsFilledJson};
-ghost use Rattle.subst_json.specs.Mapped.{IsEach, IsMapped};
+ghost use Rattle.subst_json.specs.Mapped.{IsEach};
 ghost use Rattle.subst_json.specs.Outcome.{ReadsAsTree, IfJson, OnJson, OnSubst};
 
 use crate::Error;
@@ -58,21 +56,21 @@ where
     M::Value: AsStr + Drop,
 
     // It reads as the tree that the source is read as, with its strings filled in.
-    ensures mapped { ByLookUp M.Value.text M.see (M.look_up variables.now)
-        (λ look. IfOk result (λ output. IfSome output (λ output. ReadsAsTree source.now
-        (λ d. ReadsAsTree (string_bytes output) (IsMapped look d))))) }
+    ensures mapped { IfOk result (λ output. IfSome output (λ output. ReadsAsTree source.now
+        (λ d. ReadsAsTree (string_bytes output)
+        (IsEach (GivesBy (AnswersText M.Value.text M.see (M.look_up variables.now))) d)))) }
 
     // It is the source, but for the strings that change.
-    ensures kept { ByLookUp M.Value.text M.see (M.look_up variables.now)
-        (λ look. IfOk result (λ output. IfSome output (λ output.
-        IsFilledJson (λ x y. Answers x look (Gives y)) source.now (string_bytes output)))) }
+    ensures kept { IfOk result (λ output. IfSome output
+        (λ output. IsFilledJson (GivesBy (AnswersText M.Value.text M.see (M.look_up variables.now)))
+        source.now (string_bytes output))) }
     ensures json { OnJson result (read source.now ≡ None) }
 
     // What the error says is of a text that is no tree, and not of a type.
     ensures kind { IfJson result IsOfText }
-    ensures subst { ByLookUp M.Value.text M.see (M.look_up variables.now)
-        (λ look. OnSubst result (λ f. ReadsAsTree source.now
-        (λ _. IsFirstRefusal look (strings_in (tokens source.now)) f))) }
+    ensures subst { OnSubst result (λ f. ReadsAsTree source.now
+        (λ _. RefusesFirst (AnswersText M.Value.text M.see (M.look_up variables.now))
+        (strings_in (tokens source.now)) f)) }
     ensures range { OnSubst result HasRange }
 
     // Neither `Json` nor `Subst` says that memory ran out.
@@ -93,21 +91,21 @@ pub fn fill_in_slice<'a, M: VariableMap<'a>>(
 ) -> Result<Option<String>, Error>
 where
     M::Value: AsStr + Drop,
-    ensures mapped { ByLookUp M.Value.text M.see (M.look_up variables.now)
-        (λ look. IfOk result (λ output. IfSome output (λ output. ReadsAsTree source.now
-        (λ d. ReadsAsTree (string_bytes output) (IsMapped look d))))) }
-    ensures kept { ByLookUp M.Value.text M.see (M.look_up variables.now)
-        (λ look. IfOk result (λ output. IfSome output (λ output.
-        IsFilledJson (λ x y. Answers x look (Gives y)) source.now (string_bytes output)))) }
+    ensures mapped { IfOk result (λ output. IfSome output (λ output. ReadsAsTree source.now
+        (λ d. ReadsAsTree (string_bytes output)
+        (IsEach (GivesBy (AnswersText M.Value.text M.see (M.look_up variables.now))) d)))) }
+    ensures kept { IfOk result (λ output. IfSome output
+        (λ output. IsFilledJson (GivesBy (AnswersText M.Value.text M.see (M.look_up variables.now)))
+        source.now (string_bytes output))) }
 
     // The strings are filled in only where the bytes are UTF-8, and one is refused only there.
     ensures utf8 { OnOk result (IsUtf8 source.now) }
     ensures refused_utf8 { OnSubst result (λ f. IsUtf8 source.now) }
     ensures json { OnJson result (IsUtf8 source.now → read source.now ≡ None) }
     ensures kind { IfJson result IsOfText }
-    ensures subst { ByLookUp M.Value.text M.see (M.look_up variables.now)
-        (λ look. OnSubst result (λ f. ReadsAsTree source.now
-        (λ _. IsFirstRefusal look (strings_in (tokens source.now)) f))) }
+    ensures subst { OnSubst result (λ f. ReadsAsTree source.now
+        (λ _. RefusesFirst (AnswersText M.Value.text M.see (M.look_up variables.now))
+        (strings_in (tokens source.now)) f)) }
     ensures range { OnSubst result HasRange }
     ensures memory { IfErr result HasOwnMemory }
 {
@@ -128,14 +126,13 @@ where
 /// As [`fill_in`].
 pub fn fill_in_by<F: Fill>(alloc: Global, source: &str, filler: &F) -> Result<Option<String>, Error>
     ensures each { IfOk result (λ output. IfSome output (λ output. ReadsAsTree source.now
-        (λ d. ReadsAsTree (string_bytes output) (IsEach (F.gives filler.now) d)))) }
+        (λ d. ReadsAsTree (string_bytes output) (IsEach (GivesBy (F.answers filler.now)) d)))) }
     ensures kept { IfOk result (λ output. IfSome output (λ output.
-        IsFilledJson (F.gives filler.now) source.now (string_bytes output))) }
+        IsFilledJson (GivesBy (F.answers filler.now)) source.now (string_bytes output))) }
     ensures json { OnJson result (read source.now ≡ None) }
     ensures kind { IfJson result IsOfText }
-    ensures subst { (look : LookUp) → F.is_look_up filler.now look
-        → OnSubst result (λ f. ReadsAsTree source.now
-        (λ _. IsFirstRefusal look (strings_in (tokens source.now)) f)) }
+    ensures subst { OnSubst result (λ f. ReadsAsTree source.now
+        (λ _. RefusesFirst (F.answers filler.now) (strings_in (tokens source.now)) f)) }
     ensures range { OnSubst result HasRange }
     ensures memory { IfErr result HasOwnMemory }
 {
@@ -159,7 +156,7 @@ fn confirmed<F: Fill>(
 ) -> Result<Option<String>, Error>
     ensures same { IfOk result (λ confirmed. IfSome confirmed (λ confirmed. confirmed ≡ output)) }
     ensures each { IfOk result (λ output. IfSome output (λ output. ReadsAsTree source.now
-        (λ d. ReadsAsTree (string_bytes output) (IsEach (F.gives filler.now) d)))) }
+        (λ d. ReadsAsTree (string_bytes output) (IsEach (GivesBy (F.answers filler.now)) d)))) }
     ensures json { OnJson result (read source.now ≡ None) }
     ensures kind { IfJson result IsOfText }
     ensures subst { OnSubst result (λ _. ⊥) }

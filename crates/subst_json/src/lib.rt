@@ -20,10 +20,10 @@ ghost use Rattle.serde_json.specs.Read.{read};
 ghost use Rattle.serde_json.specs.View.{view};
 ghost use Rattle.subst_error.specs.ErrorFault.{error_fault};
 ghost use Rattle.subst_language.specs.Calls.Outcome.{OnFault};
-ghost use Rattle.subst_language.specs.Calls.VariableMap.{ByLookUp};
-ghost use Rattle.subst_language.specs.Language.Several.{IsFirstRefusal};
+ghost use Rattle.subst_language.specs.Calls.Clauses.{AnswersText};
+ghost use Rattle.subst_language.specs.Language.Several.{GivesBy, RefusesFirst};
 ghost use Rattle.subst_walk.specs.Texts.{HasRange};
-ghost use Rattle.subst_json.specs.Mapped.{strings, IsMapped};
+ghost use Rattle.subst_json.specs.Mapped.{strings, IsEach};
 ghost use Rattle.subst_json.specs.Errors.{HasOwnMemory};
 ghost use Rattle.subst_json.specs.Outcome.{ReadsAsTree, IsReadFilledIn, IfJson, OnJson, OnSubst, ReturnsTree, ReadsType, StatesFirst};
 
@@ -71,11 +71,13 @@ pub fn substitute_string_values<'a, M: VariableMap<'a>>(
 where
     M::Value: AsStr + Drop,
 
-    // Each string is replaced by what it gives under the map's look-up, and all else is as it was.
-    ensures ok { ByLookUp M.Value.text M.see (M.look_up variables.now)
-        (λ look. OnOk result (IsMapped look (view value.old) (view value.new))) }
-    ensures err { ByLookUp M.Value.text M.see (M.look_up variables.now)
-        (λ look. OnFault error_fault result (IsFirstRefusal look (strings (view value.old)))) }
+    // Each string is replaced by what it gives from the map, and all else is as it was.
+    ensures ok { OnOk result
+        (IsEach (GivesBy (AnswersText M.Value.text M.see (M.look_up variables.now)))
+        (view value.old) (view value.new)) }
+    ensures err { OnFault error_fault result
+        (RefusesFirst (AnswersText M.Value.text M.see (M.look_up variables.now))
+        (strings (view value.old))) }
 
     // The range of a fault can be asked for.
     ensures range { OnFault error_fault result HasRange }
@@ -175,9 +177,9 @@ where
     ensures ok { ReadsType M.Value.text M.see (M.look_up variables.now) T.reads source.now result }
 
     // `Json` is the reader's error, of a text that is no tree, or what that step returns for such a tree.
-    ensures json { ByLookUp M.Value.text M.see (M.look_up variables.now)
-        (λ look. IfJson result (λ e. ((read source.now ≡ None) × IsOfText e)
-        ⊎ ReadsAsTree source.now (λ d. IsReadFilledIn look T.reads d (Err e)))) }
+    ensures json { IfJson result (λ e. ((read source.now ≡ None) × IsOfText e)
+        ⊎ ReadsAsTree source.now (λ d. IsReadFilledIn
+        (AnswersText M.Value.text M.see (M.look_up variables.now)) T.reads d (Err e))) }
     ensures subst { StatesFirst M.Value.text M.see (M.look_up variables.now) source.now result }
     ensures range { OnSubst result HasRange }
     ensures memory { IfErr result HasOwnMemory }
@@ -203,9 +205,10 @@ where
     // The strings of a tree are filled in only where the bytes are UTF-8, and one is refused only there.
     ensures utf8 { OnOk result (IsUtf8 source.now) }
     ensures refused_utf8 { OnSubst result (λ f. IsUtf8 source.now) }
-    ensures json { ByLookUp M.Value.text M.see (M.look_up variables.now)
-        (λ look. IfJson result (λ e. ((IsUtf8 source.now → read source.now ≡ None) × IsOfText e)
-        ⊎ ReadsAsTree source.now (λ d. IsReadFilledIn look T.reads d (Err e)))) }
+    ensures json { IfJson result
+        (λ e. ((IsUtf8 source.now → read source.now ≡ None) × IsOfText e)
+        ⊎ ReadsAsTree source.now (λ d. IsReadFilledIn
+        (AnswersText M.Value.text M.see (M.look_up variables.now)) T.reads d (Err e))) }
     ensures subst { StatesFirst M.Value.text M.see (M.look_up variables.now) source.now result }
     ensures range { OnSubst result HasRange }
     ensures memory { IfErr result HasOwnMemory }
@@ -222,11 +225,13 @@ fn fill_tree<'a, M: VariableMap<'a>>(
 ) -> Result<Value, Error>
 where
     M::Value: AsStr + Drop,
-    ensures ok { ByLookUp M.Value.text M.see (M.look_up variables.now)
-        (λ look. IfOk result (λ tree. IsMapped look (view value) (view tree))) }
+    ensures ok { IfOk result
+        (λ tree. IsEach (GivesBy (AnswersText M.Value.text M.see (M.look_up variables.now)))
+        (view value) (view tree)) }
     ensures json { OnJson result ⊥ }
-    ensures subst { ByLookUp M.Value.text M.see (M.look_up variables.now)
-        (λ look. OnSubst result (IsFirstRefusal look (strings (view value)))) }
+    ensures subst { OnSubst result
+        (RefusesFirst (AnswersText M.Value.text M.see (M.look_up variables.now))
+        (strings (view value))) }
     ensures range { OnSubst result HasRange }
     ensures memory { IfErr result HasOwnMemory }
 {

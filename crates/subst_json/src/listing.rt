@@ -7,15 +7,14 @@ ghost use Rattle.json.specs.Reads.{token_of};
 ghost use Rattle.serde_json.specs.Errors.{IsOfText};
 ghost use Rattle.serde_json.specs.Read.{read};
 ghost use Rattle.subst_error.specs.ErrorFault.{error_fault};
-ghost use Rattle.subst_language.specs.Language.LookUp.{LookUp};
-ghost use Rattle.subst_language.specs.Calls.VariableMap.{ByLookUp};
+ghost use Rattle.subst_language.specs.Calls.Clauses.{AnswersText};
 ghost use Rattle.subst_walk.specs.Edits.{AreListed, AreSpelled, text_at};
 ghost use Rattle.subst_walk.specs.Paths.{AreRefusals, step_of};
 ghost use Rattle.subst_walk.specs.Refused.{HasRangeInText};
 ghost use Rattle.subst_json.specs.Errors.{HasOwnMemory};
 ghost use Rattle.subst_json.specs.Filled.{strings_of_token, strings_in, IsStringToken};
 ghost use Rattle.subst_json.specs.Listed.{located, located_at, located_in, past_token, past_value, refusal_at, refusal_of, string_of, AreListedRefusals, RefusalAt as SpecRefusalAt};
-ghost use Rattle.subst_json.specs.Outcome.{ReadsAsTree, IfJson, OnJson};
+ghost use Rattle.subst_json.specs.Outcome.{ReadsAsTree, IfJson, OnJson, OnSubst};
 
 use crate::tokens::{JsonStrings, span_in};
 use crate::{Error, Path};
@@ -45,6 +44,7 @@ pub fn strings(alloc: Global, source: &str) -> Result<Option<Vec<StringAt>>, Err
     ensures is_json { IfOk result (λ _. ReadsAsTree source.now (λ _. ⊤)) }
     ensures json { OnJson result (read source.now ≡ None) }
     ensures kind { IfJson result IsOfText }
+    ensures subst { OnSubst result (λ _. ⊥) }
     ensures memory { IfErr result HasOwnMemory }
 {
     Value::from_str(alloc, source)?;
@@ -67,9 +67,9 @@ where
     M::Value: AsStr + Drop,
 
     // They are the refusals of all strings, and each other string gives a text.
-    ensures refused { ByLookUp M.Value.text M.see (M.look_up variables.now)
-        (λ look. IfOk result (λ list. IfSome list (λ list.
-        AreRefusals look (located_in [] (tokens source.now)) (map refusal_at list.items)))) }
+    ensures refused { IfOk result (λ list. IfSome list
+        (λ list. AreRefusals (AnswersText M.Value.text M.see (M.look_up variables.now))
+        (located_in [] (tokens source.now)) (map refusal_at list.items))) }
     ensures spelled { IfOk result (λ list. IfSome list (λ list.
         AreSpelled IsStringToken source.now 0 (map string_of list.items))) }
     ensures range { IfOk result (λ list. IfSome list (λ list.
@@ -77,6 +77,7 @@ where
     ensures is_json { IfOk result (λ _. ReadsAsTree source.now (λ _. ⊤)) }
     ensures json { OnJson result (read source.now ≡ None) }
     ensures kind { IfJson result IsOfText }
+    ensures subst { OnSubst result (λ _. ⊥) }
     ensures memory { IfErr result HasOwnMemory }
 {
     refusals_by(alloc, source, &Filler { variables })
@@ -93,9 +94,9 @@ pub fn refusals_by<F: Fill>(
     source: &str,
     filler: &F,
 ) -> Result<Option<Vec<RefusalAt>>, Error>
-    ensures refused { (look : LookUp) → F.is_look_up filler.now look
-        → IfOk result (λ list. IfSome list (λ list.
-        AreRefusals look (located_in [] (tokens source.now)) (map refusal_at list.items))) }
+    ensures refused { IfOk result (λ list. IfSome list
+        (λ list. AreRefusals (F.answers filler.now) (located_in [] (tokens source.now))
+        (map refusal_at list.items))) }
     ensures spelled { IfOk result (λ list. IfSome list (λ list.
         AreSpelled IsStringToken source.now 0 (map string_of list.items))) }
     ensures range { IfOk result (λ list. IfSome list (λ list.
@@ -103,6 +104,7 @@ pub fn refusals_by<F: Fill>(
     ensures is_json { IfOk result (λ _. ReadsAsTree source.now (λ _. ⊤)) }
     ensures json { OnJson result (read source.now ≡ None) }
     ensures kind { IfJson result IsOfText }
+    ensures subst { OnSubst result (λ _. ⊥) }
     ensures memory { IfErr result HasOwnMemory }
 {
     Value::from_str(alloc, source)?;
@@ -178,9 +180,9 @@ fn refusals_of<F: Fill>(
     source: &str,
     filler: &F,
 ) -> Result<Option<Vec<RefusalAt>>, AllocError>
-    ensures refused { (look : LookUp) → F.is_look_up filler.now look
-        → IfOk result (λ list. IfSome list (λ list.
-        AreRefusals look (located_in [] (tokens source.now)) (map refusal_at list.items))) }
+    ensures refused { IfOk result (λ list. IfSome list
+        (λ list. AreRefusals (F.answers filler.now) (located_in [] (tokens source.now))
+        (map refusal_at list.items))) }
     ensures spelled { IfOk result (λ list. IfSome list (λ list.
         AreSpelled IsStringToken source.now 0 (map string_of list.items))) }
     ensures range { IfOk result (λ list. IfSome list (λ list.
@@ -234,7 +236,7 @@ fn list_refusal<F: Fill>(
     list: &mut Vec<RefusalAt>,
 ) -> Result<Option<usize>, AllocError>
     ensures { IfOk result (λ next. IfSome next
-        (λ next. AreListedRefusals (F.is_look_up filler.now) source.now from next
+        (λ next. AreListedRefusals (F.answers filler.now) source.now from next
         (located_at (reverse (map step_of steps.now.items)) (token_of token.entry)) list.old.items
         list.new.items)) }
 {
@@ -268,7 +270,7 @@ fn list_string<F: Fill>(
     list: &mut Vec<RefusalAt>,
 ) -> Result<Option<usize>, AllocError>
     ensures { IfOk result (λ next. IfSome next
-        (λ next. AreListedRefusals (F.is_look_up filler.now) source.now from next
+        (λ next. AreListedRefusals (F.answers filler.now) source.now from next
         (located (map step_of steps.now.items) text.now ∷ []) list.old.items list.new.items)) }
 {
     let Some(error) = filler.refusal(alloc, text)? else {

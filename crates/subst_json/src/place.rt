@@ -32,7 +32,7 @@ pub fn place_of(
     source: &str,
     path: &Path,
 ) -> Result<Option<Range<usize>>, AllocError>
-    ensures { IfOk result
+    ensures place { IfOk result
         (λ place. IfSome place (IsPlaceOf source.now (steps_of path.now))) }
 {
     let Some(tree) = read_tree(alloc, source)? else {
@@ -71,7 +71,7 @@ pub fn place_in(
     token: Range<usize>,
     range: Range<usize>,
 ) -> Result<Option<Range<usize>>, AllocError>
-    ensures { IfOk result (λ place. IfSome place (IsPlaceIn source.now token range)) }
+    ensures place { IfOk result (λ place. IfSome place (IsPlaceIn source.now token range)) }
 {
     let Some(text) = slice(source, &token) else {
         return Ok(None);

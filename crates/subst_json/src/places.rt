@@ -80,7 +80,7 @@ impl RangeFinder {
         token: Range<usize>,
         ranges: &[Range<usize>],
     ) -> Result<Option<Vec<Range<usize>>>, AllocError>
-        ensures { IfOk result (λ places. IfSome places
+        ensures places { IfOk result (λ places. IfSome places
             (λ places. ArePlacesIn source.now token ranges.now places.items)) }
     {
         let Some(text) = slice(source, &token) else {
@@ -122,7 +122,7 @@ pub fn places_in(
     token: Range<usize>,
     ranges: &[Range<usize>],
 ) -> Result<Option<Vec<Range<usize>>>, AllocError>
-    ensures { IfOk result (λ places. IfSome places
+    ensures places { IfOk result (λ places. IfSome places
         (λ places. ArePlacesIn source.now token ranges.now places.items)) }
 {
     RangeFinder::new(alloc).find(alloc, source, token, ranges)

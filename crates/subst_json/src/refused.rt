@@ -19,7 +19,7 @@ pub(crate) fn refused<F: Fill>(
     filler: &F,
     wanted: HowMany,
 ) -> Result<Vec<Refused>, AllocError>
-    ensures found { Finds (F.is_look_up filler.now) wanted (located (view value.now)) result }
+    ensures found { Finds (F.answers filler.now) wanted (located (view value.now)) result }
     ensures leads { EachFound (LeadsTo (view value.now)) result }
     ensures range { EachFound HasRangeInText result }
 {
@@ -39,7 +39,7 @@ fn refused_items<F: Fill>(
     filler: &F,
     wanted: HowMany,
 ) -> Result<Vec<Refused>, AllocError>
-    ensures found { Finds (F.is_look_up filler.now) wanted
+    ensures found { Finds (F.answers filler.now) wanted
         (located_items 0 (items_view items.now.items)) result }
     ensures leads { EachFound (LeadsTo (array (items_view items.now.items))) result }
     ensures range { EachFound HasRangeInText result }
@@ -63,7 +63,7 @@ fn refused_members<F: Fill>(
     filler: &F,
     wanted: HowMany,
 ) -> Result<Vec<Refused>, AllocError>
-    ensures found { Finds (F.is_look_up filler.now) wanted
+    ensures found { Finds (F.answers filler.now) wanted
         (located_members (members_view members.now.entries)) result }
     ensures leads { EachFound (LeadsTo (object (members_view members.now.entries))) result }
     ensures range { EachFound HasRangeInText result }

@@ -24,7 +24,7 @@ pub fn reader_stop(
     source: &str,
     e: &serde_json::Error,
 ) -> Result<ReaderStop, AllocError>
-    ensures { IfOk result (λ stop. IsCharBoundary source.now stop.offset) }
+    ensures boundary { IfOk result (λ stop. IsCharBoundary source.now stop.offset) }
 {
     let said = format!(in alloc; "{e}")?;
     let place = format!(in alloc; " at line {} column {}", e.line(), e.column())?;

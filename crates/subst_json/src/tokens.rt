@@ -7,7 +7,7 @@ ghost use Rattle.json.specs.Reads.{token_of};
 ghost use Rattle.subst_error.specs.ErrorFault.{error_fault};
 ghost use Rattle.subst_language.specs.Calls.Outcome.{OnFault};
 ghost use Rattle.subst_walk.specs.Edits.{IsFilledUpTo};
-ghost use Rattle.subst_walk.specs.Refused.{RefusesFirst};
+ghost use Rattle.subst_language.specs.Language.Several.{GivesBy, RefusesFirst};
 ghost use Rattle.subst_walk.specs.Texts.{HasRange};
 ghost use Rattle.subst_json.specs.Filled.{strings_of_token, strings_in, IsFilledJson, IsStringToken};
 
@@ -84,8 +84,9 @@ pub(crate) fn filled_in<F: Fill>(
     filler: &F,
 ) -> Result<Option<String>, Error>
     ensures ok { IfOk result (λ output. IfSome output (λ output.
-        IsFilledJson (F.gives filler.now) source.now (string_bytes output))) }
-    ensures err { RefusesFirst (F.is_look_up filler.now) (strings_in (tokens source.now)) result }
+        IsFilledJson (GivesBy (F.answers filler.now)) source.now (string_bytes output))) }
+    ensures err { OnFault error_fault result
+        (RefusesFirst (F.answers filler.now) (strings_in (tokens source.now))) }
     ensures range { OnFault error_fault result HasRange }
 {
     let mut scratch = Scratch::new(alloc);
@@ -125,11 +126,11 @@ fn fill_in_token<'t, F: Fill>(
     output: &mut String,
 ) -> Result<Option<&'t str>, Error>
     ensures filled { IfOk result (λ left. IfSome left
-        (λ left. IsFilledUpTo IsStringToken quoted (F.gives filler.now)
+        (λ left. IsFilledUpTo IsStringToken quoted (GivesBy (F.answers filler.now))
         (strings_of_token (token_of token.entry)) rest.now left.now (string_bytes output.old)
         (string_bytes output.new))) }
-    ensures err { RefusesFirst (F.is_look_up filler.now) (strings_of_token (token_of token.entry))
-        result }
+    ensures err { OnFault error_fault result
+        (RefusesFirst (F.answers filler.now) (strings_of_token (token_of token.entry))) }
     ensures range { OnFault error_fault result HasRange }
 {
     match token {

@@ -7,7 +7,7 @@ ghost use Rattle.serde_json.specs.View.{view, items_view, members_view};
 ghost use Rattle.subst_error.specs.ErrorFault.{error_fault};
 ghost use Rattle.subst_language.specs.Calls.Outcome.{OnFault};
 ghost use Rattle.subst_walk.specs.Texts.{HasRange};
-ghost use Rattle.subst_walk.specs.Refused.{RefusesFirst};
+ghost use Rattle.subst_language.specs.Language.Several.{GivesBy, RefusesFirst};
 ghost use Rattle.subst_json.specs.Mapped.{strings, strings_of_items, strings_of_members, IsEach, AreEach, HasEachMember};
 
 use serde_json::{Map, Value};
@@ -19,8 +19,10 @@ use subst_walk::{Fill, put_values};
 /// Returns the tree with its strings filled in.
 #[cycle(walk)]
 pub(crate) fn filled<F: Fill>(alloc: Global, value: Value, filler: &F) -> Result<Value, Error>
-    ensures ok { IfOk result (λ tree. IsEach (F.gives filler.now) (view value) (view tree)) }
-    ensures err { RefusesFirst (F.is_look_up filler.now) (strings (view value)) result }
+    ensures ok { IfOk result
+        (λ tree. IsEach (GivesBy (F.answers filler.now)) (view value) (view tree)) }
+    ensures err { OnFault error_fault result
+        (RefusesFirst (F.answers filler.now) (strings (view value))) }
     ensures range { OnFault error_fault result HasRange }
 {
     match value {
@@ -36,10 +38,10 @@ pub(crate) fn filled<F: Fill>(alloc: Global, value: Value, filler: &F) -> Result
 /// Returns the items of an array, in their order.
 #[cycle(walk)]
 fn filled_items<F: Fill>(alloc: Global, items: Vec<Value>, filler: &F) -> Result<Vec<Value>, Error>
-    ensures ok { IfOk result
-        (λ trees. AreEach (F.gives filler.now) (items_view items.items) (items_view trees.items)) }
-    ensures err { RefusesFirst (F.is_look_up filler.now)
-        (strings_of_items (items_view items.items)) result }
+    ensures ok { IfOk result (λ trees. AreEach (GivesBy (F.answers filler.now))
+        (items_view items.items) (items_view trees.items)) }
+    ensures err { OnFault error_fault result
+        (RefusesFirst (F.answers filler.now) (strings_of_items (items_view items.items))) }
     ensures range { OnFault error_fault result HasRange }
 {
     let mut trees = Vec::with_capacity(alloc, items.len())?;
@@ -56,10 +58,10 @@ fn filled_members<F: Fill>(
     mut members: Map<String, Value>,
     filler: &F,
 ) -> Result<Map<String, Value>, Error>
-    ensures ok { IfOk result (λ trees. HasEachMember (F.gives filler.now)
+    ensures ok { IfOk result (λ trees. HasEachMember (GivesBy (F.answers filler.now))
         (members_view members.entries) (members_view trees.entries)) }
-    ensures err { RefusesFirst (F.is_look_up filler.now)
-        (strings_of_members (members_view members.entries)) result }
+    ensures err { OnFault error_fault result
+        (RefusesFirst (F.answers filler.now) (strings_of_members (members_view members.entries))) }
     ensures range { OnFault error_fault result HasRange }
 {
     let mut trees = Vec::with_capacity(alloc, members.len())?;

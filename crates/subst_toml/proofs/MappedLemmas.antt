@@ -1,44 +1,74 @@
 -- Trees whose strings are filled in, apart from how they are kept.
-use Rattle.std.proofs.Common.{ℕ, List, [], ◌∷◌, Option}
+use Rattle.std.proofs.Common.{ℕ, List, [], ◌∷◌, Option, refl}
 use Rattle.toml.specs.Data.{Data, string, integer, float, boolean, datetime, array, table, Items, no_items, item, Members, no_members, member}
-use Rattle.subst_language.specs.Calls.VariableMap.{look_up_of, ByLookUp, ReadsAs}
-use Rattle.subst_language.specs.Language.Answer.{Answers, Gives}
-use Rattle.subst_language.specs.Language.LookUp.{LookUp}
-use Rattle.subst_language.specs.Language.Several.{AreGiven, under}
-use Rattle.subst_language.proofs.Language.SeveralLemmas.{given_append}
-use Rattle.subst_toml.specs.Mapped.{strings, strings_of_items, strings_of_members, IsEach, AreEach, HasEachMember, IsMapped, AreMapped, HasMappedMembers}
+use Rattle.subst_language.specs.Calls.Clauses.{AnswersText}
+use Rattle.subst_language.specs.Calls.VariableMap.{look_up_of, ByLookUp}
+use Rattle.subst_language.specs.Language.Answer.{Answer, Gives}
+use Rattle.subst_language.specs.Language.Several.{AreGiven, GivesBy, under}
+use Rattle.subst_language.proofs.CallingLemmas.{answer_by_map}
+use Rattle.subst_language.proofs.Language.SeveralLemmas.{given_append, given_apart}
+use Rattle.subst_toml.specs.Mapped.{strings, strings_of_items, strings_of_members, IsEach, AreEach, HasEachMember, IsMapped}
 
--- each string of a tree that is mapped gives bytes
-mutual
-  pub given : (look : LookUp) (d e : Data) → IsMapped look d e → AreGiven (under look) (strings d)
-  given look (string s) (string x) h = (x ∷ [], (h, tt))
-  given look (array ds) (array es) h = items_given look ds es h
-  given look (table ms) (table ns) h = members_given look ms ns h
-  given look (integer z) e h = ([], tt)
-  given look (float x) e h = ([], tt)
-  given look (boolean b) e h = ([], tt)
-  given look (datetime t) e h = ([], tt)
-  given look _ _ h = absurd h
+-- `ask` tells which answers a string has
+module _ (ask : List ℕ → Answer → Type 0) where
+  -- each string of a tree that is filled in gives bytes
+  mutual
+    pub given : (d e : Data) → IsEach (GivesBy ask) d e → AreGiven ask (strings d)
+    given (string s) (string x) h = (x ∷ [], (h, tt))
+    given (array ds) (array es) h = items_given ds es h
+    given (table ms) (table ns) h = members_given ms ns h
+    given (integer z) e h = ([], tt)
+    given (float x) e h = ([], tt)
+    given (boolean b) e h = ([], tt)
+    given (datetime t) e h = ([], tt)
+    given _ _ h = absurd h
 
-  items_given : (look : LookUp) (ds es : Items) → AreMapped look ds es
-      → AreGiven (under look) (strings_of_items ds)
-  items_given look no_items es h = ([], tt)
-  items_given look (item d ds) no_items h = absurd h
-  items_given look (item d ds) (item e es) h =
-      given_append (under look) (strings d) (strings_of_items ds) (given look d e h.0)
-      (items_given look ds es h.1)
+    items_given : (ds es : Items) → AreEach (GivesBy ask) ds es → AreGiven ask (strings_of_items ds)
+    items_given no_items es h = ([], tt)
+    items_given (item d ds) no_items h = absurd h
+    items_given (item d ds) (item e es) h =
+        given_append ask (strings d) (strings_of_items ds) (given d e h.0) (items_given ds es h.1)
 
-  members_given : (look : LookUp) (ms ns : Members) → HasMappedMembers look ms ns
-      → AreGiven (under look) (strings_of_members ms)
-  members_given look no_members ns h = ([], tt)
-  members_given look (member key d ms) no_members h = absurd h
-  members_given look (member key d ms) (member other e ns) h =
-      given_append (under look) (strings d) (strings_of_members ms) (given look d e h.1)
-      (members_given look ms ns h.2)
+    members_given : (ms ns : Members) → HasEachMember (GivesBy ask) ms ns
+        → AreGiven ask (strings_of_members ms)
+    members_given no_members ns h = ([], tt)
+    members_given (member key d ms) no_members h = absurd h
+    members_given (member key d ms) (member other e ns) h =
+        given_append ask (strings d) (strings_of_members ms) (given d e h.1) (members_given ms ns h.2)
+
+  -- a tree each of whose strings gives bytes is filled in as some tree
+  mutual
+    pub each_given : (d : Data) → AreGiven ask (strings d) → (e : Data) × IsEach (GivesBy ask) d e
+    each_given (string s) (x ∷ outputs, h) = (string x, h.0)
+    each_given (string s) ([], h) = absurd h
+    each_given (array ds) h = let (es, each) = each_item_given ds h in (array es, each)
+    each_given (table ms) h = let (ns, each) = each_member_given ms h in (table ns, each)
+    each_given (integer z) h = (integer z, refl)
+    each_given (float x) h = (float x, refl)
+    each_given (boolean b) h = (boolean b, refl)
+    each_given (datetime t) h = (datetime t, refl)
+
+    each_item_given : (ds : Items) → AreGiven ask (strings_of_items ds)
+        → (es : Items) × AreEach (GivesBy ask) ds es
+    each_item_given no_items h = (no_items, tt)
+    each_item_given (item d ds) h =
+        let (first, rest) = given_apart ask (strings d) (strings_of_items ds) h in
+        let (e, is) = each_given d first in
+        let (es, are) = each_item_given ds rest in
+        (item e es, (is, are))
+
+    each_member_given : (ms : Members) → AreGiven ask (strings_of_members ms)
+        → (ns : Members) × HasEachMember (GivesBy ask) ms ns
+    each_member_given no_members h = (no_members, tt)
+    each_member_given (member key d ms) h =
+        let (first, rest) = given_apart ask (strings d) (strings_of_members ms) h in
+        let (e, is) = each_given d first in
+        let (ns, are) = each_member_given ms rest in
+        (member key e ns, (refl, is, are))
 
 -- what the strings of a tree become may be said in a weaker way
 module _ (Becomes Stays : List ℕ → List ℕ → Type 0)
-    (weaker : (s x : List ℕ) → Becomes s x → Stays s x) where
+    (weaker : (x y : List ℕ) → Becomes x y → Stays x y) where
   mutual
     pub each_weaker : (d e : Data) → IsEach Becomes d e → IsEach Stays d e
     each_weaker (string s) (string x) h = weaker s x h
@@ -50,22 +80,21 @@ module _ (Becomes Stays : List ℕ → List ℕ → Type 0)
     each_weaker (datetime t) (datetime u) h = h
     each_weaker _ _ h = absurd h
 
-    pub items_weaker : (ds es : Items) → AreEach Becomes ds es → AreEach Stays ds es
-    items_weaker no_items no_items h = h
+    items_weaker : (ds es : Items) → AreEach Becomes ds es → AreEach Stays ds es
+    items_weaker no_items no_items h = tt
     items_weaker (item d ds) (item e es) h = (each_weaker d e h.0, items_weaker ds es h.1)
     items_weaker _ _ h = absurd h
 
     members_weaker : (ms ns : Members) → HasEachMember Becomes ms ns → HasEachMember Stays ms ns
-    members_weaker no_members no_members h = h
+    members_weaker no_members no_members h = tt
     members_weaker (member key d ms) (member other e ns) h =
         (h.0, each_weaker d e h.1, members_weaker ms ns h.2)
     members_weaker _ _ h = absurd h
 
 -- a tree that is filled in from a map is mapped under the map's look-up
-pub mapped_by_map : {V Seen : Type 0} (items : V → List ℕ) (see : V → Seen)
-    (look_up : List ℕ → Option Seen) (bytes : Seen → List ℕ) → ReadsAs items see bytes → (d e : Data)
-    → IsEach (λ x y. ByLookUp items see look_up (λ look. Answers x look (Gives y))) d e
-    → IsMapped (look_up_of bytes look_up) d e
-mapped_by_map items see look_up bytes reads =
-    each_weaker (λ x y. ByLookUp items see look_up (λ look. Answers x look (Gives y)))
-    (λ x y. Answers x (look_up_of bytes look_up) (Gives y)) (λ x y gives. gives bytes reads)
+pub mapped_by_map : {V Seen : Type 0} (items : V → List ℕ) (see : V → Seen) (look_up : List ℕ → Option Seen)
+    (d e : Data) → IsEach (GivesBy (AnswersText items see look_up)) d e
+    → ByLookUp items see look_up (λ look. IsMapped look d e)
+mapped_by_map items see look_up d e h = λ bytes reads.
+    each_weaker (GivesBy (AnswersText items see look_up)) (GivesBy (under (look_up_of bytes look_up)))
+    (λ s x gives. answer_by_map items see look_up s (Gives x) gives bytes reads) d e h

@@ -6,33 +6,35 @@ use Rattle.toml.specs.declared.de.error.Error as reading
 use Rattle.std.proofs.lemmas.Option.{IfSome_then}
 use Rattle.subst_error.specs.ErrorFault.{error_fault}
 use Rattle.subst_error.specs.declared.Error as substituting
-use Rattle.subst_language.specs.Language.LookUp.{LookUp}
-use Rattle.subst_language.specs.Language.Several.{IsFirstRefusal}
+use Rattle.subst_language.specs.Language.Answer.{Answer}
+use Rattle.subst_language.specs.Language.Several.{GivesBy, RefusesFirst}
 use Rattle.subst_toml.specs.Errors.{IsOfReader, IsOfSubstitution}
-use Rattle.subst_toml.specs.Mapped.{strings, strings_of_members, IsMapped}
+use Rattle.subst_toml.specs.Mapped.{strings, strings_of_members, IsEach}
 use Rattle.subst_toml.specs.Outcome.{ReadsAsTree, IsPrinted, IsReadFilledIn, IfToml, OnSubst}
 use Rattle.subst_toml.specs.declared.error.Error.{Error}
 use Rattle.subst_toml.specs.declared.error.Error.TheVariants.{InvalidUtf8, Toml, Subst, OutOfMemory}
 
 -- the refused string is one of the tree that the text is read as
-pub refused_as_read : {T : Type 0} (look : LookUp) (text : List ℕ) (ms : Members) (e : substituting.Error)
-    (result : Result T Error) → parse_document text ≡ Some ms → IsErrAnd result (IsOfSubstitution e)
-    → IfSome (error_fault e) (IsFirstRefusal look (strings_of_members ms))
-    → OnSubst result (λ f. ReadsAsTree text (λ d. IsFirstRefusal look (strings d) f))
-refused_as_read look text ms e (Ok value) is of h = tt
-refused_as_read look text ms e (Err (InvalidUtf8 d)) is of h = tt
-refused_as_read look text ms e (Err (Toml d)) is of h = tt
-refused_as_read look text ms e (Err (Subst d)) is of h =
+pub refused_as_read : {T : Type 0} (ask : List ℕ → Answer → Type 0) (text : List ℕ) (ms : Members)
+    (e : substituting.Error) (result : Result T Error) → parse_document text ≡ Some ms
+    → IsErrAnd result (IsOfSubstitution e)
+    → IfSome (error_fault e) (RefusesFirst ask (strings_of_members ms))
+    → OnSubst result (λ f. ReadsAsTree text (λ d. RefusesFirst ask (strings d) f))
+refused_as_read ask text ms e (Ok value) is of h = tt
+refused_as_read ask text ms e (Err (InvalidUtf8 d)) is of h = tt
+refused_as_read ask text ms e (Err (Toml d)) is of h = tt
+refused_as_read ask text ms e (Err (Subst d)) is of h =
     rw of.0 (IfSome_then (error_fault e) h (λ f refused. (ms, is, refused)))
-refused_as_read look text ms e (Err (OutOfMemory d)) is of h = tt
+refused_as_read ask text ms e (Err (OutOfMemory d)) is of h = tt
 
 -- a type that is read from the filled table, printed, is read from the tree of the source, filled in
-pub read_from_printed : {T : Type 0} (look : LookUp) (source : List ℕ) (ns : Members) (printed text : List ℕ)
-    (Reads : List ℕ → Result T reading.Error → Type 0) (result : Result T reading.Error)
-    → ReadsAsTree source (λ d. IsMapped look d (table ns)) → IsPrinted ns printed → text ≡ printed
-    → Reads text result → ReadsAsTree source (λ d. IsReadFilledIn look Reads d result)
-read_from_printed look source ns printed text Reads result (ms, is, mapped) shown same reads =
-    (ms, is, (ns, mapped, (text, subst (λ bs. IsPrinted ns bs) (sym same) shown, reads)))
+pub read_from_printed : {T : Type 0} (ask : List ℕ → Answer → Type 0) (source : List ℕ) (ns : Members)
+    (printed text : List ℕ) (Reads : List ℕ → Result T reading.Error → Type 0)
+    (result : Result T reading.Error)
+    → ReadsAsTree source (λ d. IsEach (GivesBy ask) d (table ns)) → IsPrinted ns printed → text ≡ printed
+    → Reads text result → ReadsAsTree source (λ d. IsReadFilledIn ask Reads d result)
+read_from_printed ask source ns printed text Reads result (ms, is, each) shown same reads =
+    (ms, is, (ns, each, (text, subst (λ bs. IsPrinted ns bs) (sym same) shown, reads)))
 
 -- what holds of the error that a type is refused with, holds of that inside
 pub type_refused : {T : Type 0} (e : reading.Error) (result : Result T Error) (P : reading.Error → Type 0)

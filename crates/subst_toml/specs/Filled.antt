@@ -10,8 +10,7 @@ use Rattle.toml_writer.specs.Text.{string_text}
 use Rattle.subst_error.specs.ErrorFault.{error_fault}
 use Rattle.subst_error.specs.Fault.{Fault}
 use Rattle.subst_error.specs.Range.{range_of, IsRangeIn}
-use Rattle.subst_language.specs.Language.Answer.{Answers, Gives, Refuses}
-use Rattle.subst_language.specs.Language.LookUp.{LookUp}
+use Rattle.subst_language.specs.Language.Answer.{Answer, Gives, Refuses}
 use Rattle.subst_walk.specs.Edits.{IsFilledText}
 use Rattle.subst_walk.specs.declared.edits.StringAt.{StringAt}
 use Rattle.subst_walk.specs.declared.found.RefusalAt.{RefusalAt}
@@ -143,18 +142,18 @@ abbrev pub HasFaultInText : RefusalIn → Type 0
 HasFaultInText it = IsRangeIn it.text (range_of it.fault)
 
 -- The refusals of those of these strings that are refused, in their order. Each other one gives bytes.
-abbrev pub AreRefusalsIn : LookUp → List Spelled → List RefusalIn → Type 0
-AreRefusalsIn look [] refusals = refusals ≡ []
-AreRefusalsIn look (it ∷ found) refusals =
-    (((x : List ℕ) × Answers it.text look (Gives x)) × AreRefusalsIn look found refusals)
-    ⊎ ((f : Fault) × (more : List RefusalIn) × Answers it.text look (Refuses f)
+abbrev pub AreRefusalsIn : (List ℕ → Answer → Type 0) → List Spelled → List RefusalIn → Type 0
+AreRefusalsIn ask [] refusals = refusals ≡ []
+AreRefusalsIn ask (it ∷ found) refusals =
+    (((x : List ℕ) × ask it.text (Gives x)) × AreRefusalsIn ask found refusals)
+    ⊎ ((f : Fault) × (more : List RefusalIn) × ask it.text (Refuses f)
     × (refusals ≡ record { text = it.text; span = it.span; fault = Some f } ∷ more)
-    × AreRefusalsIn look found more)
+    × AreRefusalsIn ask found more)
 
 -- they are all refusals of the strings of the text
-abbrev pub AreAllRefusals : LookUp → List ℕ → List RefusalIn → Type 0
-AreAllRefusals look s refusals =
-    (found : List Spelled) × (strings_in s ≡ Some found) × AreRefusalsIn look found refusals
+abbrev pub AreAllRefusals : (List ℕ → Answer → Type 0) → List ℕ → List RefusalIn → Type 0
+AreAllRefusals ask s refusals =
+    (found : List Spelled) × (strings_in s ≡ Some found) × AreRefusalsIn ask found refusals
 
 -- its path leads to its string in the tree, and the text has its token at its span
 abbrev pub IsFound : List ℕ → Data → RefusalAt Path → Type 0

@@ -4,15 +4,16 @@ use Rattle.std.specs.Str.{valid_up_to, IsValidUpTo}
 use Rattle.toml.specs.Data.{Data, Members, table, members_depth, members_have_valid_dates}
 use Rattle.toml.specs.Errors.{IsWithin}
 use Rattle.toml.specs.Parse.{parse_document}
+use Rattle.toml.specs.Text.{IsDocumentText}
 use Rattle.toml.specs.View.{view}
 use Rattle.toml.specs.declared.de.error.Error as reading
 use Rattle.toml.specs.declared.value.Value.{Value}
 use Rattle.subst_error.specs.Fault.{Fault}
 use Rattle.subst_error.specs.ErrorFault.{error_fault}
-use Rattle.subst_language.specs.Calls.VariableMap.{ByLookUp}
-use Rattle.subst_language.specs.Language.LookUp.{LookUp}
-use Rattle.subst_language.specs.Language.Several.{IsFirstRefusal}
-use Rattle.subst_toml.specs.Mapped.{strings, IsMapped}
+use Rattle.subst_language.specs.Calls.Clauses.{AnswersText}
+use Rattle.subst_language.specs.Language.Answer.{Answer}
+use Rattle.subst_language.specs.Language.Several.{GivesBy, RefusesFirst}
+use Rattle.subst_toml.specs.Mapped.{strings, IsEach}
 use Rattle.subst_toml.specs.declared.error.Error.{Error}
 use Rattle.subst_toml.specs.declared.error.Error.TheVariants.{InvalidUtf8, Toml, Subst, OutOfMemory}
 
@@ -20,19 +21,20 @@ use Rattle.subst_toml.specs.declared.error.Error.TheVariants.{InvalidUtf8, Toml,
 abbrev pub ReadsAsTree : List ℕ → (Data → Type 0) → Type 0
 ReadsAsTree text P = (ms : Members) × (parse_document text ≡ Some ms) × P (table ms)
 
--- the text is read as this table, where it isn't nested too deep; with a date that no text can hold, it isn't
--- read
+-- The text writes this table as a document, and is read as it, where the table isn't nested too deep. With a
+-- date that no text can hold, the text isn't read.
 abbrev pub IsPrinted : Members → List ℕ → Type 0
 IsPrinted ms text =
     (members_have_valid_dates ms ≡ false → parse_document text ≡ None)
+    × (members_have_valid_dates ms ≡ true → IsDocumentText false ms text)
     × (members_have_valid_dates ms ≡ true → members_depth ms ≤ 80 → parse_document text ≡ Some ms)
 
 -- The result is what the step that reads a type returns for the tree with its strings filled in, printed.
 -- That step is known by what it returns for a text.
-abbrev pub IsReadFilledIn : {T : Type 0} → LookUp → (List ℕ → Result T reading.Error → Type 0) → Data
-    → Result T reading.Error → Type 0
-IsReadFilledIn look Reads d result =
-    (ms : Members) × IsMapped look d (table ms) × ((text : List ℕ) × IsPrinted ms text × Reads text result)
+abbrev pub IsReadFilledIn : {T : Type 0} → (List ℕ → Answer → Type 0)
+    → (List ℕ → Result T reading.Error → Type 0) → Data → Result T reading.Error → Type 0
+IsReadFilledIn ask Reads d result = (ms : Members) × IsEach (GivesBy ask) d (table ms)
+    × ((text : List ℕ) × IsPrinted ms text × Reads text result)
 
 -- the bytes are UTF-8, but where the error says that they aren't, and from where
 abbrev tells_utf8 : List ℕ → Error → Type 0
@@ -68,30 +70,30 @@ if_subst (OutOfMemory e) P = ⊤
 abbrev pub OnSubst : {T : Type 0} → Result T Error → (Fault → Type 0) → Type 0
 OnSubst result P = IfErr result (λ e. if_subst e P)
 
--- Clauses of calls that read the text s and fill in its tree from a map, whose look-up `items`, `see` and
--- `look_up` tell, as those of `ByLookUp`.
+-- Clauses of calls that read the text s and fill in its tree from a map, whose answers `items`, `see` and
+-- `look_up` tell, as those of `AnswersText`.
 
 -- the tree is that of the text, with its strings filled in
 abbrev pub ReturnsTree : {V Seen : Type 0} → (V → List ℕ) → (V → Seen) → (List ℕ → Option Seen) → List ℕ
     → Result Value Error → Type 0
-ReturnsTree items see look_up s result = ByLookUp items see look_up
-    (λ look. IfOk result (λ tree. ReadsAsTree s (λ d. IsMapped look d (view tree))))
+ReturnsTree items see look_up s result = IfOk result
+    (λ tree. ReadsAsTree s (λ d. IsEach (GivesBy (AnswersText items see look_up)) d (view tree)))
 
 -- the value is what the step that reads a type returns for that tree
 abbrev pub ReadsType : {V Seen T : Type 0} → (V → List ℕ) → (V → Seen) → (List ℕ → Option Seen)
     → (List ℕ → Result T reading.Error → Type 0) → List ℕ → Result T Error → Type 0
-ReadsType items see look_up Reads s result = ByLookUp items see look_up
-    (λ look. IfOk result (λ value. ReadsAsTree s (λ d. IsReadFilledIn look Reads d (Ok value))))
+ReadsType items see look_up Reads s result = IfOk result
+    (λ value. ReadsAsTree s (λ d. IsReadFilledIn (AnswersText items see look_up) Reads d (Ok value)))
 
 -- the fault is that of the first string of the text's tree that is refused
 abbrev pub StatesFirst : {V Seen T : Type 0} → (V → List ℕ) → (V → Seen) → (List ℕ → Option Seen) → List ℕ
     → Result T Error → Type 0
-StatesFirst items see look_up s result = ByLookUp items see look_up
-    (λ look. OnSubst result (λ f. ReadsAsTree s (λ d. IsFirstRefusal look (strings d) f)))
+StatesFirst items see look_up s result = OnSubst result
+    (λ f. ReadsAsTree s (λ d. RefusesFirst (AnswersText items see look_up) (strings d) f))
 
 -- the reader's error is of a text that is no document, or what that step returns for the tree
 abbrev pub StatesReading : {V Seen T : Type 0} → (V → List ℕ) → (V → Seen) → (List ℕ → Option Seen)
     → (List ℕ → Result T reading.Error → Type 0) → List ℕ → Result T Error → Type 0
-StatesReading items see look_up Reads s result = ByLookUp items see look_up
-    (λ look. IfToml result (λ e. ((parse_document s ≡ None) × IsWithin s e)
-    ⊎ ReadsAsTree s (λ d. IsReadFilledIn look Reads d (Err e))))
+StatesReading items see look_up Reads s result = IfToml result
+    (λ e. ((parse_document s ≡ None) × IsWithin s e)
+    ⊎ ReadsAsTree s (λ d. IsReadFilledIn (AnswersText items see look_up) Reads d (Err e)))

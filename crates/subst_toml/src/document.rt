@@ -9,15 +9,13 @@ ghost use Rattle.toml.specs.Errors.{IsWithin};
 ghost use Rattle.toml.specs.Parse.{parse_document};
 ghost use Rattle.toml.specs.View.{table_view};
 ghost use Rattle.toml_writer.specs.Text.{string_text};
-ghost use Rattle.subst_language.specs.Calls.VariableMap.{ByLookUp};
-ghost use Rattle.subst_language.specs.Language.Answer.{Answers, Gives};
-ghost use Rattle.subst_language.specs.Language.LookUp.{LookUp};
-ghost use Rattle.subst_language.specs.Language.Several.{IsFirstRefusal};
+ghost use Rattle.subst_language.specs.Calls.Clauses.{AnswersText};
+ghost use Rattle.subst_language.specs.Language.Several.{GivesBy, RefusesFirst};
 ghost use Rattle.subst_walk.specs.Edits.{IsFilledUpTo, text_at};
 ghost use Rattle.subst_walk.specs.Texts.{HasRange};
 ghost use Rattle.subst_toml.specs.Errors.{HasOwnMemory};
 ghost use Rattle.subst_toml.specs.Filled.{IsFilledIn, IsQuotedToken};
-ghost use Rattle.subst_toml.specs.Mapped.{strings, IsEach, IsMapped};
+ghost use Rattle.subst_toml.specs.Mapped.{strings, IsEach};
 ghost use Rattle.subst_toml.specs.Outcome.{ReadsAsTree, IfToml, OnToml, OnSubst, TellsUtf8, StatesFirst};
 
 use crate::error::Error;
@@ -60,14 +58,14 @@ where
     M::Value: AsStr + Drop,
 
     // It is read as the tree that the source is read as, with its strings filled in.
-    ensures mapped { ByLookUp M.Value.text M.see (M.look_up variables.now)
-        (λ look. IfOk result (λ output. IfSome output (λ output. ReadsAsTree source.now
-        (λ d. ReadsAsTree (string_bytes output) (IsMapped look d))))) }
+    ensures mapped { IfOk result (λ output. IfSome output (λ output. ReadsAsTree source.now
+        (λ d. ReadsAsTree (string_bytes output)
+        (IsEach (GivesBy (AnswersText M.Value.text M.see (M.look_up variables.now))) d)))) }
 
     // It is the source, but for the strings that change.
-    ensures kept { ByLookUp M.Value.text M.see (M.look_up variables.now)
-        (λ look. IfOk result (λ output. IfSome output (λ output.
-        IsFilledIn (λ x y. Answers x look (Gives y)) source.now (string_bytes output)))) }
+    ensures kept { IfOk result (λ output. IfSome output
+        (λ output. IsFilledIn (GivesBy (AnswersText M.Value.text M.see (M.look_up variables.now)))
+        source.now (string_bytes output))) }
     ensures utf8 { TellsUtf8 source.now result }
     ensures toml { OnToml result (parse_document source.now ≡ None) }
     ensures span { IfToml result (IsWithin source.now) }
@@ -90,12 +88,12 @@ pub fn fill_in_slice<'a, M: VariableMap<'a>>(
 ) -> Result<Option<String>, Error>
 where
     M::Value: AsStr + Drop,
-    ensures mapped { ByLookUp M.Value.text M.see (M.look_up variables.now)
-        (λ look. IfOk result (λ output. IfSome output (λ output. ReadsAsTree source.now
-        (λ d. ReadsAsTree (string_bytes output) (IsMapped look d))))) }
-    ensures kept { ByLookUp M.Value.text M.see (M.look_up variables.now)
-        (λ look. IfOk result (λ output. IfSome output (λ output.
-        IsFilledIn (λ x y. Answers x look (Gives y)) source.now (string_bytes output)))) }
+    ensures mapped { IfOk result (λ output. IfSome output (λ output. ReadsAsTree source.now
+        (λ d. ReadsAsTree (string_bytes output)
+        (IsEach (GivesBy (AnswersText M.Value.text M.see (M.look_up variables.now))) d)))) }
+    ensures kept { IfOk result (λ output. IfSome output
+        (λ output. IsFilledIn (GivesBy (AnswersText M.Value.text M.see (M.look_up variables.now)))
+        source.now (string_bytes output))) }
     ensures utf8 { TellsUtf8 source.now result }
     ensures toml { OnToml result (parse_document source.now ≡ None) }
     ensures span { IfToml result (IsWithin source.now) }
@@ -113,14 +111,14 @@ where
 /// As [`fill_in`].
 pub fn fill_in_by<F: Fill>(alloc: Global, source: &str, filler: &F) -> Result<Option<String>, Error>
     ensures each { IfOk result (λ output. IfSome output (λ output. ReadsAsTree source.now
-        (λ d. ReadsAsTree (string_bytes output) (IsEach (F.gives filler.now) d)))) }
+        (λ d. ReadsAsTree (string_bytes output) (IsEach (GivesBy (F.answers filler.now)) d)))) }
     ensures kept { IfOk result (λ output. IfSome output (λ output.
-        IsFilledIn (F.gives filler.now) source.now (string_bytes output))) }
+        IsFilledIn (GivesBy (F.answers filler.now)) source.now (string_bytes output))) }
     ensures utf8 { TellsUtf8 source.now result }
     ensures toml { OnToml result (parse_document source.now ≡ None) }
     ensures span { IfToml result (IsWithin source.now) }
-    ensures subst { (look : LookUp) → F.is_look_up filler.now look
-        → OnSubst result (λ f. ReadsAsTree source.now (λ d. IsFirstRefusal look (strings d) f)) }
+    ensures subst { OnSubst result (λ f. ReadsAsTree source.now
+        (λ d. RefusesFirst (F.answers filler.now) (strings d) f)) }
     ensures range { OnSubst result HasRange }
     ensures memory { IfErr result HasOwnMemory }
 {
@@ -139,7 +137,7 @@ pub fn fill_in_by<F: Fill>(alloc: Global, source: &str, filler: &F) -> Result<Op
 /// Returns a document with its strings filled in, or nothing where one of them is refused.
 fn written<F: Fill>(alloc: Global, source: &str, filler: &F) -> Result<Option<String>, AllocError>
     ensures { IfOk result (λ output. IfSome output (λ output.
-        IsFilledIn (F.gives filler.now) source.now (string_bytes output))) }
+        IsFilledIn (GivesBy (F.answers filler.now)) source.now (string_bytes output))) }
 {
     let Some(found) = tokens::strings_in(alloc, source)? else {
         return Ok(None);
@@ -167,7 +165,7 @@ fn next<'s, F: Fill>(
     output: &mut String,
 ) -> Result<Option<&'s str>, AllocError>
     ensures { IfOk result (λ left. IfSome left (λ left.
-        IsFilledUpTo IsQuotedToken string_text (F.gives filler.now)
+        IsFilledUpTo IsQuotedToken string_text (GivesBy (F.answers filler.now))
         (text_at it.now ∷ []) rest.now left.now (string_bytes output.old)
         (string_bytes output.new))) }
 {

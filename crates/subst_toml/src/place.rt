@@ -34,7 +34,8 @@ pub fn place_of(
     source: &str,
     path: &Path,
 ) -> Result<Option<Range<usize>>, AllocError>
-    ensures { IfOk result (λ place. IfSome place (IsPlaceOf source.now (steps_of path.now))) }
+    ensures place { IfOk result
+        (λ place. IfSome place (IsPlaceOf source.now (steps_of path.now))) }
 {
     let steps = path.steps.as_slice();
     let Some(members) = table_of(alloc, source)? else {
@@ -132,7 +133,7 @@ pub fn place_in(
     token: Range<usize>,
     range: Range<usize>,
 ) -> Result<Option<Range<usize>>, AllocError>
-    ensures { IfOk result (λ place. IfSome place (IsPlaceIn source.now token range)) }
+    ensures place { IfOk result (λ place. IfSome place (IsPlaceIn source.now token range)) }
 {
     let Some(text) = slice(source, &token) else {
         return Ok(None);

@@ -108,7 +108,7 @@ pub fn places_in(
     token: Range<usize>,
     ranges: &[Range<usize>],
 ) -> Result<Option<Vec<Range<usize>>>, AllocError>
-    ensures { IfOk result (λ places. IfSome places
+    ensures places { IfOk result (λ places. IfSome places
         (λ places. ArePlacesIn source.now token ranges.now places.items)) }
 {
     let Some(text) = slice(source, &token) else {

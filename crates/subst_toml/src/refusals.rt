@@ -6,12 +6,12 @@ ghost use Rattle.std.specs.Option.{option_map};
 ghost use Rattle.toml.specs.Data.{Data};
 ghost use Rattle.toml.specs.View.{view};
 ghost use Rattle.subst_error.specs.ErrorFault.{error_fault};
-ghost use Rattle.subst_language.specs.Calls.VariableMap.{ByLookUp};
-ghost use Rattle.subst_language.specs.Language.Several.{IsFirstRefusal};
+ghost use Rattle.subst_language.specs.Calls.Clauses.{AnswersText};
+ghost use Rattle.subst_language.specs.Language.Several.{GivesBy, RefusesFirst};
 ghost use Rattle.subst_walk.specs.Paths.{AreRefusals};
 ghost use Rattle.subst_walk.specs.Refused.{HasRangeInText, IsFirstOf};
 ghost use Rattle.subst_toml.specs.Located.{located};
-ghost use Rattle.subst_toml.specs.Mapped.{strings, IsMapped};
+ghost use Rattle.subst_toml.specs.Mapped.{strings, IsEach};
 ghost use Rattle.subst_toml.specs.Paths.{refusal_of, LeadsTo};
 
 use crate::Path;
@@ -43,15 +43,15 @@ where
     M::Value: AsStr + Drop,
 
     // It is the first of the refusals of all strings; where there is none, the tree is mapped.
-    ensures first { ByLookUp M.Value.text M.see (M.look_up variables.now)
-        (λ look. IfOk result
-        (λ first. IsFirstOf look (located (view tree.now)) (option_map refusal_of first))) }
-    ensures fault { ByLookUp M.Value.text M.see (M.look_up variables.now)
-        (λ look. IfOk result (λ first. IfSome first
-        (λ it. IfSome (error_fault it.error) (IsFirstRefusal look (strings (view tree.now)))))) }
-    ensures mapped { ByLookUp M.Value.text M.see (M.look_up variables.now)
-        (λ look. IfOk result
-        (λ first. IfNone first ((e : Data) × IsMapped look (view tree.now) e))) }
+    ensures first { IfOk result
+        (λ first. IsFirstOf (AnswersText M.Value.text M.see (M.look_up variables.now))
+        (located (view tree.now)) (option_map refusal_of first)) }
+    ensures fault { IfOk result (λ first. IfSome first (λ it. IfSome (error_fault it.error)
+        (RefusesFirst (AnswersText M.Value.text M.see (M.look_up variables.now))
+        (strings (view tree.now))))) }
+    ensures mapped { IfOk result (λ first. IfNone first ((e : Data)
+        × IsEach (GivesBy (AnswersText M.Value.text M.see (M.look_up variables.now)))
+        (view tree.now) e)) }
 
     // Its path leads to it, and the range of its fault is in it.
     ensures leads { IfOk result (λ first. IfSome first
@@ -76,9 +76,9 @@ where
     M::Value: AsStr + Drop,
 
     // They are the refusals of all strings, and each other string gives bytes.
-    ensures all { ByLookUp M.Value.text M.see (M.look_up variables.now)
-        (λ look. IfOk result (λ all.
-        AreRefusals look (located (view tree.now)) (map refusal_of all.items))) }
+    ensures all { IfOk result
+        (λ all. AreRefusals (AnswersText M.Value.text M.see (M.look_up variables.now))
+        (located (view tree.now)) (map refusal_of all.items)) }
     ensures leads { IfOk result (λ all. All
         (λ it. LeadsTo (view tree.now) (refusal_of it)) all.items) }
     ensures range { IfOk result (λ all. All (λ it. HasRangeInText (refusal_of it)) all.items) }

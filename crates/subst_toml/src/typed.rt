@@ -1,11 +1,12 @@
 //! The step that reads a type of the caller's. It is handed a text alone, so no variable is in its reach: the
-//! tree, printed, since the kit's `toml` reads types from texts alone. The text is read as that tree; with a
-//! date that no text can hold, it isn't read.
+//! tree, printed, since the kit's `toml` reads types from texts alone. The text writes that tree and, where it
+//! is nested at most 80 deep, is read as it; with a date that no text can hold, it isn't read.
 
 ghost use Rattle.std.specs.Prelude.{◌≡◌, ◌≤◌, false, true, None, Some, Result, IfErr, IfOk, List, ℕ, string_bytes};
 ghost use Rattle.toml.specs.Data.{members_depth, members_have_valid_dates};
 ghost use Rattle.toml.specs.Errors.{IsWithin};
 ghost use Rattle.toml.specs.Parse.{parse_document};
+ghost use Rattle.toml.specs.Text.{IsDocumentText};
 ghost use Rattle.toml.specs.View.{table_view};
 ghost use Rattle.toml.specs.declared.de.error.Error.{Error};
 
@@ -35,11 +36,13 @@ impl<T: DeserializeOwned> FromText for T {
 /// A text with a date of no month, which isn't read.
 const NO_DATE: &str = "date = 0000-00-00\n";
 
-/// Returns a text that is read as this table, where it isn't nested too deep. With a date that no text can
-/// hold, as no table has that was read, it is a text that isn't read.
+/// Returns the text of this table, which is read as it where it isn't nested too deep. With a date that no
+/// text can hold, as no table has that was read, it is a text that isn't read.
 pub(crate) fn printed(alloc: Global, table: &Table) -> Result<String, AllocError>
     ensures dates { IfOk result (λ text. members_have_valid_dates (table_view table.now) ≡ false
         → parse_document (string_bytes text) ≡ None) }
+    ensures document { IfOk result (λ text. members_have_valid_dates (table_view table.now) ≡ true
+        → IsDocumentText false (table_view table.now) (string_bytes text)) }
     ensures table { IfOk result (λ text. members_have_valid_dates (table_view table.now) ≡ true
         → members_depth (table_view table.now) ≤ 80
         → parse_document (string_bytes text) ≡ Some (table_view table.now)) }

@@ -1,9 +1,7 @@
 -- Texts whose strings are filled in, a part at a time.
 use Rattle.std.proofs.Common.{◌≡◌, ℕ, List, [], ◌∷◌, ◌++◌, inl, inr, refl, sym, ap, ◌∙◌, subst, append_assoc, append-nil}
-use Rattle.subst_language.specs.Language.LookUp.{LookUp}
-use Rattle.subst_language.specs.Language.Answer.{Answers, Gives}
-use Rattle.subst_language.specs.Language.Several.{AreGiven, under}
-use Rattle.subst_language.proofs.Language.SeveralLemmas.{given_append}
+use Rattle.subst_language.specs.Language.Answer.{Answer}
+use Rattle.subst_language.specs.Language.Several.{AreGiven, GivesBy}
 use Rattle.subst_walk.specs.Edits.{IsFilledText, IsFilledUpTo}
 
 module _ (IsToken : List ℕ → List ℕ → Type 0) (written : List ℕ → List ℕ) where
@@ -85,24 +83,20 @@ module _ (IsToken : List ℕ → List ℕ → Type 0) (written : List ℕ → Li
         filled_weaker Becomes Stays weaker strings edit.rest edit.filled_rest h,
       )
 
-  module _ (look : LookUp) (Becomes : List ℕ → List ℕ → Type 0)
-      (answers : (x y : List ℕ) → Becomes x y → Answers x look (Gives y)) where
+  module _ (ask : List ℕ → Answer → Type 0) where
     -- where a text is filled in, its strings give bytes
     given_where_filled : (strings : List (List ℕ)) (source output : List ℕ)
-        → IsFilledText IsToken written Becomes strings source output
-        → AreGiven (under look) strings
+        → IsFilledText IsToken written (GivesBy ask) strings source output → AreGiven ask strings
     given_where_filled [] source output h = ([], tt)
     given_where_filled (x ∷ strings) source output (inl (same, h)) =
-        given_append (under look) (x ∷ []) strings (x ∷ [], (answers x x same, tt))
-        (given_where_filled strings source output h)
-    given_where_filled (x ∷ strings) source output (inr (value, becomes, other, edit, h)) =
-        given_append (under look) (x ∷ []) strings (value ∷ [], (answers x value becomes, tt))
-        (given_where_filled strings edit.rest edit.filled_rest h)
+        let (outputs, given) = given_where_filled strings source output h in (x ∷ outputs, (same, given))
+    given_where_filled (x ∷ strings) source output (inr (value, gives, other, edit, h)) =
+        let (outputs, given) = given_where_filled strings edit.rest edit.filled_rest h in
+        (value ∷ outputs, (gives, given))
 
     -- so do those of a part
     pub given_so_far : (strings : List (List ℕ)) (text rest old new : List ℕ)
-        → IsFilledUpTo IsToken written Becomes strings text rest old new
-        → AreGiven (under look) strings
+        → IsFilledUpTo IsToken written (GivesBy ask) strings text rest old new → AreGiven ask strings
     given_so_far strings text rest old new (p, is, before) =
-        subst (AreGiven (under look)) (append-nil strings)
+        subst (AreGiven ask) (append-nil strings)
         (given_where_filled (strings ++ []) text (p ++ rest) (before [] rest refl))

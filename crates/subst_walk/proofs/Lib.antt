@@ -1,4 +1,5 @@
 pub mod EditLemmas
+mod FillerLemmas
 pub mod FirstLemmas
 pub mod FoundLemmas
 pub mod ListedLemmas

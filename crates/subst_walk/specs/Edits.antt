@@ -1,18 +1,8 @@
 -- Texts of some format whose strings are filled in where they stand. `IsToken` tells whether a part of a text
 -- spells a string in that format, and `written` how the format writes a string.
-use Rattle.std.specs.Prelude.{◌≡◌, ◌⊎◌, ◌≤◌, ⊤, ℕ, List, [], ◌∷◌, ◌++◌, Option, Result, MatchOption, map, slice_range, string_bytes}
-use Rattle.subst_error.specs.ErrorFault.{error_fault}
+use Rattle.std.specs.Prelude.{◌≡◌, ◌⊎◌, ◌≤◌, ⊤, ℕ, List, [], ◌∷◌, ◌++◌, Option, MatchOption, map, slice_range, string_bytes}
 use Rattle.subst_error.specs.Range.{IsRangeIn}
-use Rattle.subst_error.specs.declared.Error.{Error}
-use Rattle.subst_language.specs.Calls.Outcome.{OnFault}
-use Rattle.subst_language.specs.Language.LookUp.{LookUp}
-use Rattle.subst_language.specs.Language.Answer.{Answers, Refuses}
 use Rattle.subst_walk.specs.declared.edits.StringAt.{StringAt}
-
--- under each of these look-ups, the fault is that for which the string is refused
-abbrev pub RefusesUnder : {T : Type 0} → (LookUp → Type 0) → List ℕ → Result T Error → Type 0
-RefusesUnder IsLookUp x result =
-    (look : LookUp) → IsLookUp look → OnFault error_fault result (λ f. Answers x look (Refuses f))
 
 -- the string becomes another one, which is this; or there is none, and it becomes itself
 abbrev pub IsChanged : (List ℕ → List ℕ → Type 0) → List ℕ → Option (List ℕ) → Type 0

@@ -1,8 +1,7 @@
 -- Paths into a tree, and what a walk says of strings with their paths.
 use Rattle.std.specs.Prelude.{◌≡◌, ◌⊎◌, ℕ, List, [], ◌∷◌, Option, Some, string_bytes}
 use Rattle.subst_error.specs.Fault.{Fault}
-use Rattle.subst_language.specs.Language.LookUp.{LookUp}
-use Rattle.subst_language.specs.Language.Answer.{Answers, Gives, Refuses}
+use Rattle.subst_language.specs.Language.Answer.{Answer, Gives, Refuses}
 use Rattle.subst_walk.specs.declared.path_step.PathStep as steps
 use Rattle.subst_walk.specs.declared.path_step.PathStep.TheVariants as variants
 
@@ -39,11 +38,12 @@ pub record Refusal : Type 0 where
 abbrev pub refusal_below : PathStep → Refusal → Refusal
 refusal_below step it = record { path = step ∷ it.path; text = it.text; fault = it.fault }
 
--- The refusals of those of these strings that are refused, in their order. Each other one gives bytes.
-abbrev pub AreRefusals : LookUp → List Located → List Refusal → Type 0
-AreRefusals look [] refusals = refusals ≡ []
-AreRefusals look (it ∷ rest) refusals =
-    (((x : List ℕ) × Answers it.text look (Gives x)) × AreRefusals look rest refusals)
-    ⊎ ((f : Fault) × (more : List Refusal) × Answers it.text look (Refuses f)
+-- The refusals of those of these strings that are refused, in their order. Each other one gives bytes. `ask`
+-- tells which answers a string has.
+abbrev pub AreRefusals : (List ℕ → Answer → Type 0) → List Located → List Refusal → Type 0
+AreRefusals ask [] refusals = refusals ≡ []
+AreRefusals ask (it ∷ rest) refusals =
+    (((x : List ℕ) × ask it.text (Gives x)) × AreRefusals ask rest refusals)
+    ⊎ ((f : Fault) × (more : List Refusal) × ask it.text (Refuses f)
     × (refusals ≡ record { path = it.path; text = it.text; fault = Some f } ∷ more)
-    × AreRefusals look rest more)
+    × AreRefusals ask rest more)

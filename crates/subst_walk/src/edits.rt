@@ -3,7 +3,9 @@
 ghost use Rattle.std.specs.Prelude.{◌≡◌, ◌≤◌, ◌++◌, ◌-◌, ◌∷◌, [], ℕ, List, IfOk, IfSome, IsTrue, OnOk, length, option_map, slice_range, string_bytes};
 ghost use Rattle.subst_error.specs.ErrorFault.{error_fault};
 ghost use Rattle.subst_language.specs.Calls.Outcome.{OnFault};
-ghost use Rattle.subst_walk.specs.Edits.{RefusesUnder, IsChanged, IsFilledUpTo, AreSpelled};
+ghost use Rattle.subst_language.specs.Language.Answer.{Refuses};
+ghost use Rattle.subst_language.specs.Language.Several.{GivesBy};
+ghost use Rattle.subst_walk.specs.Edits.{IsChanged, IsFilledUpTo, AreSpelled};
 ghost use Rattle.subst_error.specs.Range.{IsRangeIn};
 ghost use Rattle.subst_walk.specs.Texts.{HasRange};
 
@@ -71,9 +73,9 @@ pub fn cut_round<'t>(text: &'t str, range: &Range<usize>) -> Option<Cut<'t>>
 ///
 /// The fault for which it is refused. `OutOfMemory` when allocation fails.
 pub fn changed<F: Fill>(alloc: Global, text: &str, filler: &F) -> Result<Option<String>, Error>
-    ensures ok { IfOk result (λ changed. IsChanged (F.gives filler.now) text.now
+    ensures ok { IfOk result (λ changed. IsChanged (GivesBy (F.answers filler.now)) text.now
         (option_map (λ value. string_bytes value) changed)) }
-    ensures err { RefusesUnder (F.is_look_up filler.now) text.now result }
+    ensures err { OnFault error_fault result (λ f. F.answers filler.now text.now (Refuses f)) }
     ensures range { OnFault error_fault result HasRange }
 {
     if filler.gives_itself(text) {
@@ -104,9 +106,9 @@ pub fn fill_in_string<'t, S: StringFormat, F: Fill>(
     output: &mut String,
 ) -> Result<Option<&'t str>, Error>
     ensures filled { IfOk result (λ left. IfSome left
-        (λ left. IsFilledUpTo S.is_token S.written (F.gives filler.now)
+        (λ left. IsFilledUpTo S.is_token S.written (GivesBy (F.answers filler.now))
         (text.now ∷ []) rest.now left.now (string_bytes output.old) (string_bytes output.new))) }
-    ensures err { RefusesUnder (F.is_look_up filler.now) text.now result }
+    ensures err { OnFault error_fault result (λ f. F.answers filler.now text.now (Refuses f)) }
     ensures range { OnFault error_fault result HasRange }
 {
     let Some(value) = changed(alloc, text, filler)? else {

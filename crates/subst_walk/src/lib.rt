@@ -15,9 +15,8 @@ ghost use Rattle.std.specs.Map.{keys_of, values_of};
 ghost use Rattle.std.specs.Vec.Iter.{into_iter_items, into_iter_len};
 ghost use Rattle.subst_error.specs.ErrorFault.{error_fault};
 ghost use Rattle.subst_error.specs.Range.{range_of, IsRangeIn};
-ghost use Rattle.subst_language.specs.Language.Answer.{Answers, Gives, Refuses};
-ghost use Rattle.subst_language.specs.Language.LookUp.{LookUp};
-ghost use Rattle.subst_language.specs.Calls.Outcome.{OnFault};
+ghost use Rattle.subst_language.specs.Language.Answer.{Answer, Gives, Refuses};
+ghost use Rattle.subst_language.specs.Calls.Outcome.{OnFault, answer_of};
 ghost use Rattle.subst_walk.specs.Texts.{HasRange};
 
 pub use edits::{
@@ -45,36 +44,26 @@ mod refused;
 /// A walk over a tree calls itself, and the toolchain has no proof of a function that does so under a bound
 /// that names a lifetime, as `VariableMap<'a>`. So a walk is generic in this trait.
 pub trait Fill {
-    // Whether texts are filled in by this look-up.
-    ghost is_look_up: { Self → LookUp → Type 0 };
-
-    // Whether a text gives another one.
-    ghost gives: { Self → List ℕ → List ℕ → Type 0 };
+    // Which answers a text has: a text that it gives, or a fault for which it is refused.
+    ghost answers: { Self → List ℕ → Answer → Type 0 };
 
     /// Returns whether a text gives itself, as far as that is seen without filling it in.
     fn gives_itself(&self, text: &str) -> bool
-        ensures { IsTrue result → gives self.now text.now text.now };
+        ensures itself { IsTrue result → answers self.now text.now (Gives text.now) };
 
     /// Returns `source` with its variables filled in.
     fn fill(&self, alloc: Global, source: String) -> Result<String, Error>
-        ensures ok { IfOk result
-            (λ text. gives self.now (string_bytes source) (string_bytes text)) }
-        ensures err { (look : LookUp) → is_look_up self.now look
-            → OnFault error_fault result (λ f. Answers (string_bytes source) look (Refuses f)) }
+        ensures answer { IfSome (answer_of (λ text. string_bytes text) result)
+            (answers self.now (string_bytes source)) }
         ensures range { OnFault error_fault result HasRange };
 
     /// Returns why `source` is refused, or nothing where it gives a text.
     fn refusal(&self, alloc: Global, source: &str) -> Result<Option<Error>, AllocError>
-        ensures answer { (look : LookUp) → is_look_up self.now look
-            → IfOk result (λ refusal. MatchOption refusal
-            ((x : List ℕ) × Answers source.now look (Gives x))
-            (λ e. IsSomeAnd (error_fault e) (λ f. Answers source.now look (Refuses f)))) }
+        ensures answer { IfOk result (λ refusal. MatchOption refusal
+            ((x : List ℕ) × answers self.now source.now (Gives x))
+            (λ e. IsSomeAnd (error_fault e) (λ f. answers self.now source.now (Refuses f)))) }
         ensures refusal_range { IfOk result (λ refusal. IfSome refusal
             (λ e. IsRangeIn source.now (range_of (error_fault e)))) };
-
-    // What a text gives, it gives under each of these look-ups.
-    ghost answers: { (filler : Self) → (x y : List ℕ) → gives filler x y
-        → (look : LookUp) → is_look_up filler look → Answers x look (Gives y) };
 }
 
 /// Fills in texts from a map of variables.
@@ -88,23 +77,16 @@ impl<'a, M: VariableMap<'a>> Fill for Filler<'a, M>
 where
     M::Value: AsStr + Drop,
 {
-    ghost use Rattle.std.proofs.Common.{subst, sym};
-    ghost use Rattle.subst_language.specs.Calls.VariableMap.{look_up_of, ByLookUp, ReadsAs};
+    ghost use Rattle.subst_language.specs.Calls.Clauses.{AnswersText};
 
-    // It is the map's look-up, in some way to read the bytes of its values.
-    ghost is_look_up = { λ filler look. (bytes : M.Seen → List ℕ) × ReadsAs M.Value.text M.see bytes
-        × (look ≡ look_up_of bytes (M.look_up filler.variables.now)) };
-
-    ghost gives = { λ filler x y. ByLookUp M.Value.text M.see (M.look_up filler.variables.now)
-        (λ look. Answers x look (Gives y)) };
-
-    ghost answers = { λ filler x y gives look is.
-        subst (λ l. Answers x l (Gives y)) (sym is.2) (gives is.0 is.1) };
+    ghost answers = { λ filler. AnswersText M.Value.text M.see (M.look_up filler.variables.now) };
 
     fn gives_itself(&self, text: &str) -> bool {
         is_plain(text.as_bytes())
     }
 
+    // A walk calls it at each level, so its frame is kept out of the walk's.
+    #[inline(never)]
     fn fill(&self, alloc: Global, source: String) -> Result<String, Error> {
         substitute_owned(alloc, source, self.variables)
     }
@@ -122,6 +104,9 @@ where
 }
 
 /// Puts these values into a map, in the order of its keys.
+///
+/// A walk calls it at each level, so its frame is kept out of the walk's.
+#[inline(never)]
 pub fn put_values<V: Drop>(members: &mut BTreeMap<String, V>, values: Vec<V>)
     requires { length values.items ≡ length members.old.entries }
     ensures keys { keys_of members.new.entries ≡ keys_of members.old.entries }

@@ -1,7 +1,6 @@
 //! The strings of a tree that are refused, as the walks over trees of each format find them.
 
 ghost use Rattle.std.specs.Prelude.{◌≡◌, ◌++◌, [], ◌∷◌, IfOk, OnOk, MatchBool, map};
-ghost use Rattle.subst_language.specs.Language.LookUp.{LookUp};
 ghost use Rattle.subst_walk.specs.Paths.{step_of, at_root, refusal_below};
 ghost use Rattle.subst_walk.specs.Refused.{borrowed_step_of, refusal_of, AreFound, IsMet, HasRangeInText, EachFound};
 
@@ -70,8 +69,8 @@ pub fn refused_string<F: Fill>(
     text: &str,
     filler: &F,
 ) -> Result<Vec<Refused>, AllocError>
-    ensures found { (look : LookUp) → F.is_look_up filler.now look → IfOk result (λ found.
-        (wanted : HowMany) → AreFound look wanted (at_root text.now ∷ [])
+    ensures found { IfOk result (λ found. (wanted : HowMany)
+        → AreFound (F.answers filler.now) wanted (at_root text.now ∷ [])
         (map refusal_of found.items)) }
     ensures text { EachFound (λ it. (it.path ≡ []) × (it.text ≡ text.now)) result }
     ensures range { EachFound HasRangeInText result }

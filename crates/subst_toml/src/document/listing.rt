@@ -6,8 +6,7 @@ ghost use Rattle.toml.specs.Errors.{IsWithin};
 ghost use Rattle.toml.specs.Parse.{parse_document};
 ghost use Rattle.toml.specs.View.{view};
 ghost use Rattle.subst_error.specs.ErrorFault.{error_fault};
-ghost use Rattle.subst_language.specs.Calls.VariableMap.{ByLookUp};
-ghost use Rattle.subst_language.specs.Language.LookUp.{LookUp};
+ghost use Rattle.subst_language.specs.Calls.Clauses.{AnswersText};
 ghost use Rattle.subst_walk.specs.Edits.{AreSpelled};
 ghost use Rattle.subst_toml.specs.Errors.{HasOwnMemory};
 ghost use Rattle.subst_toml.specs.Filled.{strings_in, spelled_of, refusal_in, RefusalIn, AreRefusalsIn, AreAllRefusals, HasFaultInText, IsFound, IsQuotedToken};
@@ -74,9 +73,9 @@ where
     M::Value: AsStr + Drop,
 
     // They are the refusals of all strings of the text, in its order, and each other string gives bytes.
-    ensures refused { ByLookUp M.Value.text M.see (M.look_up variables.now)
-        (λ look. IfOk result (λ all. IfSome all
-        (λ all. AreAllRefusals look source.now (map refusal_in all.items)))) }
+    ensures refused { IfOk result (λ all. IfSome all
+        (λ all. AreAllRefusals (AnswersText M.Value.text M.see (M.look_up variables.now))
+        source.now (map refusal_in all.items))) }
 
     // Each is at its span, and its path leads to it in the tree.
     ensures found { IfOk result (λ all. IfSome all (λ all. ReadsAsTree source.now
@@ -102,9 +101,8 @@ pub fn refusals_by<F: Fill>(
     source: &str,
     filler: &F,
 ) -> Result<Option<Vec<RefusalAt>>, Error>
-    ensures refused { (look : LookUp) → F.is_look_up filler.now look
-        → IfOk result (λ all. IfSome all
-        (λ all. AreAllRefusals look source.now (map refusal_in all.items))) }
+    ensures refused { IfOk result (λ all. IfSome all
+        (λ all. AreAllRefusals (F.answers filler.now) source.now (map refusal_in all.items))) }
     ensures found { IfOk result (λ all. IfSome all (λ all. ReadsAsTree source.now
         (λ d. AllByRecursion (IsFound source.now d) all.items))) }
     ensures range { IfOk result (λ all. IfSome all
@@ -126,9 +124,8 @@ fn refusals_of<F: Fill>(
     tree: &Value,
     filler: &F,
 ) -> Result<Option<Vec<RefusalAt>>, AllocError>
-    ensures refused { (look : LookUp) → F.is_look_up filler.now look
-        → IfOk result (λ all. IfSome all
-        (λ all. AreAllRefusals look source.now (map refusal_in all.items))) }
+    ensures refused { IfOk result (λ all. IfSome all
+        (λ all. AreAllRefusals (F.answers filler.now) source.now (map refusal_in all.items))) }
     ensures range { IfOk result (λ all. IfSome all
         (λ all. AllByRecursion HasFaultInText (map refusal_in all.items))) }
     ensures found { IfOk result (λ all. IfSome all
@@ -148,8 +145,8 @@ fn refused_of<F: Fill>(
     found: &Vec<StringAt>,
     filler: &F,
 ) -> Result<Vec<RefusalAt>, AllocError>
-    ensures all { (look : LookUp) → F.is_look_up filler.now look → IfOk result (λ refused.
-        AreRefusalsIn look (map spelled_of found.now.items) (map refusal_in refused.items)) }
+    ensures all { IfOk result (λ refused. AreRefusalsIn (F.answers filler.now)
+        (map spelled_of found.now.items) (map refusal_in refused.items)) }
     ensures range { IfOk result
         (λ refused. AllByRecursion HasFaultInText (map refusal_in refused.items)) }
 {
@@ -167,11 +164,9 @@ fn add_refused<F: Fill>(
     filler: &F,
     refused: &mut Vec<RefusalAt>,
 ) -> Result<(), AllocError>
-    ensures added { (look : LookUp) → F.is_look_up filler.now look → OnOk result
-        ((part : List RefusalIn) × AreRefusalsIn look (spelled_of it.now ∷ []) part
-        × (map refusal_in refused.new.items ≡ map refusal_in refused.old.items ++ part)) }
-    ensures range { OnOk result
-        ((part : List RefusalIn) × AllByRecursion HasFaultInText part
+    ensures { OnOk result ((part : List RefusalIn)
+        × AreRefusalsIn (F.answers filler.now) (spelled_of it.now ∷ []) part
+        × AllByRecursion HasFaultInText part
         × (map refusal_in refused.new.items ≡ map refusal_in refused.old.items ++ part)) }
 {
     match filler.refusal(alloc, it.text.as_str())? {

@@ -1,13 +1,14 @@
 use Rattle.std.proofs.Common.{length}
 use Rattle.json.specs.Lex.{tokens}
+use Rattle.subst_language.specs.Language.Several.{GivesBy}
 use Rattle.subst_json.specs.Filled.{AreFilled}
 use Rattle.subst_json.proofs.compared.is_filled.Given as goal
 
 -- if the rest is filled in, all is
 abbrev pub invariant-loop-token : goal.invariant-loop-token
 invariant-loop-token g l =
-    AreFilled (g.F.Fill.gives l.filler) l.reader l.reader_of_output
-    → AreFilled (g.F.Fill.gives l.filler) (tokens l.source) (tokens l.output)
+    AreFilled (GivesBy (g.F.Fill.answers l.filler)) l.reader l.reader_of_output
+    → AreFilled (GivesBy (g.F.Fill.answers l.filler)) (tokens l.source) (tokens l.output)
 
 abbrev pub decreases-loop-token : goal.decreases-loop-token
 decreases-loop-token g l = length l.reader

@@ -7,6 +7,6 @@ use Rattle.subst_json.proofs.listing.list_string.Goals as goal
 
 pub returns-in_default : goal.returns-in_default
 returns-in_default g c =
-    given_listed (g.F.Fill.is_look_up c.args.filler.now) c.args.source.now c.args.from
+    given_listed (g.F.Fill.answers c.args.filler.now) c.args.source.now c.args.from
     (located (map step_of c.args.steps.now.items) c.args.text.now) c.args.list.now.items
-    (λ look asked. search rules)
+    (search rules)

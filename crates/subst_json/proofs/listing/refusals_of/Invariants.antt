@@ -8,7 +8,7 @@ use Rattle.subst_json.proofs.listing.refusals_of.Given as goal
 abbrev pub invariant-loop-token : goal.invariant-loop-token
 invariant-loop-token g l = (done : List Located)
     × (located_in [] (tokens l.source) ≡ done ++ located_in (reverse (map step_of l.steps.items)) l.reader)
-    × AreListedRefusals (g.F.Fill.is_look_up l.filler) l.source 0 l.from done [] l.list.items
+    × AreListedRefusals (g.F.Fill.answers l.filler) l.source 0 l.from done [] l.list.items
 
 abbrev pub decreases-loop-token : goal.decreases-loop-token
 decreases-loop-token g l = length l.reader

@@ -24,16 +24,18 @@ returns c =
     let text_len : length text + token.start ≤ token.end =
     omega (arith, forwards, ap length is_text, length-take (token.end - token.start) (drop token.start s)) in
     record {
-      within = search rules;
-      after_start = omega arith;
-      forwards = search rules;
-      before_end = omega (arith, text_len, end_is.0);
-      text = x;
-      spells = subst (λ t. IsTokenOf t x) is_text is_string;
-      start_within = start_is.1;
-      end_within = end_is.1;
-      start_spelled = spelled_until s text _ token.start token.end start _ is_text
-          (omega arith) start_is.0 start_is.2;
-      end_spelled = spelled_until s text _ token.start token.end end _ is_text
-          (omega arith) end_is.0 end_is.2;
+      place = record {
+        within = search rules;
+        after_start = omega arith;
+        forwards = search rules;
+        before_end = omega (arith, text_len, end_is.0);
+        text = x;
+        spells = subst (λ t. IsTokenOf t x) is_text is_string;
+        start_within = start_is.1;
+        end_within = end_is.1;
+        start_spelled = spelled_until s text _ token.start token.end start _ is_text
+            (omega arith) start_is.0 start_is.2;
+        end_spelled = spelled_until s text _ token.start token.end end _ is_text
+            (omega arith) end_is.0 end_is.2;
+      };
     }

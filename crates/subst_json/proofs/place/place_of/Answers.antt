@@ -28,13 +28,15 @@ returns c =
     let spelled : IsTokenOf part text = search rules in
     let quoted : HasQuotes part = search rules in
     record {
-      within = within;
-      forwards = search rules;
-      tree = tree;
-      text = text;
-      reads = is_tree;
-      leads = leads_to_value path tree text is_value;
-      spells = spelled;
-      quoted = quoted;
-      replaced = search rules;
+      place = record {
+        within = within;
+        forwards = search rules;
+        tree = tree;
+        text = text;
+        reads = is_tree;
+        leads = leads_to_value path tree text is_value;
+        spells = spelled;
+        quoted = quoted;
+        replaced = search rules;
+      };
     }

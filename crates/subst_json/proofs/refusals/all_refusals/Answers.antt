@@ -1,20 +1,21 @@
 -- What the walk has found is what is returned.
-use Rattle.std.proofs.Common.{refl}
+use Rattle.std.proofs.Common.{subst, sym}
 use Rattle.std.proofs.lemmas.Result.{IfOk-weaker}
 use Rattle.serde_json.specs.View.{view}
-use Rattle.subst_language.specs.Calls.VariableMap.{look_up_of}
+use Rattle.subst_language.specs.Calls.Clauses.{AnswersText}
+use Rattle.subst_walk.specs.Paths.{AreRefusals}
 use Rattle.subst_walk.specs.Refused.{HasRangeInText}
-use Rattle.subst_walk.proofs.FirstLemmas.{all_of_found, holds_of_all}
+use Rattle.subst_walk.proofs.FirstLemmas.{holds_of_all}
 use Rattle.subst_json.specs.Located.{located}
 use Rattle.subst_json.specs.Paths.{refusal_of, LeadsTo}
 use Rattle.subst_json.proofs.refusals.all_refusals.Goals as goal
 
 pub returns-clause-all : goal.returns-clause-all
-returns-clause-all g c = λ bytes reads.
-    let look = look_up_of bytes (g.M.VariableMap.look_up c.args.variables.now) in
-    IfOk-weaker c.all_found.result _ _
-    (λ all same. all_of_found look (located (view c.args.tree.now)) _ _
-    (c.in_ok-found.ensures.found look (bytes, reads, refl)) same) c.all_found.ensures
+returns-clause-all g c =
+    let ask = AnswersText g.M.Value.AsStr.text g.M.VariableMap.see
+    (g.M.VariableMap.look_up c.args.variables.now) in
+    IfOk-weaker c.all_found.result _ _ (λ all same. subst (AreRefusals ask (located (view c.args.tree.now)))
+    (sym same) c.in_ok-found.ensures.found) c.all_found.ensures
 
 pub returns-clause-leads : goal.returns-clause-leads
 returns-clause-leads g c =

@@ -3,7 +3,6 @@ use Rattle.std.specs.List.{AllByRecursion}
 use Rattle.serde_json.specs.Data.{array, object}
 use Rattle.serde_json.specs.View.{items_view, members_view}
 use Rattle.serde_json.proofs.Views.{Entry}
-use Rattle.subst_language.specs.Language.LookUp.{LookUp}
 use Rattle.subst_walk.specs.Paths.{AreRefusals}
 use Rattle.subst_walk.specs.Refused.{refusal_of, IsMet, HasRangeInText}
 use Rattle.subst_json.specs.Located.{located_items, located_members}
@@ -13,9 +12,8 @@ use Rattle.subst_json.proofs.refused.+walk.Given as goal
 -- all refusals of the items so far are found, and more is wanted
 abbrev pub invariant-refused_items-loop-index : goal.invariant-refused_items-loop-index
 invariant-refused_items-loop-index g l =
-    ((look : LookUp) → g.F.Fill.is_look_up l.filler look
-    → AreRefusals look (located_items 0 (items_view (take l.index l.item-items)))
-    (map refusal_of l.found.items))
+    AreRefusals (g.F.Fill.answers l.filler) (located_items 0 (items_view (take l.index l.item-items)))
+    (map refusal_of l.found.items)
     × (¬ (IsMet l.wanted (map refusal_of l.found.items)))
     × AllByRecursion (λ it. Leads it.path (array (items_view l.item-items)) it.text)
     (map refusal_of l.found.items)
@@ -25,8 +23,8 @@ invariant-refused_items-loop-index g l =
 abbrev pub invariant-refused_members-loop-key : goal.invariant-refused_members-loop-key
 invariant-refused_members-loop-key g l = (done : List Entry)
     × (l.members.entries ≡ done ++ l.key-iterator)
-    × ((look : LookUp) → g.F.Fill.is_look_up l.filler look
-    → AreRefusals look (located_members (members_view done)) (map refusal_of l.found.items))
+    × AreRefusals (g.F.Fill.answers l.filler) (located_members (members_view done))
+    (map refusal_of l.found.items)
     × (¬ (IsMet l.wanted (map refusal_of l.found.items)))
     × AllByRecursion (λ it. Leads it.path (object (members_view l.members.entries)) it.text)
     (map refusal_of l.found.items)

@@ -9,7 +9,7 @@ pub returns-in-String-clause-filled : goal.returns-in-String-clause-filled
 returns-in-String-clause-filled g c = rw c.in-String.is c.fill_in_string.ensures.filled
 
 pub returns-in-String-clause-err : goal.returns-in-String-clause-err
-returns-in-String-clause-err g c = λ look asked. rw c.in-String.is
+returns-in-String-clause-err g c = rw c.in-String.is
     (IfErr-weaker c.fill_in_string.result _ _ (λ e h. IfSome_then (error_fault e) h
-    (λ f refused. refusal_alone look c.in-String.text.now f refused))
-    (c.fill_in_string.ensures.err look asked))
+    (λ f refused. refusal_alone (g.F.Fill.answers c.args.filler.now) c.in-String.text.now f refused))
+    c.fill_in_string.ensures.err)

@@ -3,6 +3,7 @@ use Rattle.std.proofs.Common.{◌≡◌, ◌+◌, ◌<◌, ℕ, List, [], ◌∷
 use Rattle.std.proofs.lemmas.List.{take_more, take_all, map-append}
 use Rattle.std.proofs.lemmas.Simd.{map-map}
 use Rattle.toml_writer.specs.Text.{string_text}
+use Rattle.subst_language.specs.Language.Several.{GivesBy}
 use Rattle.subst_walk.specs.Edits.{IsFilledText, IsFilledUpTo, text_at}
 use Rattle.subst_walk.specs.declared.edits.StringAt.{StringAt}
 use Rattle.subst_walk.proofs.EditLemmas.{filled_then, filled_to_end}
@@ -18,7 +19,7 @@ texts_more items i it within here =
 pub loop-it-preserved : goal.loop-it-preserved
 loop-it-preserved g c =
     let l = c.loop-it in
-    let Becomes = g.F.Fill.gives c.args.filler.now in
+    let Becomes = GivesBy (g.F.Fill.answers c.args.filler.now) in
     let items = c.deref-it-items.result.now in
     let rest = c.in-Some-2.after.now in
     let output = string_bytes c.next.new.output in (
@@ -33,7 +34,7 @@ loop-it-preserved g c =
 pub returns : goal.returns
 returns g c =
     let l = c.loop-it in
-    let Becomes = g.F.Fill.gives c.args.filler.now in
+    let Becomes = GivesBy (g.F.Fill.answers c.args.filler.now) in
     let items = c.in-Some.found.items in
     let all : take l.it-index c.deref-it-items.result.now ≡ items =
     take_all l.it-index c.deref-it-items.result.now (omega arith) ∙ c.deref-it-items.ensures.value in (

@@ -15,13 +15,14 @@ use Rattle.subst_toml.proofs.RefusedLemmas.{items_more, items_enough, items_lead
 use Rattle.subst_toml.proofs.refused.+walk.Goals as goal
 
 pub refused-returns-in-String-clause-found : goal.refused-returns-in-String-clause-found
-refused-returns-in-String-clause-found g t c = λ look asked.
+refused-returns-in-String-clause-found g t c =
+    let ask = g.F.Fill.answers c.args.filler.now in
     let seen : view c.args.value.now ≡ string c.as_str.result.now =
     ap view c.in-String.is ∙ view-String c.in-String.text ∙ ap string (sym c.as_str.ensures.value) in
     subst (λ d. IfOk c.refused_string.result
-    (λ found. AreFound look c.args.wanted (located d) (map refusal_of found.items))) (sym seen)
+    (λ found. AreFound ask c.args.wanted (located d) (map refusal_of found.items))) (sym seen)
     (IfOk-weaker c.refused_string.result _ _ (λ found h. h c.args.wanted)
-    (c.refused_string.ensures.found look asked))
+    c.refused_string.ensures.found)
 
 pub refused-returns-in-String-clause-leads : goal.refused-returns-in-String-clause-leads
 refused-returns-in-String-clause-leads g t c =
@@ -47,7 +48,7 @@ refused-returns-in-Table-clause-leads g t c =
 pub refused_items-loop-index-init : goal.refused_items-loop-index-init
 refused_items-loop-index-init g t c =
     let none = ap (map refusal_of) c.new-found.ensures.items in (
-      λ look is. none,
+      none,
       subst (λ xs. ¬ (IsMet c.args.wanted xs)) (sym none) (more_is_wanted c.args.wanted),
       subst (AllByRecursion _) (sym none) tt,
       subst (AllByRecursion HasRangeInText) (sym none) tt,
@@ -55,6 +56,7 @@ refused_items-loop-index-init g t c =
 
 pub refused_items-loop-index-preserved : goal.refused_items-loop-index-preserved
 refused_items-loop-index-preserved g t c =
+    let ask = g.F.Fill.answers c.args.filler.now in
     let l = c.loop-index in
     let vs = c.deref-item-items.result.now in
     let v = c.item-item.result in
@@ -62,8 +64,8 @@ refused_items-loop-index-preserved g t c =
     let part = map refusal_of c.in_ok-part.part.items in
     let found = map refusal_of c.add_below.new.found.items in
     let is : found ≡ before ++ map (refusal_below (Index l.index)) part = c.in_ok-add_below.ensures.found in (
-      λ look asked. items_more look c.args.wanted vs l.index v before part found (omega arith) c.item-item.is
-          (l.invariant.0 look asked) (c.in_ok-part.ensures.found look asked) is c.if-is_met.ensures,
+      items_more ask c.args.wanted vs l.index v before part found (omega arith) c.item-item.is
+          l.invariant.0 c.in_ok-part.ensures.found is c.if-is_met.ensures,
       c.if-is_met.ensures,
       items_lead vs l.index v before part found (omega arith) c.item-item.is l.invariant.2
           c.in_ok-part.ensures.leads is,
@@ -72,15 +74,16 @@ refused_items-loop-index-preserved g t c =
     )
 
 pub refused_items-returns-then-is_met-clause-found : goal.refused_items-returns-then-is_met-clause-found
-refused_items-returns-then-is_met-clause-found g t c = λ look asked.
+refused_items-returns-then-is_met-clause-found g t c =
+    let ask = g.F.Fill.answers c.args.filler.now in
     let l = c.loop-index in
     let vs = c.deref-item-items.result.now in
     let found = map refusal_of c.add_below.new.found.items in
-    subst (λ xs. AreFound look c.args.wanted (located_items 0 (items_view xs)) found)
+    subst (λ xs. AreFound ask c.args.wanted (located_items 0 (items_view xs)) found)
     c.deref-item-items.ensures.value
-    (items_enough look c.args.wanted vs l.index c.item-item.result (map refusal_of l.found.items)
+    (items_enough ask c.args.wanted vs l.index c.item-item.result (map refusal_of l.found.items)
     (map refusal_of c.in_ok-part.part.items) found (omega arith)
-    c.item-item.is (l.invariant.0 look asked) l.invariant.1 (c.in_ok-part.ensures.found look asked)
+    c.item-item.is l.invariant.0 l.invariant.1 c.in_ok-part.ensures.found
     c.in_ok-add_below.ensures.found c.if-is_met.ensures)
 
 pub refused_items-returns-then-is_met-clause-leads : goal.refused_items-returns-then-is_met-clause-leads
@@ -102,13 +105,14 @@ refused_items-returns-then-is_met-clause-range g t c =
     l.invariant.3 c.in_ok-part.ensures.range c.in_ok-add_below.ensures.found
 
 pub refused_items-returns-clause-found : goal.refused_items-returns-clause-found
-refused_items-returns-clause-found g t c = λ look asked.
+refused_items-returns-clause-found g t c =
+    let ask = g.F.Fill.answers c.args.filler.now in
     let l = c.loop-index in
     let vs = c.deref-item-items.result.now in
     let all = take_all l.index vs (omega arith) ∙ c.deref-item-items.ensures.value in
-    found_all look c.args.wanted _ _
-    (subst (λ xs. AreRefusals look (located_items 0 (items_view xs)) (map refusal_of l.found.items)) all
-    (l.invariant.0 look asked)) l.invariant.1
+    found_all ask c.args.wanted _ _
+    (subst (λ xs. AreRefusals ask (located_items 0 (items_view xs)) (map refusal_of l.found.items)) all
+    l.invariant.0) l.invariant.1
 
 pub refused_items-returns-clause-leads : goal.refused_items-returns-clause-leads
 refused_items-returns-clause-leads g t c =
@@ -121,7 +125,7 @@ refused_members-loop-key-init g t c =
     let none = ap (map refusal_of) c.new-found.ensures.items in (
       [],
       sym (c.into_iter-key-iterator.ensures.into_iter_gives ∙ c.iter-key-items.ensures.rest),
-      λ look asked. none,
+      none,
       subst (λ xs. ¬ (IsMet c.args.wanted xs)) (sym none) (more_is_wanted c.args.wanted),
       subst (AllByRecursion (λ it. Leads it.path (table (members_view c.args.members.now.entries)) it.text))
           (sym none) tt,
@@ -130,6 +134,7 @@ refused_members-loop-key-init g t c =
 
 pub refused_members-loop-key-preserved : goal.refused_members-loop-key-preserved
 refused_members-loop-key-preserved g t c =
+    let ask = g.F.Fill.answers c.args.filler.now in
     let l = c.loop-key in
     let done = l.invariant.0 in
     let e : Entry = (c.in-Some.key.now, c.in-Some.member.now) in
@@ -144,8 +149,8 @@ refused_members-loop-key-preserved g t c =
     (Key k)) part) c.as_str.ensures.value in (
       done ++ e ∷ [],
       all ∙ sym (append_assoc done (e ∷ []) left),
-      λ look asked. members_more look c.args.wanted done e before part found (l.invariant.2 look asked)
-          (c.in_ok-part.ensures.found look asked) is c.if-is_met.ensures,
+      members_more ask c.args.wanted done e before part found l.invariant.2
+          c.in_ok-part.ensures.found is c.if-is_met.ensures,
       c.if-is_met.ensures,
       members_lead c.args.members.now.entries done e left before part found all
           c.iter-key-items.ensures.ordered
@@ -155,7 +160,8 @@ refused_members-loop-key-preserved g t c =
     )
 
 pub refused_members-returns-then-is_met-clause-found : goal.refused_members-returns-then-is_met-clause-found
-refused_members-returns-then-is_met-clause-found g t c = λ look asked.
+refused_members-returns-then-is_met-clause-found g t c =
+    let ask = g.F.Fill.answers c.args.filler.now in
     let l = c.loop-key in
     let done = l.invariant.0 in
     let e : Entry = (c.in-Some.key.now, c.in-Some.member.now) in
@@ -164,9 +170,9 @@ refused_members-returns-then-is_met-clause-found g t c = λ look asked.
     l.invariant.1 ∙ ap (λ es. done ++ es) c.in-Some.ensures.steps in
     let before = map refusal_of l.found.items in
     let part = map refusal_of c.in_ok-part.part.items in
-    members_enough look c.args.wanted c.args.members.now.entries done e left before part
-    (map refusal_of c.add_below.new.found.items) all (l.invariant.2 look asked) l.invariant.3
-    (c.in_ok-part.ensures.found look asked) (c.in_ok-add_below.ensures.found
+    members_enough ask c.args.wanted c.args.members.now.entries done e left before part
+    (map refusal_of c.add_below.new.found.items) all l.invariant.2 l.invariant.3
+    c.in_ok-part.ensures.found (c.in_ok-add_below.ensures.found
     ∙ ap (λ k. before ++ map (refusal_below (Key k)) part) c.as_str.ensures.value) c.if-is_met.ensures
 
 pub refused_members-returns-then-is_met-clause-leads : goal.refused_members-returns-then-is_met-clause-leads
@@ -193,11 +199,12 @@ refused_members-returns-then-is_met-clause-range g t c =
     l.invariant.5 c.in_ok-part.ensures.range c.in_ok-add_below.ensures.found
 
 pub refused_members-returns-clause-found : goal.refused_members-returns-clause-found
-refused_members-returns-clause-found g t c = λ look asked.
+refused_members-returns-clause-found g t c =
+    let ask = g.F.Fill.answers c.args.filler.now in
     let l = c.loop-key in
     let found = map refusal_of l.found.items in
     let all : c.args.members.now.entries ≡ l.invariant.0 =
     l.invariant.1 ∙ ap (λ es. l.invariant.0 ++ es) c.in-None.ensures.steps.0 ∙ append-nil l.invariant.0 in
-    found_all look c.args.wanted (located_members (members_view c.args.members.now.entries)) found
-    (subst (λ es. AreRefusals look (located_members (members_view es)) found) (sym all)
-    (l.invariant.2 look asked)) l.invariant.3
+    found_all ask c.args.wanted (located_members (members_view c.args.members.now.entries)) found
+    (subst (λ es. AreRefusals ask (located_members (members_view es)) found) (sym all)
+    l.invariant.2) l.invariant.3

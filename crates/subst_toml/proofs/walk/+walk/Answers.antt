@@ -7,20 +7,22 @@ use Rattle.std.specs.Map.{values_of}
 use Rattle.std.specs.Vec.Iter.{into_iter_items}
 use Rattle.toml.specs.View.{items_view}
 use Rattle.subst_error.specs.ErrorFault.{error_fault}
+use Rattle.subst_language.specs.Language.Several.{GivesBy}
 use Rattle.subst_walk.proofs.WalkLemmas.{ended}
-use Rattle.subst_toml.proofs.MappedLemmas.{items_weaker}
 use Rattle.subst_toml.proofs.TomlTreeLemmas.{string_refused, array_refused, table_refused, each_append, each_member}
 use Rattle.subst_toml.proofs.walk.+walk.Goals as goal
 
 pub filled-returns-in_err-fill-in-String-clause-err : goal.filled-returns-in_err-fill-in-String-clause-err
-filled-returns-in_err-fill-in-String-clause-err g t c = λ look is.
+filled-returns-in_err-fill-in-String-clause-err g t c =
+    let ask = g.F.Fill.answers c.args.filler.now in
     let failed = c.in_err-fill-in-String in
     let given = err_from_is_err_and c.from_residual.result c.from_residual.ensures.1 in
-    rw (given.1, given.2, c.in-String.is) (string_refused look c.in-String.text
-    (error_fault failed.field-0.0) (failed.ensures.err look is))
+    rw (given.1, given.2, c.in-String.is) (string_refused ask c.in-String.text
+    (error_fault failed.field-0.0) failed.ensures.answer)
 
 pub filled_items-returns-in_err-filled-clause-err : goal.filled_items-returns-in_err-filled-clause-err
-filled_items-returns-in_err-filled-clause-err g t c = λ look is.
+filled_items-returns-in_err-filled-clause-err g t c =
+    let ask = g.F.Fill.answers c.args.filler.now in
     let l = c.loop-item in
     let done = l.invariant.0 in
     let v = c.in-Some.item in
@@ -30,13 +32,12 @@ filled_items-returns-in_err-filled-clause-err g t c = λ look is.
     l.invariant.1 ∙ ap (λ vs. done ++ vs) c.in-Some.ensures.steps.0 in
     let given = err_from_is_err_and c.from_residual-in_err-filled.result
     c.from_residual-in_err-filled.ensures.1 in
-    let mapped = items_weaker _ _ (λ x y gives. g.met.F.Fill.answers c.args.filler.now x y gives look is)
-    (items_view done) (items_view l.trees.items) l.invariant.3 in
-    rw (given.1, given.2) (array_refused look c.args.items.items done left v (items_view l.trees.items)
-    (error_fault failed.field-0.0) all mapped (failed.ensures.err look is))
+    rw (given.1, given.2) (array_refused ask c.args.items.items done left v
+    (items_view l.trees.items) (error_fault failed.field-0.0) all l.invariant.3 failed.ensures.err)
 
 pub filled_items-loop-item-preserved : goal.filled_items-loop-item-preserved
 filled_items-loop-item-preserved g t c =
+    let Becomes = GivesBy (g.F.Fill.answers c.args.filler.now) in
     let l = c.loop-item in
     let done = l.invariant.0 in
     let v = c.in-Some.item in
@@ -48,12 +49,13 @@ filled_items-loop-item-preserved g t c =
           let gone = c.in-Some.ensures.steps.1 in
           let short = ap length steps in
           omega arith,
-      rw c.in_ok-push.ensures.items (each_append (g.F.Fill.gives c.args.filler.now) done l.trees.items v
+      rw c.in_ok-push.ensures.items (each_append Becomes done l.trees.items v
           c.in_ok-filled.field-0 l.invariant.3 c.in_ok-filled.ensures.each),
     )
 
 pub filled_members-returns-in_err-filled-clause-err : goal.filled_members-returns-in_err-filled-clause-err
-filled_members-returns-in_err-filled-clause-err g t c = λ look is.
+filled_members-returns-in_err-filled-clause-err g t c =
+    let ask = g.F.Fill.answers c.args.filler.now in
     let l = c.loop-member in
     let done = l.invariant.0 in
     let v = c.in-Some.member.now in
@@ -63,14 +65,13 @@ filled_members-returns-in_err-filled-clause-err g t c = λ look is.
     l.invariant.1 ∙ ap (λ vs. done ++ vs) c.in-Some.ensures.steps in
     let given = err_from_is_err_and c.from_residual-in_err-filled.result
     c.from_residual-in_err-filled.ensures.1 in
-    let mapped = items_weaker _ _ (λ x y gives. g.met.F.Fill.answers c.args.filler.now x y gives look is)
-    (items_view done) (items_view l.trees.items) l.invariant.3 in
-    rw (given.1, given.2) (table_refused look c.args.members.entries done left v (items_view l.trees.items)
-    (error_fault failed.field-0.0) all mapped
-    (rw (sym c.replace-tree.ensures.value) (failed.ensures.err look is)))
+    rw (given.1, given.2) (table_refused ask c.args.members.entries done left v
+    (items_view l.trees.items) (error_fault failed.field-0.0) all l.invariant.3
+    (rw (sym c.replace-tree.ensures.value) failed.ensures.err))
 
 pub filled_members-loop-member-preserved : goal.filled_members-loop-member-preserved
 filled_members-loop-member-preserved g t c =
+    let Becomes = GivesBy (g.F.Fill.answers c.args.filler.now) in
     let l = c.loop-member in
     let done = l.invariant.0 in
     let v = c.in-Some.member.now in
@@ -80,15 +81,16 @@ filled_members-loop-member-preserved g t c =
       l.invariant.1 ∙ ap (λ vs. done ++ vs) steps ∙ sym (append_assoc done (v ∷ []) left),
       ap length c.in_ok-push.ensures.items ∙ length-append l.trees.items (c.in_ok-filled.field-0 ∷ [])
           ∙ ap (λ n. n + 1) l.invariant.2 ∙ sym (length-append done (v ∷ [])),
-      rw c.in_ok-push.ensures.items (each_append (g.F.Fill.gives c.args.filler.now) done l.trees.items v
+      rw c.in_ok-push.ensures.items (each_append Becomes done l.trees.items v
           c.in_ok-filled.field-0 l.invariant.3
           (rw (sym c.replace-tree.ensures.value) c.in_ok-filled.ensures.each)),
     )
 
 pub filled_members-returns-clause-each : goal.filled_members-returns-clause-each
 filled_members-returns-clause-each g t c =
+    let Becomes = GivesBy (g.F.Fill.answers c.args.filler.now) in
     let l = c.loop-member in
     let all : values_of c.args.members.entries ≡ l.invariant.0 =
     l.invariant.1 ∙ ended l.invariant.0 (values_mut_rest l.member-iterator) c.in-None.ensures.steps in
-    each_member (g.F.Fill.gives c.args.filler.now) c.args.members.entries c.put_values.new.members.entries
+    each_member Becomes c.args.members.entries c.put_values.new.members.entries
     (search rules) (rw (all, c.put_values.ensures.values) l.invariant.3)

@@ -1,21 +1,23 @@
 -- A text that isn't plain is refused for what its substitution says.
-use Rattle.std.proofs.Common.{ℕ, List, string_bytes, sym, subst}
+use Rattle.std.proofs.Common.{◌≡◌, ℕ, List, is_some, string_bytes, true, subst, rules}
 use Rattle.std.specs.List.{All}
-use Rattle.subst_language.specs.Language.Answer.{Answers, Gives}
+use Rattle.subst_error.specs.ErrorFault.{error_fault}
 use Rattle.subst_language.specs.Language.Bytes.{IsPlain}
-use Rattle.subst_language.specs.Language.LookUp.{LookUp}
-use Rattle.subst_language.proofs.CallingLemmas.{plain_answer}
+use Rattle.subst_walk.proofs.FillerLemmas.{plain_text, stated_refusal}
 use Rattle.subst_walk.proofs.FillerFill.refusal.Goals as goal
 
 pub returns-then-is_plain-clause-answer : goal.returns-then-is_plain-clause-answer
-returns-then-is_plain-clause-answer g c = λ look is.
+returns-then-is_plain-clause-answer g c =
     let plain = subst (λ (x : List ℕ). All IsPlain x) c.as_bytes.ensures.value
     (c.is_plain.ensures.plain.0 c.if-is_plain.true) in
-    (c.args.source.now, plain_answer c.args.source.now look plain)
+    (c.args.source.now, plain_text _ _ _ c.args.source.now plain)
 
 pub returns-in-Ok-clause-answer : goal.returns-in-Ok-clause-answer
-returns-in-Ok-clause-answer g c = λ look is. (
-  string_bytes c.in-Ok.field-0,
-  subst (λ (l : LookUp). Answers c.args.source.now l
-      (Gives (string_bytes c.in-Ok.field-0))) (sym is.2) (c.in-Ok.ensures.answer is.0 is.1),
-)
+returns-in-Ok-clause-answer g c =
+    (string_bytes c.in-Ok.field-0, (c.in-Ok.ensures.sentence, c.in-Ok.ensures.answer))
+
+pub returns-clause-answer : goal.returns-clause-answer
+returns-clause-answer g c =
+    let states : is_some (error_fault c.in-Err.e) ≡ true = search rules in
+    stated_refusal g.M.Value.AsStr.text g.M.VariableMap.see _ c.args.source.now (error_fault c.in-Err.e)
+    states c.in-Err.ensures.refusal c.in-Err.ensures.range

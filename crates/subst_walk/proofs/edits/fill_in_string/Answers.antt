@@ -2,13 +2,14 @@
 use Rattle.std.proofs.Common.{Some, rules, subst}
 use Rattle.std.specs.Option.{option_map}
 use Rattle.std.specs.Prelude.{string_bytes}
+use Rattle.subst_language.specs.Language.Several.{GivesBy}
 use Rattle.subst_walk.specs.Edits.{IsChanged}
 use Rattle.subst_walk.proofs.EditLemmas.{edited}
 use Rattle.subst_walk.proofs.edits.fill_in_string.Goals as goal
 
 pub returns-clause-filled : goal.returns-clause-filled
 returns-clause-filled g c =
-    let Becomes = g.F.Fill.gives c.args.filler.now in
+    let Becomes = GivesBy (g.F.Fill.answers c.args.filler.now) in
     let changed : IsChanged Becomes c.args.text.now (option_map (λ v. string_bytes v)
     (Some c.in-Some.value)) =
     subst (λ o. IsChanged Becomes c.args.text.now (option_map (λ v. string_bytes v) o)) c.in-Some.is
