@@ -19,14 +19,18 @@ pub use Rattle.subst_language.proofs.CallingLemmas.{same_look_up}
 pub use Rattle.subst_language.proofs.CallingLemmas.{answer_as_read}
 -- the output of a source that gives bytes, under values that are bytes already, is these bytes
 pub use Rattle.subst_language.proofs.CallingLemmas.{given_as_read}
+-- an error of a source that gives bytes, under values that are bytes already, says that memory ran out
+pub use Rattle.subst_language.proofs.CallingLemmas.{alone_as_read}
+-- what holds of a map's look-up of bytes holds of the look-up that its values are read as
+pub use Rattle.subst_map.proofs.CallingLemmas.{by_look_up_bytes}
 -- outputs of several sources, with one more
 pub use Rattle.subst_language.proofs.Language.SeveralLemmas.{each_more}
 -- sources that give bytes, and more of them
 pub use Rattle.subst_language.proofs.Language.SeveralLemmas.{given_append}
 -- of several sources the one at an index is refused, and those before it give bytes
 pub use Rattle.subst_language.proofs.Language.SeveralLemmas.{refused_at}
--- of several sources one is the first that is refused, for one fault
-pub use Rattle.subst_language.proofs.Language.SeveralLemmas.{refusal_unique}
+-- of several sources one is the first that is refused, for one fault, since each has one answer
+pub use Rattle.subst_language.proofs.Language.SeveralLemmas.{refusal_unique, one_under}
 -- a source without dollars and backslashes gives itself, whatever the look-up
 pub use Rattle.subst_language.proofs.CallingLemmas.{plain_answer}
 -- a text that begins with no name byte may follow each tree
@@ -61,6 +65,11 @@ pub use Rattle.subst_language.proofs.WorkedExamples.Words.{plain, only_plain, on
 pub use Rattle.subst_json.proofs.OneOutcomeLemmas.{one_outcome}
 -- a TOML tree is filled in as one tree, or refused for one fault, and never both
 pub use Rattle.subst_toml.proofs.OneOutcomeLemmas.{one_outcome as toml_one_outcome}
+-- what is known of a map's answer to a text, of the first refusal of several and of a tree that is filled in,
+-- said of the map's look-up of bytes
+pub use Rattle.subst_language.proofs.CallingLemmas.{answer_by_map, first_by_map}
+pub use Rattle.subst_json.proofs.MappedLemmas.{mapped_by_map}
+pub use Rattle.subst_toml.proofs.MappedLemmas.{mapped_by_map as toml_mapped_by_map}
 -- what the strings of a JSON tree become, of a TOML tree and of a text, said in a weaker way
 pub use Rattle.subst_json.proofs.MappedLemmas.{each_weaker}
 pub use Rattle.subst_toml.proofs.MappedLemmas.{each_weaker as toml_each_weaker}

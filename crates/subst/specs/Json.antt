@@ -4,12 +4,15 @@ pub use Rattle.subst_json.specs.declared.error.Error.TheVariants as error
 pub use Rattle.subst_json.specs.Errors
 pub use Rattle.subst_json.specs.Filled
 pub use Rattle.subst_json.specs.Laws
+pub use Rattle.subst_json.specs.Listed
 pub use Rattle.subst_json.specs.Located
 pub use Rattle.subst_json.specs.Mapped
 pub use Rattle.subst_json.specs.Outcome
 pub use Rattle.subst_json.specs.Paths
+pub use Rattle.subst_json.specs.Pieces
 pub use Rattle.subst_json.specs.Places
 pub use Rattle.subst_json.specs.Pointer
+pub use Rattle.subst_report.specs.Json as Report
 pub use Rattle.subst_walk.specs.Paths as Walk
 pub use Rattle.subst_walk.specs.Refused
 pub use Rattle.subst_walk.specs.Texts

@@ -14,3 +14,4 @@ pub use Rattle.subst_error.specs.Position
 pub use Rattle.subst_error.specs.Range
 pub use Rattle.subst_error.specs.Writing
 pub use Rattle.subst_foreign.specs.Foreign
+pub use Rattle.subst_report.specs.Report

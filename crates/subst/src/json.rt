@@ -14,6 +14,9 @@
 //! one string are; a [`RangeFinder`] does so for many strings. [`fill_in_by`] and [`refusals_by`] take a
 //! [`Fill`], a way to fill in a string, which by a map is [`Filler`]. [`reader_stop`] returns where a text
 //! that is no JSON goes wrong.
+//!
+//! [`report`] tells people what is wrong with a text for which a call returned an error: all strings that are
+//! refused, with line, column and path, or what the reader says.
 
 pub use subst_json::{
     Error, Fill, Filler, Path, PathStep, RangeFinder, ReaderStop, RefusalAt, RefusedString,
@@ -21,3 +24,4 @@ pub use subst_json::{
     from_str, place_in, place_of, places_in, reader_stop, refusals_by, refusals_in, strings,
     substitute_string_values, value_from_slice, value_from_str,
 };
+pub use subst_report::of_json::report;

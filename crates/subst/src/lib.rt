@@ -19,7 +19,8 @@
 //! error, sources, maps and templates that were borrowed are as before.
 //!
 //! Variables come from a `BTreeMap`, a `HashMap` or an `IndexMap` with keys `String` or `&str`, from pairs by
-//! an [`Env`], from [`NoSubstitution`], which has none, or from any other [`VariableMap`].
+//! an [`Env`], from [`NoSubstitution`], which has none, or from any other [`VariableMap`]. [`Layered`] is two
+//! maps as one, and [`NoEmpty`] a map without its empty values.
 //!
 //! [`json`] and [`toml`] read a tree first and then fill in its strings, so no value can break out of its
 //! string.
@@ -31,7 +32,9 @@
 pub use subst_error as error;
 pub use subst_error::Error;
 pub use subst_language::{Variable, VariableKind};
-pub use subst_map::{Env, NeverValue, NoSubstitution, VariableMap};
+pub use subst_map::{
+    BytesMap, Env, Layered, NeverValue, NoEmpty, NoSubstitution, OneOf, VariableMap,
+};
 pub use subst_raw::counters as steps;
 pub use subst_template::{
     ByteTemplate, ByteTemplateBuf, Template, TemplateBuf, substitute, substitute_bytes,

@@ -13,7 +13,11 @@
 //! [`place_in`] return where they are in the document that was read, and [`places_in`] where many ranges of
 //! one string are. [`fill_in_by`] and [`refusals_by`] take a [`Fill`], a way to fill in a string, which by a
 //! map is [`Filler`].
+//!
+//! [`report`] tells people what is wrong with a document for which a call returned an error: all strings that
+//! are refused, with line, column and path, or what the reader says.
 
+pub use subst_report::of_toml::report;
 pub use subst_toml::{
     Error, Fill, Filler, Path, PathStep, RefusalAt, RefusedString, StringAt, all_refusals, fill_in,
     fill_in_by, fill_in_slice, first_refusal, from_slice, from_str, place_in, place_of, places_in,

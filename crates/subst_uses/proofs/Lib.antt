@@ -1,5 +1,7 @@
+pub mod ConfigLemmas
 pub mod LineLemmas
 pub mod LoaderLemmas
 pub mod NameLemmas
 pub mod ReportLemmas
+pub mod SettingsLemmas
 pub mod WarningLemmas

@@ -1,17 +1,18 @@
-//! Maps of any kind: where a source is refused is known without knowing how values are read.
+//! Maps of any kind: where a source is refused is known without knowing how values are read, and what it gives
+//! of a map of bytes.
 
-ghost use Rattle.std.specs.Prelude.{◌≡◌, ◌≤◌, length, IfErr, IfOk};
+ghost use Rattle.std.specs.Prelude.{◌≡◌, ◌≤◌, length, IfErr, IfOk, IfSome};
 ghost use Rattle.subst.specs.ErrorFault.{error_fault};
 ghost use Rattle.subst.specs.Range.{range_of};
 ghost use Rattle.subst.specs.Language.Answer.{Answers, Refuses};
 ghost use Rattle.subst.specs.Language.Sentence.{IsSentence};
 ghost use Rattle.subst.specs.Calls.VariableMap.{ByNames};
-ghost use Rattle.subst.specs.Calls.Outcome.{OnFault};
+ghost use Rattle.subst.specs.Calls.Outcome.{OnFault, answer_of};
 
 use std::alloc::Global;
 use std::convert::AsSlice;
 use std::ops::Range;
-use subst::{Error, VariableMap, substitute_bytes};
+use subst::{BytesMap, Error, VariableMap, substitute_bytes};
 
 /// Why a source isn't filled in, and where.
 #[derive(Debug, PartialEq, Eq, Drop)]
@@ -47,4 +48,22 @@ where
             Err(Refusal { error, range })
         }
     }
+}
+
+/// Returns a source with its variables filled in from a map of bytes.
+///
+/// # Errors
+///
+/// As `substitute_bytes`.
+pub fn filled_in<'a, M: BytesMap<'a>>(
+    alloc: Global,
+    source: &[u8],
+    variables: &'a M,
+) -> Result<Vec<u8>, Error>
+where
+    M::Value: AsSlice<u8> + Drop,
+    ensures { IfSome (answer_of (λ output. output.items) result)
+        (Answers source.now (M.look_up_bytes variables.now)) }
+{
+    substitute_bytes(alloc, source, variables)
 }

@@ -2,18 +2,20 @@
 //! keys.
 
 ghost use Rattle.std.specs.Prelude.{IfSome};
-ghost use Rattle.std.specs.Option.{option_map};
+ghost use Rattle.std.specs.Option.{option_map, option_or};
+ghost use Rattle.std.specs.BTreeMap.{get_by_text as btree_get_by_text};
 ghost use Rattle.std.specs.HashMap.{get_by_text as hash_get_by_text};
 ghost use Rattle.subst.specs.Language.Answer.{Answers};
-ghost use Rattle.subst.specs.Calls.Maps.{first_value, btree_get_by_lent_text, hash_get_by_lent_text};
+ghost use Rattle.subst.specs.Calls.Maps.{first_value, btree_get_by_lent_text, hash_get_by_lent_text, without_empty};
 ghost use Rattle.subst.specs.Calls.Outcome.{answer_of};
 
+use crate::any_map;
 use indexmap::IndexMap;
 use std::alloc::Global;
 use std::collections::{BTreeMap, HashMap};
 use std::convert::AsSlice;
 use std::hash::BuildHasher;
-use subst::{Env, Error, NoSubstitution, substitute_bytes};
+use subst::{Env, Error, Layered, NoEmpty, NoSubstitution, substitute_bytes};
 
 /// Returns bytes filled in from a `BTreeMap` whose keys are borrowed.
 pub fn btree_map_of_borrowed<V: AsSlice<u8>>(
@@ -92,4 +94,30 @@ pub fn env(alloc: Global, source: &[u8], variables: &Env) -> Result<Vec<u8>, Err
         (Answers source.now (first_value variables.now)) }
 {
     substitute_bytes(alloc, source, variables)
+}
+
+/// Returns bytes filled in from pairs, and from a map for the names that no pair has.
+pub fn layered<V: AsSlice<u8>>(
+    alloc: Global,
+    source: &[u8],
+    pairs: &Env,
+    defaults: &BTreeMap<String, V>,
+) -> Result<Vec<u8>, Error>
+    ensures { IfSome (answer_of (λ output. output.items) result)
+        (Answers source.now (λ name. option_or (first_value pairs.now name)
+        (option_map V.items (btree_get_by_text defaults.now name)))) }
+{
+    let layers = Layered {
+        first: pairs,
+        second: defaults,
+    };
+    any_map::filled_in(alloc, source, &layers)
+}
+
+/// Returns bytes filled in from the pairs of an `Env` whose values aren't empty.
+pub fn no_empty(alloc: Global, source: &[u8], variables: &Env) -> Result<Vec<u8>, Error>
+    ensures { IfSome (answer_of (λ output. output.items) result)
+        (Answers source.now (without_empty (first_value variables.now))) }
+{
+    any_map::filled_in(alloc, source, &NoEmpty { map: variables })
 }

@@ -1,11 +1,11 @@
 //! Texts filled in from each kind of map: what each has under a name.
 
 ghost use Rattle.std.specs.Prelude.{IfSome, string_bytes};
-ghost use Rattle.std.specs.Option.{option_map};
+ghost use Rattle.std.specs.Option.{option_map, option_or};
 ghost use Rattle.std.specs.BTreeMap.{get_by_text as btree_get_by_text};
 ghost use Rattle.std.specs.HashMap.{get_by_text as hash_get_by_text};
 ghost use Rattle.subst.specs.Language.Answer.{Answers};
-ghost use Rattle.subst.specs.Calls.Maps.{first_value, btree_get_by_lent_text, hash_get_by_lent_text};
+ghost use Rattle.subst.specs.Calls.Maps.{first_value, btree_get_by_lent_text, hash_get_by_lent_text, without_empty};
 ghost use Rattle.subst.specs.Calls.Outcome.{answer_of};
 
 use indexmap::IndexMap;
@@ -13,7 +13,7 @@ use std::alloc::Global;
 use std::collections::{BTreeMap, HashMap};
 use std::convert::AsStr;
 use std::hash::BuildHasher;
-use subst::{Env, Error, NoSubstitution, substitute};
+use subst::{Env, Error, Layered, NoEmpty, NoSubstitution, laws, substitute};
 
 /// Returns a text filled in from a `BTreeMap`.
 pub fn btree_map<V: AsStr>(
@@ -104,4 +104,31 @@ pub fn env(alloc: Global, source: &str, variables: &Env) -> Result<String, Error
         (Answers source.now (first_value variables.now)) }
 {
     substitute(alloc, source, variables)
+}
+
+/// Returns a text filled in from pairs, and from a map for the names that no pair has.
+pub fn layered<V: AsStr>(
+    alloc: Global,
+    source: &str,
+    pairs: &Env,
+    defaults: &BTreeMap<String, V>,
+) -> Result<String, Error>
+    ensures { IfSome (answer_of (λ output. string_bytes output) result)
+        (Answers source.now (λ name. option_or (first_value pairs.now name)
+        (option_map V.text (btree_get_by_text defaults.now name)))) }
+{
+    laws::layers_are_look_ups_of_texts::<Env, BTreeMap<String, V>>();
+    let layers = Layered {
+        first: pairs,
+        second: defaults,
+    };
+    substitute(alloc, source, &layers)
+}
+
+/// Returns a text filled in from the pairs of an `Env` whose values aren't empty.
+pub fn no_empty(alloc: Global, source: &str, variables: &Env) -> Result<String, Error>
+    ensures { IfSome (answer_of (λ output. string_bytes output) result)
+        (Answers source.now (without_empty (first_value variables.now))) }
+{
+    substitute(alloc, source, &NoEmpty { map: variables })
 }

@@ -1,14 +1,11 @@
--- A value is read as its bytes, and an error `Subst` states a fault.
-use Rattle.std.proofs.Common.{inr, refl, string_bytes}
-use Rattle.subst.specs.ErrorFault.{error_fault}
-use Rattle.subst_uses.proofs.LoaderLemmas.{of_a_fault}
+-- The report is that of the error that the call returned.
+use Rattle.subst_uses.proofs.ConfigLemmas.{reported}
+use Rattle.subst_uses.specs.Layers.{answers_of}
 use Rattle.subst_uses.proofs.config.load.Goals as goal
 
-pub returns-in-Ok : goal.returns-in-Ok
-returns-in-Ok c = c.in-Ok.ensures.ok (λ v. string_bytes v) (λ v. refl)
-
-pub returns-in_ok-refused-in-Err-Subst : goal.returns-in_ok-refused-in-Err-Subst
-returns-in_ok-refused-in-Err-Subst c =
-    let failed = c.in-Err-Subst in
-    inr (of_a_fault (error_fault failed.e) _ (rw failed.field-0-is at failed.ensures.memory)
-    (rw failed.field-0-is at failed.ensures.subst (λ v. string_bytes v) (λ v. refl)))
+pub returns-in_ok-report-in-Err : goal.returns-in_ok-report-in-Err
+returns-in_ok-report-in-Err c =
+    let failed = c.in-Err in
+    reported (answers_of c.args.environment.now c.args.defaults.now) c.args.file.now c.args.source.now _ _ _
+    failed.e (λ d none. none) failed.ensures.json failed.ensures.subst failed.ensures.memory
+    c.in_ok-report-in-Err.ensures.report

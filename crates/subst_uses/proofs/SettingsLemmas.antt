@@ -1,0 +1,45 @@
+-- Why there is a report in place of settings.
+use Rattle.std.proofs.Common.{◌≡◌, ◌⊎◌, inl, inr, ℕ, List, None, Err, IsUtf8}
+use Rattle.toml.specs.Data.{table, Members}
+use Rattle.toml.specs.Errors.{IsWithin}
+use Rattle.toml.specs.Parse.{parse_document}
+use Rattle.toml.specs.declared.de.error.Error as reading
+use Rattle.subst.specs.ErrorFault.{error_fault}
+use Rattle.subst.specs.Language.Answer.{Answer}
+use Rattle.subst.specs.Language.Several.{GivesBy, RefusesFirst}
+use Rattle.subst.specs.Report.{ReportsAll}
+use Rattle.subst.specs.Toml.{Error}
+use Rattle.subst.specs.Toml.error.{InvalidUtf8, Toml, Subst, OutOfMemory}
+use Rattle.subst.specs.Toml.Errors.{HasOwnMemory}
+use Rattle.subst.specs.Toml.Mapped.{strings, IsEach}
+use Rattle.subst.specs.Toml.Outcome.{ReadsAsTree, IfToml, OnSubst, TellsUtf8}
+use Rattle.subst.specs.Toml.Report.{AreRefused, Reports, ReportsRefused}
+use Rattle.subst_uses.specs.Settings.{AreReported, CanFillIn}
+use Rattle.subst_uses.proofs.LoaderLemmas.{of_a_fault}
+
+module _ (ask : List ℕ → Answer → Type 0) (file s : List ℕ) where
+  -- an error of which a call has stated why: of the reader by P, and of a substitution by its fault
+  pub reported : (text : List ℕ) (P : reading.Error → Type 0) (AreUnread : Type 0) (e : Error)
+      → IsUtf8 s → ((d : reading.Error) → P d → AreUnread) → TellsUtf8 {T = ℕ} s (Err e)
+      → IfToml {T = ℕ} (Err e) P
+      → OnSubst {T = ℕ} (Err e) (λ f. ReadsAsTree s (λ d. RefusesFirst ask (strings d) f))
+      → HasOwnMemory e → Reports ask file s e text → AreReported ask file s AreUnread text
+  reported text P AreUnread (InvalidUtf8 e) is why utf8 toml subst memory told = absurd (utf8.0 is)
+  reported text P AreUnread (Toml e) is why utf8 toml subst memory told = inl (why e toml, (e, told))
+  reported text P AreUnread (Subst e) is why utf8 toml subst memory told = inr (of_a_fault (error_fault e) _
+      (λ fault. ReportsAll (AreRefused ask s) ReportsRefused file s fault text) memory subst told)
+  reported text P AreUnread (OutOfMemory e) is why utf8 toml subst memory told = absurd told
+
+  -- a tree of which a type was read can be filled in
+  pub filled_in : (IsRead : Members → Type 0)
+      → ReadsAsTree s (λ d. (filled : Members) × IsEach (GivesBy ask) d (table filled) × IsRead filled)
+      → CanFillIn ask s
+  filled_in IsRead (ms, parsed, (filled, each, _)) = (ms, parsed, (table filled, each))
+
+  -- the text is no document; or its tree, filled in, is none of a type
+  pub unread : (IsRead : reading.Error → Members → Type 0) (e : reading.Error)
+      → ((parse_document s ≡ None) × IsWithin s e)
+      ⊎ ReadsAsTree s (λ d. (filled : Members) × IsEach (GivesBy ask) d (table filled) × IsRead e filled)
+      → (parse_document s ≡ None) ⊎ CanFillIn ask s
+  unread IsRead e (inl h) = inl h.0
+  unread IsRead e (inr h) = inr (filled_in (IsRead e) h)
