@@ -2,7 +2,7 @@
 use Rattle.std.proofs.Common.{◌≡◌, ℕ, List, [], ◌∷◌, ◌++◌, Option, Some, None, Result, Ok, Err, IfOk, IfSome, inl, inr, refl, sym, ap, ◌∙◌, subst, append_assoc, append-nil}
 use Rattle.std.proofs.lemmas.Result.{IfErr-weaker, IfOk-weaker}
 use Rattle.std.specs.List.{All}
-use Rattle.std.specs.Prelude.{◌⊎◌, true, IfErr, is_ok, IsSomeAnd, MatchOption, MatchResult}
+use Rattle.std.specs.Prelude.{◌⊎◌, true, IfErr, IfNone, is_ok, MatchResult}
 use Rattle.subst.proofs.Calling.{each_weaker, toml_each_weaker, filled_weaker, plain_answer}
 use Rattle.subst.specs.Json.Filled as json_text
 use Rattle.subst.specs.Json.Mapped as json_tree
@@ -12,15 +12,12 @@ use Rattle.subst.specs.Toml.Mapped as toml_tree
 use Rattle.subst.specs.Toml.Outcome as toml
 use Rattle.subst_language.specs.Language.Bytes.{IsPlain}
 use Rattle.subst_cli.proofs.SourceLemmas.{AreDone, given_more, refused_more}
-use Rattle.subst_cli.specs.Faults.{IsFaultIn, IsNoText, StatesFault}
+use Rattle.subst_cli.specs.Faults.{IsNoText}
 use Rattle.subst_cli.specs.Fill.{AreOutputs, GivesFor, IsDocumentOutput, IsOutput}
-use Rattle.subst_cli.specs.Layers.{AreVariablesOf, Entry}
-use Rattle.subst_cli.specs.Run.{IsRefusalOf}
-use Rattle.subst_cli.specs.Strings.{gives_by, IsFilledFrom}
-use Rattle.subst_cli.specs.declared.document.filler.StringFiller.{StringFiller}
+use Rattle.subst_cli.specs.Layers.{Entry}
+use Rattle.subst_cli.specs.Run.{IsFaultIn, IsRefusalOf, StatesFault}
 use Rattle.subst_cli.specs.declared.document.format.Format.TheVariants.{Json, Toml}
 use Rattle.subst_cli.specs.declared.fault.Fault.{Fault}
-use Rattle.subst_cli.specs.declared.layers.Variables.{Variables}
 use Rattle.subst_cli.specs.declared.options.InputFormat.{InputFormat}
 use Rattle.subst_cli.specs.declared.options.InputFormat.TheVariants.{Text, Bytes, Document}
 use Rattle.subst_cli.specs.declared.options.Placeholders.{Placeholders}
@@ -84,22 +81,6 @@ module _ (Becomes Stays : List ℕ → List ℕ → Type 0)
     (found, strings, filled_weaker _ _ Becomes Stays weaker _ source output kept),
   )
 
--- what is said of the strings that a way to fill them in gives, of the variables that it fills in from
-pub filled_from : {R V : Type 0} (own : Option R) (now : R → V) (variables : V) (P : V → Type 0)
-    (Q : Type 0) → IsSomeAnd own (λ it. now it ≡ variables) → MatchOption own Q (λ it. P (now it))
-    → P variables
-filled_from None now variables P Q none gives = absurd none
-filled_from (Some it) now variables P Q same gives = subst P same gives
-
--- what a string gives that is filled in from these variables
-pub string_gives : (filler : StringFiller) (variables : Variables) (entries : List Entry)
-    → IsFilledFrom filler variables → AreVariablesOf variables entries
-    → (s x : List ℕ) → gives_by filler s x → GivesFor filler.placeholders.now entries s x
-string_gives filler variables entries from are s x gives =
-    filled_from filler.variables (λ it. it.now) variables
-    (λ it. (entries : List Entry) → AreVariablesOf it entries → GivesFor filler.placeholders.now entries s x)
-    (x ≡ s) from gives entries are
-
 -- what is said of what the library returns of a text, of what is returned of that
 pub returned : {T U E A : Type 0} (result : Result (Option T) E) (outcome : Result (Result T U) A)
     (P : T → Type 0) → IfOk outcome (λ it. IfOk it (λ it. result ≡ Ok (Some it)))
@@ -126,11 +107,10 @@ of_ok (Err e) P Q R ok said = absurd (cc ok)
 pub plain_given : (entries : List Entry) (s : List ℕ) → All IsPlain s → GivesFor Own entries s s
 plain_given entries s plain = (s, refl, λ look _. plain_answer s look plain)
 
--- what is said of a value, and where there is none
-pub either : {T : Type 0} (it : Option T) (P : Type 0) (Q : T → Type 0) → P → ((x : T) → Q x)
-    → MatchOption it P Q
-either None P Q none some = none
-either (Some x) P Q none some = some x
+-- what holds anyway, where there is no value
+pub if_none : {T : Type 0} (it : Option T) (P : Type 0) → P → IfNone it P
+if_none None P holds = holds
+if_none (Some x) P holds = tt
 
 -- what is said of a text that is given, in a weaker way
 pub weaker_outcome : {T U E : Type 0} (outcome : Result (Result T U) E) (P Q : T → Type 0)

@@ -1,20 +1,15 @@
--- Lemmas on lists that are gone through and added to.
-use Rattle.std.proofs.Common.{◌≡◌, ◌<◌, ◌++◌, ◌∷◌, [], ◌∙◌, List, Option, None, Some, Vec, Contains, ap, append_assoc, arith, length, map, sym, vec_len}
+-- Lemmas on lists that are gone through.
+use Rattle.std.proofs.Common.{◌≡◌, ◌∙◌, List, Option, None, Some, Vec, Contains, arith, length, sym, vec_len}
+use Rattle.std.proofs.lemmas.Iterator.{zips, YieldsList-from_zip}
 use Rattle.std.proofs.lemmas.Iterator.Adapters.{YieldsList-from_vec}
 use Rattle.std.proofs.lemmas.Iterator.Consumers.{YieldsList-end, YieldsList-turn}
-use Rattle.std.proofs.lemmas.List.{get_or-map, length-map, map-id, map_push}
+use Rattle.std.proofs.lemmas.List.{map-id}
 use Rattle.std.specs.Iterator.{Yields}
+use Rattle.std.specs.Iterator.Adapters.{zip_first, zip_second}
+use Rattle.std.specs.List.{zip}
 use Rattle.std.specs.Vec.Iter.{into_iter_items, into_iter_len, into_iter_steps}
+use Rattle.std.specs.declared.iter.Zip.{Zip}
 use Rattle.std.specs.declared.vec.IntoIter.{IntoIter}
-
--- one more is pushed, which gives what one more that it is from gives
-pub map_pushed : {X Y Z : Type 0} (f : X → Z) (g : Y → Z) (first : List Z) (xs more : List X) (x : X)
-    (ys : List Y) (y : Y) → more ≡ xs ++ x ∷ [] → map f xs ≡ first ++ map g ys → f x ≡ g y
-    → map f more ≡ first ++ map g (ys ++ y ∷ [])
-map_pushed f g first xs more x ys y pushed same one =
-    ap (map f) pushed ∙ map_push f xs x ∙ ap (λ zs. zs ++ f x ∷ []) same
-    ∙ append_assoc first (map g ys) (f x ∷ []) ∙ ap (λ z. first ++ (map g ys ++ z ∷ [])) one
-    ∙ ap (λ zs. first ++ zs) (sym (map_push g ys y))
 
 -- the iterator of a list that has given some items
 module _ {X Z : Type 0} (all : Vec X Z) (s t u : IntoIter X Z) (xs : List X) (r : Option X)
@@ -30,9 +25,19 @@ module _ {X Z : Type 0} (all : Vec X Z) (s t u : IntoIter X Z) (xs : List X) (r 
       ∙ (YieldsList-end (YieldsList-from_vec all.items items counted) xs t yields r u none steps).0
 
   -- the next one is in the list
-  pub vec_gives : {Y : Type 0} (f : X → Y) (x : X) → r ≡ Some x → Contains (map f all.items) (f x)
-  vec_gives f x some =
+  pub vec_gives : (x : X) → r ≡ Some x → Contains all.items x
+  vec_gives x some =
       let (below, is) = YieldsList-turn (YieldsList-from_vec all.items items counted) xs t yields r u x some
       steps in
-      let within : length xs < length (map f all.items) = rw length-map below in
-      (length xs, within, get_or-map f all.items (length xs) x (f x) below ∙ ap f (sym is))
+      (length xs, below, sym is)
+
+-- at the end of two lists that are gone through together, what was given are their pairs
+pub zip_yielded : {X Y Z W : Type 0} (xs : Vec X Z) (ys : Vec Y W) (s t u : Zip (IntoIter X Z) (IntoIter Y W))
+    (pairs : List (X × Y)) (r : Option (X × Y)) → into_iter_items (zip_first s) ≡ xs.items
+    → into_iter_len (zip_first s) ≡ vec_len xs → into_iter_items (zip_second s) ≡ ys.items
+    → into_iter_len (zip_second s) ≡ vec_len ys → Yields (zips into_iter_steps into_iter_steps) s pairs t
+    → zips into_iter_steps into_iter_steps t r u → r ≡ None → pairs ≡ zip xs.items ys.items
+zip_yielded xs ys s t u pairs r first first_len second second_len yields steps none =
+    sym (map-id pairs) ∙ (YieldsList-end (YieldsList-from_zip
+    (YieldsList-from_vec xs.items first (first_len ∙ xs.ok.0))
+    (YieldsList-from_vec ys.items second (second_len ∙ ys.ok.0))) pairs t yields r u none steps).0

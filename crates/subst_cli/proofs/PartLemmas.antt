@@ -1,7 +1,7 @@
 -- Lemmas on the faults of a part, and on names whose values can't be read.
 use Rattle.std.proofs.Common.{◌≡◌, ◌≢◌, ◌<◌, ◌==◌, ℕ, Bool, false, true≢false, Option, Some, None, Result, Err, Ok, Vec, Bor, IfErr, IfNone, IfOk, IfSome, OnOk, IsSomeAnd, List, [], ◌∷◌, ◌++◌, length, map, get_or, inl, inr, refl, sym, ap, subst, ◌∙◌, arith, ◌⊎◌, All, Any, Contains, IsPermutation}
 use Rattle.std.proofs.lemmas.List.{get_or-map, length-map}
-use Rattle.std.proofs.lemmas.List.Elements.{All-contains, All-map, Contains-append_left, Contains-get_or, Contains-push}
+use Rattle.std.proofs.lemmas.List.Elements.{All-contains, All-map, Contains-append_left, Contains-append_right, Contains-push}
 use Rattle.std.proofs.lemmas.Simd.{map-map}
 use Rattle.std.specs.Global.{Global}
 use Rattle.std.proofs.lemmas.List.Sorted.{Contains-permutation}
@@ -22,10 +22,9 @@ use Rattle.subst_language.specs.Language.Sentence.{IsSentence}
 use Rattle.subst_language.specs.Language.Variables.{name_of}
 use Rattle.subst_language.specs.declared.variable.Variable.{Variable}
 use Rattle.subst_cli.proofs.FaultLemmas.{any_weaker}
-use Rattle.subst_cli.specs.Faults.{cause_of, moved, IsFaultOf, IsRefusedAt, IsToldOf, IsUnreadableAmong, IsUnreadableIn}
+use Rattle.subst_cli.specs.Faults.{moved, IsFaultOf, IsRefusedAt, IsToldOf, IsUnreadableAmong, IsUnreadableIn}
 use Rattle.subst_cli.specs.Fill.{origin_in, origin_of, Agrees, AreReadable, GivesFor, StandsFor}
 use Rattle.subst_cli.specs.Layers.{has_unreadable, is_unreadable, look_up_in, AreVariablesOf, Entry, IsUnreadable}
-use Rattle.subst_cli.specs.declared.fault.Cause.{Cause}
 use Rattle.subst_cli.specs.declared.fault.Fault.{Fault}
 use Rattle.subst_cli.specs.declared.fill.Refusal.{Refusal}
 use Rattle.subst_cli.specs.declared.layers.Variables.{Variables}
@@ -42,6 +41,11 @@ pub any_of_more : {X : Type 0} (P : X → Type 0) (xs more : List X) → Any P x
 any_of_more P xs more (k, x, below, is, holds) =
     let (j, b, e) = Contains-append_left xs more x (k, below, is) in (j, x, b, e, holds)
 
+-- the same where there are others before
+pub any_of_last : {X : Type 0} (P : X → Type 0) (xs more : List X) → Any P more → Any P (xs ++ more)
+any_of_last P xs more (k, x, below, is, holds) =
+    let (j, b, e) = Contains-append_right xs more x (k, below, is) in (j, x, b, e, holds)
+
 -- what holds of an element that is added holds of one
 pub any_added : {X : Type 0} (P : X → Type 0) (xs : List X) (x : X) → P x → Any P (xs ++ x ∷ [])
 any_added P xs x holds = let (j, b, e) = Contains-push xs x in (j, x, b, e, holds)
@@ -51,17 +55,6 @@ pub any_contained : {X : Type 0} (xs : List X) (count : ℕ) → count ≡ lengt
     → Any (Contains xs) xs
 any_contained [] count is some = absurd (true≢false (sym (ap (λ n. n == 0) is) ∙ some))
 any_contained (x ∷ xs) count is some = (0, x, omega arith, refl, (0, omega arith, refl))
-
--- what holds of a fault's cause holds of one in another list of the same causes
-pub any_cause : (P : Cause → Type 0) (xs ys : List Fault) → map cause_of xs ≡ map cause_of ys
-    → Any (λ it. P it.cause) ys → Any (λ it. P it.cause) xs
-any_cause P xs ys same (k, y, below, is, holds) =
-    let there : k < length xs = omega (arith, simp length-map at (ap length same)) in
-    let cause : cause_of (get_or xs k y) ≡ y.cause =
-    sym (get_or-map cause_of xs k y y.cause there) ∙ ap (λ causes. get_or causes k y.cause) same
-    ∙ get_or-map cause_of ys k y y.cause below ∙ ap cause_of is in
-    let (j, b, e) = Contains-get_or xs k y there in
-    (j, get_or xs k y, b, e, subst P (sym cause) holds)
 
 -- what holds of an element holds of what is made of one
 pub any_made : {X Y : Type 0} (f : X → Y) (P : X → Type 0) (xs : List X) → Any P xs

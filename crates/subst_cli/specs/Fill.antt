@@ -57,10 +57,6 @@ abbrev pub GivesFor : Placeholders → List Entry → List ℕ → List ℕ → 
 GivesFor placeholders entries s output = (template : List ℕ) × StandsFor placeholders s template
     × ((look : LookUp) → Agrees entries look → Answers template look (Gives output))
 
--- the source gives something
-abbrev pub GivesSome : Placeholders → List Entry → List ℕ → Type 0
-GivesSome placeholders entries s = (output : List ℕ) × GivesFor placeholders entries s output
-
 -- each name in the template can be read
 abbrev pub AreReadable : List Entry → List ℕ → Type 0
 AreReadable entries template = (t : Tree) → Spells t template

@@ -1,3 +1,4 @@
+pub mod Documents
 pub mod Faults
 pub mod Fill
 pub mod Layers

@@ -1,13 +1,15 @@
 //! Documents: texts whose strings are filled in where they are.
 
-ghost use Rattle.std.specs.Prelude.{◌≡◌, ◌++◌, ℕ, List, IfErr, IfOk, OnOk, map, string_bytes};
-ghost use Rattle.std.specs.List.{All, Any, Contains};
-ghost use Rattle.subst_cli.specs.Faults.{cause_of, AreFaults, IsCauseOfSome, IsDocumentCause};
-ghost use Rattle.subst_cli.specs.Fill.{GivesFor, GivesSome, IsDocumentOutput};
-ghost use Rattle.subst_cli.specs.Layers.{Entry, AreVariablesOf};
-ghost use Rattle.subst_cli.specs.Strings.{string_of, IsFilledFrom};
+ghost use Rattle.std.specs.Prelude.{◌≡◌, ◌++◌, ℕ, List, IfErr, IfOk, OnOk, string_bytes};
+ghost use Rattle.std.specs.List.{All, Any};
+ghost use Rattle.subst_walk.specs.Edits.{text_at};
+ghost use Rattle.subst_cli.specs.Documents as documents;
+ghost use Rattle.subst_cli.specs.Documents.{format_of, AreTold, IsDocumentFault, IsFaultOfOne};
+ghost use Rattle.subst_cli.specs.Fill.{GivesFor, IsDocumentOutput};
+ghost use Rattle.subst_cli.specs.Layers.{Entry};
+ghost use Rattle.subst_cli.specs.Strings.{AreFaults, FillsFrom, GivesSome};
 ghost use Rattle.subst_cli.specs.declared.fault.Cause.TheVariants as cause;
-ghost use Rattle.subst_cli.specs.declared.layers.Variables.{Variables as SpecVariables};
+ghost use Rattle.subst_cli.specs.declared.fault.Fault.{Fault as SpecFault};
 
 use crate::fault::{Cause, Fault, one_fault};
 use crate::part::{Occurrence, Outcome, uses_in_text};
@@ -32,16 +34,13 @@ pub(crate) fn fill(
     text: &str,
     filler: &StringFiller<'_>,
 ) -> Result<Outcome<String>, AllocError>
-    ensures gives { (variables : SpecVariables) → (entries : List Entry)
-        → IsFilledFrom filler.now variables → AreVariablesOf variables entries
+    ensures gives { (entries : List Entry) → FillsFrom filler.now entries
         → IfOk result (λ outcome. IfOk outcome (λ output.
         IsDocumentOutput format (GivesFor filler.now.placeholders.now entries) text.now
         (string_bytes output))) }
-    ensures refused { (variables : SpecVariables) → (entries : List Entry)
-        → IsFilledFrom filler.now variables → AreVariablesOf variables entries
+    ensures refused { (entries : List Entry) → FillsFrom filler.now entries
         → IfOk result (λ outcome. IfErr outcome (λ faults. Any
-        (λ it. IsDocumentCause format filler.now.placeholders.now entries text.now
-        it.cause) faults.items)) }
+        (IsDocumentFault format filler.now.placeholders.now entries text.now) faults.items)) }
 {
     match format.fill_in(alloc, text, filler)? {
         Ok(output) => Ok(Ok(output)),
@@ -86,15 +85,17 @@ fn add_uses(
     uses: Vec<Occurrence>,
     all: &mut Vec<Occurrence>,
 ) -> Result<(), AllocError> {
-    let Range { start, end } = span;
     let ranges: Vec<_> = uses
         .iter()
         .map(|it| it.range.start..it.range.end)
         .collect(alloc)?;
-    let mut places = finder.places(alloc, text, start..end, &ranges)?.into_iter();
-    for mut it in uses {
-        it.range = places.next().unwrap_or(start..end);
-        all.push(it)?;
+    let places = finder.places(alloc, text, span, &ranges)?;
+    for (it, range) in uses.into_iter().zip(places) {
+        all.push(Occurrence {
+            name: it.name,
+            range,
+            kind: it.kind,
+        })?;
     }
     Ok(())
 }
@@ -106,11 +107,9 @@ fn faults_in(
     text: &str,
     filler: &StringFiller<'_>,
 ) -> Result<Vec<Fault>, AllocError>
-    ensures { (variables : SpecVariables) → (entries : List Entry)
-        → IsFilledFrom filler.now variables → AreVariablesOf variables entries
+    ensures { (entries : List Entry) → FillsFrom filler.now entries
         → IfOk result (λ faults. Any
-        (λ it. IsDocumentCause format filler.now.placeholders.now entries text.now
-        it.cause) faults.items) }
+        (IsDocumentFault format filler.now.placeholders.now entries text.now) faults.items) }
 {
     let strings = match format.refused(alloc, text, filler)? {
         Ok(strings) => strings,
@@ -140,12 +139,10 @@ fn faults_of(
     filler: &StringFiller<'_>,
     strings: Vec<RefusedAt>,
 ) -> Result<Vec<Fault>, AllocError>
-    ensures { (variables : SpecVariables) → (entries : List Entry)
-        → IsFilledFrom filler.now variables → AreVariablesOf variables entries
-        → IfOk result (λ faults. AreFaults
-        (All (GivesSome filler.now.placeholders.now entries) (map string_of strings.items))
-        (λ it. IsCauseOfSome (Contains (map string_of strings.items)) filler.now.placeholders.now
-        entries it.cause) faults.items) }
+    ensures { IfOk result (λ faults. AreFaults filler.now
+        (All (λ one. GivesSome filler.now (text_at one.1)) strings.items)
+        (λ entries. IsFaultOfOne format filler.now.placeholders.now entries text.now strings.items)
+        faults.items) }
 {
     let mut finder = Finder::new(alloc, format);
     let mut all = Vec::new(alloc);
@@ -166,21 +163,29 @@ fn add_faults(
     faults: Vec<Fault>,
     all: &mut Vec<Fault>,
 ) -> Result<(), AllocError>
-    ensures { OnOk result (map cause_of all.new.items
-        ≡ map cause_of all.old.items ++ map cause_of faults.items) }
+    ensures told { OnOk result ((told : List SpecFault)
+        × (all.new.items ≡ all.old.items ++ told)
+        × AreTold (format_of finder.old) text.now path.now span faults.items told) }
+    ensures format { OnOk result (format_of finder.new ≡ format_of finder.old) }
 {
-    let Range { start, end } = span;
-    let ranges: Vec<_> = faults
-        .iter()
-        .map(|it| it.range.start..it.range.end)
-        .collect(alloc)?;
-    let mut places = finder.places(alloc, text, start..end, &ranges)?.into_iter();
-    for Fault { cause, .. } in faults {
+    let ranges = ranges_of(alloc, &faults)?;
+    let places = finder.places(alloc, text, span, &ranges)?;
+    for (fault, range) in faults.into_iter().zip(places) {
         all.push(Fault {
             path: String::from_str(alloc, path)?,
-            range: places.next().unwrap_or(start..end),
-            cause,
+            range,
+            cause: fault.cause,
         })?;
     }
     Ok(())
+}
+
+/// Returns the ranges of faults.
+fn ranges_of(alloc: Global, faults: &[Fault]) -> Result<Vec<Range<usize>>, AllocError>
+    ensures { IfOk result (λ ranges. ranges.items ≡ documents.ranges_of faults.now) }
+{
+    faults
+        .iter()
+        .map(|it| it.range.start..it.range.end)
+        .collect(alloc)
 }

@@ -2,11 +2,10 @@
 
 ghost use Rattle.std.specs.Prelude.{◌≡◌, ◌++◌, ◌∷◌, [], ◌⊎◌, ℕ, List, IfErr, IfOk, IsTrue, OnOk, map, string_bytes, vec_items};
 ghost use Rattle.std.specs.List.{All, Any};
-ghost use Rattle.subst_cli.specs.Faults.{IsFaultIn, StatesFault};
 ghost use Rattle.subst_cli.specs.Fill.{AreOutputs, IsFilled, IsOutput};
 ghost use Rattle.subst_cli.specs.Layers.{Entry as SpecEntry, AreVariablesOf, entries_of};
-ghost use Rattle.subst_cli.specs.Strings.{IsFilledFrom};
-ghost use Rattle.subst_cli.specs.Run.{bytes_of, entries_for, IsRefusalOf};
+ghost use Rattle.subst_cli.specs.Run.{bytes_of, entries_for, IsFaultIn, IsRefusalOf, StatesFault};
+ghost use Rattle.subst_cli.specs.Strings.{FillsFrom};
 ghost use Rattle.subst_cli.specs.declared.source.Refused.{Refused as SpecRefused};
 
 use crate::document::StringFiller;
@@ -150,7 +149,7 @@ impl<'r, 'w, 'v> Filling<'r, 'w, 'v> {
 
     /// Returns whether a source is seen to give itself.
     pub fn is_its_own_output(&self, source: &[u8]) -> bool
-        ensures { IsTrue result → (entries : List SpecEntry)
+        ensures itself { IsTrue result → (entries : List SpecEntry)
             → IsOutput self.now.form self.now.placeholders.now entries source.now source.now }
     {
         match (self.form, self.placeholders) {
@@ -208,7 +207,8 @@ impl<'r, 'w, 'v> Filling<'r, 'w, 'v> {
     /// Returns how strings of documents are filled in.
     fn filler(&self) -> StringFiller<'_>
         ensures placeholders { result.placeholders.now ≡ self.now.placeholders.now }
-        ensures variables { IsFilledFrom result self.now.variables }
+        ensures variables { (entries : List SpecEntry) → AreVariablesOf self.now.variables entries
+            → FillsFrom result entries }
     {
         StringFiller {
             placeholders: self.placeholders,

@@ -29,7 +29,8 @@ impl<'v> Variables<'v> {
     ///
     /// When allocation fails.
     pub fn of(alloc: Global, entries: &'v [Entry]) -> Result<Variables<'v>, AllocError>
-        ensures { IfOk result (λ variables. AreVariablesOf variables (entries_of entries.now)) }
+        ensures variables { IfOk result
+            (λ variables. AreVariablesOf variables (entries_of entries.now)) }
     {
         let mut values = HashMap::new(alloc);
         values.reserve(entries.len())?;
@@ -65,14 +66,14 @@ impl<'v> Variables<'v> {
 
     /// Returns whether all that is given is text.
     pub fn are_readable(&self) -> bool
-        ensures { IsTrue result → (name : List ℕ) → has_unreadable self.now name ≡ false }
+        ensures readable { IsTrue result → (name : List ℕ) → has_unreadable self.now name ≡ false }
     {
         self.unreadable.is_empty()
     }
 
     /// Returns whether what is given to this name isn't text.
     pub fn is_unreadable(&self, name: &str) -> bool
-        ensures { result ≡ has_unreadable self.now name.now }
+        ensures unreadable { result ≡ has_unreadable self.now name.now }
     {
         has(&self.unreadable, name)
     }

@@ -92,7 +92,7 @@ impl<'w> Options<'w> {
     ///
     /// That of `clap` where the words are wrong, or ask for the help or the version.
     pub fn of_words(alloc: Global, words: &'w [String]) -> Result<Options<'w>, Error>
-        ensures { IfOk result (λ options. 0 < length options.files.items) }
+        ensures files { IfOk result (λ options. 0 < length options.files.items) }
     {
         let matches = command(alloc)?.try_get_matches_from(words)?;
         let files = list(alloc, &matches, "files")?;

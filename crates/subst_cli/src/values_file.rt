@@ -2,11 +2,10 @@
 
 ghost use Rattle.std.specs.Prelude.{◌≡◌, ◌<◌, [], IfErr, IfOk, List, MatchResult, None, Option, Some, if◌then◌else◌, length, map};
 ghost use Rattle.std.specs.List.{after_first, before_first, All, Any};
-ghost use Rattle.subst_cli.specs.Faults.{IsFaultOfFile};
 ghost use Rattle.subst_cli.specs.Layers.{Entry as SpecEntry, entries_of};
 ghost use Rattle.subst_cli.specs.ValuesFile as file;
 ghost use Rattle.subst_cli.specs.ValuesFile.{before, is_line_feed, said, values_of, values_of_files, with_line};
-ghost use Rattle.subst_cli.specs.Run.{bytes_of, IsRefusedFile};
+ghost use Rattle.subst_cli.specs.Run.{bytes_of, IsFaultOfFile, IsRefusedFile};
 
 use crate::entry::{Entry, entry_in, split_once};
 use crate::fault::{Cause, one_fault};

@@ -1,14 +1,10 @@
 //! How the strings of a document are filled in.
 
-ghost use Rattle.std.specs.Prelude.{IfOk, IfSome, IsUtf8, List, ℕ};
+ghost use Rattle.std.specs.Prelude.{◌≡◌, IfOk, Some};
 ghost use Rattle.subst.specs.ErrorFault.{error_fault};
-ghost use Rattle.subst.specs.Json.Texts.{HasRange};
-ghost use Rattle.subst.specs.Range.{range_of, IsRangeIn};
-ghost use Rattle.subst_cli.specs.Faults.{AreFaults, IsFaultOf};
-ghost use Rattle.subst_cli.specs.Fill.{GivesSome};
-ghost use Rattle.subst_cli.specs.Layers.{Entry, AreVariablesOf};
-ghost use Rattle.subst_cli.specs.Strings.{IsFilledFrom};
-ghost use Rattle.subst_cli.specs.declared.layers.Variables.{Variables as SpecVariables};
+ghost use Rattle.subst.specs.Fault as faults;
+ghost use Rattle.subst_cli.specs.Faults.{IsFaultOf};
+ghost use Rattle.subst_cli.specs.Strings.{AreFaults, GivesSome};
 
 use crate::fault::Fault;
 use crate::layers::Variables;
@@ -36,11 +32,8 @@ impl StringFiller<'_> {
     ///
     /// When allocation fails.
     pub fn faults(&self, alloc: Global, text: &str) -> Result<Vec<Fault>, AllocError>
-        ensures { (variables : SpecVariables) → (entries : List Entry)
-            → IsFilledFrom self.now variables → AreVariablesOf variables entries
-            → IfOk result (λ faults. AreFaults
-            (GivesSome self.now.placeholders.now entries text.now)
-            (IsFaultOf self.now.placeholders.now entries text.now) faults.items) }
+        ensures { IfOk result (λ faults. AreFaults self.now (GivesSome self.now text.now)
+            (λ entries. IsFaultOf self.now.placeholders.now entries text.now) faults.items) }
     {
         let faults = match self.variables {
             Some(variables) => fill_text(alloc, text, self.placeholders, variables)?.err(),
@@ -52,8 +45,7 @@ impl StringFiller<'_> {
 
 /// Returns an error that says nothing but that a string is refused: [`StringFiller::faults`] says why.
 fn refused() -> Error
-    ensures range { IfSome (error_fault result) HasRange }
-    ensures at_start { (s : List ℕ) → IsUtf8 s → IsRangeIn s (range_of (error_fault result)) }
+    ensures { error_fault result ≡ Some (faults.MissingVariableName 0 0) }
 {
     Error::MissingVariableName(MissingVariableName {
         position: 0,
@@ -62,14 +54,9 @@ fn refused() -> Error
 }
 
 impl Fill for StringFiller<'_> {
-    ghost use Rattle.subst_cli.specs.Strings.{gives_by};
+    ghost use Rattle.subst_cli.specs.Strings.{AnswersBy};
 
-    // Why a string is refused isn't said.
-    ghost is_look_up = { λ filler look. ⊥ };
-
-    ghost gives = { gives_by };
-
-    ghost answers = { λ filler x y gives look never. absurd never };
+    ghost answers = { AnswersBy };
 
     fn gives_itself(&self, text: &str) -> bool {
         match self.placeholders {
@@ -78,6 +65,8 @@ impl Fill for StringFiller<'_> {
         }
     }
 
+    // A walk calls it at each level, so its frame is kept out of the walk's.
+    #[inline(never)]
     fn fill(&self, alloc: Global, source: String) -> Result<String, Error> {
         let Some(variables) = self.variables else {
             return Ok(source);

@@ -1,14 +1,17 @@
 //! The formats of documents.
 
-ghost use Rattle.std.specs.Prelude.{◌≡◌, ℕ, List, Err, Ok, Some, IfErr, IfOk, IsOkAnd, map, string_bytes};
-ghost use Rattle.std.specs.List.{All};
+ghost use Rattle.std.specs.Prelude.{◌≡◌, ◌∷◌, ◌⊎◌, [], List, Err, Ok, Some, IfErr, IfOk, IfSome, IsOkAnd, OnOk, map, string_bytes};
+ghost use Rattle.std.specs.List.{All, AllZip};
+ghost use Rattle.subst.specs.Errors.{Error as SubstError};
 ghost use Rattle.subst.specs.Json.Outcome.{OnJson};
+ghost use Rattle.subst.specs.Json.error as json_errors;
 ghost use Rattle.subst.specs.Toml.Outcome.{OnToml};
-ghost use Rattle.subst_cli.specs.Faults.{IsNoDocument, IsUnread, StandsIn};
+ghost use Rattle.subst.specs.Toml.error as toml_errors;
+ghost use Rattle.subst_cli.specs.Documents.{format_of, AreFound, ArePlaces, IsKept, IsNoDocument, IsUnfilled, RefusesString, StandsIn};
 ghost use Rattle.subst_cli.specs.Fill.{GivesFor, IsDocumentOutput};
-ghost use Rattle.subst_cli.specs.Layers.{Entry, AreVariablesOf};
-ghost use Rattle.subst_cli.specs.Strings.{string_of, IsFilledFrom};
-ghost use Rattle.subst_cli.specs.declared.layers.Variables.{Variables as SpecVariables};
+ghost use Rattle.subst_cli.specs.Layers.{Entry};
+ghost use Rattle.subst_cli.specs.Strings.{FillsFrom};
+ghost use Rattle.subst_cli.specs.declared.document.format.Format.TheVariants as formats;
 
 use super::filler::StringFiller;
 use crate::fault::Cause;
@@ -22,7 +25,9 @@ use subst_walk::{RefusalAt, StringAt};
 /// A format of documents.
 #[derive(Clone, Copy, PartialEq, Eq)]
 pub enum Format {
+    /// JSON, as `serde_json` reads it.
     Json,
+    /// TOML.
     Toml,
 }
 
@@ -35,6 +40,9 @@ pub(crate) enum Unfilled {
     Refused,
 }
 
+/// What is read of a document, or why it isn't filled in.
+type Read<T> = Result<Result<T, Unfilled>, AllocError>;
+
 /// A string of a document that is refused, with the path that leads to it.
 pub(crate) type RefusedAt = (String, StringAt);
 
@@ -45,13 +53,12 @@ impl Format {
         alloc: Global,
         text: &str,
         filler: &StringFiller<'_>,
-    ) -> Result<Result<String, Unfilled>, AllocError>
-        ensures given { (variables : SpecVariables) → (entries : List Entry)
-            → IsFilledFrom filler.now variables → AreVariablesOf variables entries
+    ) -> Read<String>
+        ensures given { (entries : List Entry) → FillsFrom filler.now entries
             → IfOk result (λ filled. IfOk filled (λ output. IsDocumentOutput self
             (GivesFor filler.now.placeholders.now entries) text.now (string_bytes output))) }
-        ensures unread { IfOk result
-            (λ filled. IfErr filled (IsUnread (IsNoDocument self text.now))) }
+        ensures unfilled { IfOk result (λ filled. IfErr filled (IsUnfilled
+            (IsNoDocument self text.now) (RefusesString self filler.now text.now))) }
     {
         match self {
             Format::Json => of_json(alloc, text, json::fill_in_by(alloc, text, filler)),
@@ -66,11 +73,11 @@ impl Format {
         alloc: Global,
         text: &str,
         filler: &StringFiller<'_>,
-    ) -> Result<Result<Vec<RefusedAt>, Unfilled>, AllocError>
-        ensures stand { IfOk result (λ refused. IfOk refused
-            (λ refused. All (StandsIn self text.now) (map string_of refused.items))) }
-        ensures unread { IfOk result
-            (λ refused. IfErr refused (IsUnread (IsNoDocument self text.now))) }
+    ) -> Read<Vec<RefusedAt>>
+        ensures stand { IfOk result (λ refused. IfOk refused (λ refused.
+            All (λ it. StandsIn self text.now (string_bytes it.0) it.1) refused.items)) }
+        ensures unfilled { IfOk result
+            (λ refused. IfErr refused (IsUnfilled (IsNoDocument self text.now) ⊥)) }
     {
         match self {
             Format::Json => {
@@ -85,11 +92,7 @@ impl Format {
     }
 
     /// Returns the strings, in the order of the text.
-    pub(crate) fn strings(
-        self,
-        alloc: Global,
-        text: &str,
-    ) -> Result<Result<Vec<StringAt>, Unfilled>, AllocError> {
+    pub(crate) fn strings(self, alloc: Global, text: &str) -> Read<Vec<StringAt>> {
         match self {
             Format::Json => of_json(alloc, text, json::strings(alloc, text)),
             Format::Toml => of_toml(alloc, toml::strings(alloc, text)),
@@ -98,14 +101,10 @@ impl Format {
 }
 
 /// Returns what the library returns of a JSON text, or why it returns nothing.
-fn of_json<T: Drop>(
-    alloc: Global,
-    text: &str,
-    returned: Result<Option<T>, json::Error>,
-) -> Result<Result<T, Unfilled>, AllocError>
+fn of_json<T: Drop>(alloc: Global, text: &str, returned: Result<Option<T>, json::Error>) -> Read<T>
     ensures it { IfOk result (λ outcome. IfOk outcome (λ it. returned ≡ Ok (Some it))) }
-    ensures unread { IfOk result
-        (λ outcome. IfErr outcome (IsUnread (¬ (OnJson returned ⊥)))) }
+    ensures unfilled { IfOk result (λ outcome. IfErr outcome (IsUnfilled (¬ (OnJson returned ⊥))
+        ((e : SubstError) × (returned ≡ Err (json_errors.Subst e))))) }
 {
     match returned {
         Ok(Some(it)) => Ok(Ok(it)),
@@ -121,13 +120,10 @@ fn of_json<T: Drop>(
 }
 
 /// Returns what the library returns of a TOML text, or why it returns nothing.
-fn of_toml<T: Drop>(
-    alloc: Global,
-    returned: Result<Option<T>, toml::Error>,
-) -> Result<Result<T, Unfilled>, AllocError>
+fn of_toml<T: Drop>(alloc: Global, returned: Result<Option<T>, toml::Error>) -> Read<T>
     ensures it { IfOk result (λ outcome. IfOk outcome (λ it. returned ≡ Ok (Some it))) }
-    ensures unread { IfOk result
-        (λ outcome. IfErr outcome (IsUnread (¬ (OnToml returned ⊥)))) }
+    ensures unfilled { IfOk result (λ outcome. IfErr outcome (IsUnfilled (¬ (OnToml returned ⊥))
+        ((e : SubstError) × (returned ≡ Err (toml_errors.Subst e))))) }
 {
     match returned {
         Ok(Some(it)) => Ok(Ok(it)),
@@ -147,9 +143,9 @@ fn of_toml<T: Drop>(
 fn with_paths<P: fmt::Display + Drop>(
     alloc: Global,
     found: Result<Vec<RefusalAt<P>>, Unfilled>,
-) -> Result<Result<Vec<RefusedAt>, Unfilled>, AllocError>
+) -> Read<Vec<RefusedAt>>
     ensures strings { IfOk result (λ outcome. IfOk outcome (λ strings. IsOkAnd found
-        (λ found. map string_of strings.items ≡ map (λ it. string_bytes it.text) found.items))) }
+        (λ found. AllZip (IsKept P.output) found.items strings.items))) }
     ensures unfilled { IfOk result (λ outcome. IfErr outcome (λ why. found ≡ Err why)) }
 {
     let found = match found {
@@ -163,7 +159,7 @@ fn with_paths<P: fmt::Display + Drop>(
         span,
         ..
     } in found {
-        strings.push((format!(in alloc; "{path}")?, StringAt { text, span }))?;
+        strings.push((path.to_string(alloc)?, StringAt { text, span }))?;
     }
     Ok(Ok(strings))
 }
@@ -177,15 +173,17 @@ pub(crate) enum Finder {
 
 impl Finder {
     /// Returns one for documents of a format.
-    pub fn new(alloc: Global, format: Format) -> Self {
+    pub fn new(alloc: Global, format: Format) -> Self
+        ensures { format_of result ≡ format }
+    {
         match format {
             Format::Json => Finder::Json(RangeFinder::new(alloc)),
             Format::Toml => Finder::Toml,
         }
     }
 
-    /// Returns where these ranges of a string, which go up, are in the text, or nothing where they aren't
-    /// found.
+    /// Returns where these ranges of a string, which go up, are in the text. Where they aren't found, each is
+    /// at the string's token.
     ///
     /// # Errors
     ///
@@ -194,14 +192,22 @@ impl Finder {
         &mut self,
         alloc: Global,
         text: &str,
-        span: Range<usize>,
+        token: Range<usize>,
         ranges: &[Range<usize>],
-    ) -> Result<Vec<Range<usize>>, AllocError> {
+    ) -> Result<Vec<Range<usize>>, AllocError>
+        ensures places { IfOk result
+            (λ places. ArePlaces (format_of self.old) text.now token ranges.now places.items) }
+        ensures format { OnOk result (format_of self.new ≡ format_of self.old) }
+    {
+        let Range { start, end } = token;
         let found = match self {
-            Finder::Json(finder) => finder.find(alloc, text, span, ranges)?,
-            Finder::Toml => places_in_toml(alloc, text, span, ranges)?,
+            Finder::Json(finder) => finder.find(alloc, text, start..end, ranges)?,
+            Finder::Toml => places_in_toml(alloc, text, start..end, ranges)?,
         };
-        Ok(found.unwrap_or(Vec::new(alloc)))
+        match found {
+            Some(places) => Ok(places),
+            None => ranges.iter().map(|_| start..end).collect(alloc),
+        }
     }
 }
 
@@ -210,13 +216,16 @@ impl Finder {
 fn places_in_toml(
     alloc: Global,
     text: &str,
-    span: Range<usize>,
+    token: Range<usize>,
     ranges: &[Range<usize>],
-) -> Result<Option<Vec<Range<usize>>>, AllocError> {
+) -> Result<Option<Vec<Range<usize>>>, AllocError>
+    ensures { IfOk result (λ found. IfSome found
+        (λ places. AreFound formats.Toml text.now token ranges.now places.items)) }
+{
     let [Range { start, end }] = ranges else {
-        return toml::places_in(alloc, text, span, ranges);
+        return toml::places_in(alloc, text, token, ranges);
     };
-    let Some(place) = toml::place_in(alloc, text, span, *start..*end)? else {
+    let Some(place) = toml::place_in(alloc, text, token, *start..*end)? else {
         return Ok(None);
     };
     let mut places = Vec::new(alloc);

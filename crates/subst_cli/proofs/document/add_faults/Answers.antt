@@ -1,22 +1,44 @@
--- The cause of each fault is pushed.
-use Rattle.std.proofs.Common.{◌++◌, ap, append-nil, map, refl, sym, ◌∙◌}
-use Rattle.subst_cli.specs.Faults.{cause_of}
-use Rattle.subst_cli.proofs.ListLemmas.{map_pushed, vec_yielded}
+-- Each fault is pushed with its place.
+use Rattle.std.proofs.Common.{◌++◌, ◌∷◌, [], ◌∙◌, ap, append_assoc, refl, subst}
+use Rattle.std.proofs.lemmas.Slice.Zip.{all_zipped_more}
+use Rattle.std.specs.List.{AllZip}
+use Rattle.subst_cli.specs.Documents.{IsTold}
+use Rattle.subst_cli.specs.declared.fault.Fault.{Fault}
+use Rattle.subst_cli.proofs.ListLemmas.{zip_yielded}
 use Rattle.subst_cli.proofs.document.add_faults.Goals as goal
 
-pub loop-cause-init : goal.loop-cause-init
-loop-cause-init c = sym (append-nil (map cause_of c.args.all.now.items))
+pub loop-fault-preserved : goal.loop-fault-preserved
+loop-fault-preserved c =
+    let l = c.loop-fault in
+    let (told, added, are) = l.invariant in
+    let it : Fault = record {
+      path = c.in_ok-from_str.field-0;
+      range = c.in-Some.range;
+      cause = c.in-Some.fault.cause;
+    } in (
+      told ++ it ∷ [],
+      c.in_ok-push.ensures.items ∙ ap (λ faults. faults ++ it ∷ []) added
+          ∙ append_assoc c.args.all.now.items told (it ∷ []),
+      all_zipped_more (IsTold c.args.path.now) l.yielded told (c.in-Some.fault, c.in-Some.range) it are
+          (c.in_ok-from_str.ensures.ok, refl, refl),
+    )
 
-pub loop-cause-preserved : goal.loop-cause-preserved
-loop-cause-preserved c =
-    let l = c.loop-cause in
-    map_pushed cause_of cause_of (map cause_of c.args.all.now.items) l.all.items c.push.new.self.items _
-    l.yielded c.in-Some.field-0 c.in_ok-push.ensures.items l.invariant refl
-
-pub returns : goal.returns
-returns c =
-    let l = c.loop-cause in
-    let gives = c.into_iter-cause-iterator.ensures.into_iter_gives in
-    l.invariant ∙ ap (λ faults. map cause_of c.args.all.now.items ++ map cause_of faults)
-    (vec_yielded c.args.faults c.into_iter-cause-iterator.result l.cause-iterator c.next.new.self l.yielded
-    c.next.result gives.0 gives.1 l.yielded_by c.next.ensures.steps c.in-None.is)
+pub returns-clause-told : goal.returns-clause-told
+returns-clause-told c =
+    let l = c.loop-fault in
+    let (told, added, are) = l.invariant in
+    let places = c.in_ok-places.places in
+    let second = c.zip-fault-items.ensures.second in
+    let all = zip_yielded c.args.faults places c.into_iter-fault-iterator.result l.fault-iterator
+    c.next.new.self l.yielded c.next.result (cc c.into_iter-fault-iterator.ensures.into_iter_gives)
+    (cc c.into_iter-fault-iterator.ensures.into_iter_gives) (cc second.0) (cc second.1) l.yielded_by
+    c.next.ensures.steps c.in-None.is in (
+      told,
+      added,
+      (
+        places.items,
+        rw (c.deref-2.ensures.value, c.in_ok-ranges.ensures, c.deref.ensures.value) at
+            c.in_ok-places.ensures.places,
+        subst (λ pairs. AllZip (IsTold c.args.path.now) pairs told) all are,
+      ),
+    )

@@ -1,30 +1,29 @@
 -- The fault is that the text is no document or isn't confirmed, or is of a string that stands in it.
-use Rattle.std.proofs.Common.{◌≡◌, [], map, rules}
-use Rattle.subst_cli.specs.Strings.{string_of}
+use Rattle.std.proofs.Common.{◌≡◌, [], inl, inr, rules}
 use Rattle.subst_cli.proofs.DocumentLemmas.{standing, unconfirmed, unread_one}
 use Rattle.subst_cli.proofs.document.faults_in.Goals as goal
 
 pub returns-in-Err-Unread : goal.returns-in-Err-Unread
-returns-in-Err-Unread c = λ variables entries from are.
+returns-in-Err-Unread c = λ entries from.
     let arm = c.in-Err-Unread in
     unread_one c.args.format c.args.filler.now.placeholders.now entries
     c.args.text.now arm.cause arm.range c.one_fault.result
-    (rw arm.field-0-is at (rw arm.is at c.in_ok-strings.ensures.unread))
+    (rw arm.field-0-is at (rw arm.is at c.in_ok-strings.ensures.unfilled))
     (rw arm.field-0-is at c.one_fault.ensures)
 
 pub returns-in-Err-Refused : goal.returns-in-Err-Refused
-returns-in-Err-Refused c = λ variables entries from are.
+returns-in-Err-Refused c = λ entries from.
     unconfirmed c.args.format c.args.filler.now.placeholders.now entries
     c.args.text.now c.not_confirmed.result c.not_confirmed.ensures
 
 pub returns-then-is_empty : goal.returns-then-is_empty
-returns-then-is_empty c = λ variables entries from are.
+returns-then-is_empty c = λ entries from.
     unconfirmed c.args.format c.args.filler.now.placeholders.now entries
     c.args.text.now c.not_confirmed-then-is_empty.result c.not_confirmed-then-is_empty.ensures
 
 pub returns-else-is_empty : goal.returns-else-is_empty
-returns-else-is_empty c = λ variables entries from are.
+returns-else-is_empty c = λ entries from.
     let some : ¬ (c.in_ok-faults.faults.items ≡ []) = search rules in
-    standing c.args.format c.args.filler.now.placeholders.now entries
-    c.args.text.now _ (map string_of c.in-Ok.strings.items) c.in_ok-faults.faults.items
-    (rw c.in-Ok.is at c.in_ok-strings.ensures.stand) some (c.in_ok-faults.ensures variables entries from are)
+    standing c.args.format c.args.filler.now.placeholders.now entries c.args.text.now c.in-Ok.strings.items
+    c.in_ok-faults.faults.items (rw c.in-Ok.is at c.in_ok-strings.ensures.stand)
+    (elim c.in_ok-faults.ensures [ inl (none, _) ↦ absurd (some none) | inr one ↦ one entries from ])

@@ -3,18 +3,17 @@ use Rattle.subst_cli.proofs.DocumentLemmas.{unread_one}
 use Rattle.subst_cli.proofs.document.fill.Goals as goal
 
 pub returns-in-Ok-clause-gives : goal.returns-in-Ok-clause-gives
-returns-in-Ok-clause-gives c = λ variables entries from are.
-    rw c.in-Ok.is at (c.in_ok-output.ensures.given variables entries from are)
+returns-in-Ok-clause-gives c = λ entries from. rw c.in-Ok.is at (c.in_ok-output.ensures.given entries from)
 
 pub returns-in_ok-one_fault-in-Err-Unread-clause-refused :
     goal.returns-in_ok-one_fault-in-Err-Unread-clause-refused
-returns-in_ok-one_fault-in-Err-Unread-clause-refused c = λ variables entries from are.
+returns-in_ok-one_fault-in-Err-Unread-clause-refused c = λ entries from.
     let arm = c.in-Err-Unread in
     rw c.in_ok-one_fault-in-Err-Unread.was at (unread_one c.args.format c.args.filler.now.placeholders.now
     entries c.args.text.now arm.cause arm.range c.one_fault.result
-    (rw arm.field-0-is at (rw arm.is at c.in_ok-output.ensures.unread)) c.one_fault.ensures)
+    (rw arm.field-0-is at (rw arm.is at c.in_ok-output.ensures.unfilled)) c.one_fault.ensures)
 
 pub returns-in_ok-faults_in-in-Err-Refused-clause-refused :
     goal.returns-in_ok-faults_in-in-Err-Refused-clause-refused
-returns-in_ok-faults_in-in-Err-Refused-clause-refused c = λ variables entries from are.
-    c.in_ok-faults_in-in-Err-Refused.ensures variables entries from are
+returns-in_ok-faults_in-in-Err-Refused-clause-refused c = λ entries from.
+    c.in_ok-faults_in-in-Err-Refused.ensures entries from

@@ -12,16 +12,14 @@ variables_of variables kept read entries all are same ordered is =
     subst (λ it. AreVariablesOf it all) (sym is)
     (subst (AreVariablesOf variables) (ap entries_of same ∙ ordered) are)
 
-pub returns-clause-gives : goal.returns-clause-gives
-returns-clause-gives c =
-    rw (c.of-filling.ensures.form, c.of-filling.ensures.placeholders) at
-    (c.fill_all.ensures.gives _ (variables_of c.in_ok-variables.variables c.of-filling.result.variables
-    c.deref.result.now c.in_ok-entries.entries.items _ c.in_ok-variables.ensures c.deref.ensures.value
-    c.in_ok-entries.ensures c.of-filling.ensures.variables))
-
-pub returns-clause-refused : goal.returns-clause-refused
-returns-clause-refused c =
-    rw (c.of-filling.ensures.form, c.of-filling.ensures.placeholders) at
-    (c.fill_all.ensures.refused _ (variables_of c.in_ok-variables.variables c.of-filling.result.variables
-    c.deref.result.now c.in_ok-entries.entries.items _ c.in_ok-variables.ensures c.deref.ensures.value
-    c.in_ok-entries.ensures c.of-filling.ensures.variables))
+pub returns : goal.returns
+returns c =
+    let are = variables_of c.in_ok-variables.variables c.of-filling.result.variables c.deref.result.now
+    c.in_ok-entries.entries.items _ c.in_ok-variables.ensures.variables c.deref.ensures.value
+    c.in_ok-entries.ensures c.of-filling.ensures.variables in
+    record {
+      gives = rw (c.of-filling.ensures.form, c.of-filling.ensures.placeholders) at
+          (c.fill_all.ensures.gives _ are);
+      refused = rw (c.of-filling.ensures.form, c.of-filling.ensures.placeholders) at
+          (c.fill_all.ensures.refused _ are);
+    }

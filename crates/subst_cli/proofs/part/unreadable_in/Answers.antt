@@ -5,7 +5,7 @@ use Rattle.subst_cli.proofs.part.unreadable_in.Goals as goal
 
 pub returns-then-are_readable-clause-all : goal.returns-then-are_readable-clause-all
 returns-then-are_readable-clause-all c = λ entries are none.
-    readable_all c.args.variables.now entries are (c.are_readable.ensures c.if-are_readable.true)
+    readable_all c.args.variables.now entries are (c.are_readable.ensures.readable c.if-are_readable.true)
     c.args.template.now
 
 pub returns-in-Err-clause-all : goal.returns-in-Err-clause-all

@@ -35,7 +35,7 @@ loop-variable-preserved c =
           All-push (λ it. ¬ (IsUnreadable entries it.name.now)) l.yielded v
           (l.invariant.readable entries are none)
           (readable_name c.args.variables.now entries are v.name.now
-          (sym c.is_unreadable.ensures ∙ c.if-is_unreadable.false));
+          (sym c.is_unreadable.ensures.unreadable ∙ c.if-is_unreadable.false));
       unreadable = l.invariant.unreadable;
     }
 
@@ -52,7 +52,8 @@ loop-variable-preserved-in_ok-push c =
       readable = λ entries are none. absurd (pushed l.faults.items fault (rw more at none));
       unreadable = λ entries are.
           let P = IsUnreadableAmong entries (map variable_of c.args.list.items) in
-          let told = as_told c.args.variables.now entries are v.name.now _ c.is_unreadable.ensures in
+          let unreadable = c.is_unreadable.ensures.unreadable in
+          let told = as_told c.args.variables.now entries are v.name.now _ unreadable in
           rw more (All-push P l.faults.items fault (l.invariant.unreadable entries are) (
             variable_of v,
             contains_done _ l.yielded _ v all,

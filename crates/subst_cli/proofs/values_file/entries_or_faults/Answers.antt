@@ -1,6 +1,7 @@
 -- The file isn't UTF-8, or a line of it is wrong.
 use Rattle.std.proofs.Common.{inl, inr, rules}
-use Rattle.subst_cli.specs.Faults.{IsFaultOfFile, IsNoText}
+use Rattle.subst_cli.specs.Faults.{IsNoText}
+use Rattle.subst_cli.specs.Run.{IsFaultOfFile}
 use Rattle.subst_cli.proofs.FaultLemmas.{any_of_one, any_weaker}
 use Rattle.subst_cli.proofs.values_file.entries_or_faults.Goals as goal
 

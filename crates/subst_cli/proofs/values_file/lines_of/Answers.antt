@@ -2,9 +2,8 @@
 use Rattle.std.proofs.Common.{◌≡◌, ◌∙◌, ap, map, rules, Any, All, [], subst}
 use Rattle.std.proofs.lemmas.List.{map-append, map_push}
 use Rattle.std.proofs.lemmas.List.Elements.{Contains-push}
-use Rattle.subst_cli.specs.Faults.{IsFaultOfFile}
 use Rattle.subst_cli.specs.Layers.{entries_of, entry_of}
-use Rattle.subst_cli.specs.Run.{bytes_of, IsRefusedFile}
+use Rattle.subst_cli.specs.Run.{bytes_of, IsFaultOfFile, IsRefusedFile}
 use Rattle.subst_cli.specs.declared.source.Refused.{Refused}
 use Rattle.subst_cli.proofs.ListLemmas.{vec_yielded}
 use Rattle.subst_cli.proofs.SourceLemmas.{given_more, refused_more}

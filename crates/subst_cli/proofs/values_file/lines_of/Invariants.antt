@@ -1,8 +1,7 @@
 -- The files so far are done.
 use Rattle.std.proofs.Common.{◌≡◌, Some, map, Any}
-use Rattle.subst_cli.specs.Faults.{IsFaultOfFile}
 use Rattle.subst_cli.specs.Layers.{entries_of}
-use Rattle.subst_cli.specs.Run.{bytes_of}
+use Rattle.subst_cli.specs.Run.{bytes_of, IsFaultOfFile}
 use Rattle.subst_cli.specs.ValuesFile.{values_of_files}
 use Rattle.subst_cli.proofs.SourceLemmas.{AreDone}
 use Rattle.subst_cli.proofs.values_file.lines_of.Given as goal

@@ -1,8 +1,7 @@
--- The strings so far are those of what was refused.
-use Rattle.std.proofs.Common.{◌≡◌, map}
-use Rattle.subst_cli.specs.Strings.{string_of}
-use Rattle.subst_cli.proofs.DocumentLemmas.{text_of}
+-- The strings so far are kept with the texts of their paths.
+use Rattle.std.specs.List.{AllZip}
+use Rattle.subst_cli.specs.Documents.{IsKept}
 use Rattle.subst_cli.proofs.document.format.with_paths.Given as goal
 
 abbrev pub invariant-loop-path : goal.invariant-loop-path
-invariant-loop-path g l = map string_of l.strings.items ≡ map text_of l.yielded
+invariant-loop-path g l = AllZip (IsKept g.P.Display.output) l.yielded l.strings.items

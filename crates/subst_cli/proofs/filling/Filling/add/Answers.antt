@@ -8,7 +8,7 @@ pub returns-then-is_its_own_output : goal.returns-then-is_its_own_output
 returns-then-is_its_own_output c = λ entries are.
     on_ok_weaker c.append.result (λ is. inl (
       c.args.source.bytes.items,
-      rw c.deref.ensures.value at (c.is_its_own_output.ensures c.if-is_its_own_output.true entries),
+      rw c.deref.ensures.value at (c.is_its_own_output.ensures.itself c.if-is_its_own_output.true entries),
       is,
       refl,
     )) c.append.ensures

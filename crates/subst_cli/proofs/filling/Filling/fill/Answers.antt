@@ -1,6 +1,7 @@
 -- A source gives what its text gives, after what is kept of it.
 use Rattle.std.proofs.Common.{refl, string_bytes}
-use Rattle.subst_cli.specs.Faults.{IsFaultIn, IsNoText}
+use Rattle.subst_cli.specs.Faults.{IsNoText}
+use Rattle.subst_cli.specs.Run.{IsFaultIn}
 use Rattle.subst_cli.proofs.FaultLemmas.{any_weaker}
 use Rattle.subst_cli.proofs.FillingLemmas.{no_text, weaker_outcome}
 use Rattle.subst_cli.proofs.filling.Filling.fill.Goals as goal

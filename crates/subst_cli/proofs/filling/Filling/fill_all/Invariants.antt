@@ -1,9 +1,8 @@
 -- The sources so far are done.
 use Rattle.std.proofs.Common.{List, map}
-use Rattle.subst_cli.specs.Faults.{StatesFault}
 use Rattle.subst_cli.specs.Fill.{AreOutputs}
 use Rattle.subst_cli.specs.Layers.{Entry, AreVariablesOf}
-use Rattle.subst_cli.specs.Run.{bytes_of}
+use Rattle.subst_cli.specs.Run.{bytes_of, StatesFault}
 use Rattle.subst_cli.proofs.SourceLemmas.{AreDone}
 use Rattle.subst_cli.proofs.filling.Filling.fill_all.Given as goal
 

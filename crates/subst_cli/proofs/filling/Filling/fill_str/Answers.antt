@@ -1,8 +1,8 @@
 -- A text gives what its format says, and its faults are those that the format has.
 use Rattle.std.proofs.Common.{Any, IfOk, inr, string_bytes}
 use Rattle.std.specs.Prelude.{IfErr}
-use Rattle.subst_cli.specs.Faults.{IsFaultIn}
 use Rattle.subst_cli.specs.Fill.{IsFilled}
+use Rattle.subst_cli.specs.Run.{IsFaultIn}
 use Rattle.subst_cli.proofs.FaultLemmas.{any_weaker}
 use Rattle.subst_cli.proofs.FillingLemmas.{text_or_bytes, weaker_faults, weaker_outcome}
 use Rattle.subst_cli.proofs.filling.Filling.fill_str.Goals as goal
@@ -10,13 +10,13 @@ use Rattle.subst_cli.proofs.filling.Filling.fill_str.Goals as goal
 pub returns-in-Document-clause-gives : goal.returns-in-Document-clause-gives
 returns-in-Document-clause-gives c = λ entries are. rw c.in-Document.is
     (rw c.filler.ensures.placeholders at
-    (c.fill.ensures.gives c.args.self.now.variables entries c.filler.ensures.variables are))
+    (c.fill.ensures.gives entries (c.filler.ensures.variables entries are)))
 
 pub returns-in-Document-clause-refused : goal.returns-in-Document-clause-refused
 returns-in-Document-clause-refused c = λ entries are. rw c.in-Document.is
     (weaker_faults c.fill.result _ _ (λ faults. any_weaker _ _ (λ it. inr) faults.items)
     (rw c.filler.ensures.placeholders at
-    (c.fill.ensures.refused c.args.self.now.variables entries c.filler.ensures.variables are)))
+    (c.fill.ensures.refused entries (c.filler.ensures.variables entries are))))
 
 pub returns-in-Text-clause-gives : goal.returns-in-Text-clause-gives
 returns-in-Text-clause-gives c = λ entries are.

@@ -25,4 +25,7 @@ returns c =
     let entries = c.args.entries.now in
     let all = take_all c.loop-entry.entry-index entries c.loop-entry-test.false in
     let each = rw all at c.loop-entry.invariant in
-    record { values = fun_ext (λ name. (each name).0); unreadable = fun_ext (λ name. (each name).1) }
+    record {
+      variables =
+          record { values = fun_ext (λ name. (each name).0); unreadable = fun_ext (λ name. (each name).1) };
+    }

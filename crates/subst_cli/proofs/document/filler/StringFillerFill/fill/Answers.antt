@@ -1,9 +1,22 @@
--- A string gives what its variables give.
-use Rattle.std.proofs.Common.{string_bytes, subst}
+-- A string gives what its variables give, or has a fault.
+use Rattle.std.proofs.Common.{List, ℕ, string_bytes, subst, arith}
+use Rattle.subst_cli.specs.Faults.{IsFaulty}
 use Rattle.subst_cli.specs.Fill.{GivesFor}
 use Rattle.subst_cli.proofs.document.filler.StringFillerFill.fill.Goals as goal
 
-pub returns-in-Ok-clause-ok : goal.returns-in-Ok-clause-ok
-returns-in-Ok-clause-ok c = rw c.in-Some.is (λ entries are.
-    subst (λ text. GivesFor c.args.self.now.placeholders.now entries text (string_bytes c.in-Ok.output)) (cc)
-    (rw c.in-Ok.is at (c.in_ok-output.ensures.gives entries are)))
+pub returns-in-Ok-clause-answer : goal.returns-in-Ok-clause-answer
+returns-in-Ok-clause-answer c = (
+  rw c.in-Some.is tt,
+  λ entries from.
+      subst (λ text. GivesFor c.args.self.now.placeholders.now entries text (string_bytes c.in-Ok.output)) (cc)
+      (rw c.in-Ok.is at (c.in_ok-output.ensures.gives entries (rw c.in-Some.is at from))),
+)
+
+pub returns-clause-answer : goal.returns-clause-answer
+returns-clause-answer c = rw c.refused.ensures (λ entries from.
+    let (k, it, below, is, holds) =
+    rw c.in-Err.is at (c.in_ok-output.ensures.refused entries (rw c.in-Some.is at from)) in
+    subst (IsFaulty c.args.self.now.placeholders.now entries) (cc) (it, holds))
+
+pub returns-clause-range : goal.returns-clause-range
+returns-clause-range c = rw c.refused.ensures (omega arith)
