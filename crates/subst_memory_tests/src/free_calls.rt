@@ -7,8 +7,8 @@ use std::alloc::{AllocError, Global};
 use std::collections::{BTreeMap, HashMap};
 use subst::steps::{Reads, Turns};
 use subst::{
-    ByteTemplate, ByteTemplateBuf, Env, Error, NoSubstitution, Template, TemplateBuf, VariableMap,
-    escape, laws, substitute_bytes_owned, substitute_owned,
+    ByteTemplate, ByteTemplateBuf, Env, Error, Layered, NoEmpty, NoSubstitution, Template,
+    TemplateBuf, VariableMap, escape, laws, substitute_bytes_owned, substitute_owned,
 };
 
 /// Looks `name` and `absent` up.
@@ -87,6 +87,12 @@ fn get_of_env(rt: &HostRuntime) -> Result<(), AllocError> {
     pairs.push((key(rt.alloc())?, String::from_str(rt.alloc(), "world")?))?;
     let env = env_of(rt, pairs);
     get(rt, "get of Env", &env);
+    let layers = Layered {
+        first: &NoSubstitution,
+        second: &env,
+    };
+    get(rt, "get of Layered", &layers);
+    get(rt, "get of NoEmpty", &NoEmpty { map: &env });
     Ok(())
 }
 
@@ -176,6 +182,7 @@ fn steps_and_laws(rt: &HostRuntime) {
     laws::outputs_are_bounded();
     laws::texts_give_texts();
     laws::turns_are_bounded();
+    laws::writes_are_bounded();
     laws::trees_have_one_outcome();
     laws::toml_trees_have_one_outcome();
     end(rt);

@@ -109,6 +109,17 @@ fn places_in_json(rt: &HostRuntime) {
         Err(_) => json::places_in(rt.alloc(), MISSING_IN_JSON, 10..25, &ranges()));
 }
 
+/// What is given of a report is how long it is.
+fn report_of_json(rt: &HostRuntime) -> Result<(), AllocError> {
+    let alloc = rt.alloc();
+    let map = texts(alloc, VARIABLES)?;
+    if let Err(e) = json::value_from_str(alloc, MISSING_IN_JSON, &map) {
+        again!(rt, "json::report", [MISSING_IN_JSON, map],
+            Err(_) => json::report(alloc, "web.json", MISSING_IN_JSON, &map, &e).map(|it| 0..it.len()));
+    }
+    Ok(())
+}
+
 pub fn json_calls(rt: &HostRuntime) -> Result<(), AllocError> {
     fill_in_json(rt, "json::fill_in", JSON)?;
     fill_in_json(rt, "json::fill_in of a missing variable", MISSING_IN_JSON)?;
@@ -116,7 +127,7 @@ pub fn json_calls(rt: &HostRuntime) -> Result<(), AllocError> {
     strings_of_json(rt);
     refusals_in_json(rt)?;
     places_in_json(rt);
-    Ok(())
+    report_of_json(rt)
 }
 
 fn fill_in_toml(rt: &HostRuntime, name: &str, source: &str) -> Result<(), AllocError> {
@@ -153,6 +164,16 @@ fn places_in_toml(rt: &HostRuntime) {
         Err(_) => filled::places_in(rt.alloc(), MISSING_IN_TOML, 15..30, &ranges()));
 }
 
+fn report_of_toml(rt: &HostRuntime) -> Result<(), AllocError> {
+    let alloc = rt.alloc();
+    let map = texts(alloc, VARIABLES)?;
+    if let Err(e) = filled::value_from_str(alloc, MISSING_IN_TOML, &map) {
+        again!(rt, "toml::report", [MISSING_IN_TOML, map],
+            Err(_) => filled::report(alloc, "app.toml", MISSING_IN_TOML, &map, &e).map(|it| 0..it.len()));
+    }
+    Ok(())
+}
+
 pub fn toml_calls(rt: &HostRuntime) -> Result<(), AllocError> {
     fill_in_toml(rt, "toml::fill_in", TOML)?;
     fill_in_toml(rt, "toml::fill_in of a missing variable", MISSING_IN_TOML)?;
@@ -160,5 +181,5 @@ pub fn toml_calls(rt: &HostRuntime) -> Result<(), AllocError> {
     strings_of_toml(rt);
     refusals_in_toml(rt)?;
     places_in_toml(rt);
-    Ok(())
+    report_of_toml(rt)
 }

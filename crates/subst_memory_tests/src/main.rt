@@ -12,6 +12,7 @@ mod free_errors;
 mod in_place;
 mod into;
 mod lists;
+mod long;
 mod marks;
 mod refusals;
 mod runs;
@@ -23,6 +24,7 @@ fn main(rt: HostRuntime) -> Result<(), Error> {
     texts::calls(&rt)?;
     bytes::calls(&rt)?;
     into::calls(&rt)?;
+    long::calls(&rt)?;
     foreign::calls(&rt);
     lists::calls(&rt)?;
     documents::json_calls(&rt)?;

@@ -5,9 +5,12 @@
 
 ghost use Rattle.std.specs.Prelude.{Some, None, codes, if◌then◌else◌, bytes_eq};
 
-use std::alloc::Global;
+use std::alloc::{AllocError, Global};
 use std::cell::Cell;
-use subst::{ByteTemplate, Template, VariableMap, substitute, substitute_bytes};
+use subst::{
+    ByteTemplate, Template, VariableMap, json, substitute, substitute_bytes,
+    substitute_bytes_owned, substitute_into, substitute_owned, toml,
+};
 
 /// The variable `1` alone. Names that it was asked for are the decimal digits of `asked`.
 #[derive(Drop)]
@@ -56,6 +59,29 @@ fn asked_by_bytes(alloc: Global, source: &str) -> u64 {
     variables.asked.get()
 }
 
+/// The names that a text asks for which is taken over.
+fn asked_by_owner(alloc: Global, source: &str) -> Result<u64, AllocError> {
+    let variables = Asked::new();
+    let _ = substitute_owned(alloc, String::from_str(alloc, source)?, &variables);
+    Ok(variables.asked.get())
+}
+
+/// The names that bytes ask for which are taken over.
+fn asked_by_byte_owner(alloc: Global, source: &str) -> Result<u64, AllocError> {
+    let variables = Asked::new();
+    let bytes = Vec::from_slice(alloc, source.as_bytes())?;
+    let _ = substitute_bytes_owned(alloc, bytes, &variables);
+    Ok(variables.asked.get())
+}
+
+/// The names that a text asks for which is filled into an output.
+fn asked_by_output(alloc: Global, source: &str) -> u64 {
+    let variables = Asked::new();
+    let mut output = String::new(alloc);
+    let _ = substitute_into(alloc, source, &mut output, &variables);
+    variables.asked.get()
+}
+
 /// The names that the template of a text asks for.
 fn asked_by_template(alloc: Global, source: &str) -> (u64, u64) {
     let variables = Asked::new();
@@ -86,6 +112,9 @@ fn asked_by_byte_template(alloc: Global, source: &str) -> (u64, u64) {
 fn asks_for(alloc: Global, source: &str, names: u64) -> bool {
     asked_by_text(alloc, source) == names
         && asked_by_bytes(alloc, source) == names
+        && asked_by_owner(alloc, source) == Ok(names)
+        && asked_by_byte_owner(alloc, source) == Ok(names)
+        && asked_by_output(alloc, source) == names
         && asked_by_template(alloc, source) == (0, names)
         && asked_by_byte_template(alloc, source) == (0, names)
 }
@@ -135,4 +164,53 @@ fn asks_for_the_names_before_a_fault_where_no_template_is_kept(rt: HostRuntime) 
     assert!(rt; asks_before_its_fault(alloc, "${2:$1 $", 21));
     // Nothing is asked for after a variable that is missing.
     assert!(rt; asks_before_its_fault(alloc, "$2 $1 $", 2));
+}
+
+/// The names that a template asks for when all that is missing is listed.
+fn asked_by_missing(alloc: Global, source: &str) -> u64 {
+    let variables = Asked::new();
+    if let Ok(template) = Template::from_str(alloc, source) {
+        let _ = template.missing(alloc, &variables);
+    }
+    variables.asked.get()
+}
+
+#[test]
+fn lists_of_what_is_missing_ask_for_each_visited_variable_once(rt: HostRuntime) {
+    let alloc = rt.alloc();
+    assert_eq!(rt;
+        asked_by_missing(alloc, "$1 $2 ${2:$3}${1:$4}${5?}"),
+        122315
+    );
+    assert_eq!(rt; asked_by_missing(alloc, "${2:${3:$4}$1}$6"), 23416);
+}
+
+/// A JSON text and a TOML text, whose members come the other way round in a tree.
+const JSON: &str = r#"{"b":["$1","${2:$1}"],"a":"${3?}$1","c":"$1"}"#;
+
+const TOML: &str = "b = ['$1', '${2:$1}']\na = '${3?}$1'\nc = '$1'\n";
+
+/// A tree asks for the names of each string once; a text where the strings stand too, and once more where what
+/// was written is confirmed.
+#[test]
+fn documents_ask_for_the_names_of_each_string(rt: HostRuntime) {
+    let alloc = rt.alloc();
+    let variables = Asked::new();
+    let _ = json::value_from_str(alloc, JSON, &variables);
+    assert_eq!(rt; variables.asked.get(), 311211);
+    let variables = Asked::new();
+    let _ = toml::value_from_str(alloc, TOML, &variables);
+    assert_eq!(rt; variables.asked.get(), 311211);
+    let variables = Asked::new();
+    let _ = json::fill_in(alloc, JSON, &variables);
+    assert_eq!(rt; variables.asked.get(), 121311121311);
+    let variables = Asked::new();
+    let _ = toml::fill_in(alloc, TOML, &variables);
+    assert_eq!(rt; variables.asked.get(), 311211121311);
+    let variables = Asked::new();
+    let _ = json::refusals_in(alloc, JSON, &variables);
+    assert_eq!(rt; variables.asked.get(), 121311);
+    let variables = Asked::new();
+    let _ = toml::refusals_in(alloc, TOML, &variables);
+    assert_eq!(rt; variables.asked.get(), 121311);
 }

@@ -6,7 +6,7 @@ use std::alloc::{AllocError, Global};
 use std::collections::BTreeMap;
 use subst::error::{ExpandError, NoSuchVariable};
 use subst::steps::Turns;
-use subst::{ByteTemplate, Env, Error, NoSubstitution, Template};
+use subst::{ByteTemplate, Error, NoSubstitution, Template};
 use subst_uses::cache::Cached;
 use subst_uses::greeting::{Guest, greet};
 use subst_uses::launcher::command_line;
@@ -14,9 +14,7 @@ use subst_uses::log_line::{Fields, LINE, LONGEST, ROOM, append_line};
 use subst_uses::missing::{Prompt, filled_or_asked, given_or_none};
 use subst_uses::own_map::{Colours, coloured, warning};
 use subst_uses::report::Outcome;
-use subst_uses::{
-    all_missing, any_map, any_template, filled, layered, lines, plain, texts, two_kinds, words,
-};
+use subst_uses::{all_missing, any_map, any_template, filled, lines, plain, texts, words};
 
 type Texts = BTreeMap<String, String>;
 
@@ -107,22 +105,6 @@ fn last_word(alloc: Global) -> Result<Vec<u8>, Error> {
 #[test]
 fn words_of_a_command_line(rt: HostRuntime) {
     expect_bytes(&rt, "the last word", last_word(rt.alloc()), "to world");
-}
-
-fn in_layers(alloc: Global) -> Result<Vec<u8>, Error> {
-    let first = named(alloc, String::from_str(alloc, "first")?)?;
-    layered::with_defaults(alloc, b"$name", &first, &world(alloc)?)
-}
-
-fn of_two_kinds(alloc: Global) -> Result<Vec<u8>, Error> {
-    let pairs = Env::from_pairs(Vec::new(alloc));
-    two_kinds::filled_in(alloc, SOURCE.as_bytes(), &pairs, &world(alloc)?)
-}
-
-#[test]
-fn maps_in_layers(rt: HostRuntime) {
-    expect_bytes(&rt, "one kind", in_layers(rt.alloc()), "first");
-    expect_bytes(&rt, "two kinds", of_two_kinds(rt.alloc()), GIVEN);
 }
 
 fn by_any_map(alloc: Global) -> Result<Vec<u8>, Error> {

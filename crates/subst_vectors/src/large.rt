@@ -79,6 +79,35 @@ fn as_deep_as_the_reader_of_toml_goes(rt: HostRuntime) -> Result<(), AllocError>
     Ok(())
 }
 
+/// A string of TOML in this many inline tables, one in the other, each under a key of 80 parts.
+fn under_long_keys(alloc: Global, tables: usize) -> Result<String, AllocError> {
+    let key = repeated(alloc, "", "k.", 79, "k = ")?;
+    let open = repeated(
+        alloc,
+        "",
+        [key.as_str(), "{"].concat(alloc)?.as_str(),
+        tables,
+        &key,
+    )?;
+    repeated(
+        alloc,
+        [open.as_str(), "'$a'"].concat(alloc)?.as_str(),
+        "}",
+        tables,
+        "",
+    )
+}
+
+#[test]
+fn as_deep_as_long_keys_make_a_tree_of_toml(rt: HostRuntime) -> Result<(), AllocError> {
+    let alloc = rt.alloc();
+    let source = under_long_keys(alloc, 12)?;
+    let open = repeated(alloc, "", "{ k = ", 13 * 80, "\"1\"")?;
+    let want = repeated(alloc, &open, " }", 13 * 80, "")?;
+    expect(&rt, "TOML", told_toml(alloc, &source), &want);
+    Ok(())
+}
+
 fn is_no_json(alloc: Global, source: &str) -> bool {
     let read = json::value_from_str(alloc, source, &NoSubstitution);
     matches!(read, Err(json::Error::Json(_)))

@@ -1,14 +1,14 @@
 //! The loaders of `subst_uses`, and the positions that their reports name, of which no contract speaks.
 
 use crate::expect::expect;
+use serde::Deserialize;
 use std::alloc::{AllocError, Global};
 use std::collections::BTreeMap;
 use std::fmt::Display;
-use subst::Env;
 use subst::error::{MissingVariableName, NoSuchVariable};
-use subst_uses::config::{Loaded, load, load_as};
-use subst_uses::settings;
-use subst_uses::settings::Settings;
+use subst::{Env, NoSubstitution, toml as filled};
+use subst_uses::config::Loaded;
+use subst_uses::{config, settings};
 use toml::{Value, table_to_string};
 
 type Texts = BTreeMap<String, String>;
@@ -18,6 +18,13 @@ fn named(alloc: Global, name: &str, value: &str) -> Result<Texts, AllocError> {
     let value = String::from_str(alloc, value)?;
     let _ = variables.insert(String::from_str(alloc, name)?, value)?;
     Ok(variables)
+}
+
+fn one_pair(alloc: Global, name: &str, value: &str) -> Result<Env, AllocError> {
+    let mut pairs = Vec::new(alloc);
+    let name = String::from_str(alloc, name)?;
+    pairs.push((name, String::from_str(alloc, value)?))?;
+    Ok(Env::from_pairs(pairs))
 }
 
 /// A report of a fault at this position, which is shown so.
@@ -36,12 +43,9 @@ fn absent(alloc: Global, name: &str) -> Result<NoSuchVariable, AllocError> {
 }
 
 fn told_json(alloc: Global, source: &str) -> Result<String, AllocError> {
-    match load(
-        alloc,
-        "web.json",
-        source,
-        &named(alloc, "user", "ann \"a\"")?,
-    )? {
+    let environment = one_pair(alloc, "user", "ann \"a\"")?;
+    let defaults = named(alloc, "user", "nobody")?;
+    match config::load(alloc, "web.json", source, &environment, &defaults)? {
         Loaded::Configuration(tree) => tree.to_string(alloc),
         Loaded::Report(report) => Ok(report),
     }
@@ -54,7 +58,8 @@ fn a_configuration(rt: HostRuntime) {
             "{\"home\":\"/home/$user\",\"port\":80}",
             "{\"home\":\"/home/ann \\\"a\\\"\",\"port\":80}",
         ),
-        ("[1,]", "web.json:1:4: invalid JSON at line 1 column 4"),
+        ("[1,]", "web.json:1:4: invalid JSON\n  [1,]\n     ^\n"),
+        ("[1,\n", "web.json:1:4: EOF while parsing\n  [1,\n     ^\n"),
     ];
     for (source, want) in rows {
         expect(&rt, source, told_json(rt.alloc(), source), want);
@@ -70,10 +75,11 @@ fn a_configuration_without_a_name(rt: HostRuntime) -> Result<(), AllocError> {
             "  [\"$user\",\"${name}\"]\n              ^^^^\n",
         ),
         (
-            "{\n  \"$name\": \"x\",\n  \"a/b\": \"\\u00e9\\u0024name\",\n  \"c\": \"$name\"\n}",
+            "{\n  \"$name\": \"x\",\n  \"a/b\": \"\\u00e9\\u0024name\",\n  \"c\": \"$user\"\n}",
             "web.json:3:23: /a~1b",
             "    \"a/b\": \"\\u00e9\\u0024name\",\n                        ^^^^\n",
         ),
+        ("\"$name\"", "web.json:1:3", "  \"$name\"\n    ^^^^\n"),
     ];
     for (source, place, shown) in rows {
         let want = reported(rt.alloc(), place, absent(rt.alloc(), "name")?, shown)?;
@@ -82,48 +88,45 @@ fn a_configuration_without_a_name(rt: HostRuntime) -> Result<(), AllocError> {
     Ok(())
 }
 
-/// The names of a configuration.
-fn told_names(alloc: Global, source: &str) -> Result<String, AllocError> {
-    match load_as::<Vec<String>>(alloc, "web.json", source, &named(alloc, "user", "ann")?)? {
-        Loaded::Configuration(names) => format!(in alloc; "{names:?}"),
-        Loaded::Report(report) => Ok(report),
-    }
+/// Reports of two faults, the one after the other.
+fn both(
+    alloc: Global,
+    first: Result<String, AllocError>,
+    second: Result<String, AllocError>,
+) -> Result<String, AllocError> {
+    format!(in alloc; "{}{}", first?, second?)
 }
 
 #[test]
-fn a_configuration_of_a_type(rt: HostRuntime) {
-    expect(
-        &rt,
-        "names",
-        told_names(rt.alloc(), "[\"$user\"]"),
-        "[\"ann\"]",
+fn all_faults_of_a_file(rt: HostRuntime) -> Result<(), AllocError> {
+    let alloc = rt.alloc();
+    let first = reported(
+        alloc,
+        "web.json:1:4: /0",
+        absent(alloc, "a")?,
+        "  [\"$a\", 1,\n     ^\n",
     );
-    let is_told = match told_names(rt.alloc(), "[1]") {
-        Ok(told) => told.starts_with("web.json: invalid type"),
-        Err(_e) => false,
-    };
-    assert!(rt; is_told);
-}
-
-fn one_pair(alloc: Global, name: &str, value: &str) -> Result<Env, AllocError> {
-    let mut pairs = Vec::new(alloc);
-    let name = String::from_str(alloc, name)?;
-    pairs.push((name, String::from_str(alloc, value)?))?;
-    Ok(Env::from_pairs(pairs))
+    let second = reported(
+        alloc,
+        "web.json:2:4: /2",
+        absent(alloc, "b")?,
+        "   \"$b\"]\n     ^\n",
+    );
+    let want = both(alloc, first, second)?;
+    let source = "[\"$a\", 1,\n \"$b\"]";
+    expect(&rt, source, told_json(alloc, source), &want);
+    Ok(())
 }
 
 fn told_toml(alloc: Global, source: &str) -> Result<String, AllocError> {
-    match settings::load(
-        alloc,
-        "app.toml",
-        source,
-        &one_pair(alloc, "HOST", "db \"1\"")?,
-    )? {
-        Settings::Tree(Value::Table(table)) => {
+    let environment = one_pair(alloc, "HOST", "db \"1\"")?;
+    let defaults = BTreeMap::new(alloc);
+    match settings::load(alloc, "app.toml", source, &environment, &defaults)? {
+        Loaded::Configuration(Value::Table(table)) => {
             table_to_string(alloc, &table).map_err(|_| AllocError)
         }
-        Settings::Tree(tree) => tree.to_string(alloc),
-        Settings::Report(report) => Ok(report),
+        Loaded::Configuration(tree) => tree.to_string(alloc),
+        Loaded::Report(report) => Ok(report),
     }
 }
 
@@ -136,7 +139,12 @@ fn settings_of_a_file(rt: HostRuntime) {
         ),
         (
             "a = 1\nb =]\n",
-            "app.toml:2:4: invalid value, expected a string, number, boolean, date-time, array or inline table",
+            "app.toml:2:4: invalid value, expected a string, number, boolean, date-time, array or inline table\n\
+             \x20 b =]\n     ^\n",
+        ),
+        (
+            "a = 1\na = 2\n",
+            "app.toml:2:1: duplicate key\n  a = 2\n  ^^^^^\n",
         ),
     ];
     for (source, want) in rows {
@@ -183,4 +191,63 @@ fn a_dollar_that_is_written_as_an_escape(rt: HostRuntime) -> Result<(), AllocErr
         &want,
     );
     Ok(())
+}
+
+fn told_bytes(alloc: Global, source: &[u8]) -> Result<String, AllocError> {
+    match filled::from_slice::<Texts, _>(alloc, source, &NoSubstitution) {
+        Ok(_) => Ok(String::new(alloc)),
+        Err(e) => filled::report(alloc, "app.toml", "", &NoSubstitution, &e),
+    }
+}
+
+#[test]
+fn settings_that_are_no_text(rt: HostRuntime) {
+    let want = "app.toml: invalid utf-8 sequence of 1 bytes from index 5\n";
+    expect(&rt, "bytes", told_bytes(rt.alloc(), b"a = '\xFF'"), want);
+}
+
+#[derive(Debug, Deserialize, Drop)]
+struct Server {
+    host: String,
+    port: u16,
+}
+
+fn told_server(alloc: Global, file: &str, source: &str) -> Result<String, AllocError> {
+    let environment = one_pair(alloc, "HOST", "db")?;
+    let defaults = named(alloc, "DOMAIN", "example.org")?;
+    let loaded: Loaded<Server> = if file.ends_with(".json") {
+        config::load_as(alloc, file, source, &environment, &defaults)?
+    } else {
+        settings::load_as(alloc, file, source, &environment, &defaults)?
+    };
+    match loaded {
+        Loaded::Configuration(server) => format!(in alloc; "{server:?}"),
+        Loaded::Report(report) => Ok(report),
+    }
+}
+
+#[test]
+fn a_server(rt: HostRuntime) {
+    let want = "Server { host: \"db.example.org\", port: 80 }";
+    let rows = [
+        (
+            "web.json",
+            "{\"host\": \"$HOST.$DOMAIN\", \"port\": 80}",
+            want,
+        ),
+        ("web.toml", "host = '$HOST.$DOMAIN'\nport = 80\n", want),
+        (
+            "web.json",
+            "{\"host\": 1, \"port\": 80}",
+            "web.json: invalid type\n",
+        ),
+        (
+            "web.toml",
+            "host = '$HOST'\nport = '80'\n",
+            "web.toml: invalid type: string \"80\", expected an integer in `port`\n",
+        ),
+    ];
+    for (file, source, want) in rows {
+        expect(&rt, source, told_server(rt.alloc(), file, source), want);
+    }
 }

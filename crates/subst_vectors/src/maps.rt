@@ -6,7 +6,9 @@ use std::alloc::{AllocError, Global};
 use std::collections::{BTreeMap, HashMap};
 use std::convert::{AsSlice, AsStr};
 use std::test::Fail;
-use subst::{Env, Error, NoSubstitution, VariableMap, substitute, substitute_bytes};
+use subst::{
+    Env, Error, Layered, NoEmpty, NoSubstitution, VariableMap, substitute, substitute_bytes,
+};
 use subst_testing::answers::{told_bytes, told_text};
 use subst_uses::filled::by_strings;
 use subst_uses::maps::{bytes, texts};
@@ -185,6 +187,59 @@ fn no_substitution_has_no_value(rt: HostRuntime) {
     expect_answer(&rt, "$a", &NoSubstitution, "1..2: NoSuchVariable a");
     expect_debug(&rt, &NoSubstitution, "NoSubstitution");
     expect_debug(&rt, &NoSubstitution.get("a"), "None");
+}
+
+fn defaults(alloc: Global) -> Result<BTreeMap<String, &'static str>, AllocError> {
+    let mut defaults = BTreeMap::new(alloc);
+    defaults.insert(key(alloc)?, "nobody")?;
+    defaults.insert(String::from_str(alloc, "greeting")?, "Hello")?;
+    Ok(defaults)
+}
+
+#[test]
+fn the_first_of_two_maps_counts(rt: HostRuntime) -> Result<(), Fail> {
+    let pairs = env_of(rt.alloc(), &[("name", "world")])?;
+    let defaults = defaults(rt.alloc())?;
+    let layers = Layered {
+        first: &pairs,
+        second: &defaults,
+    };
+    expect_answer(&rt, "$greeting $name!", &layers, "gives Hello world!");
+    expect_answer(
+        &rt,
+        "$greeting $other!",
+        &layers,
+        "11..16: NoSuchVariable other",
+    );
+    expect_debug(&rt, &layers.get("name"), r#"Some(First("world"))"#);
+    let text = texts::layered(rt.alloc(), "$greeting $name!", &pairs, &defaults);
+    let bytes = bytes::layered(rt.alloc(), b"$greeting $name!", &pairs, &defaults);
+    expect_callers(&rt, text, bytes, "Hello world!");
+    Ok(())
+}
+
+#[test]
+fn an_empty_value_counts_as_none(rt: HostRuntime) -> Result<(), Fail> {
+    let env = env_of(rt.alloc(), &[("name", ""), ("other", "world")])?;
+    let filled = NoEmpty { map: &env };
+    expect_answer(&rt, "${name:$other}", &filled, "gives world");
+    expect_answer(&rt, "$name", &filled, "1..5: NoSuchVariable name");
+    let text = texts::no_empty(rt.alloc(), "Hello ${name:$other}!", &env);
+    let bytes = bytes::no_empty(rt.alloc(), b"Hello ${name:$other}!", &env);
+    expect_callers(&rt, text, bytes, "Hello world!");
+    Ok(())
+}
+
+#[test]
+fn an_empty_value_of_the_first_of_two_maps_counts_as_none(rt: HostRuntime) -> Result<(), Fail> {
+    let env = env_of(rt.alloc(), &[("name", "")])?;
+    let defaults = defaults(rt.alloc())?;
+    let layers = Layered {
+        first: &NoEmpty { map: &env },
+        second: &defaults,
+    };
+    expect_answer(&rt, "$greeting $name!", &layers, "gives Hello nobody!");
+    Ok(())
 }
 
 /// A map that has a value for every name.

@@ -8,7 +8,7 @@ use std::fmt::Debug;
 use subst::{NoSubstitution, json, toml as filled};
 use subst_testing::answers::told_fault;
 use subst_testing::variables::texts;
-use toml::value::Datetime;
+use toml::value::{Datetime, Value};
 
 #[derive(Debug, Drop, Deserialize)]
 struct Config {
@@ -252,6 +252,25 @@ fn a_map_of_json_without_substitution(rt: HostRuntime) {
     let source = "{\"$user\":\"${user:ann}\",\"b\":null}";
     let want = "{\"$user\": Some(\"ann\"), \"b\": None}";
     expect(&rt, source, json_owners(rt.alloc(), source), want);
+}
+
+/// How a tree is read from TOML as a type, where a key is under a header of 80 parts.
+fn toml_under_a_long_header(alloc: Global, key: &str) -> Result<String, AllocError> {
+    let header = "k.".repeat(alloc, 79)?;
+    let source = ["[", header.as_str(), "k]\n", key, " = 'x'\n"].concat(alloc)?;
+    match filled::from_str::<Value, _>(alloc, &source, &NoSubstitution) {
+        Ok(_) => String::from_str(alloc, "a tree"),
+        Err(e) => of_toml::<Value>(alloc, Err(e)),
+    }
+}
+
+#[test]
+fn a_type_is_read_from_80_levels_of_toml(rt: HostRuntime) {
+    // One more is read as a tree, but the tree is printed with a header of 81 parts.
+    let rows: &[(&str, &str)] = &[("k", "a tree"), ("k.k", "no TOML")];
+    for &(key, want) in rows {
+        expect(&rt, key, toml_under_a_long_header(rt.alloc(), key), want);
+    }
 }
 
 type Times = BTreeMap<String, Datetime>;
