@@ -211,16 +211,15 @@ examples_print_what_is_written() {
     printf '%d commands\n' "$(grep -c '^\$ ' "$folder/wanted")"
 }
 
-# The examples of README.md, each of which greets the world.
-examples_of_readme_greet() {
+# The example of README.md, which greets the world.
+example_of_readme_greets() {
   local prefix=$folder/prefix printed
   block c README.md >"$folder/readme.c"
-  block python README.md >"$folder/readme.py"
   runs "$compiler" -std=c99 "${strict[@]}" -I"$prefix/include" -o "$folder/readme" "$folder/readme.c" \
     "$prefix/lib/libsubst.a" || return
-  printed=$("$folder/readme" && PYTHONPATH=$prefix/lib/python3/dist-packages python3 "$folder/readme.py") || return
+  printed=$("$folder/readme") || return
   printf '%s\n' "$printed"
-  [ "$printed" = $'Hello world!\nHello world!' ]
+  [ "$printed" = 'Hello world!' ]
 }
 
 # The compiler's arguments by pkg-config build the example too.
@@ -258,7 +257,7 @@ else
 fi
 test_with valgrind 'under valgrind' under_valgrind
 test_with python3 'examples of docs/C.md' examples_print_what_is_written
-test_with python3 'examples of README.md' examples_of_readme_greet
+test_that 'the example of README.md' example_of_readme_greets
 test_with python3 'by names' called_by_their_names
 test_with pkg-config 'by pkg-config' package_is_found
 end

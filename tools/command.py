@@ -873,6 +873,12 @@ def test_large_sources():
     expect_files('source', 'output')
 
 
+def test_large_sources_are_filled_in_in_little_memory():
+    for words in ([], ['--envsubst'], ['--only=A']):
+        expect(subst([*words, '-sA=value'], 16 * KIB * (b'prose $A' + 504 * b'.'), **in_memory(230 * MIB)), 0,
+               16 * KIB * (b'prose value' + 504 * b'.'))
+
+
 def test_large_documents():
     members = {f'key{number}': [f'$A{number % 7}', {'x': '${A}', 'y': f'\u00e4{number}'}]
                for number in range(some_size(30000, 300000))}

@@ -1,29 +1,34 @@
 #!/usr/bin/env python3
-"""doc-examples.py program | map | output   Prints a program of the library's examples, the module of it that is the map
-of docs/CALLING.md, or what the program prints, for tools/other-repository.sh.
+"""doc-examples.py program | map | loader | output   Prints a program of the library's examples, the modules of it that
+are the map and the loader of docs/CALLING.md, or what the program prints, for tools/other-repository.sh.
 
 An example is a block of Rust in a comment `///` of a crate of the library. What it computes is its `output`, of a
 document that is filled in where it stands an `Option`, and its last line is a comment with the text of that. The first
-examples are the function `greet` of README.md, the environment as README.md reads it, and the map of docs/CALLING.md.
+examples are the functions of README.md, the environment as README.md reads it, and the map and the loader of
+docs/CALLING.md.
 """
 import json
 import re
 import sys
 
 sys.dont_write_bytecode = True
+import faults
 from prove import crates, with_those_below
 from running import TOP
 
 HEAD = '''//! The examples of the library, one after the other.
 #![tactic(auto)]
 
-use layered::Layered;
+use guest::Guest;
+use loader::{Loaded, load_as};
+use std::alloc::AllocError;
 use std::env;
-use subst::{ByteTemplate, Env, NoSubstitution, Template, TemplateBuf};
-use subst::{escape, foreign, json, laws, substitute_bytes, substitute_bytes_into, substitute_bytes_owned, substitute_into};
+use subst::{ByteTemplate, Layered, NoEmpty, NoSubstitution, Template, TemplateBuf};
+use subst::{escape, foreign, laws, substitute_bytes, substitute_bytes_into, substitute_bytes_owned, substitute_into};
 use subst::{substitute_owned, toml};
 
-mod layered;
+mod guest;
+mod loader;
 
 '''
 # The first lines of `main`, which fill in from the environment as README.md reads it.
@@ -32,15 +37,35 @@ FROM_ENVIRONMENT = '''    let alloc = rt.alloc();
     println!(rt; "{}", substitute(alloc, "Hello ${GREETED:world}!", &variables)?)?;
 '''
 # A function that fills in from the map of docs/CALLING.md.
-FROM_LAYERS = '''
-fn from_layers(alloc: Global) -> Result<String, Error> {
-    let mut first = BTreeMap::new(alloc);
-    first.insert(String::from_str(alloc, "name")?, "world")?;
-    let mut second = BTreeMap::new(alloc);
-    second.insert(String::from_str(alloc, "name")?, "nobody")?;
-    second.insert(String::from_str(alloc, "greeting")?, "Hello")?;
-    substitute(alloc, "$greeting $name!", &Layered { first: &first, second: &second })
+FROM_GUEST = '''
+fn from_guest(alloc: Global) -> Result<String, Error> {
+    substitute(alloc, "Hello $name!", &Guest { name: "world" })
 }
+'''
+# The imports of the loader of docs/CALLING.md, and what reads servers by README.md and by the loader.
+LOADER = '''//! The loader of docs/CALLING.md.
+
+use serde::DeserializeOwned;
+use std::alloc::{AllocError, Global};
+use std::collections::BTreeMap;
+use subst::{Env, Layered, json};
+
+'''
+FROM_LOADER = '''
+fn from_loader(alloc: Global, source: &str, environment: &Env) -> Result<String, AllocError> {
+    let mut defaults = BTreeMap::new(alloc);
+    defaults.insert(String::from_str(alloc, "DOMAIN_OF_DB")?, String::from_str(alloc, "example.org")?)?;
+    match load_as::<Server>(alloc, "web.json", source, environment, &defaults)? {
+        Loaded::Configuration(server) => format!(in alloc; "{}:{}", server.host, server.port),
+        Loaded::Report(report) => Ok(report),
+    }
+}
+'''
+READ = '''    let server = read_server(alloc, r#"{"host": "${HOST_OF_DB:db}", "port": 80}"#, &variables)?;
+    println!(rt; "{}:{}", server.host, server.port)?;
+    println!(rt; "{}", from_loader(alloc, r#"{"host": "db.$DOMAIN_OF_DB", "port": 80}"#, &variables)?)?;
+    let source = "{\\"host\\": \\"$HOST_OF_DB\\",\\n \\"port\\": \\"${PORT_OF_DB}\\"}";
+    println!(rt; "{}", from_loader(alloc, source, &variables)?)?;
 '''
 # The type of the errors of the calls of a crate.
 ERRORS = {'subst_json': 'json::Error', 'subst_toml': 'toml::Error'}
@@ -79,11 +104,11 @@ def function(number, crate, lines):
 
 def program():
     of_comments = [function(number, crate, lines) for number, (crate, lines, _) in enumerate(examples())]
-    calls = ['greet', 'from_layers', *(f'example_{number}' for number in range(len(of_comments)))]
-    prints = FROM_ENVIRONMENT % found('README.md', r'`(Env::from_pairs\([^`]*)`')
+    calls = ['greet', 'from_guest', *(f'example_{number}' for number in range(len(of_comments)))]
+    prints = FROM_ENVIRONMENT % found('README.md', r'`(Env::from_pairs\([^`]*)`') + READ
     prints += ''.join(f'    println!(rt; "{{}}", {call}(alloc)?)?;\n' for call in calls)
     main = f'\nfn main(rt: HostRuntime) -> anyhow::Result<()> {{\n{prints}    Ok(())\n}}\n'
-    return ''.join([HEAD, found('README.md', r'^```rust\n(.*?)^```$'), FROM_LAYERS, *of_comments, main])
+    return ''.join([HEAD, found('README.md', r'^```rust\n(.*?)^```$'), FROM_GUEST, FROM_LOADER, *of_comments, main])
 
 
 def own_map():
@@ -91,11 +116,22 @@ def own_map():
     return found('docs/CALLING.md', r'^```rust\n((?:(?!```).)*?^impl(?:(?!```).)*?VariableMap.*?)^```$')
 
 
+def loader():
+    """The block of docs/CALLING.md with a loader, and the type that it returns."""
+    loaded = re.search(r'^#\[derive\(Drop\)\]\npub enum Loaded.*?^}$',
+                       (TOP / 'crates/subst_uses/src/config.rt').read_text(encoding='utf-8'), re.M | re.S)[0]
+    return LOADER + loaded + '\n\n' + found('docs/CALLING.md', r'^```rust\n(pub fn load_as.*?)^```$')
+
+
 def output():
-    return ''.join(f'{line}\n' for line in [*(['Hello world!'] * 3), *(printed for _, _, printed in examples())])
+    host, port = (faults.no_such_variable(name) for name in ('HOST_OF_DB', 'PORT_OF_DB'))
+    reported = (f'web.json:1:12: /host: {host}\n  {{"host": "$HOST_OF_DB",\n{13 * " "}^^^^^^^^^^\n'
+                f'web.json:2:13: /port: {port}\n   "port": "${{PORT_OF_DB}}"}}\n{14 * " "}^^^^^^^^^^\n')
+    first = ['Hello world!', 'db:80', 'db.example.org:80', reported, 'Hello world!', 'Hello world!']
+    return ''.join(f'{line}\n' for line in [*first, *(printed for _, _, printed in examples())])
 
 
-PRINTED = {'program': program, 'map': own_map, 'output': output}
+PRINTED = {'program': program, 'map': own_map, 'loader': loader, 'output': output}
 if len(sys.argv) != 2 or sys.argv[1] not in PRINTED:
     sys.exit(f'usage: tools/doc-examples.py {" | ".join(PRINTED)}')
 sys.stdout.write(PRINTED[sys.argv[1]]())

@@ -18,13 +18,13 @@ import proved
 from running import TOP, Wrong, run_tests, version
 
 # The columns of a line of code or of a definition, of a line of a clause, and of a line of a page.
-CODE, CLAUSE, PROSE = 112, 100, 120
+CODE, CLAUSE, PROSE = 116, 100, 120
 # The lines of pages, at most; the last one is for each decision.
-LINES = {'README.md': 170, 'docs/DESIGN.md': 160, 'docs/DEFINITIONS.md': 200, 'docs/CALLING.md': 200,
+LINES = {'README.md': 170, 'docs/DESIGN.md': 160, 'docs/DEFINITIONS.md': 200, 'docs/CALLING.md': 225,
          'docs/CONTRIBUTING.md': 200, 'docs/decisions/[0-9]*.md': 40}
 # The words of all pages, the lines of code, of definitions and proofs, and of scripts, and the crates, at most; and the
 # ends of files beside scripts that are none.
-SIZES = {'.rt': 27000, '.antt': 28900, 'scripts': 10400, 'crates': 24}
+SIZES = {'.rt': 27900, '.antt': 29950, 'scripts': 10450, 'crates': 24}
 NO_SCRIPTS = ('.rt', '.antt', '.md', '.tsv', '.txt', 'args', 'stdin', 'stdout')
 # The files that have an option of subst, at most, and those that have the text of a fault.
 OPTION_FILES, FAULT_FILES = 7, 6
@@ -32,7 +32,7 @@ OPTION_FILES, FAULT_FILES = 7, 6
 QUOTING = 'docs/CALLING.md'
 # What tries the blocks of pages, by their language, that are neither quoted nor commands that tools/pages.py runs; it
 # names the page.
-TRIED = (('README.md', ['rust'], 'tools/doc-examples.py'), ('README.md', ['c', 'python'], 'tools/c-library.sh'),
+TRIED = (('README.md', ['rust'], 'tools/doc-examples.py'), ('README.md', ['c'], 'tools/c-library.sh'),
          ('docs/C.md', ['c', 'python'], 'tools/c-library.sh'), ('docs/MEMORY.md', ['text'], 'tools/refuse-memory.py'),
          ('docs/decisions/*.md', ['rust'], 'tools/forms.py'))
 # Blocks that nothing tries: a grammar, a drawing, and parts of programs.
@@ -367,7 +367,7 @@ def test_readme_has_the_theorem():
         yield f'README.md: it has not the theorem of the comment of `substitute_bytes`, word for word: {theorem}'
 
 
-def test_all_that_is_public_is_printed():
+def test_all_that_is_public_is_printed_and_its_clauses_have_names():
     yield from proved.wrongs()
 
 

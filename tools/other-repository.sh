@@ -1,7 +1,7 @@
 #!/usr/bin/env bash
 # Makes a repository in a folder of its own, with the library in it as README.md says, and a program of the examples of
-# README.md, of the map of docs/CALLING.md, and of the examples in the library's comments, and runs that with `rt try`,
-# which proves nothing and so takes half a minute.
+# README.md, of the map and the loader of docs/CALLING.md, and of the examples in the library's comments, and runs that
+# with `rt try`, which proves nothing and so takes half a minute.
 # Then a program that uses a borrowed template after its owner was taken apart has to be refused for that. The last line is
 # 'N passed, M failed, K skipped'.
 set -euo pipefail
@@ -26,14 +26,15 @@ copy_library() {
 write_program() {
   mkdir -p "$folder/crates/greeting/src"
   python3 tools/doc-examples.py program >"$folder/crates/greeting/src/main.rt"
-  python3 tools/doc-examples.py map >"$folder/crates/greeting/src/layered.rt"
+  python3 tools/doc-examples.py map >"$folder/crates/greeting/src/guest.rt"
+  python3 tools/doc-examples.py loader >"$folder/crates/greeting/src/loader.rt"
   python3 tools/doc-examples.py output >"$folder/expected"
-  { library_lines && printf 'greeting: subst anyhow\n'; } >"$folder/crates.txt"
+  { library_lines && printf 'greeting: subst anyhow serde\n'; } >"$folder/crates.txt"
 }
 
 # The same program, which now lends a template, takes its owner apart, and then uses what was borrowed.
 write_use_after_taking_apart() {
-  rm "$folder/crates/greeting/src/layered.rt"
+  rm "$folder/crates/greeting/src/guest.rt" "$folder/crates/greeting/src/loader.rt"
   cat >"$folder/crates/greeting/src/main.rt" <<'PROGRAM'
 //! Uses a borrowed template after its owner was taken apart.
 #![tactic(auto)]

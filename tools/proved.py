@@ -1,7 +1,7 @@
 #!/usr/bin/env python3
 """proved.py   Prints what is proved of what callers can reach, file by file: public functions, and traits and
 implementations that state something, each with the first paragraph of its comment and its clauses, as they are in the
-source. tools/house.py asks for what isn't printed and should be.
+source. tools/house.py asks for what isn't printed and should be, and for names of clauses.
 """
 import functools
 import re
@@ -132,12 +132,14 @@ def files():
     return {str(path.relative_to(CRATES)): path.read_text(encoding='utf-8') for path in paths}
 
 
-def unprinted(path, text):
-    """The public functions of a file that aren't printed, by a plain search."""
-    printed = {it.line for item in printed_of(text) for it in (item, *item.shown())}
+def wrong_in(path, text):
+    """The public functions of a file that aren't printed, by a plain search, and what has a clause without a name."""
+    printed = {it.line: it for item in printed_of(text) for it in (item, *item.shown())}
     for number, line in enumerate(text.splitlines(), 1):
         if re.match(r' *pub .*\bfn \w', line) and number not in printed:
             yield f'crates/{path}:{number}: tools/proved.py does not print it: {line.strip()}'
+        if number in printed and any(re.match(r' *ensures\*? \{', it) for it in printed[number].head):
+            yield f'crates/{path}:{number}: it has a clause without a name: {line.strip()}'
 
 
 def reached(path, text):
@@ -152,9 +154,9 @@ def reached(path, text):
 
 
 def wrongs():
-    """What isn't printed and should be."""
+    """What isn't printed and should be, and clauses without a name."""
     for path, text in files().items():
-        yield from (reached if is_hidden(path) else unprinted)(path, text)
+        yield from (reached if is_hidden(path) else wrong_in)(path, text)
 
 
 def lines_of(item):
