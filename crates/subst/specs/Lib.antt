@@ -14,4 +14,6 @@ pub use Rattle.subst_error.specs.Position
 pub use Rattle.subst_error.specs.Range
 pub use Rattle.subst_error.specs.Writing
 pub use Rattle.subst_foreign.specs.Foreign
+pub use Rattle.subst_foreign.specs.Shell
+pub use Rattle.subst_foreign.specs.ShellDisplay
 pub use Rattle.subst_report.specs.Report

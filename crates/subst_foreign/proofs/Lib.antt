@@ -1,3 +1,6 @@
 pub mod ForeignLemmas
+pub mod NamesLemmas
 pub mod PlaceLemmas
+pub mod ShellLemmas
+pub mod ShellReadings
 pub mod VariableLemmas

@@ -1,5 +1,5 @@
 -- Names after a dollar are the longest there.
-use Rattle.std.proofs.Common.{◌≡◌, ℕ, Option, Some, None, IfNone, List, ◌∷◌, ◌++◌, sym, ◌∙◌, subst}
+use Rattle.std.proofs.Common.{◌≡◌, ℕ, List, ◌∷◌, ◌++◌, sym, ◌∙◌, subst}
 use Rattle.std.specs.List.{AllByRecursion}
 use Rattle.subst_language.specs.Language.Bytes.{opening_brace, closing_brace}
 use Rattle.subst_language.specs.Language.Name.{IsName, IsNameByte, BeginsWithNo}
@@ -25,8 +25,3 @@ no_braced Counts x braced run end opens splits each ends none name rest named co
     let same = split_unique name run (closing_brace ∷ rest) end (name_bytes name named) each closing_no_name
     ends (sym inside ∙ splits) in
     none rest (sym same.1) (subst IsName same.0 named, subst Counts same.0 counts)
-
--- what follows where nothing was found
-pub none_gives : {X : Type 0} {A B : Type 0} (o : Option X) → (A → B) → IfNone o A → IfNone o B
-none_gives None f a = f a
-none_gives (Some x) f a = a

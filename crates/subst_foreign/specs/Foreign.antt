@@ -1,6 +1,6 @@
 -- Texts that were written for another tool, which fills in `$NAME` and `${NAME}`, and in which all else is
 -- text, and the templates that stand for them.
-use Rattle.std.specs.Prelude.{◌≡◌, ◌⊎◌, ◌==◌, if◌then◌else◌, ℕ, List, [], ◌∷◌, ◌++◌, Option, Some, None, Result, Ok, Err, IsTrue}
+use Rattle.std.specs.Prelude.{◌≡◌, ◌⊎◌, ◌==◌, if◌then◌else◌, ℕ, List, [], ◌∷◌, ◌++◌, Option, Some, None, Result, Ok, Err, IsTrue, is_some, unwrap_or}
 use Rattle.std.specs.Borrow.{Bor}
 use Rattle.std.specs.List.{Any}
 use Rattle.std.specs.Char.{is_ascii_digit}
@@ -75,6 +75,17 @@ abbrev pub pieces_value : List Piece → LookUp → Given
 pieces_value [] look = Ok []
 pieces_value (piece ∷ rest) look = and_then (piece_value piece look) (pieces_value rest look)
 
+-- a byte gives itself, and a variable its value, or nothing where it has none
+abbrev pub piece_filled : Piece → LookUp → List ℕ
+piece_filled (Byte b) look = b ∷ []
+piece_filled (Short name) look = unwrap_or (look name) []
+piece_filled (Braced name) look = unwrap_or (look name) []
+
+-- the text of the pieces with values in place of their variables, and nothing in place of the others
+abbrev pub pieces_filled : List Piece → LookUp → List ℕ
+pieces_filled [] look = []
+pieces_filled (piece ∷ rest) look = piece_filled piece look ++ pieces_filled rest look
+
 -- a value without the position of what is missing
 abbrev pub unplaced : Value → Given
 unplaced (Bytes x) = Ok x
@@ -102,6 +113,16 @@ pub record IsTemplateFor (Counts : List ℕ → Type 0) (s source : List ℕ) : 
   pub unescapes : unescaped source ≡ s
   pub gives : (look : LookUp) → unplaced (value 0 tree look) ≡ pieces_value pieces look
 
+-- A source is a template for a text in which all variables are optional: it is a sentence, and under each
+-- look-up it gives the text with values in place of its variables, and nothing where there is none.
+pub record IsOptionalTemplateFor (Counts : List ℕ → Type 0) (s source : List ℕ) : Type 0 where
+  pub pieces : List Piece
+  pub spelled : s ≡ pieces_text pieces
+  pub read : AreRead Counts pieces
+  pub tree : Tree
+  pub spells : Spells tree source
+  pub gives : (look : LookUp) → value 0 tree look ≡ Bytes (pieces_filled pieces look)
+
 -- a name that a shell knows: it doesn't begin with a digit
 abbrev pub IsShellName : List ℕ → Type 0
 IsShellName = BeginsWithNo (λ b. IsTrue (is_ascii_digit b))
@@ -109,3 +130,7 @@ IsShellName = BeginsWithNo (λ b. IsTrue (is_ascii_digit b))
 -- a name that is in the list
 abbrev pub IsListed : List (Bor (List ℕ)) → List ℕ → Type 0
 IsListed names name = Any (λ listed. listed.now ≡ name) names
+
+-- a name that a look-up has something for
+abbrev pub HasValue : {X : Type 0} → (List ℕ → Option X) → List ℕ → Type 0
+HasValue look_up name = IsTrue (is_some (look_up name))

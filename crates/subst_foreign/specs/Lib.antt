@@ -1,2 +1,5 @@
 pub mod Foreign
+pub mod Shell
+pub mod ShellDisplay
+pub mod ShellTemplate
 pub mod Template

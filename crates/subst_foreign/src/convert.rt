@@ -1,15 +1,17 @@
 //! Writing a template for a text.
 
-ghost use Rattle.std.specs.Prelude.{◌≡◌, ◌<◌, ◌≤◌, ◌++◌, ◌∷◌, ℕ, List, length, string_bytes, IfOk, IsTrue};
+ghost use Rattle.std.specs.Prelude.{◌≡◌, ◌<◌, ◌≤◌, ◌++◌, ◌∷◌, ℕ, List, length, string_bytes, IfOk, IsTrue, OnOk};
 ghost use Rattle.std.specs.Str.{IsUtf8};
-ghost use Rattle.subst_foreign.specs.Template.{is_escaped, IsWrittenAs};
+ghost use Rattle.subst_language.specs.Language.Bytes.{dollar, opening_brace};
+ghost use Rattle.subst_foreign.specs.Template.{is_escaped, variable_text, IsWrittenAs};
 
 use crate::names::Names;
-use crate::variable::after_variable;
+use crate::variable::variable_at;
 use memchr::memchr2;
 use std::alloc::{AllocError, Global};
 
-/// Returns a template for a text: all dollars that begin no variable, and all backslashes, are escaped.
+/// Returns a template for a text: all dollars that begin no variable, and all backslashes, are escaped, and
+/// a variable stands as it is, or with a question mark.
 ///
 /// # Errors
 ///
@@ -18,15 +20,17 @@ pub(crate) fn template_for<N: Names>(
     alloc: Global,
     text: &[u8],
     names: &N,
+    is_optional: bool,
 ) -> Result<Vec<u8>, AllocError>
-    ensures { IfOk result (λ template. IsWrittenAs (N.counts names.now) text.now template.items) }
+    ensures { IfOk result (λ template.
+        IsWrittenAs is_optional (N.counts names.now) text.now template.items) }
 {
     let mut template = Vec::with_capacity(alloc, text.len())?;
     let mut rest = text;
     while let Some(at) = memchr2(b'$', b'\\', rest) {
         let (before, special) = rest.split_at(at);
         template.extend_from_slice(before)?;
-        rest = append_special(&mut template, special, names)?;
+        rest = append_special(&mut template, special, names, is_optional)?;
     }
     template.extend_from_slice(rest)?;
     Ok(template)
@@ -38,17 +42,18 @@ fn append_special<'t, N: Names>(
     template: &mut Vec<u8>,
     text: &'t [u8],
     names: &N,
+    is_optional: bool,
 ) -> Result<&'t [u8], AllocError>
     requires { (b : ℕ) × (x : List ℕ) × (text.now ≡ b ∷ x) × IsTrue (is_escaped b) }
     ensures written { IfOk result (λ rest. (part : List ℕ)
         × (template.new.items ≡ template.old.items ++ part)
-        × ((y : List ℕ) → IsWrittenAs (N.counts names.now) rest.now y
-        → IsWrittenAs (N.counts names.now) text.now (part ++ y))) }
+        × ((y : List ℕ) → IsWrittenAs is_optional (N.counts names.now) rest.now y
+        → IsWrittenAs is_optional (N.counts names.now) text.now (part ++ y))) }
     ensures shorter { IfOk result (λ rest. length rest.now < length text.now) }
 {
-    match after_variable(text, names) {
-        Some(rest) => {
-            template.extend_from_slice(before(text, rest.len()))?;
+    match variable_at(text, names) {
+        Some((name, rest)) => {
+            append_variable(template, before(text, rest.len()), name, is_optional)?;
             Ok(rest)
         }
         None => {
@@ -58,6 +63,38 @@ fn append_special<'t, N: Names>(
             Ok(rest)
         }
     }
+}
+
+/// Appends a variable, which is written so in the text.
+fn append_variable(
+    template: &mut Vec<u8>,
+    variable: &[u8],
+    name: &[u8],
+    is_optional: bool,
+) -> Result<(), AllocError>
+    ensures { OnOk result
+        (template.new.items
+        ≡ template.old.items ++ variable_text is_optional variable.now name.now) }
+{
+    if is_optional {
+        append_named(template, name, b"?}")
+    } else {
+        template.extend_from_slice(variable)
+    }
+}
+
+/// Appends a dollar, an opening brace, a name and what comes after that.
+pub(crate) fn append_named(
+    template: &mut Vec<u8>,
+    name: &[u8],
+    end: &[u8],
+) -> Result<(), AllocError>
+    ensures { OnOk result (template.new.items
+        ≡ template.old.items ++ (dollar ∷ (opening_brace ∷ (name.now ++ end.now)))) }
+{
+    template.extend_from_slice(b"${")?;
+    template.extend_from_slice(name)?;
+    template.extend_from_slice(end)
 }
 
 /// Returns a text without its last bytes, of which there are so many.
@@ -78,15 +115,16 @@ pub(crate) fn text_template_for<N: Names>(
     alloc: Global,
     text: &str,
     names: &N,
+    is_optional: bool,
 ) -> Result<String, AllocError>
     ensures { IfOk result (λ template.
-        IsWrittenAs (N.counts names.now) text.now (string_bytes template)) }
+        IsWrittenAs is_optional (N.counts names.now) text.now (string_bytes template)) }
 {
-    Ok(text_of(template_for(alloc, text.as_bytes(), names)?))
+    Ok(text_of(template_for(alloc, text.as_bytes(), names, is_optional)?))
 }
 
 /// Returns the text that the bytes are, without a check.
-fn text_of(bytes: Vec<u8>) -> String
+pub(crate) fn text_of(bytes: Vec<u8>) -> String
     requires { IsUtf8 bytes.items }
     ensures { string_bytes result ≡ bytes.items }
 {

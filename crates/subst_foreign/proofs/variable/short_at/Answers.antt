@@ -2,7 +2,7 @@ use Rattle.std.proofs.Common.{sym, subst}
 use Rattle.std.specs.List.{AllByRecursion}
 use Rattle.subst_language.specs.Language.Name.{IsNameByte, BeginsWithNo}
 use Rattle.subst_foreign.proofs.VariableLemmas.{no_short}
-use Rattle.subst_foreign.proofs.variable.after_short.Goals as goal
+use Rattle.subst_foreign.proofs.variable.short_at.Goals as goal
 
 pub returns-else-is_variable-clause-none : goal.returns-else-is_variable-clause-none
 returns-else-is_variable-clause-none g c =

@@ -1,8 +1,8 @@
 use Rattle.std.proofs.Common.{string_bytes}
 use Rattle.subst_foreign.proofs.ForeignLemmas.{templates}
-use Rattle.subst_foreign.proofs.from_envsubst.Goals as goal
+use Rattle.subst_foreign.proofs.with_names.Goals as goal
 
 pub returns : goal.returns
-returns c = record {
+returns g c = record {
   template = templates _ c.args.text.now string_bytes c.text_template_for.result c.text_template_for.ensures;
 }
