@@ -1,30 +1,20 @@
 -- A walk over a tree, step by step.
 use Rattle.std.proofs.Common.{◌≡◌, ℕ, List, [], ◌∷◌, ◌++◌, Option, Some, None, IfSome, String, Global, string_bytes, refl, sym, ap, subst, rules}
-use Rattle.std.specs.Map.{keys_of, values_of}
-use Rattle.std.specs.Option.{option_map}
+use Rattle.std.specs.Map.{values_of}
 use Rattle.serde_json.specs.Data.{string, Items, no_items, item}
 use Rattle.serde_json.specs.View.{view, items_view, members_view}
 use Rattle.serde_json.specs.declared.value.Value.{Value, the_lemmas}
 use Rattle.serde_json.specs.declared.value.Value as json
 use Rattle.serde_json.proofs.Views.{Entry}
 use Rattle.subst_error.specs.Fault.{Fault}
-use Rattle.subst_language.specs.Language.Answer.{Answer, Refuses}
+use Rattle.subst_language.specs.Language.Answer.{Answer}
 use Rattle.subst_language.specs.Language.Several.{GivesBy, RefusesFirst}
-use Rattle.subst_language.proofs.Language.SeveralLemmas.{refusal_alone, refusal_before, refusal_after}
-use Rattle.subst_json.specs.Mapped.{strings, strings_of_items, strings_of_members, IsEach, AreEach, HasEachMember}
+use Rattle.subst_language.proofs.Language.SeveralLemmas.{refusal_before, refusal_after}
+use Rattle.subst_json.specs.Mapped.{strings, strings_of_items, strings_of_members, AreEach}
 use Rattle.subst_json.proofs.MappedLemmas.{given}
 
 pub view-String : (s : String Global) → view (json.String s) ≡ string (string_bytes s)
 view-String s = search (rules, the_lemmas)
-
--- one item more
-pub each_append : (Becomes : List ℕ → List ℕ → Type 0) (vs ws : List Value) (v w : Value)
-    → AreEach Becomes (items_view vs) (items_view ws) → IsEach Becomes (view v) (view w)
-    → AreEach Becomes (items_view (vs ++ v ∷ [])) (items_view (ws ++ w ∷ []))
-each_append Becomes [] [] v w h k = (k, tt)
-each_append Becomes [] (y ∷ ws) v w h k = absurd h
-each_append Becomes (x ∷ vs) [] v w h k = absurd h
-each_append Becomes (x ∷ vs) (y ∷ ws) v w h k = (h.0, each_append Becomes vs ws v w h.1 k)
 
 -- the strings of an object are those of its values
 strings_of_values : (es : List Entry)
@@ -32,30 +22,8 @@ strings_of_values : (es : List Entry)
 strings_of_values [] = refl
 strings_of_values (e ∷ es) = ap (λ ss. strings (view e.1) ++ ss) (strings_of_values es)
 
--- if the values are filled in and the keys stay, the object is filled in
-pub each_member : (Becomes : List ℕ → List ℕ → Type 0) (es fs : List Entry) → keys_of fs ≡ keys_of es
-    → AreEach Becomes (items_view (values_of es)) (items_view (values_of fs))
-    → HasEachMember Becomes (members_view es) (members_view fs)
-each_member Becomes [] [] same h = tt
-each_member Becomes [] (f ∷ fs) same h = absurd h
-each_member Becomes (e ∷ es) [] same h = absurd h
-each_member Becomes (e ∷ es) (f ∷ fs) same h =
-    let all : f.0 ∷ keys_of fs ≡ e.0 ∷ keys_of es = same in
-    let first : e.0 ≡ f.0 = cc in
-    let others : keys_of fs ≡ keys_of es = cc in
-    (ap string_bytes first, h.0, each_member Becomes es fs others h.1)
-
 -- `ask` tells which answers a string has
 module _ (ask : List ℕ → Answer → Type 0) where
-  -- a string that is refused is the first one of its tree
-  pub string_refused : (s : String Global) (fault : Option Fault)
-      → IfSome (option_map Refuses fault) (ask (string_bytes s))
-      → IfSome fault (RefusesFirst ask (strings (view (json.String s))))
-  string_refused s None h = tt
-  string_refused s (Some f) h =
-      subst (λ d. RefusesFirst ask (strings d) f) (sym (view-String s))
-      (refusal_alone ask (string_bytes s) f h)
-
   -- the first refusal of an item, after items that are filled in, is that of the array
   item_refused : (done more : List Value) (v : Value) (filled : Items) (f : Fault)
       → AreEach (GivesBy ask) (items_view done) filled → RefusesFirst ask (strings (view v)) f

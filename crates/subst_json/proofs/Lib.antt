@@ -1,3 +1,4 @@
+pub mod ChangedLemmas
 pub mod FilledLemmas
 pub mod FindLemmas
 pub mod JsonTreeLemmas

@@ -1,3 +1,4 @@
+pub mod Changed
 pub mod Errors
 pub mod Filled
 pub mod Laws

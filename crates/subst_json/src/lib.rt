@@ -42,6 +42,7 @@ use subst_map::VariableMap;
 pub use subst_walk::{Fill, Filler, PathStep, StringAt};
 use typed::FromTree;
 
+mod changes;
 mod compared;
 mod document;
 mod error;
@@ -55,7 +56,6 @@ mod refused;
 mod stop;
 mod tokens;
 mod typed;
-mod walk;
 
 /// Fills in the strings of a tree from `variables`, whose values are texts.
 ///
@@ -83,8 +83,8 @@ where
     ensures range { OnFault error_fault result HasRange }
     ensures unchanged { OnErr result (value.new ≡ value.old) }
 {
-    let filled = walk::filled(alloc, value.clone()?, &Filler { variables })?;
-    *value = filled;
+    let change = changes::change_of(alloc, value, &Filler { variables })?;
+    changes::make(value, change);
     Ok(())
 }
 
@@ -220,7 +220,7 @@ where
 /// Returns a tree that was read, with its strings filled in.
 fn fill_tree<'a, M: VariableMap<'a>>(
     alloc: Global,
-    value: Value,
+    mut value: Value,
     variables: &'a M,
 ) -> Result<Value, Error>
 where
@@ -235,5 +235,6 @@ where
     ensures range { OnSubst result HasRange }
     ensures memory { IfErr result HasOwnMemory }
 {
-    Ok(walk::filled(alloc, value, &Filler { variables })?)
+    substitute_string_values(alloc, &mut value, variables)?;
+    Ok(value)
 }

@@ -1,3 +1,4 @@
+pub mod ChangedLemmas
 pub mod LocatedLemmas
 pub mod MappedLemmas
 pub mod OneOutcomeLemmas

@@ -1,3 +1,4 @@
+pub mod Changed
 pub mod DottedKey
 pub mod Errors
 pub mod Filled

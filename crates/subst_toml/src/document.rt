@@ -19,7 +19,7 @@ ghost use Rattle.subst_toml.specs.Mapped.{strings, IsEach};
 ghost use Rattle.subst_toml.specs.Outcome.{ReadsAsTree, IfToml, OnToml, OnSubst, TellsUtf8, StatesFirst};
 
 use crate::error::Error;
-use crate::{text_of, walk};
+use crate::{changes, text_of};
 use same::is_same_table;
 use std::alloc::{AllocError, Global};
 use std::convert::AsStr;
@@ -123,7 +123,7 @@ pub fn fill_in_by<F: Fill>(alloc: Global, source: &str, filler: &F) -> Result<Op
     ensures memory { IfErr result HasOwnMemory }
 {
     let table = toml::table_from_str(alloc, source)?;
-    let filled = walk::filled_members(alloc, table, filler)?;
+    let filled = changes::filled_members(alloc, table, filler)?;
     let Some(output) = written(alloc, source, filler)? else {
         return Ok(None);
     };

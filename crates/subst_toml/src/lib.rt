@@ -46,6 +46,7 @@ pub use subst_walk::{Fill, Filler, PathStep, StringAt};
 use toml::{Table, Value};
 use typed::FromText;
 
+mod changes;
 mod document;
 mod error;
 pub mod laws;
@@ -55,7 +56,6 @@ mod places;
 mod refusals;
 mod refused;
 mod typed;
-mod walk;
 
 /// Fills in the strings of a tree from `variables`, whose values are texts.
 ///
@@ -83,8 +83,8 @@ where
     ensures range { OnFault error_fault result HasRange }
     ensures unchanged { OnErr result (value.new ≡ value.old) }
 {
-    let filled = walk::filled(alloc, value.clone()?, &Filler { variables })?;
-    *value = filled;
+    let change = changes::change_of(alloc, value, &Filler { variables })?;
+    changes::make(value, change);
     Ok(())
 }
 
@@ -245,5 +245,5 @@ where
     ensures memory { IfErr result HasOwnMemory }
 {
     let table = toml::table_from_str(alloc, source)?;
-    Ok(walk::filled_members(alloc, table, &Filler { variables })?)
+    Ok(changes::filled_members(alloc, table, &Filler { variables })?)
 }

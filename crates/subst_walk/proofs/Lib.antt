@@ -1,3 +1,4 @@
+pub mod ChangeLemmas
 pub mod EditLemmas
 mod FillerLemmas
 pub mod FirstLemmas

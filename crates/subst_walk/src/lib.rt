@@ -1,6 +1,6 @@
 //! Filling in the texts of a tree: what the walks over trees of each format share. `Fill` is a way to
 //! fill in texts, and `Filler` is that by a map: it returns the answer of a text, and a text without `$`
-//! and `\` as it is. `put_values` puts values into a map, whose keys stay.
+//! and `\` as it is.
 //!
 //! `fill_in_string` fills in a string where it stands in a text, whose format is a `StringFormat`.
 //!
@@ -10,15 +10,14 @@
 //! `subst` re-exports `PathStep` alone, by its modules `json` and `toml`.
 #![tactic(auto)]
 
-ghost use Rattle.std.specs.Prelude.{◌≡◌, ◌+◌, ◌<◌, IfOk, IfSome, IsSomeAnd, IsTrue, MatchOption, ℕ, List, ◌∷◌, length, string_bytes};
-ghost use Rattle.std.specs.Map.{keys_of, values_of};
-ghost use Rattle.std.specs.Vec.Iter.{into_iter_items, into_iter_len};
+ghost use Rattle.std.specs.Prelude.{IfOk, IfSome, IsSomeAnd, IsTrue, MatchOption, ℕ, List, string_bytes};
 ghost use Rattle.subst_error.specs.ErrorFault.{error_fault};
 ghost use Rattle.subst_error.specs.Range.{range_of, IsRangeIn};
 ghost use Rattle.subst_language.specs.Language.Answer.{Answer, Gives, Refuses};
 ghost use Rattle.subst_language.specs.Calls.Outcome.{OnFault, answer_of};
 ghost use Rattle.subst_walk.specs.Texts.{HasRange};
 
+pub use changes::{Change, Found, Left, change_of_text};
 pub use edits::{
     Cut, StringAt, StringFormat, changed, cut_round, fill_in_string, slice, string_at,
 };
@@ -27,12 +26,12 @@ pub use path_step::PathStep;
 pub use pieces::{Pieces, Position, spans};
 pub use refused::{HowMany, PathStepRef, Refused, add_below, refused_string};
 use std::alloc::{AllocError, Global};
-use std::collections::BTreeMap;
 use std::convert::AsStr;
 use subst_error::Error;
 use subst_map::VariableMap;
 use subst_template::{is_plain, substitute, substitute_owned};
 
+mod changes;
 mod edits;
 mod found;
 mod path_step;
@@ -101,29 +100,4 @@ where
             Err(e) => Ok(Some(e)),
         }
     }
-}
-
-/// Puts these values into a map, in the order of its keys.
-///
-/// A walk calls it at each level, so its frame is kept out of the walk's.
-#[inline(never)]
-pub fn put_values<V: Drop>(members: &mut BTreeMap<String, V>, values: Vec<V>)
-    requires { length values.items ≡ length members.old.entries }
-    ensures keys { keys_of members.new.entries ≡ keys_of members.old.entries }
-    ensures values { values_of members.new.entries ≡ values.items }
-{
-    let mut rest = values.into_iter();
-    members.retain(
-        |_, member|
-            ensures stays { IsTrue result }
-            ensures put { 0 < into_iter_len rest.entry
-                → (into_iter_items rest.entry ≡ member.new ∷ into_iter_items rest.exit)
-                × (into_iter_len rest.exit + 1 ≡ into_iter_len rest.entry) }
-        {
-            if let Some(value) = rest.next() {
-                *member = value;
-            }
-            true
-        },
-    );
 }

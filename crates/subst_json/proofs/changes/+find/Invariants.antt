@@ -1,0 +1,20 @@
+use Rattle.std.proofs.Common.{◌≡◌, List, ◌++◌, length, take}
+use Rattle.std.specs.Map.{values_of}
+use Rattle.serde_json.specs.declared.value.Value.{Value}
+use Rattle.subst_language.specs.Language.Several.{GivesBy}
+use Rattle.subst_walk.specs.Changes.{found_so_far, AreMade}
+use Rattle.subst_json.proofs.ChangedLemmas.{GivesEach}
+use Rattle.subst_json.proofs.changes.+find.Given as goal
+
+-- what the items so far become is found
+abbrev pub invariant-change_of_items-loop-item : goal.invariant-change_of_items-loop-item
+invariant-change_of_items-loop-item g l = (length (found_so_far l.found) ≡ l.item-index)
+    × AreMade (GivesEach (GivesBy (g.F.Fill.answers l.filler))) (take l.item-index l.item-items)
+    (found_so_far l.found) (take l.item-index l.item-items)
+
+-- what the values of the members so far become is found
+abbrev pub invariant-change_of_members-loop-member : goal.invariant-change_of_members-loop-member
+invariant-change_of_members-loop-member g l = (done : List Value)
+    × (values_of l.members.entries ≡ done ++ l.member-iterator)
+    × (length (found_so_far l.found) ≡ length done)
+    × AreMade (GivesEach (GivesBy (g.F.Fill.answers l.filler))) done (found_so_far l.found) done
