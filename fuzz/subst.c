@@ -231,6 +231,10 @@ CALL(json_fault_text, uint8_t, 0, SOURCE, PAIRS, buffer, buffer_len, &told->need
 CALL(toml_fault_text, uint8_t, 0, SOURCE, PAIRS, buffer, buffer_len, &told->needed)
 CALL(fault_text, uint8_t, 0, SOURCE, PAIRS, buffer, buffer_len, &told->needed)
 CALL(fault_highlighting, uint8_t, 0, SOURCE, PAIRS, buffer, buffer_len, &told->needed)
+CALL(from_envsubst, uint8_t, 0, SOURCE, SUBST_OPTIONAL, buffer, buffer_len, &told->needed)
+CALL(with_only, uint8_t, 0, SOURCE, PAIRS, SUBST_REQUIRED, buffer, buffer_len, &told->needed)
+CALL(from_shell, uint8_t, 0, SOURCE, buffer, buffer_len, &told->needed, &told->fault.kind, &told->fault.position)
+CALL(shell_form_text, uint8_t, 0, (uint32_t)input->buffer_len, buffer, buffer_len, &told->needed)
 
 /* Makes a call in a buffer of this length, and holds it to what it writes with which result. One that writes straight into
  * the buffer leaves it as it was where the source is no template or no text. */
@@ -357,6 +361,41 @@ static void try_escaped(const struct input *input)
     EXPECT(memcmp(answer.items, input->source, answer.needed) == 0);
     free(answer.block);
     free(source);
+}
+
+/* A template for a text is a template that misses no variable, since all are optional, or pairs name them. */
+static void try_translated(const struct call *call, const struct input *input)
+{
+    struct answer translated = held(call, input), missing;
+    struct input of_template = *input;
+    EXPECT(translated.result == SUBST_DONE);
+    of_template.source = translated.items;
+    of_template.source_len = translated.needed;
+    missing = answer_of(&call_missing, &of_template);
+    EXPECT(missing.result == SUBST_DONE && missing.needed == 0);
+    free(missing.block);
+    free(translated.block);
+}
+
+/* A text of a shell gives a template, or has a form that has none. The numbers of forms have texts, and no others. */
+static void try_shell(const struct input *input)
+{
+    struct answer none = asked(&call_from_shell, input, 0), answer = asked(&call_from_shell, input, none.needed);
+    struct answer said = held(&call_shell_form_text, input);
+    struct subst_fault fault = answer.fault;
+    if (answer.result == SUBST_REFUSED) {
+        EXPECT(fault.kind >= SUBST_FORM_DOLLAR && fault.kind <= SUBST_FORM_UNCLOSED);
+        EXPECT(fault.position < input->source_len);
+        EXPECT(input->source[fault.position] == (fault.kind == SUBST_FORM_BRACE ? '{' : '$'));
+    } else {
+        EXPECT(answer.result == SUBST_DONE && subst_check(answer.items, answer.needed, &fault) == SUBST_DONE);
+    }
+    expect_in_buffers(&call_from_shell, input, &answer);
+    EXPECT(said.result == SUBST_DONE && is_utf8(said.items, said.needed));
+    EXPECT((said.needed > 0) == (input->buffer_len >= SUBST_FORM_DOLLAR && input->buffer_len <= SUBST_FORM_UNCLOSED));
+    free(none.block);
+    free(answer.block);
+    free(said.block);
 }
 
 /* A document is filled in, or refused at a place in it, and what is said of it is empty unless it is refused. */
@@ -701,6 +740,9 @@ int LLVMFuzzerTestOneInput(const uint8_t *data, size_t size)
     try_highlighting(&input, &answer);
     try_place(&input, &answer);
     try_escaped(&input);
+    try_translated(&call_from_envsubst, &input);
+    try_translated(&call_with_only, &input);
+    try_shell(&input);
     try_document(&call_json, &call_json_fault_text, &input);
     try_document(&call_toml, &call_toml_fault_text, &input);
     free(answer.block);

@@ -1,8 +1,7 @@
 #!/usr/bin/env bash
 # Tests the library for C: tools/c_library.c built as C, as C++ and with the sanitizers of the compiler, threads,
 # sources around 4 GiB, each request for memory refused in turn, how often memory is asked for, and what tools/install
-# puts in place, by its names and by the examples of docs/C.md and README.md. The last line is
-# 'N passed, M failed, K skipped'.
+# puts in place, by its names and by the examples of docs/C.md. The last line is 'N passed, M failed, K skipped'.
 set -euo pipefail
 cd "$(dirname "$0")/.."
 ulimit -c 0
@@ -203,23 +202,13 @@ run_commands() {
 examples_print_what_is_written() {
   mkdir "$folder/examples"
   block c docs/C.md 1 >"$folder/examples/greet.c"
-  block c docs/C.md 2 >"$folder/examples/document.c"
+  block c docs/C.md 2 >"$folder/examples/environment.c"
+  block c docs/C.md 3 >"$folder/examples/document.c"
   block python >"$folder/examples/greet.py"
   block console >"$folder/wanted"
   PREFIX=$folder/prefix run_commands <"$folder/wanted" >"$folder/printed"
   [ -s "$folder/wanted" ] && diff "$folder/wanted" "$folder/printed" &&
     printf '%d commands\n' "$(grep -c '^\$ ' "$folder/wanted")"
-}
-
-# The example of README.md, which greets the world.
-example_of_readme_greets() {
-  local prefix=$folder/prefix printed
-  block c README.md >"$folder/readme.c"
-  runs "$compiler" -std=c99 "${strict[@]}" -I"$prefix/include" -o "$folder/readme" "$folder/readme.c" \
-    "$prefix/lib/libsubst.a" || return
-  printed=$("$folder/readme") || return
-  printf '%s\n' "$printed"
-  [ "$printed" = 'Hello world!' ]
 }
 
 # The compiler's arguments by pkg-config build the example too.
@@ -257,7 +246,6 @@ else
 fi
 test_with valgrind 'under valgrind' under_valgrind
 test_with python3 'examples of docs/C.md' examples_print_what_is_written
-test_that 'the example of README.md' example_of_readme_greets
 test_with python3 'by names' called_by_their_names
 test_with pkg-config 'by pkg-config' package_is_found
 end

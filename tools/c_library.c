@@ -1,5 +1,5 @@
-/* Tests of the library as C calls it: NULL beside a length of 0, memory that is refused, documents, the index over
- * pairs, and its version. All else that the header says is tried by fuzz/subst.c. A test that fails prints a line, and
+/* Tests of the library as C calls it: NULL beside a length of 0, memory that is refused, documents, texts of other
+ * tools, the index over pairs, and its version. All else that the header says is tried by fuzz/subst.c. A test that fails prints a line, and
  * the last line is 'N passed, M failed'.
  *
  * A call that is out of memory has to have written nothing; it is said and made again, so that tools/c-library.sh can
@@ -18,20 +18,16 @@ enum { ROOM = 128, MOST_VARIABLES = 4, UNTOUCHED = 0xA5 };
 struct written {
     uint8_t buffer[ROOM];
     struct subst_variable variables[MOST_VARIABLES];
-    size_t end, needed, row;
+    size_t end, needed, row, position;
+    uint32_t form;
     struct subst_fault fault;
 };
 
 static int passed, failed;
 
-static const uint8_t *bytes_of(const char *text)
-{
-    return (const uint8_t *)text;
-}
-
 static struct subst_pair pair_of(const char *name, const char *value)
 {
-    struct subst_pair pair = {bytes_of(name), strlen(name), bytes_of(value), strlen(value)};
+    struct subst_pair pair = {name, strlen(name), value, strlen(value)};
     return pair;
 }
 
@@ -102,21 +98,21 @@ static const struct source sources[] = {
 
 /* The calls, for such a source */
 
-typedef uint32_t filling(const uint8_t *source, size_t source_len, const struct subst_pair *pairs, size_t pairs_len,
-                         uint8_t *buffer, size_t buffer_len, size_t *needed, struct subst_fault *fault);
-typedef uint32_t saying(const uint8_t *source, size_t source_len, const struct subst_pair *pairs, size_t pairs_len,
-                        uint8_t *buffer, size_t buffer_len, size_t *needed);
+typedef uint32_t filling(const void *source, size_t source_len, const struct subst_pair *pairs, size_t pairs_len,
+                         void *buffer, size_t buffer_len, size_t *needed, struct subst_fault *fault);
+typedef uint32_t saying(const void *source, size_t source_len, const struct subst_pair *pairs, size_t pairs_len,
+                        void *buffer, size_t buffer_len, size_t *needed);
 
 static uint32_t fill(filling *call, const char *source, struct written *written)
 {
     struct subst_pair pair = pair_of("name", "world");
-    return call(bytes_of(source), strlen(source), &pair, 1, written->buffer, ROOM, &written->needed, &written->fault);
+    return call(source, strlen(source), &pair, 1, written->buffer, ROOM, &written->needed, &written->fault);
 }
 
 static uint32_t say(saying *call, const char *source, struct written *written)
 {
     struct subst_pair pair = pair_of("name", "world");
-    return call(bytes_of(source), strlen(source), &pair, 1, written->buffer, ROOM, &written->needed);
+    return call(source, strlen(source), &pair, 1, written->buffer, ROOM, &written->needed);
 }
 
 static uint32_t bytes_call(const char *source, struct written *written)
@@ -143,25 +139,25 @@ static uint32_t each_call(const char *source, struct written *written)
 {
     struct subst_pair pair = pair_of("name", "world");
     struct subst_row row = {&pair, 1};
-    return subst_bytes_each(bytes_of(source), strlen(source), &row, 1, written->buffer, ROOM, &written->end, 1,
+    return subst_bytes_each(source, strlen(source), &row, 1, written->buffer, ROOM, &written->end, 1,
                             &written->needed, &written->row, &written->fault);
 }
 
 static uint32_t check_call(const char *source, struct written *written)
 {
-    return subst_check(bytes_of(source), strlen(source), &written->fault);
+    return subst_check(source, strlen(source), &written->fault);
 }
 
 static uint32_t variables_call(const char *source, struct written *written)
 {
-    return subst_variables(bytes_of(source), strlen(source), written->variables, MOST_VARIABLES, &written->needed,
+    return subst_variables(source, strlen(source), written->variables, MOST_VARIABLES, &written->needed,
                            &written->fault);
 }
 
 static uint32_t missing_call(const char *source, struct written *written)
 {
     struct subst_pair pair = pair_of("name", "world");
-    return subst_missing(bytes_of(source), strlen(source), &pair, 1, written->variables, MOST_VARIABLES,
+    return subst_missing(source, strlen(source), &pair, 1, written->variables, MOST_VARIABLES,
                          &written->needed, &written->fault);
 }
 
@@ -289,7 +285,7 @@ static int is_fault_text(const struct document *document, const struct written *
 /* A document is filled in, or refused at its place, which the text of its fault goes with. */
 static void test_document(const struct document *document, const struct subst_pair pairs[2])
 {
-    const uint8_t *source = bytes_of(document->text);
+    const char *source = document->text;
     size_t length = strlen(document->text), most = ROOM;
     struct written written;
     uint32_t result;
@@ -320,12 +316,12 @@ static void test_no_text(filling *fill, saying *say)
     struct subst_pair pair = pair_of("name", "\xC3");
     struct written written;
     uint32_t result;
-    MAKE(result, &written, fill(bytes_of("[]"), 2, &pair, 1, written.buffer, ROOM, &written.needed, &written.fault));
+    MAKE(result, &written, fill("[]", 2, &pair, 1, written.buffer, ROOM, &written.needed, &written.fault));
     end_test("a document", "a value that isn't UTF-8", result == SUBST_NOT_UTF8 && is_untouched(&written));
-    MAKE(result, &written, fill(bytes_of("\"\xC3\""), 3, NULL, 0, written.buffer, ROOM, &written.needed,
+    MAKE(result, &written, fill("\"\xC3\"", 3, NULL, 0, written.buffer, ROOM, &written.needed,
                                 &written.fault));
     end_test("a document", "a source that isn't UTF-8", result == SUBST_NOT_UTF8 && is_untouched(&written));
-    MAKE(result, &written, say(bytes_of("[]"), 2, &pair, 1, written.buffer, ROOM, &written.needed));
+    MAKE(result, &written, say("[]", 2, &pair, 1, written.buffer, ROOM, &written.needed));
     end_test("the fault's text", "a value that isn't UTF-8", result == SUBST_NOT_UTF8 && is_untouched(&written));
 }
 
@@ -337,6 +333,125 @@ static void test_documents(void)
         test_document(&documents[i], pairs);
     test_no_text(subst_json, subst_json_fault_text);
     test_no_text(subst_toml, subst_toml_fault_text);
+}
+
+/* Texts of other tools */
+
+/* A text, the one name that is that of variables, or NULL for those of envsubst, and the templates for it, in which
+ * variables are required, or optional. */
+struct translated {
+    const char *text, *only, *required, *optional;
+};
+
+static const struct translated translations[] = {
+    {"$5 \\n ${name}$b ${1} ${a:b} $", NULL, "\\$5 \\\\n ${name}$b \\${1} \\${a:b} \\$",
+     "\\$5 \\\\n ${name?}${b?} \\${1} \\${a:b} \\$"},
+    {"$name ${name} $names \\$5", "name", "$name ${name} \\$names \\\\\\$5",
+     "${name?} ${name?} \\$names \\\\\\$5"},
+    {"$name $5", "5", "\\$name $5", "\\$name ${5?}"},
+    {"\\", "", "\\\\", "\\\\"},
+};
+
+static uint32_t translate(const struct translated *translated, uint32_t optional, size_t most, struct written *written)
+{
+    const char *text = translated->text, *only = translated->only;
+    struct subst_pair pair = pair_of(only != NULL ? only : "", "value");
+    if (only == NULL)
+        return subst_from_envsubst(text, strlen(text), optional, written->buffer, most, &written->needed);
+    return subst_with_only(text, strlen(text), &pair, 1, optional, written->buffer, most, &written->needed);
+}
+
+static void test_translation(const struct translated *translated, uint32_t optional)
+{
+    const char *wanted = optional != 0 ? translated->optional : translated->required;
+    size_t most = strlen(wanted);
+    struct written written;
+    uint32_t result;
+    MAKE(result, &written, translate(translated, optional, most, &written));
+    end_test("a template", translated->text, result == SUBST_DONE && holds(&written, wanted)
+             && written.buffer[most] == UNTOUCHED);
+    MAKE(result, &written, translate(translated, optional, most - 1, &written));
+    end_test("a buffer too small", translated->text, result == SUBST_ROOM_TOO_SMALL && written.needed == most
+             && written.buffer[0] == UNTOUCHED);
+}
+
+static void test_translations(void)
+{
+    size_t i;
+    for (i = 0; i < sizeof translations / sizeof translations[0]; i++) {
+        test_translation(&translations[i], 0);
+        test_translation(&translations[i], 1);
+        test_translation(&translations[i], 2);
+    }
+}
+
+/* A text of a shell, with the template for it, or with the form that has none, its text, and where it begins. */
+struct shell_text {
+    const char *text, *given;
+    uint32_t form;
+    size_t position;
+};
+
+static const struct shell_text shell_texts[] = {
+    {"$a:${b}:${c:-<$a>}:${d:?m} $$ \\ {}", "${a?}:${b?}:${c:<${a?}>}:${d} \\$ \\\\ {}", 0, 0},
+    {"$a $(b)", "a dollar that begins no variable can't be given here", SUBST_FORM_DOLLAR, 3},
+    {"${a}${1}", "`${` without a name can't be given here", SUBST_FORM_NO_NAME, 4},
+    {"<${a:+b}", "`:+` of a shell's variable can't be given here", SUBST_FORM_COLON_PLUS, 1},
+    {"${a:-{}}", "an opening brace in a default can't be given here", SUBST_FORM_BRACE, 5},
+    {"$a${b:-$c", "a variable without its closing brace can't be given here", SUBST_FORM_UNCLOSED, 2},
+};
+
+static uint32_t read_shell(const struct shell_text *shell, size_t most, struct written *written)
+{
+    return subst_from_shell(shell->text, strlen(shell->text), written->buffer, most, &written->needed, &written->form,
+                            &written->position);
+}
+
+/* Puts the template, or the text of the form. */
+static uint32_t give_shell(const struct shell_text *shell, size_t most, struct written *written)
+{
+    if (shell->form == 0)
+        return read_shell(shell, most, written);
+    return subst_shell_form_text(shell->form, written->buffer, most, &written->needed);
+}
+
+static void test_shell_text(const struct shell_text *shell)
+{
+    size_t most = strlen(shell->given);
+    struct written written;
+    uint32_t result;
+    MAKE(result, &written, give_shell(shell, most, &written));
+    end_test("what is given", shell->text, result == SUBST_DONE && holds(&written, shell->given)
+             && written.buffer[most] == UNTOUCHED);
+    MAKE(result, &written, give_shell(shell, most - 1, &written));
+    end_test("a buffer too small", shell->text, result == SUBST_ROOM_TOO_SMALL && written.needed == most
+             && written.buffer[0] == UNTOUCHED);
+    if (shell->form == 0)
+        return;
+    MAKE(result, &written, read_shell(shell, ROOM, &written));
+    end_test("a form", shell->text, result == SUBST_REFUSED && written.form == shell->form
+             && written.position == shell->position && written.buffer[0] == UNTOUCHED);
+}
+
+/* Each form has a text, and no other number has one. */
+static void test_form(uint32_t form)
+{
+    struct written written;
+    uint32_t result;
+    MAKE(result, &written, subst_shell_form_text(form, written.buffer, ROOM, &written.needed));
+    end_test("subst_shell_form_text", "a number", result == SUBST_DONE
+             && (written.needed > 0) == (form >= SUBST_FORM_DOLLAR && form <= SUBST_FORM_UNCLOSED));
+}
+
+static void test_shell(void)
+{
+    uint32_t form;
+    size_t i;
+    for (i = 0; i < sizeof shell_texts / sizeof shell_texts[0]; i++)
+        test_shell_text(&shell_texts[i]);
+    for (form = 0; form <= SUBST_FORM_UNCLOSED + 1; form++)
+        test_form(form);
+    test_form(UINT32_MAX);
 }
 
 /* The index over pairs */
@@ -373,7 +488,7 @@ static void test_index(size_t count)
     size_t i, length = make_placeholders(source, count);
     make_pairs(pairs, names, count);
     pairs[0].value_len = 0;
-    MAKE(result, &written, subst_bytes(bytes_of(source), length, pairs, count, written.buffer, ROOM, &written.needed,
+    MAKE(result, &written, subst_bytes(source, length, pairs, count, written.buffer, ROOM, &written.needed,
                                        &written.fault));
     for (i = 0; i + 1 < count && written.buffer[i] == (i < (count - 1) / 2 ? 'v' : 'x'); i++)
         ;
@@ -381,7 +496,7 @@ static void test_index(size_t count)
              && written.buffer[count - 1] == UNTOUCHED);
     source[length++] = '$';
     source[length++] = 'n';
-    MAKE(result, &written, subst_bytes_into(bytes_of(source), length, pairs, count, written.buffer, ROOM,
+    MAKE(result, &written, subst_bytes_into(source, length, pairs, count, written.buffer, ROOM,
                                             &written.needed, &written.fault));
     end_test("subst_bytes_into", "a name that no index has", result == SUBST_REFUSED
              && written.fault.kind == SUBST_NO_SUCH_VARIABLE && written.fault.position == length - 1);
@@ -396,9 +511,9 @@ static void call_for_pairs(size_t pairs_len, size_t count)
     size_t length = make_placeholders(source, count);
     make_pairs(pairs, names, pairs_len);
     if (pairs_len == 0)
-        subst_check(bytes_of(source), length, &written.fault);
+        subst_check(source, length, &written.fault);
     else
-        subst_bytes_into(bytes_of(source), length, pairs, pairs_len, written.buffer, ROOM, &written.needed,
+        subst_bytes_into(source, length, pairs, pairs_len, written.buffer, ROOM, &written.needed,
                          &written.fault);
 }
 
@@ -407,16 +522,16 @@ static void call_for_pairs(size_t pairs_len, size_t count)
 /* The buffer that is too small is none. */
 static void test_null(const char *name, filling *call)
 {
-    struct subst_pair empty = {bytes_of("a"), 1, NULL, 0}, nameless = {NULL, 0, bytes_of("1"), 1};
+    struct subst_pair empty = {"a", 1, NULL, 0}, nameless = {NULL, 0, "1", 1};
     struct written written;
     uint32_t result;
     MAKE(result, &written, call(NULL, 0, NULL, 0, NULL, 0, &written.needed, &written.fault));
     end_test(name, "no source", result == SUBST_DONE && written.needed == 0);
-    MAKE(result, &written, call(bytes_of("${a:bc}"), 7, NULL, 0, NULL, 0, &written.needed, &written.fault));
+    MAKE(result, &written, call("${a:bc}", 7, NULL, 0, NULL, 0, &written.needed, &written.fault));
     end_test(name, "no buffer", result == SUBST_ROOM_TOO_SMALL && written.needed == 2);
-    MAKE(result, &written, call(bytes_of("<${a:bc}>"), 9, &empty, 1, written.buffer, 2, &written.needed, &written.fault));
+    MAKE(result, &written, call("<${a:bc}>", 9, &empty, 1, written.buffer, 2, &written.needed, &written.fault));
     end_test(name, "an empty value", result == SUBST_DONE && holds(&written, "<>"));
-    MAKE(result, &written, call(bytes_of("$a"), 2, &nameless, 1, NULL, 0, &written.needed, &written.fault));
+    MAKE(result, &written, call("$a", 2, &nameless, 1, NULL, 0, &written.needed, &written.fault));
     end_test(name, "an empty name", result == SUBST_REFUSED && written.fault.kind == SUBST_NO_SUCH_VARIABLE);
 }
 
@@ -426,7 +541,7 @@ static void test_null_of_lists(void)
     uint32_t result;
     MAKE(result, &written, subst_missing(NULL, 0, NULL, 0, NULL, 0, &written.needed, &written.fault));
     end_test("subst_missing", "no source", result == SUBST_DONE && written.needed == 0);
-    MAKE(result, &written, subst_missing(bytes_of("$a"), 2, NULL, 0, NULL, 0, &written.needed, &written.fault));
+    MAKE(result, &written, subst_missing("$a", 2, NULL, 0, NULL, 0, &written.needed, &written.fault));
     end_test("subst_missing", "no buffer", result == SUBST_ROOM_TOO_SMALL && written.needed == 1);
     MAKE(result, &written, subst_variables(NULL, 0, NULL, 0, &written.needed, &written.fault));
     end_test("subst_variables", "no source", result == SUBST_DONE && written.needed == 0);
@@ -446,7 +561,7 @@ static void test_null_of_others(void)
     end_test("subst_fault_highlighting", "no source", result == SUBST_DONE && written.needed == 0);
     MAKE(result, &written, subst_json(NULL, 0, NULL, 0, NULL, 0, &written.needed, &written.fault));
     end_test("subst_json", "no source", result == SUBST_REFUSED && written.fault.kind == SUBST_INVALID_DOCUMENT);
-    MAKE(result, &written, subst_json_fault_text(bytes_of("1"), 1, NULL, 0, NULL, 0, &written.needed));
+    MAKE(result, &written, subst_json_fault_text("1", 1, NULL, 0, NULL, 0, &written.needed));
     end_test("subst_json_fault_text", "no buffer", result == SUBST_DONE && written.needed == 0);
     MAKE(result, &written, subst_toml(NULL, 0, NULL, 0, NULL, 0, &written.needed, &written.fault));
     end_test("subst_toml", "no source", result == SUBST_DONE && written.needed == 0);
@@ -455,9 +570,15 @@ static void test_null_of_others(void)
     MAKE(result, &written, subst_bytes_each(NULL, 0, NULL, 0, NULL, 0, NULL, 0, &written.needed, &written.row,
                                             &written.fault));
     end_test("subst_bytes_each", "no rows", result == SUBST_DONE && written.needed == 0);
-    MAKE(result, &written, subst_bytes_each(bytes_of("a"), 1, &row, 1, written.buffer, 1, &written.end, 1,
+    MAKE(result, &written, subst_bytes_each("a", 1, &row, 1, written.buffer, 1, &written.end, 1,
                                             &written.needed, &written.row, &written.fault));
     end_test("subst_bytes_each", "a row of no pairs", result == SUBST_DONE && written.end == 1 && holds(&written, "a"));
+    MAKE(result, &written, subst_from_envsubst(NULL, 0, 0, NULL, 0, &written.needed));
+    end_test("subst_from_envsubst", "no source", result == SUBST_DONE && written.needed == 0);
+    MAKE(result, &written, subst_with_only("$", 1, NULL, 0, 0, NULL, 0, &written.needed));
+    end_test("subst_with_only", "no buffer", result == SUBST_ROOM_TOO_SMALL && written.needed == 2);
+    MAKE(result, &written, subst_from_shell(NULL, 0, NULL, 0, &written.needed, &written.form, &written.position));
+    end_test("subst_from_shell", "no source", result == SUBST_DONE && written.needed == 0);
     result = subst_place(NULL, 0, 0, &line, &column);
     end_test("subst_place", "no source", result == SUBST_DONE && line == 1 && column == 1);
 }
@@ -472,7 +593,7 @@ static void test_version(void)
 
 enum { LARGE = 1 << 20, MOST_ROWS = 1000, MOST_PAIRS = 16000, FEWER_PAIRS = MOST_PAIRS / 16 };
 
-static uint8_t large_source[LARGE], large_buffer[LARGE];
+static char large_source[LARGE], large_buffer[LARGE];
 
 /* The processor time of a source with as many placeholders as pairs. */
 static clock_t time_of_pairs(const struct subst_pair *pairs, size_t count)
@@ -481,7 +602,7 @@ static clock_t time_of_pairs(const struct subst_pair *pairs, size_t count)
     size_t i, length = 0;
     clock_t start;
     for (i = 0; i < count; i++)
-        length += (size_t)sprintf((char *)large_source + length, "${a%zu}", i * 7919 % count);
+        length += (size_t)sprintf(large_source + length, "${a%zu}", i * 7919 % count);
     start = clock();
     if (subst_bytes(large_source, length, pairs, count, large_buffer, LARGE, &written.needed, &written.fault)
         != SUBST_DONE || written.needed != count)
@@ -553,6 +674,8 @@ int main(int argc, char **argv)
     } else {
         test_calls(NULL);
         test_documents();
+        test_translations();
+        test_shell();
         test_index(17);
         test_index(64);
         test_null("subst_bytes", subst_bytes);

@@ -19,7 +19,7 @@ static char wanted[ROOM];
 static void make_source(void)
 {
     for (int at = 0; at < PAIRS; at++) {
-        struct subst_pair pair = {(const uint8_t *)names[at], 0, (const uint8_t *)names[at], 0};
+        struct subst_pair pair = {names[at], 0, names[at], 0};
         const int length = snprintf(names[at], sizeof names[at], "a%d", at);
         pair.name_len = pair.value_len = (size_t)length;
         pairs[at] = pair;
@@ -31,15 +31,14 @@ static void make_source(void)
 /* Whether a call gives what is wanted, and another one reports the fault of a source without its last pair. */
 static int is_right(void)
 {
-    uint8_t buffer[ROOM];
+    char buffer[ROOM];
     size_t needed = 0;
     struct subst_fault fault = {0, 0, 0};
-    const uint8_t *bytes = (const uint8_t *)source;
-    if (subst_bytes(bytes, strlen(source), pairs, PAIRS, buffer, sizeof buffer, &needed, &fault) != SUBST_DONE)
+    if (subst_bytes(source, strlen(source), pairs, PAIRS, buffer, sizeof buffer, &needed, &fault) != SUBST_DONE)
         return 0;
     if (needed != strlen(wanted) || memcmp(buffer, wanted, needed) != 0)
         return 0;
-    return subst_bytes(bytes, strlen(source), pairs, PAIRS - 1, buffer, sizeof buffer, &needed, &fault) == SUBST_REFUSED &&
+    return subst_bytes(source, strlen(source), pairs, PAIRS - 1, buffer, sizeof buffer, &needed, &fault) == SUBST_REFUSED &&
            fault.kind == SUBST_NO_SUCH_VARIABLE && fault.position + fault.length == strlen(source);
 }
 

@@ -36,7 +36,7 @@ static uint8_t *source_of(size_t length, const char *begin, const char *end)
 
 static struct subst_pair pair_of(const char *name, const char *value)
 {
-    struct subst_pair pair = {(const uint8_t *)name, strlen(name), (const uint8_t *)value, strlen(value)};
+    struct subst_pair pair = {name, strlen(name), value, strlen(value)};
     return pair;
 }
 

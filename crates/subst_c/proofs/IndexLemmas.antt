@@ -3,12 +3,13 @@ use denote.Ref.{Bor}
 use Rattle.std.proofs.Common.{◌≡◌, ℕ, ◌+◌, ◌<◌, Bool, true, false, List, [], ◌∷◌, ◌++◌, if◌then◌else◌, get_or, length, take, Option, Some, None, refl, ap, arith}
 use Rattle.std.proofs.lemmas.Grind.{common_steps}
 use Rattle.std.proofs.lemmas.List.{take_more}
-use Rattle.std.proofs.lemmas.Map.Text.{hash_map_updates_str}
-use Rattle.std.specs.Cmp.Lexicographic.{bytes_decides, nat_list_eq_equiv}
-use Rattle.std.specs.HashMap.{HashMap, UpdatesBy}
+use Rattle.std.proofs.lemmas.Map.Text.{btree_map_updates_str}
+use Rattle.std.specs.BTreeMap.{BTreeMap, UpdatesBy}
+use Rattle.std.specs.Cmp.Lexicographic.{bytes_decides, nat_list_eq_equiv, slice_cmp}
 use Rattle.std.specs.Option.{option_map, option_or, unwrap_or}
+use Rattle.std.specs.Ordering.{nat_cmp}
 use Rattle.std.specs.Str.{bytes_eq}
-use Rattle.subst_map.specs.Maps.{hash_get_by_lent_text}
+use Rattle.subst_map.specs.Maps.{btree_get_by_lent_text}
 use Rattle.subst_c.specs.Index.{indexed_value}
 use Rattle.subst_c.specs.Pairs.{pair_value}
 use Rattle.subst_c.specs.declared.pairs.Pair.{Pair}
@@ -20,18 +21,17 @@ put_if_new None value w is = ap (λ v. Some v.now) is
 put_if_new (Some v) value w is = ap (λ v. Some v.now) is
 
 -- a name that has no value gets this one, and other names keep theirs
-pub adds_if_new : {S : Type 0} (m n : HashMap (Bor (List ℕ)) (Bor (List ℕ)) S)
-    (name value w : Bor (List ℕ))
-    → UpdatesBy (λ x y. bytes_eq x.now y.now) (λ k. bytes_eq name.now k.now) m n (Some w)
-    → w ≡ unwrap_or (hash_get_by_lent_text m name.now) value → (other : List ℕ)
+pub adds_if_new : (m n : BTreeMap (Bor (List ℕ)) (Bor (List ℕ))) (name value w : Bor (List ℕ))
+    → UpdatesBy (λ x y. slice_cmp nat_cmp x.now y.now) (λ k. slice_cmp nat_cmp name.now k.now) m n (Some w)
+    → w ≡ unwrap_or (btree_get_by_lent_text m name.now) value → (other : List ℕ)
     → indexed_value n other ≡ option_or (indexed_value m other)
     (if bytes_eq other name.now then Some value.now else None)
 adds_if_new m n name value w updates is other =
     of (bytes_eq name.now other) refl
   where
-    after : hash_get_by_lent_text n other
-        ≡ (if bytes_eq name.now other then Some w else hash_get_by_lent_text m other)
-    after = hash_map_updates_str name.now m n (Some w) updates other
+    after : btree_get_by_lent_text n other
+        ≡ (if bytes_eq name.now other then Some w else btree_get_by_lent_text m other)
+    after = btree_map_updates_str name.now m n (Some w) updates other
 
     turned : bytes_eq other name.now ≡ bytes_eq name.now other
     turned = nat_list_eq_equiv.symm other name.now
@@ -39,7 +39,7 @@ adds_if_new m n name value w updates is other =
     of : (b : Bool) → bytes_eq name.now other ≡ b → indexed_value n other ≡ option_or (indexed_value m other)
         (if bytes_eq other name.now then Some value.now else None)
     of true same =
-        let here = put_if_new (hash_get_by_lent_text m name.now) value w is in
+        let here = put_if_new (btree_get_by_lent_text m name.now) value w is in
         let equal : name.now ≡ other = (bytes_decides name.now other).0 same in
         grind (arith, common_steps, after, turned, here, equal, same)
     of false differ = grind (arith, common_steps, after, turned, differ)

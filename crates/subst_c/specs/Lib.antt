@@ -1,6 +1,7 @@
 pub mod Documents
 pub mod Each
 pub mod Fault
+pub mod Foreign
 pub mod Index
 pub mod Pairs
 pub mod Records

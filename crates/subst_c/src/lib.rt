@@ -15,9 +15,12 @@ ghost use Rattle.subst_language.specs.Language.Answer.{Answers, Gives};
 ghost use Rattle.subst_language.specs.Language.BadItem.{HasFault};
 ghost use Rattle.subst_language.specs.Language.Sentence.{IsSentence};
 ghost use Rattle.subst_language.specs.Language.Variables.{all_missing, variables_of};
+ghost use Rattle.subst_foreign.specs.Foreign.{HasValue, IsShellName};
+ghost use Rattle.subst_foreign.specs.Shell.{IsShellTemplateFor};
 ghost use Rattle.subst_c.specs.Documents.{IsFilledIn, IsReported, IsSaidOf, Json, Toml};
 ghost use Rattle.subst_c.specs.Each.{AreOutputs, IsRefusedIn};
 ghost use Rattle.subst_c.specs.Fault.{IsToldOf, LiesIn};
+ghost use Rattle.subst_c.specs.Foreign.{IsFormText, IsRefusedFor, IsTemplate};
 ghost use Rattle.subst_c.specs.Pairs.{pair_value, GivenBy, TextGivenBy, RefusedBy};
 ghost use Rattle.subst_c.specs.Records.{HasRecords};
 ghost use Rattle.subst_c.specs.Buffer.{IsPut, IsTooLong};
@@ -33,6 +36,7 @@ pub use pairs::{Pair, Row};
 use pairs::{Pairs, index_of};
 use std::alloc::Global;
 use subst_error::{Error, line_and_column};
+use subst_foreign::{KnownNames, ShellError, ShellNames, bytes_from_shell};
 use subst_language::laws;
 use subst_template::ByteTemplate;
 use subst_version::{MAJOR, MINOR, PATCH};
@@ -43,6 +47,7 @@ mod buffer;
 mod document;
 mod each;
 mod fault;
+mod foreign;
 mod into;
 pub mod outcome;
 mod pairs;
@@ -560,4 +565,121 @@ pub extern "C" fn subst_place(
     }
     (*line, *column) = line_and_column(source, position);
     DONE
+}
+
+/// Puts a template for `source`, a text of `envsubst`, at the front of the buffer: each `$NAME` and `${NAME}`
+/// whose name doesn't begin with a digit is a variable, and all else is text. Unless `optional` is 0, a
+/// variable without a value gives nothing.
+#[unsafe(no_mangle)]
+pub extern "C" fn subst_from_envsubst(
+    alloc: Global,
+    source: &[u8],
+    optional: u32,
+    buffer: &mut [u8],
+    needed: &mut usize,
+) -> u32
+    // The buffer begins with the template. No source is refused.
+    ensures done { result ≡ DONE
+        → IsPut (IsTemplate optional IsShellName source.now) needed.new buffer.old buffer.new }
+    ensures too_small { result ≡ ROOM_TOO_SMALL
+        → IsTooLong (IsTemplate optional IsShellName source.now) needed.new buffer.old }
+    ensures others { result ≢ DONE → result ≢ ROOM_TOO_SMALL → result ≡ OUT_OF_MEMORY }
+    ensures buffer_kept { result ≢ DONE → buffer.new ≡ buffer.old }
+    ensures needed_kept { result ≢ DONE → result ≢ ROOM_TOO_SMALL → needed.new ≡ needed.old }
+{
+    foreign::deliver(alloc, source, &ShellNames, optional, buffer, needed)
+}
+
+/// Puts a template for `source` at the front of the buffer, in which `$NAME` and `${NAME}` of the names of
+/// `pairs` are variables, and all else is text, as `subst_from_envsubst`. The values aren't read.
+#[unsafe(no_mangle)]
+pub extern "C" fn subst_with_only(
+    alloc: Global,
+    source: &[u8],
+    pairs: &[Pair],
+    optional: u32,
+    buffer: &mut [u8],
+    needed: &mut usize,
+) -> u32
+    ensures done { result ≡ DONE
+        → IsPut (IsTemplate optional (HasValue (pair_value pairs.now)) source.now)
+        needed.new buffer.old buffer.new }
+    ensures too_small { result ≡ ROOM_TOO_SMALL
+        → IsTooLong (IsTemplate optional (HasValue (pair_value pairs.now)) source.now)
+        needed.new buffer.old }
+    ensures others { result ≢ DONE → result ≢ ROOM_TOO_SMALL → result ≡ OUT_OF_MEMORY }
+    ensures buffer_kept { result ≢ DONE → buffer.new ≡ buffer.old }
+    ensures needed_kept { result ≢ DONE → result ≢ ROOM_TOO_SMALL → needed.new ≡ needed.old }
+{
+    let index = index_of(alloc, source, pairs);
+    let map = Pairs { pairs, index };
+    foreign::deliver(
+        alloc,
+        source,
+        &KnownNames { map: &map },
+        optional,
+        buffer,
+        needed,
+    )
+}
+
+/// Puts a template for `source`, a text of a shell, at the front of the buffer, as `from_shell`. It is to be
+/// filled in from pairs without empty values. Where a form of the source can't be given, `form` is its number,
+/// and `position` the byte offset where it begins.
+#[unsafe(no_mangle)]
+pub extern "C" fn subst_from_shell(
+    alloc: Global,
+    source: &[u8],
+    buffer: &mut [u8],
+    needed: &mut usize,
+    form: &mut u32,
+    position: &mut usize,
+) -> u32
+    ensures done { result ≡ DONE
+        → IsPut (IsShellTemplateFor source.now) needed.new buffer.old buffer.new }
+    ensures refused { result ≡ REFUSED → IsRefusedFor source.now form.new position.new }
+    ensures too_small { result ≡ ROOM_TOO_SMALL
+        → IsTooLong (IsShellTemplateFor source.now) needed.new buffer.old }
+    ensures others { IsOther result }
+    ensures buffer_kept { result ≢ DONE → buffer.new ≡ buffer.old }
+    ensures needed_kept { result ≢ DONE → result ≢ ROOM_TOO_SMALL → needed.new ≡ needed.old }
+    ensures place_kept { result ≢ REFUSED
+        → (form.new ≡ form.old) × (position.new ≡ position.old) }
+{
+    match bytes_from_shell(alloc, source) {
+        Ok(template) => buffer::deliver(&template, buffer, needed),
+        Err(
+            ShellError::Refused {
+                position: at,
+                form: refused,
+            },
+        ) => {
+            *form = foreign::number_of(refused);
+            *position = at;
+            REFUSED
+        }
+        Err(ShellError::OutOfMemory(_)) => OUT_OF_MEMORY,
+    }
+}
+
+/// Puts the text of the form of this number, as `subst_from_shell` writes it, at the front of the buffer. Where
+/// no form has the number, the text is empty.
+#[unsafe(no_mangle)]
+pub extern "C" fn subst_shell_form_text(
+    alloc: Global,
+    form: u32,
+    buffer: &mut [u8],
+    needed: &mut usize,
+) -> u32
+    ensures done { result ≡ DONE → IsPut (IsFormText form) needed.new buffer.old buffer.new }
+    ensures too_small { result ≡ ROOM_TOO_SMALL
+        → IsTooLong (IsFormText form) needed.new buffer.old }
+    ensures others { result ≢ DONE → result ≢ ROOM_TOO_SMALL → result ≡ OUT_OF_MEMORY }
+    ensures buffer_kept { result ≢ DONE → buffer.new ≡ buffer.old }
+    ensures needed_kept { result ≢ DONE → result ≢ ROOM_TOO_SMALL → needed.new ≡ needed.old }
+{
+    match foreign::form_text(alloc, form) {
+        Ok(message) => buffer::deliver(message.as_bytes(), buffer, needed),
+        Err(_) => OUT_OF_MEMORY,
+    }
 }

@@ -8,8 +8,9 @@ ghost use Rattle.subst_c.specs.Index.{indexed_value};
 ghost use Rattle.subst_c.specs.Pairs.{pair_value};
 ghost use Rattle.subst_c.specs.Text.{have_texts};
 
+use memchr::memchr_iter;
 use std::alloc::{AllocError, Global};
-use std::collections::HashMap;
+use std::collections::BTreeMap;
 use subst_map::VariableMap;
 
 /// How many pairs, or placeholders, there are at most for which searching the pairs in turn takes no longer
@@ -31,8 +32,9 @@ pub struct Row<'a> {
     pub pairs: &'a [Pair<'a>],
 }
 
-/// The values of pairs under their names: that of the first pair with a name.
-pub type Index<'a> = HashMap<&'a [u8], &'a [u8]>;
+/// The values of pairs under their names: that of the first pair with a name. It is sorted, so that no names that
+/// are chosen for it make it slow.
+pub type Index<'a> = BTreeMap<&'a [u8], &'a [u8]>;
 
 /// Pairs as a map: the first pair with a name counts. Where there is an index, a name is looked up in that,
 /// and else the pairs are searched in turn.
@@ -79,10 +81,8 @@ impl<'a> VariableMap<'a> for TextPairs<'_> {
 
     fn get(&'a self, key: &str) -> Option<&'a str> {
         let value = self.pairs.get(key)?;
-        match simdutf8::basic::from_utf8(value) {
-            Ok(text) => Some(text),
-            Err(_) => None,
-        }
+        // SAFETY: the values are UTF-8.
+        Some(unsafe { str::from_utf8_unchecked(value) })
     }
 }
 
@@ -106,10 +106,9 @@ pub fn index_of<'a>(alloc: Global, source: &[u8], pairs: &'a [Pair<'a>]) -> Opti
     index(alloc, pairs).ok()
 }
 
-/// Returns whether a source may have many placeholders.
+/// Returns whether a source may have many placeholders. No more dollars are looked for than say so.
 fn has_many_placeholders(source: &[u8]) -> bool {
-    let signs = source.iter().filter(|byte| **byte == b'$');
-    signs.count() > FEW
+    memchr_iter(b'$', source).nth(FEW).is_some()
 }
 
 /// Returns the values of pairs under their names.
@@ -121,8 +120,7 @@ fn index<'a>(alloc: Global, pairs: &'a [Pair<'a>]) -> Result<Index<'a>, AllocErr
     ensures { IfOk result (λ index. (name : List ℕ)
         → indexed_value index name ≡ pair_value pairs.now name) }
 {
-    let mut index = HashMap::new(alloc);
-    index.reserve(pairs.len())?;
+    let mut index = BTreeMap::new(alloc);
     for pair in pairs {
         insert_if_new(&mut index, pair.name, pair.value)?;
     }

@@ -1,6 +1,6 @@
 -- The names are compared by their bytes.
 use Rattle.std.proofs.Common.{rules}
-use Rattle.std.specs.HashMap.Entry.{map_with_value}
+use Rattle.std.specs.BTreeMap.Entry.{map_with_value}
 use Rattle.subst_c.proofs.IndexLemmas.{adds_if_new}
 use Rattle.subst_c.proofs.pairs.insert_if_new.Goals as goal
 
