@@ -21,6 +21,7 @@ import tomllib
 
 sys.dont_write_bytecode = True
 import command_files
+import command_options
 from command_running import (NO_NAME, PROGRAM, expect_fault, expect_file, expect_files, failed, missing, mode_of, read,
                              subst, tests_of, told, told_without_line, write, wrong_words)
 from faults import invalid_escape, missing_brace, no_such_variable, unexpected
@@ -42,9 +43,14 @@ Options:
   -V, --version  Print version
 
 Variables:
-  -s, --set <NAME=VALUE>  Gives a variable; of one given twice, the last counts
-  -f, --values <FILE>     Reads NAME=VALUE lines; all after the first '=' is the value
-  -e, --env               Takes variables from the environment
+  -s, --set <NAME=VALUE>      Gives a variable; of one given twice, the last counts
+      --set-file <NAME=FILE>  Gives a variable all that is in a file
+  -f, --values <FILE>         Reads NAME=VALUE lines, or of a folder the file of each name
+  -e, --env                   Takes variables from the environment
+      --default <NAME=VALUE>  Gives a variable that nothing above gives
+      --defaults <FILE>       Reads such variables, as --values does
+      --no-empty              Passes over variables whose value is empty
+      --escape <FOR>          Escapes values: json, between quotes, or sh, as a word
 
 Reading:
       --bytes         Takes any bytes, where otherwise text is in UTF-8
@@ -52,18 +58,24 @@ Reading:
       --toml          Fills in the strings of a TOML document
       --only <NAMES>  Takes $NAME and ${NAME} of these names, and all else as text
       --envsubst      Takes what envsubst would fill in, and all else as text
+      --known         Takes names that have a value, and all else as text
+      --shell         Takes ${NAME:-default} and ${NAME:?}, as Docker Compose does
+      --optional      With --envsubst and --only, takes a missing value as empty
 
 Writing:
-  -o, --output <FILE>  Writes to a file, whole or not at all
-  -i, --in-place       Replaces each file by what it gives, whole or not at all
+  -o, --output <FILE>           Writes to a file, whole or not at all
+  -O, --output-folder <FOLDER>  Writes each file, and those of each folder, into a folder
+      --strip <SUFFIX>          Takes of folders such files, and the suffix off their names
+  -i, --in-place                Replaces each file by what it gives, whole or not at all
 
 Asking:
       --check  Writes nothing, and reports the faults of every file
       --names  Prints each name, where it is first used, and whether it is required
 
-A name has the value of the first of these that has it: --set, the values files,
-the environment. All names without a value are reported, but of a file with a
-fault of another kind that fault alone.
+A name has the value of the first of these that has it: --set, --set-file, the
+values files, the environment, --default, the defaults files. All names without
+a value are reported, but of a file with a fault of another kind that fault
+alone.
 
 Status: 0 done, 1 a file or value is refused, 2 wrong arguments, 3 a file or
 device failed, 4 out of memory. The page subst(1) says more.
@@ -207,8 +219,7 @@ def test_values_that_are_refused():
 
 
 def test_values_that_cannot_be_read():
-    errors = failed('nothing', errno.ENOENT) + failed('.', errno.EISDIR)
-    expect(subst(['-f', 'nothing', '-f', '.'], b'$none'), 3, errors=errors)
+    expect(subst(['-f', 'nothing'], b'$none'), 3, errors=failed('nothing', errno.ENOENT))
     write('values', b'A')
     errors = failed('nothing', errno.ENOENT) + told_without_line('values:1:1', "missing '='")
     expect(subst(['-f', 'values', '-f', 'nothing'], b'$none'), 3, errors=errors)
@@ -989,5 +1000,5 @@ def modes_of(name):
 
 
 if __name__ == '__main__':
-    run_tests([test for module in (globals(), vars(command_files)) for test in tests_of(module)],
+    run_tests([test for module in (globals(), vars(command_files), vars(command_options)) for test in tests_of(module)],
               [PROGRAM], ['strace', 'unshare', 'envsubst'])

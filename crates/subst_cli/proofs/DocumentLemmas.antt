@@ -29,10 +29,10 @@ use Rattle.subst_walk.specs.declared.pieces.Position.{Position}
 use Rattle.subst_cli.proofs.FaultLemmas.{any_of_one, any_weaker}
 use Rattle.subst_cli.proofs.FillingLemmas.{weaker_faults}
 use Rattle.subst_cli.proofs.PartLemmas.{any_of_last, any_of_more}
-use Rattle.subst_cli.specs.Documents.{path_text, place_of, ranges_of, ArePlaces, AreTold, IsDocumentFault, IsFaultOfOne, IsKept, IsNoDocument, IsTold, IsUnfilled, IsUnread, Leads, StandsIn}
+use Rattle.subst_cli.specs.Documents.{place_of, ranges_of, ArePlaces, AreTold, IsDocumentFault, IsFaultOfOne, IsKept, IsNoDocument, IsTold, IsUnfilled, IsUnread, Leads, StandsIn}
 use Rattle.subst_cli.specs.Faults.{IsFaultOf}
 use Rattle.subst_cli.specs.Layers.{Entry}
-use Rattle.subst_cli.specs.Strings.{AreFaults, FillsFrom, GivesSome}
+use Rattle.subst_cli.specs.Strings.{AreFaults, GivesSome}
 use Rattle.subst_cli.specs.declared.document.filler.StringFiller.{StringFiller}
 use Rattle.subst_cli.specs.declared.document.format.Format.{Format}
 use Rattle.subst_cli.specs.declared.document.format.Format.TheVariants.{Json, Toml}

@@ -1,8 +1,9 @@
 -- What sources give, and what documents become, said in a weaker way.
 use Rattle.std.proofs.Common.{◌≡◌, ℕ, List, [], ◌∷◌, ◌++◌, Option, Some, None, Result, Ok, Err, IfOk, IfSome, inl, inr, refl, sym, ap, ◌∙◌, subst, append_assoc, append-nil}
+use Rattle.std.proofs.lemmas.List.Elements.{Contains-append_left, Contains-append_right}
 use Rattle.std.proofs.lemmas.Result.{IfErr-weaker, IfOk-weaker}
 use Rattle.std.specs.List.{All}
-use Rattle.std.specs.Prelude.{◌⊎◌, true, IfErr, IfNone, is_ok, MatchResult}
+use Rattle.std.specs.Prelude.{◌⊎◌, IfErr, IfNone}
 use Rattle.subst.proofs.Calling.{each_weaker, toml_each_weaker, filled_weaker, plain_answer}
 use Rattle.subst.specs.Json.Filled as json_text
 use Rattle.subst.specs.Json.Mapped as json_tree
@@ -15,7 +16,7 @@ use Rattle.subst_cli.proofs.SourceLemmas.{AreDone, given_more, refused_more}
 use Rattle.subst_cli.specs.Faults.{IsNoText}
 use Rattle.subst_cli.specs.Fill.{AreOutputs, GivesFor, IsDocumentOutput, IsOutput}
 use Rattle.subst_cli.specs.Layers.{Entry}
-use Rattle.subst_cli.specs.Run.{IsFaultIn, IsRefusalOf, StatesFault}
+use Rattle.subst_cli.specs.Run.{bytes_of, IsFaultIn, IsRefusalOf}
 use Rattle.subst_cli.specs.declared.document.format.Format.TheVariants.{Json, Toml}
 use Rattle.subst_cli.specs.declared.fault.Fault.{Fault}
 use Rattle.subst_cli.specs.declared.options.InputFormat.{InputFormat}
@@ -39,20 +40,33 @@ outputs_more form placeholders entries (s ∷ sources) source output x is (y, mo
   ap (λ l. l ++ x) both ∙ append_assoc y more x,
 )
 
+-- a refusal of one of some sources is one of more of them
+module _ (form : InputFormat) (placeholders : Placeholders) (entries : List Entry)
+    (xs ys : List (List ℕ)) (it : Refused) where
+  refusal_left : IsRefusalOf form placeholders entries xs it
+      → IsRefusalOf form placeholders entries (xs ++ ys) it
+  refusal_left (one, faults) = (Contains-append_left xs ys (bytes_of it.source) one, faults)
+
+  refusal_right : IsRefusalOf form placeholders entries ys it
+      → IsRefusalOf form placeholders entries (xs ++ ys) it
+  refusal_right (one, faults) = (Contains-append_right xs ys (bytes_of it.source) one, faults)
+
 -- one source more is done, whose output is added or which is refused
 pub done_more : (form : InputFormat) (placeholders : Placeholders) (entries : List Entry)
     (sources : List (List ℕ)) (source old new : List ℕ) (refused more : List Refused)
-    → AreDone (StatesFault form placeholders entries) (AreOutputs form placeholders entries sources old)
+    → AreDone (IsRefusalOf form placeholders entries) (AreOutputs form placeholders entries sources old)
     sources refused
     → ((x : List ℕ) × IsOutput form placeholders entries source x × (new ≡ old ++ x) × (more ≡ refused))
     ⊎ ((it : Refused) × IsRefusalOf form placeholders entries (source ∷ []) it × (more ≡ refused ++ it ∷ []))
-    → AreDone (StatesFault form placeholders entries)
+    → AreDone (IsRefusalOf form placeholders entries)
     (AreOutputs form placeholders entries (sources ++ source ∷ []) new) (sources ++ source ∷ []) more
 done_more form placeholders entries sources source old new refused more done (inl (x, is, both, same)) =
-    rw (both, same) (given_more (StatesFault form placeholders entries) _ _ sources source refused
+    rw (both, same) (given_more (IsRefusalOf form placeholders entries)
+    (refusal_left form placeholders entries) (refusal_right form placeholders entries) _ _ sources source refused
     (outputs_more form placeholders entries sources source old x is) done)
-done_more form placeholders entries sources source old new refused more done (inr (it, (one, are), both)) =
-    refused_more (StatesFault form placeholders entries) _ _ sources source refused more it one are both done
+done_more form placeholders entries sources source old new refused more done (inr (it, one, both)) =
+    refused_more (IsRefusalOf form placeholders entries) (refusal_left form placeholders entries)
+    (refusal_right form placeholders entries) _ _ sources source refused more it one both done
 
 -- a tree that is read, of which something weaker is said
 read_weaker : (text : List ℕ) (P Q : _ → Type 0) → ((d : _) → P d → Q d) → toml.ReadsAsTree text P
@@ -96,12 +110,6 @@ pub of_both : {T E : Type 0} (result : Result (Option T) E) (P Q R : T → Type 
 of_both (Ok (Some it)) P Q R both p q = both it p q
 of_both (Ok None) P Q R both p q = tt
 of_both (Err e) P Q R both p q = tt
-
--- what is said where something is returned
-pub of_ok : {T E : Type 0} (result : Result T E) (P : T → Type 0) (Q : Type 0) (R : E → Type 0)
-    → is_ok result ≡ true → MatchResult result (λ it. P it × Q) R → Q
-of_ok (Ok it) P Q R ok said = said.1
-of_ok (Err e) P Q R ok said = absurd (cc ok)
 
 -- a plain source gives itself
 pub plain_given : (entries : List Entry) (s : List ℕ) → All IsPlain s → GivesFor Own entries s s

@@ -1,12 +1,18 @@
 -- Lemmas on lists of entries, and on what names have by them.
-use Rattle.std.proofs.Common.{◌≡◌, ◌<◌, ◌+◌, ℕ, Bool, true, false, List, [], ◌∷◌, ◌++◌, ◌||◌, ◌&&◌, not, if◌then◌else◌, get_or, length, map, reverse, take, Option, Some, None, is_some, is_none, refl, sym, subst, ap, ◌∙◌, arith}
+use Rattle.std.proofs.Common.{◌≡◌, ◌<◌, ◌+◌, ℕ, Bool, true, false, List, [], ◌∷◌, ◌++◌, ◌||◌, ◌&&◌, not, if◌then◌else◌, filter, get_or, length, map, reverse, take, Bor, IfSome, Option, Some, None, is_some, is_none, refl, sym, subst, ap, ◌∙◌, arith}
 use Rattle.std.proofs.lemmas.Grind.{common_steps, reverse_onto}
 use Rattle.std.proofs.lemmas.List.{map-append, map_push, take_more}
 use Rattle.std.proofs.lemmas.List.Elements.{filter_map-append}
 use Rattle.std.specs.List.{cons_option}
 use Rattle.std.specs.Option.{option_flatten, option_map, option_map_or, option_or, option_to_list}
 use Rattle.std.specs.Str.{bytes_eq}
-use Rattle.subst_cli.specs.Layers.{Entry, entry_in, environment_of, given_to, is_unreadable, look_up_in}
+use Rattle.subst_cli.specs.Fill.{IsChosen}
+use Rattle.subst_filter_lib.specs.Words.{value_under}
+use Rattle.subst_cli.specs.Layers.{AreVariablesOf, Entry, IsKnown, IsKnownBy, has_unreadable, entry_in, environment_of, escaped, given_to, is_unreadable, look_up_in}
+use Rattle.subst_cli.specs.declared.layers.Variables.{Variables}
+use Rattle.subst_cli.specs.declared.options.Choice.{Choice}
+use Rattle.subst_cli.specs.declared.options.Choice.TheVariants.{Known}
+use Rattle.subst_cli.specs.declared.options.Escape.TheVariants.{Nothing}
 
 -- what a function gives of one element more, where it was given `at` of them so far
 pub map_take : {X Y : Type 0} (f : X → Y) (xs : List X) (at : ℕ) (x : X) → at < length xs
@@ -69,14 +75,42 @@ map_reverse f (x ∷ xs) =
     rw (reverse_onto xs x [], reverse_onto (map f xs) (f x) [], map_push f (reverse xs) x, map_reverse f xs)
     refl
 
--- a function of the elements of three lists in the order of a run's variables
-pub ordered : {X Y : Type 0} (f : X → Y) (given lines environment : List X)
-    → map f (reverse (lines ++ given) ++ environment)
-    ≡ reverse (map f lines ++ map f given) ++ map f environment
-ordered f given lines environment =
-    map-append f (reverse (lines ++ given)) environment
+-- a function of the elements of four lists in the order of a run's variables
+pub ordered : {X Y : Type 0} (f : X → Y) (given lines environment defaults : List X)
+    → map f (reverse (lines ++ given) ++ environment ++ reverse defaults)
+    ≡ reverse (map f lines ++ map f given) ++ map f environment ++ reverse (map f defaults)
+ordered f given lines environment defaults =
+    let above = map-append f (reverse (lines ++ given)) environment
     ∙ ap (λ front. front ++ map f environment)
-    (map_reverse f (lines ++ given) ∙ ap reverse (map-append f lines given))
+    (map_reverse f (lines ++ given) ∙ ap reverse (map-append f lines given)) in
+    map-append f (reverse (lines ++ given) ++ environment) (reverse defaults)
+    ∙ ap (λ front. front ++ map f (reverse defaults)) above
+    ∙ ap (λ last. reverse (map f lines ++ map f given) ++ map f environment ++ last) (map_reverse f defaults)
+
+-- a test of what a function gives of elements
+pub filter_map : {X Y : Type 0} (f : X → Y) (test : Y → Bool) (xs : List X)
+    → map f (filter (λ x. test (f x)) xs) ≡ filter test (map f xs)
+filter_map f test [] = refl
+filter_map f test (x ∷ xs) = of (test (f x)) refl (filter_map f test xs)
+  where
+    of : (passes : Bool) → test (f x) ≡ passes
+        → map f (filter (λ y. test (f y)) xs) ≡ filter test (map f xs)
+        → map f (filter (λ y. test (f y)) (x ∷ xs)) ≡ filter test (map f (x ∷ xs))
+    of true is rest = rw is (ap (λ ys. f x ∷ ys) rest)
+    of false is rest = rw is rest
+
+-- an entry whose value isn't escaped is as it is
+same_entry : (entry : Entry) → escaped Nothing entry ≡ entry
+same_entry entry = of entry.value refl
+  where
+    of : (value : Option (List ℕ)) → entry.value ≡ value → escaped Nothing entry ≡ entry
+    of None is = rw is refl
+    of (Some x) is = rw is refl
+
+-- entries whose values aren't escaped are as they are
+pub not_escaped : (entries : List Entry) → map (escaped Nothing) entries ≡ entries
+not_escaped [] = refl
+not_escaped (entry ∷ entries) = rw (same_entry entry, not_escaped entries) refl
 
 -- what one element more gives as a list
 one_more : {X : Type 0} (o : Option X) → cons_option o [] ≡ option_to_list o
@@ -96,3 +130,13 @@ environment_take bytes_of raw at x below is =
 pub no_value : {X Y : Type 0} (f : X → Y) (o : Option X) → is_none o ≡ is_none (option_map f o)
 no_value f None = refl
 no_value f (Some x) = refl
+
+-- what is said of the names that variables say are known is said of those that the entries give
+pub known_names : (variables : Option (Bor Variables)) (choice : Choice) (P : (List ℕ → Type 0) → Type 0)
+    → choice ≡ Known → P (IsKnownBy variables) → IfSome variables (λ variables. (entries : List Entry)
+    → AreVariablesOf variables.now entries → P (IsChosen choice entries))
+known_names None choice P is holds = tt
+known_names (Some variables) choice P is holds = λ entries are.
+    let names : IsKnown (value_under variables.now.values) (has_unreadable variables.now)
+    ≡ IsKnown (look_up_in entries) (is_unreadable entries) = rw (are.values, are.unreadable) refl in
+    rw is (subst P names holds)

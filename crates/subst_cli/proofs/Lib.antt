@@ -1,5 +1,6 @@
 pub mod DocumentLemmas
 pub mod EntryLemmas
+pub mod EscapeLemmas
 pub mod FaultLemmas
 pub mod FillLemmas
 pub mod FillingLemmas

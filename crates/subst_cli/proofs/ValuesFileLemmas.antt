@@ -3,11 +3,15 @@ use Rattle.std.proofs.Common.{◌≡◌, ◌<◌, ℕ, Bool, true, false, List, 
 use Rattle.std.proofs.lemmas.Bool.{ltb-false, ltb-true}
 use Rattle.std.proofs.lemmas.Grind.{common_steps}
 use Rattle.std.proofs.lemmas.Option.{none-some, same_Some}
+use Rattle.std.proofs.lemmas.List.Elements.{Contains-append_left, Contains-append_right}
 use Rattle.std.proofs.lemmas.List.Splits.{slice_split_first}
 use Rattle.std.specs.List.{after_first, before_first, position_or_len, slice_split}
 use Rattle.subst_cli.proofs.EntryLemmas.{place_within}
 use Rattle.subst_cli.specs.Layers.{Entry}
-use Rattle.subst_cli.specs.ValuesFile.{before, is_line_feed, said, values_of, values_of_files, values_of_lines, with_file, with_line}
+use Rattle.subst_cli.specs.Run.{IsRefusedFile}
+use Rattle.subst_cli.specs.ValuesFile.{before, is_line_feed, said, values_in, values_of_files, values_of_lines, with_file, with_line}
+use Rattle.subst_cli.specs.declared.source.Refused.{Refused}
+use Rattle.subst_cli.specs.declared.values_file.ValuesSource.{ValuesSource}
 
 -- where no byte passes, the list is its one part
 split_whole : (p : ℕ → Bool) (bytes : List ℕ) → position_or_len p bytes ≡ length bytes
@@ -60,14 +64,23 @@ line_taken whole some more rest line after is_right so_far line_is after_is step
     rw (line_is, after_is) (line_first rest) in
     so_far ∙ ap (before some) first ∙ step (values_of_lines (slice_split is_line_feed after))
 
+-- a file that is refused of some files is one of more of them
+pub refused_left : (xs ys : List ValuesSource) (it : Refused) → IsRefusedFile xs it
+    → IsRefusedFile (xs ++ ys) it
+refused_left xs ys it (file, one, is) = (file, Contains-append_left xs ys file one, is)
+
+pub refused_right : (xs ys : List ValuesSource) (it : Refused) → IsRefusedFile ys it
+    → IsRefusedFile (xs ++ ys) it
+refused_right xs ys it (file, one, is) = (file, Contains-append_right xs ys file one, is)
+
 -- what one file more gives comes after what those before it give
-pub values_more : (files : List (List ℕ)) (file : List ℕ) (xs ys : List Entry)
-    → values_of_files files ≡ Some xs → values_of file ≡ Some ys
+pub values_more : (files : List ValuesSource) (file : ValuesSource) (xs ys : List Entry)
+    → values_of_files files ≡ Some xs → values_in file ≡ Some ys
     → values_of_files (files ++ file ∷ []) ≡ Some (xs ++ ys)
 values_more [] file xs ys so_far gives =
     rw (gives, append-nil ys) (ap (λ l. Some (l ++ ys)) (same_Some [] xs so_far))
 values_more (first ∷ files) file xs ys so_far gives =
-    of (values_of first) (values_of_files files)
+    of (values_in first) (values_of_files files)
     (λ more is. values_more files file more ys is gives) so_far
   where
     of : (here later : Option (List Entry))

@@ -6,18 +6,22 @@ use Rattle.subst.specs.ErrorFault.{error_fault}
 use Rattle.subst.specs.Errors.{Error}
 use Rattle.subst.specs.Errors.error
 use Rattle.subst.specs.Language.Answer.{Answers, Refuses}
+use Rattle.subst.specs.Language.LookUp.{LookUp}
 use Rattle.subst.specs.Language.Sentence.{Spells}
 use Rattle.subst.specs.Language.Tree.{Tree}
 use Rattle.subst.specs.Language.Variables.{Variable, variables_of}
 use Rattle.subst.specs.Range.{range_of}
-use Rattle.subst_cli.specs.Fill.{origin_of, StandsFor}
+use Rattle.subst.specs.Shell.{RefusesShell}
+use Rattle.subst_cli.specs.Fill.{look_with, missing_in, origin_of, StandsFor}
 use Rattle.subst_cli.specs.Layers.{has_unreadable, look_up_in, Entry, IsUnreadable}
 use Rattle.subst_cli.specs.declared.fault.Cause.{Cause}
-use Rattle.subst_cli.specs.declared.fault.Cause.TheVariants.{Refused, Unreadable, NotUtf8}
+use Rattle.subst_cli.specs.declared.fault.Cause.TheVariants.{Refused, Unreadable, NotUtf8, Form}
 use Rattle.subst_cli.specs.declared.fault.Fault.{Fault}
 use Rattle.subst_cli.specs.declared.fill.Refusal.{Refusal}
 use Rattle.subst_cli.specs.declared.layers.Variables.{Variables}
 use Rattle.subst_cli.specs.declared.options.Placeholders.{Placeholders}
+use Rattle.subst_cli.specs.declared.options.Placeholders.TheVariants.{Shell}
+use Rattle.subst_foreign.specs.declared.shell_error.ShellError.TheVariants as errors
 
 -- it is that this name's value can't be read
 abbrev pub IsUnreadableName : List ℕ → Cause → Type 0
@@ -38,23 +42,47 @@ abbrev pub IsUnreadableIn : List Entry → List ℕ → Fault → Type 0
 IsUnreadableIn entries template it =
     (t : Tree) × Spells t template × IsUnreadableAmong entries (variables_of 0 t) it
 
--- the error states the refusal of the template, which begins at this position
-abbrev pub IsRefusedAt : List Entry → List ℕ → Cause → ℕ → Type 0
-IsRefusedAt entries template (Refused e) position = IsSomeAnd (error_fault e)
-    (λ f. Answers template (look_up_in entries) (Refuses f) × (position ≡ (range_of (Some f)).start))
-IsRefusedAt entries template _ position = ⊥
+-- the error states the refusal of the template under the look-up, which begins at this position
+abbrev pub IsRefusedAt : LookUp → List ℕ → Cause → ℕ → Type 0
+IsRefusedAt look template (Refused e) position = IsSomeAnd (error_fault e)
+    (λ f. Answers template look (Refuses f) × (position ≡ (range_of (Some f)).start))
+IsRefusedAt look template _ position = ⊥
 
 -- a fault of a template, in the source: where that is at an offset of the template
 abbrev pub moved : (ℕ → ℕ) → Fault → Fault
 moved origin it =
     record it { range = record { start = origin it.range.start; end = origin it.range.end } }
 
--- It is so of a text or byte string, of which a template stands for it: the library's error states the refusal
--- of that, or the value of a variable in it can't be read; and the fault is where that is in the source.
+-- the fault is that of a template, where that is in the source; in a text of a shell its place isn't stated
+abbrev pub IsMovedTo : Placeholders → List ℕ → Fault → Fault → Type 0
+IsMovedTo Shell template x it = it.cause ≡ x.cause
+IsMovedTo placeholders template x it = it ≡ moved (origin_of placeholders template) x
+
+-- It is so of a template that stands for a text or byte string: the library's error states the refusal of that,
+-- or the value of a variable in it can't be read; and the fault is where that is in the source.
+abbrev pub IsFaultByTemplate : Placeholders → List Entry → List ℕ → Fault → Type 0
+IsFaultByTemplate placeholders entries s it = (template : List ℕ) × StandsFor placeholders entries s template
+    × (x : Fault) × (IsRefusedAt (look_with (missing_in placeholders) (look_up_in entries)) template x.cause
+    x.range.start ⊎ IsUnreadableIn entries template x) × IsMovedTo placeholders template x it
+
+-- it is that a form of a shell can't be given, which begins where the fault does
+abbrev pub IsFormAt : List ℕ → Cause → ℕ → Type 0
+IsFormAt s (Form form) position = RefusesShell s (errors.Refused position form)
+IsFormAt s _ position = ⊥
+
+-- so of a text of a shell
+abbrev pub IsFormIn : Placeholders → List ℕ → Fault → Type 0
+IsFormIn Shell s it = IsFormAt s it.cause it.range.start
+IsFormIn _ s it = ⊥
+
+-- it is so of a text or byte string
 abbrev pub IsFaultOf : Placeholders → List Entry → List ℕ → Fault → Type 0
-IsFaultOf placeholders entries s it = (template : List ℕ) × StandsFor placeholders s template × (x : Fault)
-    × (IsRefusedAt entries template x.cause x.range.start ⊎ IsUnreadableIn entries template x)
-    × (it ≡ moved (origin_of placeholders template) x)
+IsFaultOf placeholders entries s it =
+    IsFormIn placeholders s it ⊎ IsFaultByTemplate placeholders entries s it
+
+-- why it is one
+abbrev pub cause_of : Fault → Cause
+cause_of it = it.cause
 
 -- it has a fault
 abbrev pub IsFaulty : Placeholders → List Entry → List ℕ → Type 0

@@ -2,6 +2,7 @@
 use denote.Ref.{Bor}
 use Rattle.std.specs.Prelude.{◌≡◌, ℕ, List, [], ◌∷◌, ◌++◌, ◌+◌, ◌-◌, ◌≤◌, IsUtf8, Option, Some, None, length, take, drop}
 use Rattle.std.specs.List.{All}
+use Rattle.std.specs.Option.{option_or}
 use Rattle.subst.specs.Foreign.{unescaped, IsTemplateFor, IsShellName, IsListed}
 use Rattle.subst.specs.Json.Filled as json_text
 use Rattle.subst.specs.Json.Mapped as json_tree
@@ -11,23 +12,53 @@ use Rattle.subst.specs.Language.LookUp.{LookUp}
 use Rattle.subst.specs.Language.NamesIn.{names_in}
 use Rattle.subst.specs.Language.Sentence.{Spells}
 use Rattle.subst.specs.Language.Tree.{Tree}
+use Rattle.subst.specs.Shell.{IsShellTemplateFor}
 use Rattle.subst.specs.Toml.Filled as toml_text
 use Rattle.subst.specs.Toml.Mapped as toml_tree
 use Rattle.subst.specs.Toml.Outcome as toml
-use Rattle.subst_cli.specs.Layers.{Entry, IsUnreadable, look_up_in}
+use Rattle.subst_cli.specs.Layers.{Entry, IsKnown, IsUnreadable, is_unreadable, look_up_in}
 use Rattle.subst_cli.specs.Mark.{filled_of, kept_of}
 use Rattle.subst_cli.specs.declared.document.format.Format.{Format}
 use Rattle.subst_cli.specs.declared.document.format.Format.TheVariants.{Json, Toml}
+use Rattle.subst_cli.specs.declared.fill.Seen.{Seen}
+use Rattle.subst_cli.specs.declared.options.Choice.{Choice}
+use Rattle.subst_cli.specs.declared.options.Choice.TheVariants.{Envsubst, Only, Known}
 use Rattle.subst_cli.specs.declared.options.InputFormat.{InputFormat}
 use Rattle.subst_cli.specs.declared.options.InputFormat.TheVariants.{Text, Bytes, Document}
+use Rattle.subst_cli.specs.declared.options.Missing.{Missing}
+use Rattle.subst_cli.specs.declared.options.Missing.TheVariants.{Fault, Nothing, FaultIfEmpty}
 use Rattle.subst_cli.specs.declared.options.Placeholders.{Placeholders}
-use Rattle.subst_cli.specs.declared.options.Placeholders.TheVariants.{Own, Envsubst, Only}
+use Rattle.subst_cli.specs.declared.options.Placeholders.TheVariants.{Own, Chosen, Shell}
+use Rattle.subst_filter_lib.specs.Words.{value_under}
+use Rattle.subst_map.specs.Maps.{without_empty}
+
+-- the name is one of those that are chosen, by what the entries give
+abbrev pub IsChosen : Choice → List Entry → List ℕ → Type 0
+IsChosen Envsubst entries = IsShellName
+IsChosen (Only names) entries = IsListed names.names.keys
+IsChosen Known entries = IsKnown (look_up_in entries) (is_unreadable entries)
 
 -- the template that stands for a source
-abbrev pub StandsFor : Placeholders → List ℕ → List ℕ → Type 0
-StandsFor Own s template = template ≡ s
-StandsFor Envsubst s template = IsTemplateFor IsShellName s template
-StandsFor (Only names) s template = IsTemplateFor (IsListed names.items) s template
+abbrev pub StandsFor : Placeholders → List Entry → List ℕ → List ℕ → Type 0
+StandsFor Own entries s template = template ≡ s
+StandsFor (Chosen choice missing) entries s template = IsTemplateFor (IsChosen choice entries) s template
+StandsFor Shell entries s template = IsShellTemplateFor s template
+
+-- what a variable gives that has no value
+abbrev pub missing_in : Placeholders → Missing
+missing_in Own = Fault
+missing_in (Chosen choice missing) = missing
+missing_in Shell = FaultIfEmpty
+
+-- what names have: one without a value has nothing in its place, or none, as then one whose value is empty
+abbrev pub look_with : Missing → LookUp → LookUp
+look_with Fault look name = look name
+look_with Nothing look name = option_or (look name) (Some [])
+look_with FaultIfEmpty look name = without_empty look name
+
+-- the same, of values
+abbrev pub seen : Seen → LookUp
+seen values = look_with values.missing (value_under values.values.now)
 
 -- Where in a source is what is at an offset of its template. Where that was made for it, both bytes of an
 -- escape are where the byte is that they stand for.
@@ -54,8 +85,9 @@ Agrees entries look = (name : List ℕ) → ¬ (IsUnreadable entries name) → l
 -- The source gives the output: a template that stands for it does, whatever the names have whose values can't
 -- be read.
 abbrev pub GivesFor : Placeholders → List Entry → List ℕ → List ℕ → Type 0
-GivesFor placeholders entries s output = (template : List ℕ) × StandsFor placeholders s template
-    × ((look : LookUp) → Agrees entries look → Answers template look (Gives output))
+GivesFor placeholders entries s output = (template : List ℕ) × StandsFor placeholders entries s template
+    × ((look : LookUp) → Agrees entries look
+    → Answers template (look_with (missing_in placeholders) look) (Gives output))
 
 -- each name in the template can be read
 abbrev pub AreReadable : List Entry → List ℕ → Type 0

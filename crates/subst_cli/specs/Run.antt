@@ -1,27 +1,35 @@
 -- A run over sources, apart from files.
-use Rattle.std.specs.Prelude.{◌≡◌, ◌⊎◌, ℕ, List, [], None, if◌then◌else◌}
+use Rattle.std.specs.Prelude.{◌≡◌, ◌⊎◌, ◌++◌, ℕ, List, [], None, filter, if◌then◌else◌, map, not, vec_items}
 use Rattle.std.specs.List.{Any, Contains}
 use Rattle.subst_cli.specs.Documents.{IsDocumentFault}
 use Rattle.subst_cli.specs.Faults.{IsFaultOf, IsNoText}
-use Rattle.subst_cli.specs.Layers.{Entry, environment_of, given_by, in_order}
+use Rattle.subst_cli.specs.Layers.{Entry, entries_of, environment_of, escaped, given_by, in_order, is_empty}
 use Rattle.subst_cli.specs.Mark.{filled_of}
 use Rattle.subst_cli.specs.ValuesFile.{values_of}
 use Rattle.subst_cli.specs.declared.fault.Fault.{Fault}
+use Rattle.subst_cli.specs.declared.layers.Layers.{Layers}
 use Rattle.subst_cli.specs.declared.options.InputFormat.{InputFormat}
 use Rattle.subst_cli.specs.declared.options.InputFormat.TheVariants.{Text, Bytes, Document}
 use Rattle.subst_cli.specs.declared.options.Options.{Options}
 use Rattle.subst_cli.specs.declared.options.Placeholders.{Placeholders}
 use Rattle.subst_cli.specs.declared.source.Refused.{Refused}
 use Rattle.subst_cli.specs.declared.source.Source.{Source}
+use Rattle.subst_cli.specs.declared.values_file.ValuesSource.{ValuesSource}
+use Rattle.subst_cli.specs.declared.values_file.ValuesSource.TheVariants.{Lines, Value}
 
 -- the bytes of a source
 abbrev pub bytes_of : Source → List ℕ
 bytes_of source = source.bytes.items
 
--- The entries of a run, those first that count: of the environment only where the options ask for it.
-abbrev pub entries_for : Options → List Entry → List (List ℕ) → List Entry
-entries_for options lines environment = in_order (given_by options.pairs.items) lines
-    (if options.environment then environment_of environment else [])
+-- The entries of a run, those first that count: of the environment only where the options ask for it, and
+-- without those whose value is empty where they ask for that.
+abbrev pub entries_for : Options → Layers → List Entry
+entries_for options read =
+    let all = in_order (given_by options.pairs.items) (entries_of read.lines.items)
+    (if options.environment then environment_of (map vec_items read.environment.items) else [])
+    (entries_of read.defaults.items ++ given_by options.defaults.items) in
+    map (escaped options.escape)
+    (if options.no_empty then filter (λ entry. not (is_empty entry)) all else all)
 
 -- the fault is so of the bytes of a source that are filled in
 abbrev pub IsFaultIn : InputFormat → Placeholders → List Entry → List ℕ → Fault → Type 0
@@ -41,10 +49,16 @@ IsRefusalOf form placeholders entries sources it = Contains sources (bytes_of it
     × StatesFault form placeholders entries (bytes_of it.source) it.faults.items
 
 -- the fault is so of a values file: it isn't UTF-8, or a line of it is wrong
-abbrev pub IsFaultOfFile : List ℕ → Fault → Type 0
-IsFaultOfFile s it = IsNoText s it ⊎ (values_of s ≡ None)
+abbrev pub IsFaultOfLines : List ℕ → Fault → Type 0
+IsFaultOfLines s it = IsNoText s it ⊎ (values_of s ≡ None)
 
--- it is one of these values files, and one of its faults is so
-abbrev pub IsRefusedFile : List (List ℕ) → Refused → Type 0
-IsRefusedFile files it = Contains files (bytes_of it.source)
-    × Any (IsFaultOfFile (bytes_of it.source)) it.faults.items
+-- the file is refused, and one of its faults is so
+abbrev pub IsFaultOfFile : ValuesSource → Refused → Type 0
+IsFaultOfFile (Lines source) it =
+    (it.source ≡ source) × Any (IsFaultOfLines (bytes_of source)) it.faults.items
+IsFaultOfFile (Value name source) it =
+    (it.source ≡ source) × Any (IsNoText (bytes_of source)) it.faults.items
+
+-- one of these files is refused
+abbrev pub IsRefusedFile : List ValuesSource → Refused → Type 0
+IsRefusedFile files it = (file : ValuesSource) × Contains files file × IsFaultOfFile file it

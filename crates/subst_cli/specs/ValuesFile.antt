@@ -1,9 +1,11 @@
 -- What a values file gives: NAME=VALUE lines.
-use Rattle.std.specs.Prelude.{◌==◌, ◌-◌, ℕ, Bool, true, ◌||◌, List, [], ◌∷◌, ◌++◌, length, take, drop, Option, Some, None, option_map, if◌then◌else◌}
+use Rattle.std.specs.Prelude.{◌==◌, ◌-◌, ℕ, Bool, true, ◌||◌, List, [], ◌∷◌, ◌++◌, length, take, drop, Option, Some, None, option_map, string_bytes, if◌then◌else◌}
 use Rattle.std.specs.List.{slice_split}
-use Rattle.std.specs.Str.{bytes_eq}
+use Rattle.std.specs.Str.{bytes_eq, is_utf8}
 use Rattle.subst_cli.specs.Layers.{Entry, entry_in}
 use Rattle.subst_cli.specs.Mark.{after_mark}
+use Rattle.subst_cli.specs.declared.values_file.ValuesSource.{ValuesSource}
+use Rattle.subst_cli.specs.declared.values_file.ValuesSource.TheVariants.{Lines, Value}
 
 -- the byte ends a line
 abbrev pub is_line_feed : ℕ → Bool
@@ -75,7 +77,17 @@ abbrev pub with_file : Option (List Entry) → Option (List Entry) → Option (L
 with_file None later = None
 with_file (Some entries) later = before entries later
 
--- what values files give, one after the other, or nothing where one of them gives nothing
-abbrev pub values_of_files : List (List ℕ) → Option (List Entry)
+-- what a file gives that is the value of a name, or nothing where it isn't UTF-8
+abbrev pub value_of : List ℕ → List ℕ → Option (List Entry)
+value_of name bytes =
+    if is_utf8 bytes then Some (record { name = name; value = Some bytes } ∷ []) else None
+
+-- what a file gives
+abbrev pub values_in : ValuesSource → Option (List Entry)
+values_in (Lines source) = values_of source.bytes.items
+values_in (Value name source) = value_of (string_bytes name) source.bytes.items
+
+-- what files give, one after the other, or nothing where one of them gives nothing
+abbrev pub values_of_files : List ValuesSource → Option (List Entry)
 values_of_files [] = Some []
-values_of_files (file ∷ files) = with_file (values_of file) (values_of_files files)
+values_of_files (file ∷ files) = with_file (values_in file) (values_of_files files)

@@ -32,7 +32,7 @@ pub(crate) fn fill(
     alloc: Global,
     format: Format,
     text: &str,
-    filler: &StringFiller<'_>,
+    filler: &StringFiller<'_, '_, '_>,
 ) -> Result<Outcome<String>, AllocError>
     ensures gives { (entries : List Entry) → FillsFrom filler.now entries
         → IfOk result (λ outcome. IfOk outcome (λ output.
@@ -58,7 +58,7 @@ pub(crate) fn uses(
     alloc: Global,
     format: Format,
     text: &str,
-    filler: &StringFiller<'_>,
+    filler: &StringFiller<'_, '_, '_>,
 ) -> Result<Outcome<Vec<Occurrence>>, AllocError> {
     let strings = match format.strings(alloc, text)? {
         Ok(strings) => strings,
@@ -105,7 +105,7 @@ fn faults_in(
     alloc: Global,
     format: Format,
     text: &str,
-    filler: &StringFiller<'_>,
+    filler: &StringFiller<'_, '_, '_>,
 ) -> Result<Vec<Fault>, AllocError>
     ensures { (entries : List Entry) → FillsFrom filler.now entries
         → IfOk result (λ faults. Any
@@ -136,7 +136,7 @@ fn faults_of(
     alloc: Global,
     format: Format,
     text: &str,
-    filler: &StringFiller<'_>,
+    filler: &StringFiller<'_, '_, '_>,
     strings: Vec<RefusedAt>,
 ) -> Result<Vec<Fault>, AllocError>
     ensures { IfOk result (λ faults. AreFaults filler.now

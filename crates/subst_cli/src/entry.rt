@@ -17,6 +17,18 @@ pub struct Entry {
     pub value: Option<String>,
 }
 
+impl Entry {
+    /// Returns whether the value is there and empty.
+    pub(crate) fn is_empty(&self) -> bool
+        ensures { result ≡ layers.is_empty (entry_of self.now) }
+    {
+        match &self.value {
+            Some(value) => value.is_empty(),
+            None => false,
+        }
+    }
+}
+
 /// Returns what `NAME=VALUE` gives, which is split at its first `=`, or nothing where there is no `=` or no
 /// template can spell the name.
 pub(crate) fn entry_in(alloc: Global, bytes: &[u8]) -> Result<Option<Entry>, AllocError>

@@ -7,6 +7,7 @@ use std::alloc::{AllocError, Global};
 use std::fmt;
 use std::ops::Range;
 use subst::Error;
+use subst::foreign::ShellForm;
 
 /// What is wrong with a source, and where in it.
 #[derive(Drop)]
@@ -35,6 +36,8 @@ pub enum Cause {
     NotConfirmed,
     /// A line of a values file gives no variable, for this.
     NoVariable(&'static str),
+    /// A form of a shell that can't be given.
+    Form(ShellForm),
 }
 
 impl fmt::Display for Cause {
@@ -53,6 +56,7 @@ impl fmt::Display for Cause {
                 f.write_str("it isn't confirmed where the strings of this document are")
             }
             Cause::NoVariable(why) => f.write_str(why),
+            Cause::Form(form) => write!(f, "{form}"),
         }
     }
 }

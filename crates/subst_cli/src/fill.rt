@@ -1,15 +1,46 @@
 //! Filling in one text or byte string, or telling what is wrong with it.
 
-ghost use Rattle.std.specs.Prelude.{◌<◌, ◌^◌, IfOk, IfErr, IsSomeAnd, string_bytes};
+ghost use Rattle.std.specs.Prelude.{◌<◌, ◌^◌, ℕ, List, IfOk, IfErr, IsSomeAnd, string_bytes};
 ghost use Rattle.subst.specs.ErrorFault.{error_fault};
 ghost use Rattle.subst.specs.Language.Answer.{Answers, Gives, Refuses};
 ghost use Rattle.subst.specs.Range.{range_of};
-ghost use Rattle.subst_filter_lib.specs.Words.{value_under};
+ghost use Rattle.subst_cli.specs.Fill.{seen};
 
+use crate::options::Missing;
 use std::alloc::{AllocError, Global};
 use subst::error::{NoSuchVariable, ParseError};
-use subst::{ByteTemplate, Error, substitute, substitute_bytes};
+use subst::{ByteTemplate, Error, VariableMap, substitute, substitute_bytes};
 use subst_filter_lib::values::Values;
+
+/// Values as a source sees them.
+#[derive(Clone, Copy)]
+pub(crate) struct Seen<'m, 'v> {
+    /// The values.
+    pub values: &'m Values<'v>,
+    /// What a name has that has no value.
+    pub missing: Missing,
+}
+
+impl<'m> VariableMap<'m> for Seen<'m, '_> {
+    ghost use Rattle.subst_cli.specs.Fill.{seen};
+
+    type Value = &'m str;
+
+    ghost Seen = { List ℕ };
+
+    ghost see = { λ v. v.now };
+
+    ghost look_up = { seen };
+
+    fn get(&'m self, key: &str) -> Option<&'m str> {
+        match (self.values.get(key), self.missing) {
+            (Some(value), Missing::FaultIfEmpty) if value.is_empty() => None,
+            (Some(value), _) => Some(*value),
+            (None, Missing::Nothing) => Some(""),
+            (None, Missing::Fault | Missing::FaultIfEmpty) => None,
+        }
+    }
+}
 
 /// Why a source gives nothing.
 #[derive(Debug, Drop)]
@@ -32,13 +63,13 @@ pub(crate) type Filled<T> = Result<T, Refusal>;
 pub(crate) fn text(
     alloc: Global,
     source: &str,
-    values: &Values<'_>,
+    values: &Seen<'_, '_>,
 ) -> Result<Filled<String>, AllocError>
     ensures gives { IfOk result (λ filled. IfOk filled
-        (λ text. Answers source.now (value_under values.now) (Gives (string_bytes text)))) }
+        (λ text. Answers source.now (seen values.now) (Gives (string_bytes text)))) }
     ensures refuses { IfOk result (λ filled. IfErr filled
         (λ refusal. IsSomeAnd (error_fault refusal.first)
-        (λ f. Answers source.now (value_under values.now) (Refuses f)))) }
+        (λ f. Answers source.now (seen values.now) (Refuses f)))) }
 {
     match substitute(alloc, source, values) {
         Ok(filled) => Ok(Ok(filled)),
@@ -60,13 +91,13 @@ pub(crate) fn text(
 pub(crate) fn bytes(
     alloc: Global,
     source: &[u8],
-    values: &Values<'_>,
+    values: &Seen<'_, '_>,
 ) -> Result<Filled<Vec<u8>>, AllocError>
     ensures gives { IfOk result (λ filled. IfOk filled
-        (λ output. Answers source.now (value_under values.now) (Gives output.items))) }
+        (λ output. Answers source.now (seen values.now) (Gives output.items))) }
     ensures refuses { IfOk result (λ filled. IfErr filled
         (λ refusal. IsSomeAnd (error_fault refusal.first)
-        (λ f. Answers source.now (value_under values.now) (Refuses f)))) }
+        (λ f. Answers source.now (seen values.now) (Refuses f)))) }
 {
     match substitute_bytes(alloc, source, values) {
         Ok(output) => Ok(Ok(output)),
@@ -88,7 +119,7 @@ pub(crate) fn bytes(
 fn others_missing(
     alloc: Global,
     source: &[u8],
-    values: &Values<'_>,
+    values: &Seen<'_, '_>,
 ) -> Result<Vec<NoSuchVariable>, AllocError> {
     let missing = match ByteTemplate::from_slice(alloc, source) {
         Ok(template) => template.missing(alloc, values)?,

@@ -1,20 +1,21 @@
 //! Sources filled in: what each gives, or why it gives nothing. No file is read or written here.
 
-ghost use Rattle.std.specs.Prelude.{◌≡◌, ◌++◌, ◌∷◌, [], ◌⊎◌, ℕ, List, IfErr, IfOk, IsTrue, OnOk, map, string_bytes, vec_items};
+ghost use Rattle.std.specs.Prelude.{◌≡◌, ◌++◌, ◌∷◌, [], ◌⊎◌, ℕ, List, IfErr, IfOk, IsTrue, OnOk, filter, if◌then◌else◌, map, not, string_bytes, vec_items};
 ghost use Rattle.std.specs.List.{All, Any};
 ghost use Rattle.subst_cli.specs.Fill.{AreOutputs, IsFilled, IsOutput};
-ghost use Rattle.subst_cli.specs.Layers.{Entry as SpecEntry, AreVariablesOf, entries_of};
+ghost use Rattle.subst_cli.specs.Layers.{Entry as SpecEntry, AreVariablesOf, entries_of, environment_of, is_empty};
 ghost use Rattle.subst_cli.specs.Run.{bytes_of, entries_for, IsFaultIn, IsRefusalOf, StatesFault};
 ghost use Rattle.subst_cli.specs.Strings.{FillsFrom};
 ghost use Rattle.subst_cli.specs.declared.source.Refused.{Refused as SpecRefused};
 
 use crate::document::StringFiller;
 use crate::entry::Entry;
-use crate::layers::{Variables, given, in_order};
+use crate::layers::{Layers, Variables, given, in_order, with_escaped_values, without_empty};
 use crate::options::{InputFormat, Options, Placeholders};
 use crate::part::{Occurrence, Outcome, fill_bytes, fill_text, uses_in_bytes, uses_in_text};
+use crate::placeholders::has_no_dollar;
 use crate::source::{Refused, Source};
-use crate::text::{not_utf8, split_source, text_of};
+use crate::text::{is_text, not_utf8, split_source, text_of};
 use crate::{document, environment};
 use std::alloc::{AllocError, Global};
 use subst::escape::is_plain;
@@ -22,9 +23,9 @@ use subst::escape::is_plain;
 /// What sources give, one after the other, or those of them that give nothing.
 pub type Outputs = Result<Vec<u8>, Vec<Refused>>;
 
-/// Fills in sources as the options of a run say, from the variables that the options give, those of the lines
-/// of its values files and those of the entries of its environment. Returns what all of them give, one after
-/// the other, or those that give nothing: there is no output then.
+/// Fills in sources as the options of a run say, from the variables that the options give and those that were
+/// read. Returns what all of them give, one after the other, or those that give nothing: there is no output
+/// then.
 ///
 /// # Errors
 ///
@@ -32,44 +33,65 @@ pub type Outputs = Result<Vec<u8>, Vec<Refused>>;
 pub fn fill_in(
     alloc: Global,
     options: &Options<'_>,
-    lines: Vec<Entry>,
-    environment: &[Vec<u8>],
+    read: Layers,
     sources: Vec<Source>,
 ) -> Result<Outputs, AllocError>
-    ensures gives { let entries = entries_for options.now (entries_of lines.items)
-        (map vec_items environment.now) in
+    ensures gives { let entries = entries_for options.now read in
         IfOk result (λ outputs. IfOk outputs (λ all. AreOutputs options.now.form
         options.now.placeholders entries (map bytes_of sources.items) all.items)) }
-    ensures refused { let entries = entries_for options.now (entries_of lines.items)
-        (map vec_items environment.now) in
+    ensures refused { let entries = entries_for options.now read in
         IfOk result (λ outputs. IfErr outputs (λ refused. (¬ (refused.items ≡ []))
         × All (IsRefusalOf options.now.form options.now.placeholders entries
         (map bytes_of sources.items)) refused.items)) }
 {
-    let entries = all_entries(alloc, options, lines, environment)?;
+    let entries = all_entries(alloc, options, read)?;
     let variables = Variables::of(alloc, &entries)?;
     let filling = Filling::of(options, variables);
     filling.fill_all(alloc, sources)
 }
 
-/// Returns all entries of a run, those first that count: those of the environment only where the options ask
-/// for them.
+/// Returns all entries of a run as its options ask for them, those first that count.
 pub(crate) fn all_entries(
     alloc: Global,
     options: &Options<'_>,
-    lines: Vec<Entry>,
+    read: Layers,
+) -> Result<Vec<Entry>, AllocError>
+    ensures { IfOk result (λ entries. entries_of entries.items ≡ entries_for options.now read) }
+{
+    let asked = asked_environment(alloc, options, &read.environment)?;
+    let mut defaults = read.defaults;
+    defaults.append(&mut given(alloc, &options.defaults)?)?;
+    let all = in_order(given(alloc, &options.pairs)?, read.lines, asked, defaults)?;
+    let kept = kept(all, options.no_empty);
+    with_escaped_values(alloc, kept, options.escape)
+}
+
+/// Returns what the entries of an environment give, or nothing where they aren't asked for.
+fn asked_environment(
+    alloc: Global,
+    options: &Options<'_>,
     environment: &[Vec<u8>],
 ) -> Result<Vec<Entry>, AllocError>
     ensures { IfOk result (λ entries. entries_of entries.items
-        ≡ entries_for options.now (entries_of lines.items) (map vec_items environment.now)) }
+        ≡ (if options.now.environment then environment_of (map vec_items environment.now)
+        else [])) }
 {
-    let given = given(alloc, &options.pairs)?;
-    let asked = if options.environment {
-        environment::entries(alloc, environment)?
-    } else {
-        Vec::new(alloc)
-    };
-    in_order(given, lines, asked)
+    if !options.environment {
+        return Ok(Vec::new(alloc));
+    }
+    environment::entries(alloc, environment)
+}
+
+/// Returns entries, or those whose value isn't empty.
+fn kept(entries: Vec<Entry>, no_empty: bool) -> Vec<Entry>
+    ensures { entries_of result.items ≡ (if no_empty
+        then filter (λ entry. not (is_empty entry)) (entries_of entries.items)
+        else entries_of entries.items) }
+{
+    if no_empty {
+        return without_empty(entries);
+    }
+    entries
 }
 
 /// How sources are filled in.
@@ -153,11 +175,13 @@ impl<'r, 'w, 'v> Filling<'r, 'w, 'v> {
             → IsOutput self.now.form self.now.placeholders.now entries source.now source.now }
     {
         match (self.form, self.placeholders) {
-            (InputFormat::Text, Placeholders::Own) => {
-                is_plain(source) && str::from_utf8(source).is_ok()
+            (InputFormat::Text, Placeholders::Own) => { is_plain(source) && is_text(source) }
+            (InputFormat::Text, Placeholders::Chosen(..)) => {
+                has_no_dollar(source) && is_text(source)
             }
             (InputFormat::Bytes, Placeholders::Own) => is_plain(source),
-            _ => false,
+            (InputFormat::Bytes, Placeholders::Chosen(..)) => has_no_dollar(source),
+            (InputFormat::Document(_), _) | (_, Placeholders::Shell) => false,
         }
     }
 
@@ -205,7 +229,7 @@ impl<'r, 'w, 'v> Filling<'r, 'w, 'v> {
     }
 
     /// Returns how strings of documents are filled in.
-    fn filler(&self) -> StringFiller<'_>
+    fn filler(&self) -> StringFiller<'_, 'w, 'v>
         ensures placeholders { result.placeholders.now ≡ self.now.placeholders.now }
         ensures variables { (entries : List SpecEntry) → AreVariablesOf self.now.variables entries
             → FillsFrom result entries }

@@ -1,17 +1,29 @@
 //! The variables of a run: the entries that give them, in the order in which they count.
 
-ghost use Rattle.std.specs.Prelude.{◌≡◌, ◌==◌, ◌||◌, ◌&&◌, ℕ, IfOk, IsTrue, List, false, None, OnOk, Some, if◌then◌else◌, is_none, is_some, not, option_map, string_bytes};
+ghost use Rattle.std.specs.Prelude.{◌≡◌, ◌==◌, ◌||◌, ◌&&◌, ◌++◌, ℕ, IfOk, IsTrue, List, false, None, OnOk, Some, filter, if◌then◌else◌, is_none, is_some, map, not, option_map, string_bytes};
 ghost use Rattle.std.specs.Option.{option_or};
 ghost use Rattle.std.specs.Str.{bytes_eq};
 ghost use Rattle.subst_cli.specs.Layers as layers;
-ghost use Rattle.subst_cli.specs.Layers.{AreVariablesOf, entries_of, given_by, has_unreadable};
+ghost use Rattle.subst_cli.specs.Layers.{AreVariablesOf, entries_of, entry_of, escaped_by, given_by, has_unreadable, is_empty};
 ghost use Rattle.subst_filter_lib.specs.Words.{value_under};
 
 use crate::entry::Entry;
-use crate::options::Pair;
+use crate::escape::escaped;
+use crate::options::{Escape, Pair};
 use std::alloc::{AllocError, Global};
 use std::collections::HashMap;
 use subst_filter_lib::values::Values;
+
+/// What is read for the variables of a run, besides its options.
+#[derive(Drop)]
+pub struct Layers {
+    /// What values files give, in the order of the files and of their lines.
+    pub lines: Vec<Entry>,
+    /// The entries of the environment, `NAME=VALUE`, in their order.
+    pub environment: Vec<Vec<u8>>,
+    /// What defaults files give, in the order of the files and of their lines.
+    pub defaults: Vec<Entry>,
+}
 
 /// The variables of a run.
 #[derive(Drop)]
@@ -55,13 +67,21 @@ impl<'v> Variables<'v> {
             && (not (is_some (value_under self.old.values name)) && is_none entry.now.value)))) }
     {
         let name = entry.name.as_str();
-        if has(&self.values, name) || has(&self.unreadable, name) {
+        if self.has(name) {
             return Ok(());
         }
         let Some(value) = &entry.value else {
             return put(&mut self.unreadable, name, name);
         };
         put(&mut self.values, name, value.as_str())
+    }
+
+    /// Returns whether anything is given to this name.
+    pub fn has(&self, name: &str) -> bool
+        ensures known { result ≡ (is_some (value_under self.now.values name.now)
+            || has_unreadable self.now name.now) }
+    {
+        has(&self.values, name) || has(&self.unreadable, name)
     }
 
     /// Returns whether all that is given is text.
@@ -110,19 +130,70 @@ pub(crate) fn given(alloc: Global, pairs: &[Pair]) -> Result<Vec<Entry>, AllocEr
 }
 
 /// Returns all entries, those first that count: those of the options from the last on, those of values files
-/// from the last on, and those of the environment.
+/// from the last on, those of the environment, and the defaults from the last on.
 pub(crate) fn in_order(
     mut given: Vec<Entry>,
     lines: Vec<Entry>,
     mut environment: Vec<Entry>,
+    mut defaults: Vec<Entry>,
 ) -> Result<Vec<Entry>, AllocError>
     ensures { IfOk result (λ entries. entries_of entries.items
         ≡ layers.in_order (entries_of given.items) (entries_of lines.items)
-        (entries_of environment.items)) }
+        (entries_of environment.items) (entries_of defaults.items)) }
 {
     let mut entries = lines;
     entries.append(&mut given)?;
     entries.reverse();
     entries.append(&mut environment)?;
+    defaults.reverse();
+    entries.append(&mut defaults)?;
     Ok(entries)
+}
+
+/// Returns entries without those whose value is empty.
+pub(crate) fn without_empty(mut entries: Vec<Entry>) -> Vec<Entry>
+    ensures { entries_of result.items
+        ≡ filter (λ entry. not (is_empty entry)) (entries_of entries.items) }
+{
+    entries.retain(
+        |entry|
+            ensures { result ≡ not (is_empty (entry_of entry.now)) }
+        { !entry.is_empty() },
+    );
+    entries
+}
+
+/// Returns entries with their values escaped.
+///
+/// # Errors
+///
+/// When allocation fails.
+pub(crate) fn with_escaped_values(
+    alloc: Global,
+    entries: Vec<Entry>,
+    escape: Escape,
+) -> Result<Vec<Entry>, AllocError>
+    ensures { IfOk result (λ escaped. entries_of escaped.items
+        ≡ map (layers.escaped escape) (entries_of entries.items)) }
+{
+    if let Escape::Nothing = escape {
+        return Ok(entries);
+    }
+    let mut all = Vec::with_capacity(alloc, entries.len())?;
+    for entry in &entries {
+        all.push(escaped_entry(alloc, entry, escape)?)?;
+    }
+    Ok(all)
+}
+
+/// Returns an entry with its value escaped.
+fn escaped_entry(alloc: Global, entry: &Entry, escape: Escape) -> Result<Entry, AllocError>
+    ensures { IfOk result (λ it. entry_of it ≡ layers.escaped escape (entry_of entry.now)) }
+{
+    let name = String::from_str(alloc, &entry.name)?;
+    let Some(value) = &entry.value else {
+        return Ok(Entry { name, value: None });
+    };
+    let value = Some(escaped(alloc, value, escape)?);
+    Ok(Entry { name, value })
 }

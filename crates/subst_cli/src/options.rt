@@ -6,6 +6,7 @@ pub use crate::document::Format;
 use clap::error::ErrorKind;
 use clap::{Arg, ArgAction, ArgMatches, Command, Error};
 use std::alloc::{AllocError, Global};
+use subst::foreign::OnlyNames;
 use subst_language::is_name;
 
 /// The file that stands for standard input.
@@ -19,9 +20,10 @@ const STANDARD_OUTPUT: [&str; 2] = ["-", "/dev/stdout"];
 
 /// The end of the help.
 const AFTER_HELP: &str = "\
-A name has the value of the first of these that has it: --set, the values files,
-the environment. All names without a value are reported, but of a file with a
-fault of another kind that fault alone.
+A name has the value of the first of these that has it: --set, --set-file, the
+values files, the environment, --default, the defaults files. All names without
+a value are reported, but of a file with a fault of another kind that fault
+alone.
 
 Status: 0 done, 1 a file or value is refused, 2 wrong arguments, 3 a file or
 device failed, 4 out of memory. The page subst(1) says more.";
@@ -42,10 +44,43 @@ pub enum InputFormat {
 pub enum Placeholders<'w> {
     /// What the template language says.
     Own,
-    /// What envsubst finds.
+    /// `$NAME` and `${NAME}` of chosen names, and what one gives that has no value. All else is text.
+    Chosen(Choice<'w>, Missing),
+    /// What Docker Compose finds, as far as it can be given. All else is text.
+    Shell,
+}
+
+/// Which names are chosen.
+#[derive(Drop)]
+pub enum Choice<'w> {
+    /// Those that envsubst knows.
     Envsubst,
-    /// `$NAME` and `${NAME}` of these names.
-    Only(Vec<&'w str>),
+    /// Those of a list.
+    Only(OnlyNames<'w>),
+    /// Those that something is given to.
+    Known,
+}
+
+/// What a variable gives that has no value.
+#[derive(Clone, Copy, PartialEq, Eq)]
+pub enum Missing {
+    /// A fault.
+    Fault,
+    /// Nothing.
+    Nothing,
+    /// A fault, and one whose value is empty has none.
+    FaultIfEmpty,
+}
+
+/// What values are escaped for.
+#[derive(Clone, Copy, PartialEq, Eq)]
+pub enum Escape {
+    /// Nothing: they stay as they are.
+    Nothing,
+    /// A string of JSON, whose quotes are there.
+    Json,
+    /// A word of a shell.
+    Sh,
 }
 
 /// What is done with the sources.
@@ -55,6 +90,8 @@ pub enum Action<'w> {
     Print,
     /// What they give is written to a file.
     WriteTo(&'w str),
+    /// What each gives is written to a file of its name in a folder.
+    WriteInto(&'w str),
     /// Each is replaced by what it gives.
     Replace,
     /// Their faults are told.
@@ -66,21 +103,36 @@ pub enum Action<'w> {
 /// A name and its value.
 pub type Pair = (String, String);
 
+/// A name, and the file that has its value.
+pub type NamedFile<'w> = (&'w str, &'w str);
+
 /// What the words ask for.
 #[derive(Drop)]
 pub struct Options<'w> {
     /// The variables of `--set`, in the order of the words.
     pub pairs: Vec<Pair>,
-    /// The values files.
+    /// Those of `--set-file`.
+    pub named_files: Vec<NamedFile<'w>>,
+    /// The values files, and the folders of files that are values.
     pub values_files: Vec<&'w str>,
     /// Whether the environment gives variables.
     pub environment: bool,
+    /// The variables of `--default`, in the order of the words.
+    pub defaults: Vec<Pair>,
+    /// The values files, and folders, below all that is named before.
+    pub defaults_files: Vec<&'w str>,
+    /// Whether a variable whose value is empty is passed over.
+    pub no_empty: bool,
+    /// What values are escaped for.
+    pub escape: Escape,
     /// What the sources are read as.
     pub form: InputFormat,
     /// What in them is a variable.
     pub placeholders: Placeholders<'w>,
     /// What is done with them.
     pub action: Action<'w>,
+    /// What the names of files that are written into a folder lose at their ends.
+    pub suffix: &'w str,
     /// The sources. There is at least one.
     pub files: Vec<&'w str>,
 }
@@ -96,20 +148,51 @@ impl<'w> Options<'w> {
     {
         let matches = command(alloc)?.try_get_matches_from(words)?;
         let files = list(alloc, &matches, "files")?;
-        if matches.get_flag("in-place") {
-            check_replaced(alloc, &files)?;
-        }
-        let values_files = list(alloc, &matches, "values")?;
-        check_read_once(alloc, &values_files, &files)?;
-        Ok(Options {
-            pairs: asked_pairs(alloc, &matches)?,
-            values_files,
+        let action = asked_action(&matches);
+        check_named(alloc, action, &files)?;
+        let options = Options {
+            pairs: asked_pairs(alloc, &matches, "set")?,
+            named_files: asked_named_files(alloc, &matches)?,
+            values_files: list(alloc, &matches, "values")?,
             environment: matches.get_flag("env"),
+            defaults: asked_pairs(alloc, &matches, "default")?,
+            defaults_files: list(alloc, &matches, "defaults")?,
+            no_empty: matches.get_flag("no-empty"),
+            escape: asked_escape(alloc, &matches)?,
             form: asked_form(&matches),
             placeholders: asked_placeholders(alloc, &matches)?,
-            action: asked_action(&matches),
+            action,
+            suffix: asked_suffix(alloc, &matches)?,
             files: or_standard_input(files)?,
-        })
+        };
+        options.check_read_once(alloc)?;
+        Ok(options)
+    }
+
+    /// Returns whether nothing gives a variable.
+    pub(crate) fn gives_nothing(&self) -> bool {
+        let in_words = self.pairs.is_empty() && self.defaults.is_empty();
+        let in_files = self.named_files.is_empty()
+            && self.values_files.is_empty()
+            && self.defaults_files.is_empty();
+        in_words && in_files && !self.environment
+    }
+
+    /// Refuses standard input where it is read twice.
+    fn check_read_once(&self, alloc: Global) -> Result<(), Error> {
+        let mut readers = count_standard_input(&self.values_files).saturating_add(
+            count_standard_input(&self.defaults_files),
+        );
+        for (_, file) in &self.named_files {
+            readers = readers.saturating_add(usize::from(is_standard_input(file)));
+        }
+        if readers > 1 || readers == 1 && count_standard_input(&self.files) > 0 {
+            return Err(wrong(
+                alloc,
+                "standard input is read once: '--values -' needs a FILE",
+            ));
+        }
+        Ok(())
     }
 }
 
@@ -132,31 +215,26 @@ fn or_standard_input(mut files: Vec<&str>) -> Result<Vec<&str>, AllocError>
     Ok(files)
 }
 
-/// Refuses files that can't be replaced.
-fn check_replaced(alloc: Global, files: &[&str]) -> Result<(), Error> {
+/// Refuses what can't be replaced, or has no name for a file of its own.
+fn check_named(alloc: Global, action: Action<'_>, files: &[&str]) -> Result<(), Error> {
+    let option = match action {
+        Action::Replace => "--in-place",
+        Action::WriteInto(_) => "--output-folder",
+        _ => return Ok(()),
+    };
     if files.is_empty() {
-        return Err(wrong(alloc, "--in-place needs a file"));
+        return Err(wrong(alloc, &format!(in alloc; "{option} needs a file")?));
     }
     if files.iter().any(|file| *file == STANDARD_INPUT) {
-        return Err(wrong(alloc, "--in-place can't be of standard input"));
+        let message = format!(in alloc; "{option} can't be of standard input")?;
+        return Err(wrong(alloc, &message));
     }
     Ok(())
 }
 
-/// Refuses standard input as a values file where it is read once more.
-fn check_read_once(alloc: Global, values_files: &[&str], files: &[&str]) -> Result<(), Error> {
-    let reads_values = values_files
-        .iter()
-        .filter(|file| is_standard_input(file))
-        .count();
-    let reads_source = files.is_empty() || files.iter().any(|file| is_standard_input(file));
-    if reads_values > 1 || reads_values == 1 && reads_source {
-        return Err(wrong(
-            alloc,
-            "standard input is read once: '--values -' needs a FILE",
-        ));
-    }
-    Ok(())
+/// Returns how many of these files are standard input.
+fn count_standard_input(files: &[&str]) -> usize {
+    files.iter().filter(|file| is_standard_input(file)).count()
 }
 
 /// Returns whether a file is standard input, under one of its names.
@@ -164,22 +242,44 @@ fn is_standard_input(file: &str) -> bool {
     file == STANDARD_INPUT || STANDARD_INPUT_PATHS.contains(&file)
 }
 
-/// Returns the variables of `--set`.
-fn asked_pairs(alloc: Global, matches: &ArgMatches<'_>) -> Result<Vec<Pair>, Error> {
+/// Returns the variables that an option gives.
+fn asked_pairs(alloc: Global, matches: &ArgMatches<'_>, id: &str) -> Result<Vec<Pair>, Error> {
     let mut pairs = Vec::new(alloc);
-    for word in list(alloc, matches, "set")? {
-        let Some((name, value)) = word.split_once('=') else {
-            let number = pairs.len().saturating_add(1);
-            let message = format!(in alloc; "no '=' in argument {number} of --set")?;
-            return Err(wrong(alloc, &message));
-        };
-        if !is_name(name.as_bytes()) {
-            let message = format!(in alloc; "no template can spell the name '{name}' of --set")?;
-            return Err(wrong(alloc, &message));
-        }
+    for word in list(alloc, matches, id)? {
+        let (name, value) = split_pair(alloc, word, pairs.len().saturating_add(1), id)?;
         pairs.push(owned(alloc, name, value)?)?;
     }
     Ok(pairs)
+}
+
+/// Returns the names and files of `--set-file`.
+fn asked_named_files<'w>(
+    alloc: Global,
+    matches: &ArgMatches<'w>,
+) -> Result<Vec<NamedFile<'w>>, Error> {
+    let mut files = Vec::new(alloc);
+    for word in list(alloc, matches, "set-file")? {
+        files.push(split_pair(alloc, word, files.len().saturating_add(1), "set-file")?)?;
+    }
+    Ok(files)
+}
+
+/// Returns the name and what is after the first `=` of the argument of this number of an option.
+fn split_pair<'w>(
+    alloc: Global,
+    word: &'w str,
+    number: usize,
+    id: &str,
+) -> Result<(&'w str, &'w str), Error> {
+    let Some((name, value)) = word.split_once('=') else {
+        let message = format!(in alloc; "no '=' in argument {number} of --{id}")?;
+        return Err(wrong(alloc, &message));
+    };
+    if !is_name(name.as_bytes()) {
+        let message = format!(in alloc; "no template can spell the name '{name}' of --{id}")?;
+        return Err(wrong(alloc, &message));
+    }
+    Ok((name, value))
 }
 
 /// Returns a pair that owns its texts.
@@ -203,17 +303,58 @@ fn asked_form(matches: &ArgMatches<'_>) -> InputFormat {
     }
 }
 
+/// Returns what values are escaped for.
+fn asked_escape(alloc: Global, matches: &ArgMatches<'_>) -> Result<Escape, Error> {
+    match matches.get_str("escape") {
+        None => Ok(Escape::Nothing),
+        Some("json") => Ok(Escape::Json),
+        Some("sh") => Ok(Escape::Sh),
+        Some(_) => Err(wrong(alloc, "--escape is for json or sh")),
+    }
+}
+
+/// Returns what the names of files lose at their ends.
+fn asked_suffix<'w>(alloc: Global, matches: &ArgMatches<'w>) -> Result<&'w str, Error> {
+    let Some(suffix) = matches.get_str("strip") else {
+        return Ok("");
+    };
+    if suffix.is_empty() || !matches.contains_id("output-folder") {
+        return Err(wrong(alloc, "--strip needs a suffix and --output-folder"));
+    }
+    Ok(suffix)
+}
+
 /// Returns what in the sources is a variable.
 fn asked_placeholders<'w>(
     alloc: Global,
     matches: &ArgMatches<'w>,
 ) -> Result<Placeholders<'w>, Error> {
+    let missing = if matches.get_flag("optional") {
+        Missing::Nothing
+    } else {
+        Missing::Fault
+    };
     if matches.get_flag("envsubst") {
-        return Ok(Placeholders::Envsubst);
+        return Ok(Placeholders::Chosen(Choice::Envsubst, missing));
     }
-    if !matches.contains_id("only") {
-        return Ok(Placeholders::Own);
+    if matches.get_flag("known") {
+        return Ok(Placeholders::Chosen(Choice::Known, missing));
     }
+    if matches.get_flag("shell") {
+        return Ok(Placeholders::Shell);
+    }
+    if matches.contains_id("only") {
+        let names = asked_names(alloc, matches)?;
+        return Ok(Placeholders::Chosen(Choice::Only(names), missing));
+    }
+    if missing == Missing::Nothing {
+        return Err(wrong(alloc, "--optional needs --envsubst or --only"));
+    }
+    Ok(Placeholders::Own)
+}
+
+/// Returns the names of `--only`.
+fn asked_names<'w>(alloc: Global, matches: &ArgMatches<'w>) -> Result<OnlyNames<'w>, Error> {
     let mut names = Vec::new(alloc);
     for words in list(alloc, matches, "only")? {
         add_names(alloc, &mut names, words)?;
@@ -221,7 +362,7 @@ fn asked_placeholders<'w>(
     if names.is_empty() {
         return Err(wrong(alloc, "--only needs a name"));
     }
-    Ok(Placeholders::Only(names))
+    Ok(OnlyNames::new(alloc, &names)?)
 }
 
 /// Adds the names that stand apart by commas or blanks, each as it is or written as a variable.
@@ -257,6 +398,8 @@ fn asked_action<'w>(matches: &ArgMatches<'w>) -> Action<'w> {
         } else {
             Action::WriteTo(file)
         }
+    } else if let Some(folder) = matches.get_str("output-folder") {
+        Action::WriteInto(folder)
     } else if matches.get_flag("in-place") {
         Action::Replace
     } else if matches.get_flag("check") {
@@ -336,7 +479,7 @@ fn with_short<'a>(arg: Arg<'a>, short: Option<char>) -> Arg<'a> {
 }
 
 /// The options, in the order of the help.
-static OPTIONS: [Row; 12] = [
+static OPTIONS: [Row; 22] = [
     Row {
         heading: "Variables",
         long: "set",
@@ -347,10 +490,18 @@ static OPTIONS: [Row; 12] = [
     },
     Row {
         heading: "Variables",
+        long: "set-file",
+        short: None,
+        takes: Some(("NAME=FILE", ArgAction::Append)),
+        help: "Gives a variable all that is in a file",
+        conflicts: &[],
+    },
+    Row {
+        heading: "Variables",
         long: "values",
         short: Some('f'),
         takes: Some(("FILE", ArgAction::Append)),
-        help: "Reads NAME=VALUE lines; all after the first '=' is the value",
+        help: "Reads NAME=VALUE lines, or of a folder the file of each name",
         conflicts: &[],
     },
     Row {
@@ -359,6 +510,38 @@ static OPTIONS: [Row; 12] = [
         short: Some('e'),
         takes: None,
         help: "Takes variables from the environment",
+        conflicts: &[],
+    },
+    Row {
+        heading: "Variables",
+        long: "default",
+        short: None,
+        takes: Some(("NAME=VALUE", ArgAction::Append)),
+        help: "Gives a variable that nothing above gives",
+        conflicts: &[],
+    },
+    Row {
+        heading: "Variables",
+        long: "defaults",
+        short: None,
+        takes: Some(("FILE", ArgAction::Append)),
+        help: "Reads such variables, as --values does",
+        conflicts: &[],
+    },
+    Row {
+        heading: "Variables",
+        long: "no-empty",
+        short: None,
+        takes: None,
+        help: "Passes over variables whose value is empty",
+        conflicts: &[],
+    },
+    Row {
+        heading: "Variables",
+        long: "escape",
+        short: None,
+        takes: Some(("FOR", ArgAction::Set)),
+        help: "Escapes values: json, between quotes, or sh, as a word",
         conflicts: &[],
     },
     Row {
@@ -391,7 +574,7 @@ static OPTIONS: [Row; 12] = [
         short: None,
         takes: Some(("NAMES", ArgAction::Append)),
         help: "Takes $NAME and ${NAME} of these names, and all else as text",
-        conflicts: &["envsubst"],
+        conflicts: &["envsubst", "known", "shell"],
     },
     Row {
         heading: "Reading",
@@ -399,6 +582,30 @@ static OPTIONS: [Row; 12] = [
         short: None,
         takes: None,
         help: "Takes what envsubst would fill in, and all else as text",
+        conflicts: &["known", "shell"],
+    },
+    Row {
+        heading: "Reading",
+        long: "known",
+        short: None,
+        takes: None,
+        help: "Takes names that have a value, and all else as text",
+        conflicts: &["shell", "optional", "names"],
+    },
+    Row {
+        heading: "Reading",
+        long: "shell",
+        short: None,
+        takes: None,
+        help: "Takes ${NAME:-default} and ${NAME:?}, as Docker Compose does",
+        conflicts: &["optional"],
+    },
+    Row {
+        heading: "Reading",
+        long: "optional",
+        short: None,
+        takes: None,
+        help: "With --envsubst and --only, takes a missing value as empty",
         conflicts: &[],
     },
     Row {
@@ -407,7 +614,23 @@ static OPTIONS: [Row; 12] = [
         short: Some('o'),
         takes: Some(("FILE", ArgAction::Set)),
         help: "Writes to a file, whole or not at all",
+        conflicts: &["output-folder", "in-place", "check", "names"],
+    },
+    Row {
+        heading: "Writing",
+        long: "output-folder",
+        short: Some('O'),
+        takes: Some(("FOLDER", ArgAction::Set)),
+        help: "Writes each file, and those of each folder, into a folder",
         conflicts: &["in-place", "check", "names"],
+    },
+    Row {
+        heading: "Writing",
+        long: "strip",
+        short: None,
+        takes: Some(("SUFFIX", ArgAction::Set)),
+        help: "Takes of folders such files, and the suffix off their names",
+        conflicts: &["output", "in-place", "check", "names"],
     },
     Row {
         heading: "Writing",

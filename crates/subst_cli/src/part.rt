@@ -1,25 +1,29 @@
 //! A text or byte string of a source: a source itself, or a string of a document.
 
-ghost use Rattle.std.specs.Prelude.{◌≡◌, ◌≢◌, ◌⊎◌, [], List, None, Ok, IfErr, IfOk, map, string_bytes};
+ghost use Rattle.std.specs.Prelude.{◌≡◌, ◌≢◌, ◌⊎◌, [], ℕ, List, None, Ok, IfErr, IfOk, map, string_bytes};
 ghost use Rattle.std.specs.List.{All, Any, Contains};
 ghost use Rattle.subst.specs.Calls.Variables.{variable_of};
 ghost use Rattle.subst.specs.ErrorFault.{parse_fault};
-ghost use Rattle.subst_cli.specs.Faults.{lacks_unreadable, moved, IsFaultOf, IsFirstOf, IsToldOf, IsUnreadableAmong, IsUnreadableAt, IsUnreadableIn};
+ghost use Rattle.subst.specs.Shell.{RefusesShell};
+ghost use Rattle.subst_cli.specs.Faults.{cause_of, lacks_unreadable, moved, IsFaultOf, IsFormIn, IsFirstOf, IsToldOf, IsUnreadableAmong, IsUnreadableAt, IsUnreadableIn};
 ghost use Rattle.subst_cli.specs.Fill.{origin_in, AreReadable, GivesFor};
 ghost use Rattle.subst_cli.specs.Layers.{Entry, AreVariablesOf, IsUnreadable};
 ghost use Rattle.subst_cli.specs.declared.fault.Cause.TheVariants as causes;
 ghost use Rattle.subst_cli.specs.declared.fault.Fault.{Fault as SpecFault};
+ghost use Rattle.subst_cli.specs.declared.options.Placeholders.TheVariants as kinds;
 
 use crate::fault::{Cause, Fault, one_fault, range_of_name};
 use crate::fill;
-use crate::fill::{Filled, Refusal};
+use crate::fill::{Filled, Refusal, Seen};
 use crate::layers::Variables;
-use crate::options::Placeholders;
+use crate::options::{Choice, Missing, Placeholders};
 use crate::placeholders::{Origins, byte_template_of, template_of};
+use crate::shell::{place_among, shell_places};
 use std::alloc::{AllocError, Global};
 use std::ops::Range;
 use subst::error::ParseError;
-use subst::{ByteTemplate, Error, Variable, VariableKind};
+use subst::foreign::ShellError;
+use subst::{ByteTemplate, Error, Variable, VariableKind, foreign};
 
 /// What a part gives, or its faults in the order of their places.
 pub(crate) type Outcome<T> = Result<T, Vec<Fault>>;
@@ -42,15 +46,81 @@ pub(crate) fn fill_text(
         → IfOk result (λ outcome. IfErr outcome
         (λ faults. Any (IsFaultOf placeholders.now entries text.now) faults.items)) }
 {
-    let Some(template) = template_of(alloc, text, placeholders)? else {
-        let filled = fill::text(alloc, text, &variables.values)?;
-        let unreadable = unreadable_in(alloc, text.as_bytes(), variables)?;
-        return outcome(alloc, filled, unreadable, variables, None);
+    match placeholders {
+        Placeholders::Own => fill_own_text(alloc, text, variables),
+        Placeholders::Chosen(choice, missing) => {
+            fill_chosen_text(alloc, text, choice, *missing, variables)
+        }
+        Placeholders::Shell => fill_shell_text(alloc, text, variables),
+    }
+}
+
+/// Returns a text with the language's own variables filled in, or its faults.
+fn fill_own_text(
+    alloc: Global,
+    text: &str,
+    variables: &Variables<'_>,
+) -> Result<Outcome<String>, AllocError>
+    ensures gives { (entries : List Entry) → AreVariablesOf variables.now entries
+        → IfOk result (λ outcome. IfOk outcome
+        (λ output. GivesFor kinds.Own entries text.now (string_bytes output))) }
+    ensures refused { (entries : List Entry) → AreVariablesOf variables.now entries
+        → IfOk result (λ outcome. IfErr outcome
+        (λ faults. Any (IsFaultOf kinds.Own entries text.now) faults.items)) }
+{
+    let filled = fill::text(alloc, text, &seen(variables, Missing::Fault))?;
+    let unreadable = unreadable_in(alloc, text.as_bytes(), variables)?;
+    outcome(alloc, filled, unreadable, variables, None)
+}
+
+/// Returns a text with the variables of chosen names filled in, or its faults.
+fn fill_chosen_text(
+    alloc: Global,
+    text: &str,
+    choice: &Choice<'_>,
+    missing: Missing,
+    variables: &Variables<'_>,
+) -> Result<Outcome<String>, AllocError>
+    ensures gives { (entries : List Entry) → AreVariablesOf variables.now entries
+        → IfOk result (λ outcome. IfOk outcome
+        (λ output. GivesFor (kinds.Chosen choice.now missing) entries text.now
+        (string_bytes output))) }
+    ensures refused { (entries : List Entry) → AreVariablesOf variables.now entries
+        → IfOk result (λ outcome. IfErr outcome
+        (λ faults. Any (IsFaultOf (kinds.Chosen choice.now missing) entries text.now)
+        faults.items)) }
+{
+    let template = template_of(alloc, text, choice, Some(variables))?;
+    let filled = fill::text(alloc, &template, &seen(variables, missing))?;
+    let made = template.as_bytes();
+    let unreadable = unreadable_in(alloc, made, variables)?;
+    outcome(alloc, filled, unreadable, variables, Some(made))
+}
+
+/// Returns a text with the variables of a shell filled in, or its faults.
+fn fill_shell_text(
+    alloc: Global,
+    text: &str,
+    variables: &Variables<'_>,
+) -> Result<Outcome<String>, AllocError>
+    ensures gives { (entries : List Entry) → AreVariablesOf variables.now entries
+        → IfOk result (λ outcome. IfOk outcome
+        (λ output. GivesFor kinds.Shell entries text.now (string_bytes output))) }
+    ensures refused { (entries : List Entry) → AreVariablesOf variables.now entries
+        → IfOk result (λ outcome. IfErr outcome
+        (λ faults. Any (IsFaultOf kinds.Shell entries text.now) faults.items)) }
+{
+    let template = match foreign::from_shell(alloc, text) {
+        Ok(template) => template,
+        Err(e) => return Ok(Err(refused_form(alloc, e)?)),
     };
-    let filled = fill::text(alloc, &template, &variables.values)?;
-    let unreadable = unreadable_in(alloc, template.as_bytes(), variables)?;
-    let made = Some(template.as_bytes());
-    outcome(alloc, filled, unreadable, variables, made)
+    let filled = fill::text(alloc, &template, &seen(variables, Missing::FaultIfEmpty))?;
+    let made = template.as_bytes();
+    let unreadable = unreadable_in(alloc, made, variables)?;
+    match outcome(alloc, filled, unreadable, variables, None)? {
+        Ok(output) => Ok(Ok(output)),
+        Err(faults) => Ok(Err(in_shell(alloc, text.as_bytes(), made, faults)?)),
+    }
 }
 
 /// Returns bytes with their variables filled in, or their faults.
@@ -71,15 +141,137 @@ pub(crate) fn fill_bytes(
         → IfOk result (λ outcome. IfErr outcome
         (λ faults. Any (IsFaultOf placeholders.now entries source.now) faults.items)) }
 {
-    let Some(template) = byte_template_of(alloc, source, placeholders)? else {
-        let filled = fill::bytes(alloc, source, &variables.values)?;
-        let unreadable = unreadable_in(alloc, source, variables)?;
-        return outcome(alloc, filled, unreadable, variables, None);
-    };
+    match placeholders {
+        Placeholders::Own => fill_own_bytes(alloc, source, variables),
+        Placeholders::Chosen(choice, missing) => {
+            fill_chosen_bytes(alloc, source, choice, *missing, variables)
+        }
+        Placeholders::Shell => fill_shell_bytes(alloc, source, variables),
+    }
+}
+
+/// Returns bytes with the language's own variables filled in, or their faults.
+fn fill_own_bytes(
+    alloc: Global,
+    source: &[u8],
+    variables: &Variables<'_>,
+) -> Result<Outcome<Vec<u8>>, AllocError>
+    ensures gives { (entries : List Entry) → AreVariablesOf variables.now entries
+        → IfOk result (λ outcome. IfOk outcome
+        (λ output. GivesFor kinds.Own entries source.now output.items)) }
+    ensures refused { (entries : List Entry) → AreVariablesOf variables.now entries
+        → IfOk result (λ outcome. IfErr outcome
+        (λ faults. Any (IsFaultOf kinds.Own entries source.now) faults.items)) }
+{
+    let filled = fill::bytes(alloc, source, &seen(variables, Missing::Fault))?;
+    let unreadable = unreadable_in(alloc, source, variables)?;
+    outcome(alloc, filled, unreadable, variables, None)
+}
+
+/// Returns bytes with the variables of chosen names filled in, or their faults.
+fn fill_chosen_bytes(
+    alloc: Global,
+    source: &[u8],
+    choice: &Choice<'_>,
+    missing: Missing,
+    variables: &Variables<'_>,
+) -> Result<Outcome<Vec<u8>>, AllocError>
+    ensures gives { (entries : List Entry) → AreVariablesOf variables.now entries
+        → IfOk result (λ outcome. IfOk outcome
+        (λ output. GivesFor (kinds.Chosen choice.now missing) entries source.now output.items)) }
+    ensures refused { (entries : List Entry) → AreVariablesOf variables.now entries
+        → IfOk result (λ outcome. IfErr outcome
+        (λ faults. Any (IsFaultOf (kinds.Chosen choice.now missing) entries source.now)
+        faults.items)) }
+{
+    let template = byte_template_of(alloc, source, choice, Some(variables))?;
+    let filled = fill::bytes(alloc, &template, &seen(variables, missing))?;
     let made = template.as_slice();
-    let filled = fill::bytes(alloc, made, &variables.values)?;
     let unreadable = unreadable_in(alloc, made, variables)?;
     outcome(alloc, filled, unreadable, variables, Some(made))
+}
+
+/// Returns bytes with the variables of a shell filled in, or their faults.
+fn fill_shell_bytes(
+    alloc: Global,
+    source: &[u8],
+    variables: &Variables<'_>,
+) -> Result<Outcome<Vec<u8>>, AllocError>
+    ensures gives { (entries : List Entry) → AreVariablesOf variables.now entries
+        → IfOk result (λ outcome. IfOk outcome
+        (λ output. GivesFor kinds.Shell entries source.now output.items)) }
+    ensures refused { (entries : List Entry) → AreVariablesOf variables.now entries
+        → IfOk result (λ outcome. IfErr outcome
+        (λ faults. Any (IsFaultOf kinds.Shell entries source.now) faults.items)) }
+{
+    let template = match foreign::bytes_from_shell(alloc, source) {
+        Ok(template) => template,
+        Err(e) => return Ok(Err(refused_form(alloc, e)?)),
+    };
+    let filled = fill::bytes(alloc, &template, &seen(variables, Missing::FaultIfEmpty))?;
+    let made = template.as_slice();
+    let unreadable = unreadable_in(alloc, made, variables)?;
+    match outcome(alloc, filled, unreadable, variables, None)? {
+        Ok(output) => Ok(Ok(output)),
+        Err(faults) => Ok(Err(in_shell(alloc, source, made, faults)?)),
+    }
+}
+
+/// Returns the fault of a text with a form of a shell that can't be given.
+///
+/// # Errors
+///
+/// When allocation failed, or fails.
+fn refused_form(alloc: Global, e: ShellError) -> Result<Vec<Fault>, AllocError>
+    ensures { (s : List ℕ) → RefusesShell s e
+        → IfOk result (λ faults. Any (IsFormIn kinds.Shell s) faults.items) }
+{
+    match e {
+        ShellError::Refused { position, form } => one_fault(
+            alloc,
+            position..position.saturating_add(1),
+            Cause::Form(form),
+        ),
+        ShellError::OutOfMemory(e) => Err(e),
+    }
+}
+
+/// Returns these faults of a template where they are in the text of a shell that it was made for.
+///
+/// # Errors
+///
+/// When allocation fails.
+fn in_shell(
+    alloc: Global,
+    text: &[u8],
+    template: &[u8],
+    faults: Vec<Fault>,
+) -> Result<Vec<Fault>, AllocError>
+    ensures { IfOk result (λ moved. map cause_of moved.items ≡ map cause_of faults.items) }
+{
+    let places = shell_places(alloc, text, template)?;
+    let mut moved = Vec::with_capacity(alloc, faults.len())?;
+    for Fault { path, range, cause } in faults {
+        let len = range.end.saturating_sub(range.start);
+        let start = place_among(&places, range.start);
+        moved.push(Fault {
+            path,
+            range: start..start.saturating_add(len),
+            cause,
+        })?;
+    }
+    Ok(moved)
+}
+
+/// Returns the values as a source sees them of whose variables this is what one gives that has no value.
+fn seen<'m, 'v>(variables: &'m Variables<'v>, missing: Missing) -> Seen<'m, 'v>
+    ensures values { result.values.now ≡ variables.now.values }
+    ensures missing { result.missing ≡ missing }
+{
+    Seen {
+        values: &variables.values,
+        missing,
+    }
 }
 
 /// Returns a fault for each variable of a template whose value isn't UTF-8, in its order. A source that is no
@@ -272,10 +464,7 @@ pub(crate) fn uses_in_text(
     text: &str,
     placeholders: &Placeholders<'_>,
 ) -> Result<Outcome<Vec<Occurrence>>, AllocError> {
-    match template_of(alloc, text, placeholders)? {
-        Some(converted) => uses_in(alloc, converted.as_bytes(), Some(converted.as_bytes())),
-        None => uses_in(alloc, text.as_bytes(), None),
-    }
+    uses_in_bytes(alloc, text.as_bytes(), placeholders)
 }
 
 /// Returns the variables of bytes, or their fault.
@@ -288,10 +477,33 @@ pub(crate) fn uses_in_bytes(
     source: &[u8],
     placeholders: &Placeholders<'_>,
 ) -> Result<Outcome<Vec<Occurrence>>, AllocError> {
-    match byte_template_of(alloc, source, placeholders)? {
-        Some(converted) => uses_in(alloc, &converted, Some(&converted)),
-        None => uses_in(alloc, source, None),
+    match placeholders {
+        Placeholders::Own => uses_in(alloc, source, None, Missing::Fault),
+        Placeholders::Chosen(choice, missing) => {
+            let made = byte_template_of(alloc, source, choice, None)?;
+            uses_in(alloc, &made, Some(&made), *missing)
+        }
+        Placeholders::Shell => uses_in_shell(alloc, source),
     }
+}
+
+/// Returns the variables of a text of a shell, or its fault.
+fn uses_in_shell(alloc: Global, text: &[u8]) -> Result<Outcome<Vec<Occurrence>>, AllocError> {
+    let template = match foreign::bytes_from_shell(alloc, text) {
+        Ok(template) => template,
+        Err(e) => return Ok(Err(refused_form(alloc, e)?)),
+    };
+    let mut uses = match uses_in(alloc, &template, None, Missing::Fault)? {
+        Ok(uses) => uses,
+        Err(faults) => return Ok(Err(faults)),
+    };
+    let places = shell_places(alloc, text, &template)?;
+    for it in uses.iter_mut() {
+        let len = it.range.end.saturating_sub(it.range.start);
+        let start = place_among(&places, it.range.start);
+        it.range = start..start.saturating_add(len);
+    }
+    Ok(Ok(uses))
 }
 
 /// Returns the variables of a template of a part, or its fault.
@@ -299,9 +511,13 @@ fn uses_in(
     alloc: Global,
     template: &[u8],
     converted: Option<&[u8]>,
+    missing: Missing,
 ) -> Result<Outcome<Vec<Occurrence>>, AllocError> {
     match ByteTemplate::from_slice(alloc, template) {
-        Ok(template) => Ok(Ok(uses(alloc, template.variables(alloc)?, converted)?)),
+        Ok(template) => {
+            let variables = template.variables(alloc)?;
+            Ok(Ok(uses(alloc, variables, converted, missing)?))
+        }
         Err(ParseError::OutOfMemory(e)) => Err(e),
         Err(e) => {
             let e = Error::from(e);
@@ -316,6 +532,7 @@ fn uses(
     alloc: Global,
     variables: Vec<Variable<'_>>,
     converted: Option<&[u8]>,
+    missing: Missing,
 ) -> Result<Vec<Occurrence>, AllocError> {
     let mut origins = Origins::of(converted);
     let mut uses = Vec::with_capacity(alloc, variables.len())?;
@@ -327,7 +544,10 @@ fn uses(
         uses.push(Occurrence {
             name: String::from_str(alloc, name)?,
             range: origins.range(range_of_name(position, name)),
-            kind,
+            kind: match missing {
+                Missing::Nothing => VariableKind::Optional,
+                Missing::Fault | Missing::FaultIfEmpty => kind,
+            },
         })?;
     }
     Ok(uses)

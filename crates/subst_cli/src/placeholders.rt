@@ -1,16 +1,46 @@
 //! Templates for texts in which other placeholders than the language's own are variables.
 
-ghost use Rattle.std.specs.Prelude.{◌≡◌, ◌≢◌, IfOk, IfSome, IfNone, string_bytes};
+ghost use Rattle.std.specs.Prelude.{◌≡◌, IfOk, IfSome, IsTrue, List, Some, string_bytes};
+ghost use Rattle.std.specs.List.{All};
 ghost use Rattle.std.specs.Option.{ForSome};
-ghost use Rattle.subst_cli.specs.Fill.{origin_in, AreSplit, StandsFor};
-ghost use Rattle.subst_cli.specs.declared.options.Placeholders.TheVariants as kinds;
+ghost use Rattle.subst.specs.Language.Bytes.{dollar};
+ghost use Rattle.subst.specs.Foreign.{IsTemplateFor};
+ghost use Rattle.subst_cli.specs.Fill.{origin_in, AreSplit, IsChosen};
+ghost use Rattle.subst_cli.specs.Layers.{Entry, AreVariablesOf};
 
-use crate::options::Placeholders;
+use crate::layers::Variables;
+use crate::options::Choice;
+use memchr::memchr;
 use std::alloc::{AllocError, Global};
 use std::ops::Range;
 use subst::foreign;
+use subst::foreign::{Names, ShellNames};
 
-/// Returns a template for a text, or nothing where the text itself is one.
+/// The names that something is given to.
+#[derive(Clone, Copy)]
+struct KnownNames<'r, 'v> {
+    /// The variables, or none where they aren't known.
+    variables: Option<&'r Variables<'v>>,
+}
+
+impl Names for KnownNames<'_, '_> {
+    ghost use Rattle.subst_cli.specs.Layers.{IsKnownBy};
+
+    ghost counts = { λ names. IsKnownBy names.variables };
+
+    fn has(&self, name: &[u8]) -> bool {
+        let Some(variables) = self.variables else {
+            return false;
+        };
+        let Ok(name) = str::from_utf8(name) else {
+            return false;
+        };
+        variables.has(name)
+    }
+}
+
+/// Returns a template for a text in which chosen names are variables. Which are known is asked of the
+/// variables.
 ///
 /// # Errors
 ///
@@ -18,17 +48,17 @@ use subst::foreign;
 pub(crate) fn template_of(
     alloc: Global,
     text: &str,
-    placeholders: &Placeholders<'_>,
-) -> Result<Option<String>, AllocError>
-    ensures own { IfOk result
-        (λ made. IfNone made (placeholders.now ≡ kinds.Own)) }
-    ensures made { IfOk result (λ made. IfSome made (λ template. (placeholders.now ≢ kinds.Own)
-        × StandsFor placeholders.now text.now (string_bytes template))) }
+    choice: &Choice<'_>,
+    variables: Option<&Variables<'_>>,
+) -> Result<String, AllocError>
+    ensures { IfSome variables.entry (λ variables. (entries : List Entry)
+        → AreVariablesOf variables.now entries → IfOk result (λ template.
+        IsTemplateFor (IsChosen choice.now entries) text.now (string_bytes template))) }
 {
-    match placeholders {
-        Placeholders::Own => Ok(None),
-        Placeholders::Envsubst => Ok(Some(foreign::from_envsubst(alloc, text)?)),
-        Placeholders::Only(names) => Ok(Some(foreign::with_only(alloc, text, names)?)),
+    match choice {
+        Choice::Envsubst => foreign::with_names(alloc, text, &ShellNames),
+        Choice::Only(names) => foreign::with_names(alloc, text, names),
+        Choice::Known => foreign::with_names(alloc, text, &KnownNames { variables }),
     }
 }
 
@@ -40,18 +70,25 @@ pub(crate) fn template_of(
 pub(crate) fn byte_template_of(
     alloc: Global,
     source: &[u8],
-    placeholders: &Placeholders<'_>,
-) -> Result<Option<Vec<u8>>, AllocError>
-    ensures own { IfOk result
-        (λ made. IfNone made (placeholders.now ≡ kinds.Own)) }
-    ensures made { IfOk result (λ made. IfSome made (λ template. (placeholders.now ≢ kinds.Own)
-        × StandsFor placeholders.now source.now template.items)) }
+    choice: &Choice<'_>,
+    variables: Option<&Variables<'_>>,
+) -> Result<Vec<u8>, AllocError>
+    ensures { IfSome variables.entry (λ variables. (entries : List Entry)
+        → AreVariablesOf variables.now entries → IfOk result (λ template.
+        IsTemplateFor (IsChosen choice.now entries) source.now template.items)) }
 {
-    match placeholders {
-        Placeholders::Own => Ok(None),
-        Placeholders::Envsubst => Ok(Some(foreign::bytes_from_envsubst(alloc, source)?)),
-        Placeholders::Only(names) => Ok(Some(foreign::bytes_with_only(alloc, source, names)?)),
+    match choice {
+        Choice::Envsubst => foreign::bytes_with_names(alloc, source, &ShellNames),
+        Choice::Only(names) => foreign::bytes_with_names(alloc, source, names),
+        Choice::Known => foreign::bytes_with_names(alloc, source, &KnownNames { variables }),
     }
+}
+
+/// Returns whether a text has no dollar, so that no variable begins in it.
+pub(crate) fn has_no_dollar(text: &[u8]) -> bool
+    ensures { IsTrue result → All (λ b. ¬ (b ≡ dollar)) text.now }
+{
+    memchr(b'$', text).is_none()
 }
 
 /// Finds where what is in a template is in the text that it was made for. Each byte is passed over once for

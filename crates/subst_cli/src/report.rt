@@ -45,6 +45,8 @@ impl Severity {
 pub(crate) struct Report<'r> {
     rt: &'r HostRuntime,
     worst: Severity,
+    /// Whether a hint was given.
+    is_hinted: bool,
 }
 
 impl<'r> Report<'r> {
@@ -53,6 +55,7 @@ impl<'r> Report<'r> {
         Report {
             rt,
             worst: Severity::Nothing,
+            is_hinted: false,
         }
     }
 
@@ -114,6 +117,18 @@ impl<'r> Report<'r> {
         let message = format!(in self.rt.alloc(); "{name}: {why}\n")?;
         self.say(Severity::Failure, &message);
         Ok(())
+    }
+
+    /// Says what may have been meant, if there is something, once in a run. It changes no status.
+    pub fn hint(&mut self, hint: Option<&str>)
+        ensures { self.new.worst ≡ self.old.worst }
+    {
+        if let Some(text) = hint
+            && !self.is_hinted
+        {
+            self.is_hinted = true;
+            let _ = self.rt.stderr().write_all(text.as_bytes());
+        }
     }
 
     /// Says that memory ran out. That takes none.

@@ -1,6 +1,6 @@
 //! What of the bytes of a source is text.
 
-ghost use Rattle.std.specs.Prelude.{◌≡◌, IfOk, IsUtf8, MatchOption};
+ghost use Rattle.std.specs.Prelude.{◌≡◌, IfOk, IsTrue, IsUtf8, MatchOption};
 ghost use Rattle.std.specs.List.{Any};
 ghost use Rattle.subst_cli.specs.Faults.{IsNoText};
 ghost use Rattle.subst_cli.specs.Mark.{after_mark, filled_of, kept_of, mark_in};
@@ -42,6 +42,13 @@ pub(crate) fn text_of(bytes: &[u8]) -> Option<&str>
     ensures { MatchOption result (¬ (IsUtf8 bytes.now)) (λ text. text.now ≡ bytes.now) }
 {
     simdutf8::basic::from_utf8(bytes).ok()
+}
+
+/// Returns whether these bytes are UTF-8.
+pub(crate) fn is_text(bytes: &[u8]) -> bool
+    ensures { IsTrue result → IsUtf8 bytes.now }
+{
+    simdutf8::basic::from_utf8(bytes).is_ok()
 }
 
 /// Returns the fault of bytes that aren't UTF-8, from where on they aren't.

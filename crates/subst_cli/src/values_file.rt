@@ -1,11 +1,12 @@
-//! Values files: `NAME=VALUE` lines.
+//! Values files: `NAME=VALUE` lines, and files that are a value.
 
-ghost use Rattle.std.specs.Prelude.{◌≡◌, ◌<◌, [], IfErr, IfOk, List, MatchResult, None, Option, Some, if◌then◌else◌, length, map};
+ghost use Rattle.std.specs.Prelude.{◌≡◌, ◌<◌, [], IfErr, IfOk, List, MatchResult, None, Option, Some, if◌then◌else◌, length, string_bytes};
 ghost use Rattle.std.specs.List.{after_first, before_first, All, Any};
 ghost use Rattle.subst_cli.specs.Layers.{Entry as SpecEntry, entries_of};
 ghost use Rattle.subst_cli.specs.ValuesFile as file;
-ghost use Rattle.subst_cli.specs.ValuesFile.{before, is_line_feed, said, values_of, values_of_files, with_line};
-ghost use Rattle.subst_cli.specs.Run.{bytes_of, IsFaultOfFile, IsRefusedFile};
+ghost use Rattle.subst_cli.specs.ValuesFile.{before, is_line_feed, said, value_of, values_in, values_of, values_of_files, with_line};
+ghost use Rattle.subst_cli.specs.Faults.{IsNoText};
+ghost use Rattle.subst_cli.specs.Run.{IsFaultOfFile, IsFaultOfLines, IsRefusedFile};
 
 use crate::entry::{Entry, entry_in, split_once};
 use crate::fault::{Cause, one_fault};
@@ -13,6 +14,15 @@ use crate::part::Outcome;
 use crate::source::{Refused, Source};
 use crate::text::{not_utf8, split_mark, text_of};
 use std::alloc::{AllocError, Global};
+
+/// What gives variables.
+#[derive(Drop)]
+pub enum ValuesSource {
+    /// A values file.
+    Lines(Source),
+    /// A file that is the value of this name.
+    Value(String, Source),
+}
 
 /// What is wrong with a line of a values file.
 #[derive(Clone, Copy, Debug, PartialEq, Eq)]
@@ -26,27 +36,27 @@ struct LineFault {
 /// What a values file gives, or what is wrong with its first line that gives nothing.
 type Lines = Result<Vec<Entry>, LineFault>;
 
-/// Returns the variables of values files, in the order of the files and of their lines, or those files of
-/// which a line gives none, or that aren't UTF-8.
+/// Returns the variables of values files, in the order of the files and of their lines, or those files that
+/// aren't UTF-8, or of which a line gives none.
 ///
 /// # Errors
 ///
 /// When allocation fails.
 pub fn lines_of(
     alloc: Global,
-    files: Vec<Source>,
+    files: Vec<ValuesSource>,
 ) -> Result<Result<Vec<Entry>, Vec<Refused>>, AllocError>
     ensures gives { IfOk result (λ outcome. IfOk outcome (λ entries.
-        values_of_files (map bytes_of files.items) ≡ Some (entries_of entries.items))) }
+        values_of_files files.items ≡ Some (entries_of entries.items))) }
     ensures refused { IfOk result (λ outcome. IfErr outcome (λ refused. (¬ (refused.items ≡ []))
-        × All (IsRefusedFile (map bytes_of files.items)) refused.items)) }
+        × All (IsRefusedFile files.items) refused.items)) }
 {
     let mut all = Vec::new(alloc);
     let mut refused = Vec::new(alloc);
-    for source in files {
-        match entries_or_faults(alloc, &source.bytes)? {
+    for file in files {
+        match entries_in(alloc, file)? {
             Ok(mut entries) => all.append(&mut entries)?,
-            Err(faults) => refused.push(Refused { source, faults })?,
+            Err(it) => refused.push(it)?,
         }
     }
     if refused.is_empty() {
@@ -56,12 +66,50 @@ pub fn lines_of(
     }
 }
 
+/// Returns the entries of a file, or the file with its faults.
+fn entries_in(alloc: Global, file: ValuesSource) -> Result<Result<Vec<Entry>, Refused>, AllocError>
+    ensures gives { IfOk result (λ outcome. IfOk outcome
+        (λ entries. values_in file ≡ Some (entries_of entries.items))) }
+    ensures refused { IfOk result (λ outcome. IfErr outcome (IsFaultOfFile file)) }
+{
+    match file {
+        ValuesSource::Lines(source) => match entries_or_faults(alloc, &source.bytes)? {
+            Ok(entries) => Ok(Ok(entries)),
+            Err(faults) => Ok(Err(Refused { source, faults })),
+        },
+        ValuesSource::Value(name, source) => match value_or_faults(alloc, name, &source.bytes)? {
+            Ok(entries) => Ok(Ok(entries)),
+            Err(faults) => Ok(Err(Refused { source, faults })),
+        },
+    }
+}
+
+/// Returns the entry of a file that is the value of a name, or its fault.
+fn value_or_faults(
+    alloc: Global,
+    name: String,
+    bytes: &[u8],
+) -> Result<Outcome<Vec<Entry>>, AllocError>
+    ensures gives { IfOk result (λ outcome. IfOk outcome (λ entries.
+        value_of (string_bytes name) bytes.now ≡ Some (entries_of entries.items))) }
+    ensures refused { IfOk result (λ outcome. IfErr outcome
+        (λ faults. Any (IsNoText bytes.now) faults.items)) }
+{
+    let Ok(text) = simdutf8::basic::from_utf8(bytes) else {
+        return Ok(Err(not_utf8(alloc, bytes)?));
+    };
+    let value = Some(String::from_str(alloc, text)?);
+    let mut entries = Vec::new(alloc);
+    entries.push(Entry { name, value })?;
+    Ok(Ok(entries))
+}
+
 /// Returns the entries of a values file, or its faults.
 fn entries_or_faults(alloc: Global, bytes: &[u8]) -> Result<Outcome<Vec<Entry>>, AllocError>
     ensures gives { IfOk result (λ outcome. IfOk outcome
         (λ entries. values_of bytes.now ≡ Some (entries_of entries.items))) }
     ensures refused { IfOk result (λ outcome. IfErr outcome
-        (λ faults. Any (IsFaultOfFile bytes.now) faults.items)) }
+        (λ faults. Any (IsFaultOfLines bytes.now) faults.items)) }
 {
     if text_of(bytes).is_none() {
         return Ok(Err(not_utf8(alloc, bytes)?));

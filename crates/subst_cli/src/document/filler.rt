@@ -10,6 +10,7 @@ use crate::fault::Fault;
 use crate::layers::Variables;
 use crate::options::Placeholders;
 use crate::part::{fill_text, uses_in_text};
+use crate::placeholders::has_no_dollar;
 use std::alloc::{AllocError, Global};
 use subst::Error;
 use subst::error::MissingVariableName;
@@ -18,14 +19,14 @@ use subst::json::Fill;
 
 /// Fills in strings of documents, each as a source that is text.
 #[derive(Clone, Copy)]
-pub(crate) struct StringFiller<'r> {
+pub(crate) struct StringFiller<'r, 'w, 'v> {
     /// What in a string is a variable.
-    pub placeholders: &'r Placeholders<'r>,
+    pub placeholders: &'r Placeholders<'w>,
     /// The variables; or none where strings are only looked at, and those refused that are no templates.
-    pub variables: Option<&'r Variables<'r>>,
+    pub variables: Option<&'r Variables<'v>>,
 }
 
-impl StringFiller<'_> {
+impl StringFiller<'_, '_, '_> {
     /// Returns the faults of a string, in the order of their places.
     ///
     /// # Errors
@@ -53,7 +54,7 @@ fn refused() -> Error
     })
 }
 
-impl Fill for StringFiller<'_> {
+impl Fill for StringFiller<'_, '_, '_> {
     ghost use Rattle.subst_cli.specs.Strings.{AnswersBy};
 
     ghost answers = { AnswersBy };
@@ -61,7 +62,8 @@ impl Fill for StringFiller<'_> {
     fn gives_itself(&self, text: &str) -> bool {
         match self.placeholders {
             Placeholders::Own => is_plain(text.as_bytes()),
-            Placeholders::Envsubst | Placeholders::Only(_) => false,
+            Placeholders::Chosen(..) => has_no_dollar(text.as_bytes()),
+            Placeholders::Shell => false,
         }
     }
 

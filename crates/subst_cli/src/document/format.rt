@@ -52,7 +52,7 @@ impl Format {
         self,
         alloc: Global,
         text: &str,
-        filler: &StringFiller<'_>,
+        filler: &StringFiller<'_, '_, '_>,
     ) -> Read<String>
         ensures given { (entries : List Entry) → FillsFrom filler.now entries
             → IfOk result (λ filled. IfOk filled (λ output. IsDocumentOutput self
@@ -72,7 +72,7 @@ impl Format {
         self,
         alloc: Global,
         text: &str,
-        filler: &StringFiller<'_>,
+        filler: &StringFiller<'_, '_, '_>,
     ) -> Read<Vec<RefusedAt>>
         ensures stand { IfOk result (λ refused. IfOk refused (λ refused.
             All (λ it. StandsIn self text.now (string_bytes it.0) it.1) refused.items)) }

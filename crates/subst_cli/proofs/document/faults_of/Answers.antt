@@ -2,7 +2,6 @@
 use Rattle.std.proofs.Common.{◌∙◌, ℕ, List, String, subst}
 use Rattle.std.specs.Global.{Global}
 use Rattle.subst_walk.specs.declared.edits.StringAt.{StringAt}
-use Rattle.subst_cli.specs.Documents.{AreTold}
 use Rattle.subst_cli.specs.Faults.{IsFaultOf}
 use Rattle.subst_cli.specs.Strings.{AreFaults, GivesSome}
 use Rattle.subst_cli.proofs.DocumentLemmas.{with_string, AreOf}

@@ -1,5 +1,5 @@
 -- Each string that was refused is pushed.
-use Rattle.std.proofs.Common.{refl, subst, sym}
+use Rattle.std.proofs.Common.{refl, subst}
 use Rattle.std.proofs.lemmas.Slice.Zip.{all_zipped_more}
 use Rattle.std.specs.List.{AllZip}
 use Rattle.subst_cli.specs.Documents.{IsKept}

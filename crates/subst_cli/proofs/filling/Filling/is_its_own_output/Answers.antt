@@ -1,7 +1,7 @@
--- A plain source is a template that gives itself.
-use Rattle.std.proofs.Common.{◌∙◌, refl, sym}
-use Rattle.std.specs.Prelude.{IsUtf8}
-use Rattle.subst_cli.proofs.FillingLemmas.{of_ok, plain_given}
+-- A plain source is a template that gives itself, and one without a dollar gives itself where names are chosen.
+use Rattle.std.proofs.Common.{refl}
+use Rattle.subst_cli.proofs.FillLemmas.{text_given}
+use Rattle.subst_cli.proofs.FillingLemmas.{plain_given}
 use Rattle.subst_cli.proofs.filling.Filling.is_its_own_output.Goals as goal
 
 pub returns-then-is_plain : goal.returns-then-is_plain
@@ -9,9 +9,17 @@ returns-then-is_plain c = record {
   itself = λ t entries.
       let source = c.args.source.now in
       let plain = plain_given entries source (c.is_plain.ensures.plain.0 c.if-is_plain.true) in
-      let text = of_ok c.from_utf8.result _ (IsUtf8 source) _ (sym c.is_ok.ensures.value ∙ t)
-      c.from_utf8.ensures.cases in
+      let text = c.is_text.ensures t in
       rw (c.in-Text-Own.is-0, c.in-Text-Own.is-1) (source, refl, (text, plain));
+}
+
+pub returns-then-has_no_dollar : goal.returns-then-has_no_dollar
+returns-then-has_no_dollar c = record {
+  itself = λ t entries.
+      let source = c.args.source.now in
+      let given = text_given _ _ entries source (c.has_no_dollar.ensures c.if-has_no_dollar.true) in
+      let text = c.is_text-then-has_no_dollar.ensures t in
+      rw (c.in-Text-Chosen.is-0, c.in-Text-Chosen.is-1) (source, refl, (text, given));
 }
 
 pub returns-in-Bytes-Own : goal.returns-in-Bytes-Own
@@ -20,4 +28,12 @@ returns-in-Bytes-Own c = record {
       let source = c.args.source.now in
       rw (c.in-Bytes-Own.is-0, c.in-Bytes-Own.is-1)
       (source, refl, plain_given entries source (c.is_plain-in-Bytes-Own.ensures.plain.0 t));
+}
+
+pub returns-in-Bytes-Chosen : goal.returns-in-Bytes-Chosen
+returns-in-Bytes-Chosen c = record {
+  itself = λ t entries.
+      let source = c.args.source.now in
+      rw (c.in-Bytes-Chosen.is-0, c.in-Bytes-Chosen.is-1)
+      (source, refl, text_given _ _ entries source (c.has_no_dollar-in-Bytes-Chosen.ensures t));
 }

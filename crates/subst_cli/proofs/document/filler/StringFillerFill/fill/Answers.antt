@@ -1,5 +1,5 @@
 -- A string gives what its variables give, or has a fault.
-use Rattle.std.proofs.Common.{List, ℕ, string_bytes, subst, arith}
+use Rattle.std.proofs.Common.{string_bytes, subst, arith}
 use Rattle.subst_cli.specs.Faults.{IsFaulty}
 use Rattle.subst_cli.specs.Fill.{GivesFor}
 use Rattle.subst_cli.proofs.document.filler.StringFillerFill.fill.Goals as goal

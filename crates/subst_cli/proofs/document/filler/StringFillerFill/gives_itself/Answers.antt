@@ -1,5 +1,6 @@
--- A plain string gives itself.
+-- A plain string gives itself, and so does one without a dollar where names are chosen.
 use Rattle.std.proofs.Common.{refl}
+use Rattle.subst_cli.proofs.FillLemmas.{text_given}
 use Rattle.subst_cli.proofs.FillingLemmas.{if_none, plain_given}
 use Rattle.subst_cli.proofs.document.filler.StringFillerFill.gives_itself.Goals as goal
 
@@ -9,5 +10,14 @@ returns-in-Own c = record {
       let plain = rw c.as_bytes.ensures.value at (c.is_plain.ensures.plain.0 is) in (
         if_none c.args.self.now.variables _ refl,
         λ entries from. rw c.in-Own.is (plain_given entries c.args.text.now plain),
+      );
+}
+
+pub returns-in-Chosen : goal.returns-in-Chosen
+returns-in-Chosen c = record {
+  itself = λ is.
+      let each = rw c.as_bytes-in-Chosen.ensures.value at (c.has_no_dollar.ensures is) in (
+        if_none c.args.self.now.variables _ refl,
+        λ entries from. rw c.in-Chosen.is (text_given _ _ entries c.args.text.now each),
       );
 }

@@ -1,0 +1,14 @@
+-- The value is the text.
+use Rattle.std.proofs.Common.{refl}
+use Rattle.std.proofs.lemmas.Str.{is_utf8-from_IsUtf8}
+use Rattle.subst_cli.proofs.values_file.value_or_faults.Goals as goal
+
+pub returns-clause-gives : goal.returns-clause-gives
+returns-clause-gives c =
+    rw (
+      is_utf8-from_IsUtf8 c.args.bytes.now c.in-Ok.ensures.1,
+      c.in_ok-push.ensures.items,
+      c.new-entries.ensures.items,
+      c.in_ok-from_str.ensures.ok,
+      c.in-Ok.ensures.0,
+    ) refl
