@@ -1,6 +1,7 @@
-"""Tests of the module subst, over the library that it finds. What it returns for each stored row, every text of a fault
+"""Tests of the package subst, over the library that it finds. What it returns for each stored row, every text of a fault
 with it, is compared by tools/replay.py.
 """
+import collections.abc
 import concurrent.futures
 import copy
 import doctest
@@ -12,13 +13,18 @@ import shutil
 import subprocess
 import sys
 import tempfile
+import threading
+import time
 import unittest
 from unittest import mock
 
 import subst
-from subst import DocumentError, FaultKind, SubstError, Template, Variable, VariableKind
+from subst import (DocumentError, FaultKind, ShellError, ShellForm, SubstError, Template, Variable, VariableKind,
+                   _library, _source)
 
 MIB = 1 << 20
+# Lengths of values around those of the memory that is kept.
+SIZES = (64 * 1024 - 1, 64 * 1024, MIB, 3 * MIB + 1)
 
 
 def load_tests(_loader, tests, _pattern):
@@ -33,10 +39,10 @@ def encoded(variables):
 class Case(unittest.TestCase):
     """What tests share."""
 
-    def refused(self, call, *arguments):
+    def refused(self, call, *arguments, **more):
         """The error that a call ends with."""
         with self.assertRaises(SubstError) as caught:
-            call(*arguments)
+            call(*arguments, **more)
         return caught.exception
 
 
@@ -48,7 +54,7 @@ class Results(Case):
         for source, variables, wanted in ((source, variables, wanted),
                                           (source.encode(), encoded(variables), wanted.encode())):
             template = Template(source)
-            for found in (subst.fill_in(source, variables), template.fill_in(variables),
+            for found in (subst.fill_in(source, variables), *(template.fill_in(variables) for _ in range(4)),
                           *template.fill_in_each([variables] * 2)):
                 self.assertEqual(found, wanted)
                 self.assertIs(type(found), type(source))
@@ -63,7 +69,10 @@ class Results(Case):
                 ('\0$a\0', {'a': '\0\0', '\0': 'x'}, '\0\0\0\0'),
                 ('$a0 $a1999', {f'a{number}': str(number) for number in range(2000)}, '0 1999'),
                 ('$a' * 1024, {'a': 'é' * 512}, 'é' * (MIB // 2)),
-                *(('$a', {'a': 'x' * length}, 'x' * length) for length in (0, *range(1000, 1050), MIB))):
+                ('$a' * 8, {'a': 'x' * MIB}, 'x' * 8 * MIB),
+                ('ä$a' * 40000, {'a': 'ö', 'b': 'x'}, 'äö' * 40000),
+                *(('$a', {'a': 'x' * length}, 'x' * length) for length in (0, *range(1000, 1050), *SIZES)),
+                *(('$a' * 3, {'a': 'x' * length}, 'x' * length * 3) for length in range(330, 350))):
             self.expect(source, variables, wanted)
 
     def test_bytes_that_are_not_utf8(self):
@@ -79,8 +88,230 @@ class Results(Case):
             def __len__(self):
                 return 1 << 30
         self.assertEqual(subst.fill_in(Longer(b'$a'), {Longer(b'a'): Longer(b'1')}), b'1')
+        class Shorter(str):
+            def __len__(self):
+                return 1
+        self.assertEqual(subst.fill_in('$a$b', {'a': Shorter('12'), 'b': '3'}), '123')
         with mock.patch.dict(os.environ, {'SUBST_TEST': 'x'}):
             self.assertEqual(subst.fill_in(b'$SUBST_TEST', os.environb), b'x')
+
+    def test_what_is_taken_as_bytes(self):
+        for kind in (bytes, bytearray, memoryview):
+            template = Template(kind(b'$a'))
+            self.assertEqual((template.source, type(template.source)), (b'$a', bytes))
+            for found in (subst.fill_in(kind(b'$a'), {b'a': kind(b'1')}), template.fill_in({b'a': kind(b'1')})):
+                self.assertEqual((found, type(found)), (b'1', bytes))
+            self.assertEqual(subst.variables(kind(b'$a')), [(VariableKind.REQUIRED, b'a', 1)])
+        self.assertEqual(subst.fill_in(memoryview(b'a$')[::-1], {b'a': memoryview(b'21')[::-1]}), b'12')
+
+    def test_mapping_that_changes(self):
+        template, variables = Template('$a ${b:-}'), {'a': 'first', 'b': 'x'}
+        rows = [variables]
+        for value in ('second', '3', '', 'é' * 2000, '4', 'last', ''):
+            for call in (lambda: subst.fill_in('$a ${b:-}', variables), lambda: template.fill_in(variables),
+                         lambda: template.fill_in_each(rows)[0], lambda: subst.fill_in('$a ${b:-}' + ' ' * MIB, variables)):
+                self.assertEqual(call().rstrip(), f'{variables["a"]} {variables.get("b", "-")}')
+            variables['a'] = value
+            if value == 'last':
+                del variables['b']
+
+    def test_keyword_arguments(self):
+        self.assertEqual(subst.fill_in('$source $variables', source='a', variables='b'), 'a b')
+        self.assertEqual(subst.fill_in('$a $b', {'a': '1', 'b': '2'}, b='3'), '1 3')
+        self.assertEqual(subst.fill_in(b'$a', a=b'1'), b'1')
+        self.assertEqual(Template('$self').fill_in(self='1'), '1')
+        self.assertEqual(Template('$a $b').missing({'a': ''}, b=''), [])
+        self.assertEqual(subst.missing('$a $b', b=''), [(VariableKind.REQUIRED, 'a', 1)])
+        self.assertEqual(subst.fill_in_json('["$a"]', a='1'), '["1"]')
+        self.assertEqual(subst.fill_in_toml('a = "$a"', {'a': '2'}, a='1'), 'a = "1"')
+
+
+class Asked(Case):
+    """What a mapping is asked for."""
+
+    class Mapping(collections.abc.Mapping):
+        """A mapping that has a value for each name, and keeps the names that it was asked for."""
+
+        def __init__(self):
+            self.asked = []
+
+        def __getitem__(self, name):
+            self.asked.append(name)
+            return name.upper()
+
+        def __iter__(self):
+            raise AssertionError('its names are not asked for')
+
+        def __len__(self):
+            raise AssertionError('its length is not asked for')
+
+    def asked(self, call):
+        """What a call returns, and the names that it asks a mapping for."""
+        variables = self.Mapping()
+        return call(variables), variables.asked
+
+    def test_each_name_once_in_order(self):
+        source = r'$b ${a:$c} \$a $b${d?}$a'
+        names = ['b', 'a', 'c', 'd']
+        self.assertEqual(self.asked(lambda it: subst.fill_in(source, it)), ('B A $a BDA', names))
+        template = Template(source)
+        for _ in range(3):
+            self.assertEqual(self.asked(template.fill_in), ('B A $a BDA', names))
+        self.assertEqual(self.asked(lambda it: template.fill_in_each([it, it])), (['B A $a BDA'] * 2, names * 2))
+        self.assertEqual(self.asked(template.missing), ([], names))
+        self.assertEqual(self.asked(lambda it: template.fill_in(it, a='x')), ('B x $a BDx', ['b', 'c', 'd']))
+        self.assertEqual(self.asked(lambda it: subst.fill_in(source.encode(), it)), (b'B A $a BDA', [
+            name.encode() for name in names]))
+        self.assertEqual(self.asked(lambda it: subst.fill_in('$a $b ' * MIB, it)), ('A B ' * MIB, ['a', 'b']))
+
+    def test_names_of_documents(self):
+        text = '{"$k": ["\\u0024\\u0061b", "\\\\$e $c", "${d:x}"]}'
+        self.assertEqual(self.asked(lambda it: subst.fill_in_json(text, it))[1], ['k', 'ab', 'e', 'c', 'd'])
+        text = 'a = """$na\\\n  me \\U00000024b"""\nc = \'\\\\$d\' # $e'
+        self.assertEqual(self.asked(lambda it: subst.fill_in_toml(text, it))[1], ['name', 'b', 'd', 'e'])
+
+    def test_mappings_that_make_values(self):
+        class Upper(dict):
+            def __missing__(self, name):
+                return name.upper()
+        for variables in (collections.defaultdict(lambda: 'x', b='y'), Upper(b='y')):
+            value = variables['a']
+            self.assertEqual(subst.fill_in('$a$b', variables), f'{value}y')
+            self.assertEqual(Template('$a$b').fill_in_each([variables]), [f'{value}y'])
+            self.assertEqual(subst.fill_in_json('["$a$b"]', variables), f'["{value}y"]')
+
+    def test_values_that_are_not_named(self):
+        variables = {'a': '1', 'b': 2, 'c': '\udc80', 3: None, '\ud800': ''}
+        for source in ('$a', '$a' * MIB):
+            self.assertEqual(subst.fill_in(source, variables), source.replace('$a', '1'))
+        self.assertEqual(Template('$a').fill_in_each([variables]), ['1'])
+        self.assertEqual(subst.fill_in_json('["$a"]', variables), '["1"]')
+        with mock.patch.dict(os.environb, {b'SUBST_TEST': b'\xff', b'SUBST_OTHER': b'x'}):
+            self.assertEqual(subst.fill_in('$SUBST_OTHER', os.environ), 'x')
+            self.assertRaises(UnicodeEncodeError, subst.fill_in, '$SUBST_TEST', os.environ)
+
+    def test_mapping_that_fills_in_itself(self):
+        template = Template('$a$b')
+        class Nested(self.Mapping):
+            def __getitem__(self, name):
+                return name if name == 'a' else template.fill_in({'a': 'x', 'b': 'y'})
+        for _ in range(4):
+            self.assertEqual(template.fill_in(Nested()), 'axy')
+
+
+class Choices(Case):
+    """Which placeholders are variables, and which of these need a value."""
+
+    def test_only(self):
+        text = 'C:\\dir $HOST ${PORT} $HOSTS ${PORT:1} $ ${ {}:\\$é'
+        for names in (['PORT', 'HOST'], {'PORT', 'HOST', 'é', '', 'a b'}, iter(('HOST', 'PORT'))):
+            self.assertEqual(subst.fill_in(text, {'HOST': 'h\\$', 'PORT': '1'}, only=names),
+                             text.replace('$HOST ${PORT}', 'h\\$ 1'))
+        self.assertEqual(subst.fill_in(text, only=[]), text)
+        self.assertEqual(subst.fill_in(text.encode(), {b'PORT': b'1'}, only=[b'PORT']),
+                         text.replace('${PORT}', '1').encode())
+        template = Template('\\é$a $b', only=['b', 'a'])
+        self.assertEqual(repr(template), "Template('\\\\é$a $b', only=['a', 'b'])")
+        self.assertEqual(template.variables(), [(VariableKind.REQUIRED, 'a', 3), (VariableKind.REQUIRED, 'b', 6)])
+        self.assertEqual(template.missing({'a': ''}), [(VariableKind.REQUIRED, 'b', 6)])
+        self.assertEqual(template.fill_in_each([{'a': '1', 'b': '2'}]), ['\\é1 2'])
+
+    def test_only_refused(self):
+        for wide in ('é', '中'):
+            error = self.refused(subst.fill_in, f'\\\r\n\t\\{wide}$$a ${{b}} $c\n', {'a': ''}, only=['a', 'b'])
+            column = 10 if wide == 'é' else 11
+            self.assertEqual((error.position, error.length, error.line, error.column, error.name), (12, 1, 2, column, 'b'))
+            self.assertEqual(error.highlighting, f'  \t\\{wide}$$a ${{b}} $c\n  {" " * (column - 1)}^\n')
+        error = self.refused(subst.fill_in, '$' * 60 + '$b', {}, only=['b'])
+        self.assertEqual((error.position, error.highlighting), (61, ''))
+        error = self.refused(subst.fill_in, b'\xff$b', {}, only=[b'b'])
+        self.assertEqual((error.position, error.line, error.highlighting), (2, None, ''))
+
+    def test_only_types(self):
+        for only in ('ab', b'ab', ['a', b'b'], [1]):
+            for call in (subst.fill_in, Template, subst.from_envsubst):
+                with self.assertRaisesRegex(TypeError, 'only must be names, each str as the source is'):
+                    call('', only=only)
+        self.assertRaises(TypeError, subst.fill_in, '', only=1)
+
+    def test_optional(self):
+        for source, wanted in (('[$a] [${a}] [${a?}] [${a:x$b}] [${c:$d}]', '[] [] [] [x] [v]'), ('$a$a{$a}', '{}'),
+                               ('é$a', 'é'), (r'\$a', '$a')):
+            self.assertEqual(subst.fill_in(source, {'c': 'v'}, optional=True), wanted)
+            template = Template(source.encode(), optional=True)
+            self.assertEqual(template.fill_in({b'c': b'v'}), wanted.encode())
+            self.assertEqual(template.missing({}), [])
+        self.assertEqual(Template('é$a ${b:}', optional=True).variables(),
+                         [(VariableKind.OPTIONAL, 'a', 2), (VariableKind.WITH_DEFAULT, 'b', 6)])
+        self.assertEqual(self.refused(Template, 'é$').position, self.refused(Template, 'é$').position)
+        self.assertEqual(subst.fill_in('$a $b', optional=True, only=['a']), ' $b')
+
+    def test_from_envsubst(self):
+        text = '$5 ${5} $a ${b_1} ${c:x} $$ \\ é ${'
+        template = subst.from_envsubst(text)
+        self.assertEqual(template, '\\$5 \\${5} $a ${b_1} \\${c:x} \\$\\$ \\\\ é \\${')
+        self.assertEqual(subst.fill_in(template, a='1', b_1='2'), text.replace('$a', '1').replace('${b_1}', '2'))
+        self.assertEqual(subst.from_envsubst(text.encode(), only=[b'a', b'5'], optional=True),
+                         template.replace('$a ${b_1}', '${a?} \\${b_1}').encode())
+
+    def test_from_shell(self):
+        text = '$a:${b}:${c:-é$a}:${d:?no d} $$ \\ {}'
+        template = subst.from_shell(text)
+        self.assertEqual(template, '${a?}:${b?}:${c:é${a?}}:${d} \\$ \\\\ {}')
+        self.assertEqual(subst.fill_in(template, a='1', d='4'), '1::é1:4 $ \\ {}')
+        for given, wanted in ((text.encode(), template.encode()), (bytearray(b'\xff$$'), b'\xff\\$'), ('', ''),
+                              ('$a' * MIB, '${a?}' * MIB)):
+            found = subst.from_shell(given)
+            self.assertTrue(found == wanted and type(found) is type(wanted), wanted[:99])
+
+    def test_forms_of_a_shell(self):
+        texts = ('$1', '${}', '${a-b}', '${a?b}', '${a=b}', '${a+b}', '${a:=b}', '${a:+b}', '${a:1}', '${a#b}',
+                 '${a%b}', '${a/b/c}', '${a!}', '${a:?{}}', '${a:-{}}', '${a:-$b')
+        for form, text in zip(ShellForm, texts):
+            at = text.index('{}') if form is ShellForm.BRACE else 0
+            for before, place in (('é\né ', (2, 3 + at)), (b'\xff ', (None, None))):
+                source = before + (text if isinstance(before, str) else text.encode())
+                with self.assertRaises(ShellError) as caught:
+                    subst.from_shell(source)
+                error = caught.exception
+                self.assertEqual((error.form, error.position, error.length), (form, len(before) + at, 1), text)
+                self.assertEqual((error.line, error.column), place)
+                self.assertRegex(str(error), f"^{re.escape(error.message)} [(]{'line' if place[0] else 'byte'} ")
+                self.assertEqual(vars(pickle.loads(pickle.dumps(error))), vars(error))
+        self.assertEqual(len(texts), len(ShellForm))
+
+    def test_equal_templates(self):
+        same = [Template('$a'), Template('$a', only=None), pickle.loads(pickle.dumps(Template('$a')))]
+        self.assertEqual((len({*same}), same[0]), (1, same[1]))
+        other = [same[0], Template(b'$a'), Template('$b'), Template('$a', only=['a']), Template('$a', only=['b']),
+                 Template('$a', optional=True), Template('$a', only=['a'], optional=True)]
+        self.assertEqual(len({*other}), len(other))
+        for template in other:
+            made = pickle.loads(pickle.dumps(template))
+            self.assertEqual((made, hash(made), repr(made)), (template, hash(template), repr(template)))
+        self.assertNotEqual(same[0], '$a')
+
+
+class Trees(Case):
+    """Trees of dict and list."""
+
+    def test_tree(self):
+        pair = ('$a', ['$a'])
+        tree = {'$a': ['$a', b'$a', 1.5, None, True, pair, {}, []], 'b': {'c': '${d:e}'}, 1: '\\$'}
+        before = copy.deepcopy(tree)
+        found = subst.fill_in_tree(tree, {'a': 'x'})
+        self.assertEqual(found, {'$a': ['x', b'$a', 1.5, None, True, pair, {}, []], 'b': {'c': 'e'}, 1: '$'})
+        self.assertEqual(tree, before)
+        self.assertIs(found['$a'][5], pair)
+        self.assertIsNot(found['$a'][7], tree['$a'][7])
+        self.assertEqual(subst.fill_in_tree('$a', a='x'), 'x')
+        self.assertEqual(subst.fill_in_tree(['$a', '$b'], only=iter('a'), optional=True), ['', '$b'])
+
+    def test_refused(self):
+        error = self.refused(subst.fill_in_tree, {'a': ['', {'b': 'é$c'}], 'd': '$'}, {})
+        alone = self.refused(subst.fill_in, 'é$c', {})
+        self.assertEqual((error.message, error.args[1:]), (f'/a/1/b: {alone.message}', alone.args[1:]))
+        self.assertEqual(self.refused(subst.fill_in_tree, '$', {}).args, self.refused(subst.fill_in, '$', {}).args)
 
 
 class Templates(Case):
@@ -97,6 +328,13 @@ class Templates(Case):
         rows = [{'a': letter * 4096} for letter in 'abcd' * 64]
         self.assertEqual(Template('$a').fill_in_each(rows), [row['a'] for row in rows])
         self.assertEqual(Template('x' * MIB).fill_in_each([{}] * 20), ['x' * MIB] * 20)
+
+    def test_many_rows(self):
+        rows = [{'a': str(number)} for number in range(10000)]
+        self.assertTrue(Template('<${a}${b?}>').fill_in_each(rows) == [f'<{number}>' for number in range(10000)])
+        del rows[9998]['a']
+        error = self.refused(Template('$a').fill_in_each, rows)
+        self.assertEqual((error.row, error.name), (9998, 'a'))
 
     def test_row_that_is_refused(self):
         error = self.refused(Template('é$a').fill_in_each, [{'a': '1'}, {'a': '2'}, {'b': '3'}, {}])
@@ -141,6 +379,7 @@ class Faults(Case):
                 self.assertIs(error.kind, kind)
                 self.assertEqual((error.position, error.length), (source.rindex(part), len(part)))
                 self.assertEqual(str(error), str(self.refused(*calls[0])))
+                self.assertEqual(error.name, 'name' if kind is FaultKind.NO_SUCH_VARIABLE else None)
 
     def test_each_call(self):
         self.expect(FaultKind.INVALID_ESCAPE_SEQUENCE, 'ä\\é!', '\\é')
@@ -158,11 +397,20 @@ class Faults(Case):
         self.assertEqual((error.position, error.length, error.line, error.column, error.highlighting),
                          (5, 1, None, None, ''))
 
+    def test_texts(self):
+        error = self.refused(subst.fill_in, 'server\n root /srv/$app;', {})
+        self.assertEqual((error.line, error.column, error.name), (2, 13, 'app'))
+        self.assertTrue(error.message.endswith(': $app'))
+        self.assertEqual(str(error), f'{error.message} (line 2, column 13)')
+        error = self.refused(subst.fill_in, b'\xff $app', {})
+        self.assertEqual(str(error), f'{error.message} (byte 3)')
+
     def test_long_text(self):
         name = 'n' * 5000
         error = self.refused(subst.fill_in, f'${name}', {})
         self.assertEqual((error.position, error.length), (1, 5000))
-        self.assertTrue(str(error).endswith(f'${name}'))
+        self.assertEqual(error.name, name)
+        self.assertTrue(error.message.endswith(f'${name}'))
 
     def test_error_is_a_value_error_that_is_kept(self):
         error = self.refused(Template('$a').fill_in_each, [{}])
@@ -194,7 +442,7 @@ class Documents(Case):
                 (subst.fill_in_toml, "[t]\na = ['$none']", 't.a[0]: ', 'none')):
             error = self.refused(call, text, {})
             alone = self.refused(subst.fill_in, '$none' if start == 'none' else '\\é', {})
-            self.assertEqual((str(error), error.kind), (said + str(alone), alone.kind))
+            self.assertEqual((error.message, error.kind, error.name), (said + alone.message, alone.kind, alone.name))
             self.assertEqual((error.position, error.length), (text.index(start), len(start)))
             lines = text[:error.position].split('\n')
             self.assertEqual((error.line, error.column), (len(lines), len(lines[-1]) + 1))
@@ -209,7 +457,7 @@ class Documents(Case):
                 call(text, {})
             error = caught.exception
             self.assertEqual((error.position, error.line, error.column), (position, line, column), text)
-            self.assertTrue(str(error))
+            self.assertEqual(str(error), f'{error.message} (line {line}, column {column})')
             self.assertEqual(vars(pickle.loads(pickle.dumps(error))), vars(error))
 
     def test_types(self):
@@ -217,11 +465,11 @@ class Documents(Case):
             with self.assertRaisesRegex(TypeError, '^the document must be str, not bytes$'):
                 call(b'', {})
             with self.assertRaisesRegex(TypeError, 'must be str as the source is, not bytes'):
-                call('', {'a': b''})
+                call('"$a"', {'a': b''})
 
     def test_not_confirmed(self):
         library = mock.Mock(**{'subst_json.return_value': 8})
-        with mock.patch.object(subst, '_library', library):
+        with mock.patch.object(_source, '_library', library):
             self.assertRaisesRegex(RuntimeError, 'not confirmed', subst.fill_in_json, '""', {})
 
 
@@ -232,7 +480,7 @@ class Types(Case):
         yield lambda: subst.fill_in(source, variables)
         yield lambda: subst.missing(source, variables)
         yield lambda: Template(source).fill_in(variables)
-        yield lambda: Template(source).fill_in_each([{}, variables])
+        yield lambda: Template(source).fill_in_each([variables, variables])
         yield lambda: Template(source).missing(variables)
 
     def expect(self, source, variables, text):
@@ -242,10 +490,10 @@ class Types(Case):
             self.assertEqual(str(caught.exception), text)
 
     def test_sources(self):
-        for source in (0, None, 1.5, True, bytearray(b''), memoryview(b''), ['a'], {}, pathlib.Path('a'), object()):
+        for source in (0, None, 1.5, True, ['a'], {}, pathlib.Path('a'), object()):
             text = f'the source must be str or bytes, not {type(source).__name__}'
             self.expect(source, {}, text)
-            for call in (subst.check, subst.variables, Template):
+            for call in (subst.check, subst.variables, subst.from_shell, Template):
                 with self.assertRaisesRegex(TypeError, text):
                     call(source)
 
@@ -257,17 +505,17 @@ class Types(Case):
         with self.assertRaises(TypeError):
             Template('a').fill_in_each(1)
 
-    def test_names_and_values(self):
+    def test_values(self):
         for word in (b'a', 0, None, bytearray(b'a')):
-            name = type(word).__name__
-            if not isinstance(word, bytearray):
-                self.expect('a', {word: '1'}, f'the name {word!r} must be str as the source is, not {name}')
-            self.expect('a', {'b': word}, f"the value of 'b' must be str as the source is, not {name}")
-        self.expect(b'', {'a': b'1'}, "the name 'a' must be bytes as the source is, not str")
-        self.expect(b'', {b'a': '1'}, "the value of b'a' must be bytes as the source is, not str")
+            self.expect('$b', {'b': word}, f"the value of 'b' must be str as the source is, not {type(word).__name__}")
+        self.expect('$a$b', {'a': '', 'b': b''}, "the value of 'b' must be str as the source is, not bytes")
+        for word in ('1', 0, None):
+            self.expect(b'${a:}', {b'a': word}, f"the value of b'a' must be bytes as the source is, not {type(word).__name__}")
+        for source, name in (('$a', b'a'), (b'$a', 'a')):
+            self.assertEqual(self.refused(subst.fill_in, source, {name: source}).name, 'a')
 
     def test_surrogates(self):
-        for source, variables in (('\udc80', {}), ('a', {'\ud800': ''}), ('a', {'a': '\udfff'})):
+        for source, variables in (('\udc80', {}), ('$a', {'a': '\udfff'})):
             for call in self.calls(source, variables):
                 with self.assertRaisesRegex(UnicodeEncodeError, 'surrogates not allowed'):
                     call()
@@ -281,13 +529,14 @@ class Outside(Case):
     def test_out_of_memory(self):
         template = Template('$a')
         others = ('subst_fault_text', 'subst_fault_highlighting', 'subst_json_fault_text', 'subst_toml_fault_text',
-                  'subst_place', 'subst_version')
-        names = [name for name in subst._ARGUMENTS if name not in others]
+                  'subst_shell_form_text', 'subst_place', 'subst_version')
+        names = [name for name in _library.ARGUMENTS if name not in others]
         library = mock.Mock(**{f'{name}.return_value': 4 for name in names})
-        with mock.patch.object(subst, '_library', library):
-            for call in (lambda: subst.fill_in('', {}), lambda: subst.check(''), lambda: subst.variables(''),
-                         lambda: subst.missing('', {}), lambda: template.fill_in_each([]),
-                         lambda: subst.fill_in_json('', {}), lambda: subst.fill_in_toml('', {})):
+        with mock.patch.object(_source, '_library', library):
+            for call in (lambda: subst.fill_in('x' * MIB, {}), lambda: subst.check(''), lambda: subst.variables('no'),
+                         lambda: template.missing({}), lambda: template.fill_in_each([]),
+                         lambda: subst.fill_in_json('', {}), lambda: subst.fill_in_toml('', {}),
+                         lambda: subst.from_shell('')):
                 self.assertRaises(MemoryError, call)
         self.assertEqual(sorted(name for name in names if getattr(library, name).called), sorted(names))
 
@@ -298,16 +547,80 @@ class Outside(Case):
             for number in range(500):
                 value = f'{word}{number}' * number
                 self.assertEqual(template.fill_in({'a': value}), f'{value} - {value}')
+                self.assertEqual(template.fill_in({'a': word, 'b': f'{number}'}), f'{word} {number} {word}')
                 self.assertEqual(template.fill_in_each([{'a': word}] * 3), [f'{word} - {word}'] * 3)
-                self.assertTrue(str(self.refused(subst.fill_in, f'${word}', {})).endswith(f'${word}'))
+                self.assertEqual(self.refused(subst.fill_in, f'${word}', {}).name, word)
             return word
 
         with concurrent.futures.ThreadPoolExecutor(4) as threads:
             self.assertEqual(list(threads.map(work, 'abcd')), list('abcd'))
 
+    def test_large(self):
+        """Each byte of 40 MiB of a source and of 40 MiB of a value comes."""
+        plain, value = bytes(range(97, 123)) * (40 * MIB // 26), bytes(range(65, 91)) * (40 * MIB // 26)
+        for source, variables in ((plain + b'$a', {b'a': value}), ((plain + b'$a').decode(), {'a': value.decode()})):
+            wanted = plain + value
+            for found in (subst.fill_in(source, variables), Template(source).fill_in_each([variables])[0]):
+                self.assertTrue((found if isinstance(found, bytes) else found.encode()) == wanted)
+
+    def test_other_threads_run(self):
+        """While a call works, another thread counts."""
+        source, variables, ticks = '$a' * (4 * MIB), {'a': 'x'}, []
+        template, is_done = Template(source), threading.Event()
+
+        def count():
+            while not is_done.is_set():
+                ticks.append(time.perf_counter())
+                time.sleep(0.0005)
+
+        thread = threading.Thread(target=count)
+        with mock.patch.object(template._source, 'call', self.timed(template._source.call)) as call:
+            thread.start()
+            template.fill_in(variables)
+            is_done.set()
+        thread.join()
+        begin, end = call.span
+        self.assertGreater(sum(begin < tick < end for tick in ticks), 5, f'{end - begin} s')
+
+    @staticmethod
+    def timed(call):
+        """A call that keeps when it began and ended."""
+        def timed(*arguments):
+            begin = time.perf_counter()
+            result = call(*arguments)
+            timed.span = begin, time.perf_counter()
+            return result
+        return timed
+
+    def test_time_is_linear(self):
+        """Eight times the variables take at most twenty times as long."""
+        def took(count, runs):
+            source = ''.join(f'$a{number} é' for number in range(count))
+            variables = {f'a{number}': 'é' for number in range(count)}
+            times = []
+            for _ in range(runs):
+                begin = time.process_time()
+                self.assertTrue(subst.fill_in(source, variables) == 'é é' * count)
+                self.assertEqual(len(subst.variables(source)), count)
+                times.append(time.process_time() - begin)
+            return min(times)
+        self.assertLess(took(400000, 1), 20 * took(50000, 2))
+
+    def test_types_are_checked(self):
+        """The package and these uses of it have the types that mypy finds, where it is there."""
+        mypy = shutil.which('mypy')
+        if mypy is None:
+            self.skipTest('mypy is not installed')
+        with tempfile.TemporaryDirectory() as folder:
+            uses = pathlib.Path(folder, 'uses.py')
+            uses.write_text(TYPED, encoding='utf-8')
+            command = [mypy, '--strict', '--cache-dir', folder, uses, pathlib.Path(subst.__file__).parent]
+            ran = subprocess.run(command, cwd=folder, stdout=subprocess.PIPE, universal_newlines=True)
+            self.assertEqual(ran.returncode, 0, ran.stdout)
+
     def imported(self, folder, **variables):
         """The path of the library that the module in a folder loads, or the end of the error."""
-        code = 'import subst; print(subst._library._name)'
+        code = 'from subst import _library; print(_library.library._name)'
         environment = {name: value for name, value in os.environ.items() if name != 'SUBST_LIBRARY'}
         environment.update(variables, PYTHONPATH=str(folder), PYTHONDONTWRITEBYTECODE='1')
         ran = subprocess.run([sys.executable, '-c', code], env=environment, cwd=folder, stdout=subprocess.PIPE,
@@ -315,26 +628,25 @@ class Outside(Case):
         return ran.stdout.splitlines()[-1]
 
     def test_library_is_found(self):
-        library, module = pathlib.Path(subst._library._name), pathlib.Path(subst.__file__)
+        library, package = pathlib.Path(_library.library._name), pathlib.Path(subst.__file__).parent
         if not library.exists():
             self.skipTest(f'the loader finds {library}')
         with tempfile.TemporaryDirectory() as folder:
             top = pathlib.Path(folder).resolve()
             packages = top / 'lib' / 'python3' / 'dist-packages'
-            packages.mkdir(parents=True)
-            shutil.copy(module, packages)
+            shutil.copytree(package, packages / 'subst', ignore=shutil.ignore_patterns(_library.FILE))
             shutil.copy(library, top / 'other')
             missing = self.imported(packages)
-            shutil.copy(library, top / 'lib' / subst._FILE)
+            shutil.copy(library, top / 'lib' / _library.FILE)
             installed = pathlib.Path(self.imported(packages)).resolve()
-            shutil.copy(library, packages / subst._FILE)
-            beside, named = self.imported(packages), self.imported(packages, SUBST_LIBRARY=str(top / 'other'))
-            self.assertEqual((installed, beside, named), (top / 'lib' / subst._FILE, str(packages / subst._FILE),
-                                                          str(top / 'other')))
-        self.assertRegex(missing, rf'^ImportError: .*{re.escape(subst._FILE)}|^{re.escape(subst._FILE)}$')
+            shutil.copy(library, packages / 'subst' / _library.FILE)
+            inside, named = self.imported(packages), self.imported(packages, SUBST_LIBRARY=str(top / 'other'))
+            self.assertEqual((installed, inside, named), (top / 'lib' / _library.FILE,
+                                                          str(packages / 'subst' / _library.FILE), str(top / 'other')))
+        self.assertRegex(missing, rf'^ImportError: .*{re.escape(_library.FILE)}|^{re.escape(_library.FILE)}$')
 
     def test_no_library(self):
-        folder = pathlib.Path(subst.__file__).parent
+        folder = pathlib.Path(subst.__file__).parent.parent
         none = self.imported(folder, SUBST_LIBRARY='/none/there')
         self.assertRegex(none, '^ImportError: the library of subst is not loaded: /none/there: .*SUBST_LIBRARY')
         other = self.imported(folder, SUBST_LIBRARY='libc.so.6')
@@ -345,6 +657,26 @@ class Outside(Case):
             self.assertTrue(hasattr(subst, name) and getattr(subst, name).__doc__, name)
         self.assertRegex(subst.__version__, r'^\d+\.\d+\.\d+$')
 
+
+TYPED = """
+import os
+from typing import List
+from subst import Template, Variable, fill_in, fill_in_tree, from_envsubst, from_shell, missing, variables
+
+text: str = fill_in('$a', {'a': '1'}, b='2', only=['a'], optional=True)
+data: bytes = fill_in(b'$a', {b'a': bytearray(b'1')})
+more: bytes = fill_in(memoryview(b'$a'), a=b'1')
+named: str = fill_in('$HOME', os.environ)
+template: Template[str] = Template('$a')
+letters: List[str] = template.fill_in_each([{'a': '1'}])
+of_bytes: Template[bytes] = Template(bytearray(b'$a'), only=[b'a'])
+filled: bytes = of_bytes.fill_in({b'a': b''})
+name: str = variables('$a')[0].name
+listed: List[Variable[bytes]] = missing(b'$a', {})
+envsubst: str = from_envsubst('$a')
+shell: bytes = from_shell(bytearray(b'$a'))
+tree: object = fill_in_tree(['$a'], a='x')
+"""
 
 if __name__ == '__main__':
     unittest.main()

@@ -1,4 +1,4 @@
-"""The library and its module for Python, as tools/install puts them below a prefix, and what they return, in columns of
+"""The library and its package for Python, as tools/install puts them below a prefix, and what they return, in columns of
 the rows of crates/subst_vectors/data. Sources and variables are bytes or texts.
 """
 import contextlib
@@ -14,8 +14,11 @@ import faults
 from running import TOP, end
 from vectors import character_column, encode
 
-# Where tools/install puts the library and the module below a prefix.
-LIBRARY, PACKAGES = 'lib/libsubst.so.0', 'lib/python3/dist-packages'
+
+
+def packages(prefix):
+    """The folder below a prefix to which tools/install puts the package for Python."""
+    return next(prefix.glob('lib/python3*/*-packages'))
 
 
 @contextlib.contextmanager
@@ -31,9 +34,9 @@ def installed(given=None):
 
 
 def module(prefix):
-    """The installed module, over the library beside it."""
+    """The installed package, over the library of its prefix."""
     os.environ.pop('SUBST_LIBRARY', None)
-    sys.path.insert(0, str(prefix / PACKAGES))
+    sys.path.insert(0, str(packages(prefix)))
     return importlib.import_module('subst')
 
 
@@ -67,7 +70,7 @@ def entries(source, variables):
 def fault(source, error):
     """The columns of a fault."""
     start, end_ = (len(to_bytes(source[:at])) for at in (error.position, error.position + error.length))
-    case, at_fault, text = error.kind.name.title().replace('_', ''), to_bytes(source)[start:end_], str(error)
+    case, at_fault, text = error.kind.name.title().replace('_', ''), to_bytes(source)[start:end_], error.message
     expected = text.rpartition(faults.texts()['UnexpectedCharacter'][1])[2] if case == 'UnexpectedCharacter' else ''
     detail = {
         'InvalidEscapeSequence': lambda: character_column(at_fault[1:]) if at_fault[1:] else 'none',

@@ -1,0 +1,83 @@
+"""Makes the wheel of the package, with the library in it, as tools/wheel says. By pyproject.toml, pip makes it so too.
+"""
+import base64
+import hashlib
+import os
+import pathlib
+import subprocess
+import sys
+import tempfile
+import zipfile
+
+TOP = pathlib.Path(__file__).resolve().parent.parent
+LIBRARY = 'libsubst.so.0'
+TAG = 'py3-none-linux_x86_64'
+METADATA = '''Metadata-Version: 2.1
+Name: subst
+Version: {version}
+Summary: Shell-like variables in texts and byte strings
+License: BSD-2-Clause
+Platform: linux_x86_64
+Requires-Python: >=3.8
+License-File: LICENSE
+Description-Content-Type: text/markdown
+
+`subst.fill_in("Hello $name!", {{"name": "world"}})` fills in `$name`, `${{name}}`, `${{name?}}` and `${{name:default}}`.
+`help(subst)` says more.
+'''
+WHEEL = f'Wheel-Version: 1.0\nGenerator: subst\nRoot-Is-Purelib: false\nTag: {TAG}\n'
+# The time of all files, which is the first that an archive can have.
+TIME = (1980, 1, 1, 0, 0, 0)
+
+
+def printed(*command):
+    """What a command prints."""
+    return subprocess.run(command, check=True, cwd=TOP, stdin=subprocess.DEVNULL, stdout=subprocess.PIPE).stdout
+
+
+def library():
+    """The library, as tools/install puts it below a prefix."""
+    with tempfile.TemporaryDirectory() as prefix:
+        printed('tools/install', '--library', prefix)
+        return pathlib.Path(prefix, 'lib', LIBRARY).read_bytes()
+
+
+def files(version):
+    """The files of the wheel, but the list of them, by their paths."""
+    package = TOP / 'python/subst'
+    found = {f'subst/{path.name}': path.read_bytes() for path in (*package.glob('*.py'), package / 'py.typed')}
+    found[f'subst/{LIBRARY}'] = library()
+    about = f'subst-{version}.dist-info'
+    found[f'{about}/METADATA'] = METADATA.format(version=version).encode()
+    found[f'{about}/WHEEL'] = WHEEL.encode()
+    found[f'{about}/licenses/LICENSE'] = (TOP / 'LICENSE').read_bytes()
+    found[f'{about}/licenses/LICENSES-OF-THE-LIBRARY'] = printed(sys.executable, 'tools/licences', 'subst_c')
+    return dict(sorted(found.items()))
+
+
+def record(found, path):
+    """The list of these files, with their sums, and of itself without."""
+    rows = []
+    for name, data in found.items():
+        digest = base64.urlsafe_b64encode(hashlib.sha256(data).digest()).rstrip(b'=').decode()
+        rows.append(f'{name},sha256={digest},{len(data)}\n')
+    return ''.join([*rows, f'{path},,\n']).encode()
+
+
+def build_wheel(wheel_directory, config_settings=None, metadata_directory=None):
+    """Makes the wheel in a folder, and returns its name. It is called so by pip."""
+    version = printed('tools/version').decode().strip()
+    found, path = files(version), f'subst-{version}.dist-info/RECORD'
+    found[path] = record(found, path)
+    name = f'subst-{version}-{TAG}.whl'
+    os.makedirs(wheel_directory, exist_ok=True)
+    with zipfile.ZipFile(os.path.join(wheel_directory, name), 'w', zipfile.ZIP_DEFLATED) as archive:
+        for file, data in found.items():
+            entry = zipfile.ZipInfo(file, TIME)
+            entry.compress_type, entry.external_attr, entry.create_system = zipfile.ZIP_DEFLATED, 0o100644 << 16, 3
+            archive.writestr(entry, data)
+    return name
+
+
+if __name__ == '__main__':
+    print(os.path.join(os.path.abspath(sys.argv[1]), build_wheel(sys.argv[1])))

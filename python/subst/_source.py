@@ -1,0 +1,393 @@
+"""Sources, over the calls of the library."""
+from __future__ import annotations
+
+import re
+from abc import ABC, abstractmethod
+from array import array
+from collections import abc
+from itertools import chain, cycle
+from operator import itemgetter
+from typing import Any, AnyStr, Callable, Dict, FrozenSet, Generic, Iterable, List, Mapping, Optional, Sequence, Tuple
+
+from . import _foreign
+from ._library import DONE, INVALID_DOCUMENT, NOT_CONFIRMED, OUT_OF_MEMORY, REFUSED, ROOM_TOO_SMALL, library as _library
+from ._memory import (BYTES, FRAME_SOURCE, FRAME_VALUES, HEAD, NEEDED, PAIR, RECORD, ROW, TEXT, Encoding, Frame, Memory,
+                      address_of, frame_for, given_back, taken)
+from ._types import DocumentError, FaultKind, ShellError, ShellForm, SubstError, Variable, VariableKind
+
+_Call = Callable[..., int]
+_Joined = Tuple[bytes, List[int], Sequence[int]]
+# Stands for the value of a variable that has none, and what has no values.
+_ABSENT: Any = object()
+_NONE: Mapping[str, Any] = {}
+# How many bytes an output is first thought to have at most, beside the source and the values: the output of one row, and
+# those of several.
+_MORE, _MOST = 1 << 20, 1 << 24
+# The columns of the widest line that is underlined.
+_WIDEST = 60
+
+
+class Filler(ABC, Generic[AnyStr]):
+    """What is filled in, with the names of its variables, for which a mapping is asked."""
+
+    __slots__ = ('encoding', 'encoded', 'length', 'call', 'names', 'all_of', 'uses', 'pairs', 'held', 'frames', 'is_used')
+
+    encoding: Encoding[AnyStr]
+    names: Tuple[AnyStr, ...]
+    frames: List[Frame]
+
+    def __init__(self, encoding: Encoding[Any], encoded: bytes, call: _Call, names: Iterable[Any],
+                 uses: int) -> None:
+        """The call fills in, as subst_bytes_into. The names are asked for in this order. There are so many variables at
+        most."""
+        self.encoding, self.encoded, self.length, self.call, self.uses = encoding, encoded, len(encoded), call, uses
+        self.names = tuple(names)
+        self.all_of = _getter(self.names)
+        joined, lengths = encoding.joined(self.names)
+        self.held = bytearray(joined or b'\0')
+        at, pairs = address_of(self.held), array('Q')
+        for length in lengths:
+            pairs.extend((at, length, 0, 0))
+            at += length
+        self.pairs = pairs
+        self.frames = []
+        self.is_used = False
+
+    @abstractmethod
+    def refused(self, memory: Memory) -> Exception:
+        """The error that the fault is that the call left in memory."""
+
+    def fill_in(self, variables: Mapping[Any, Any], more: Mapping[str, Any]) -> AnyStr:
+        """Fills in by a frame, if there is one."""
+        values = self.asked(variables, more)
+        try:
+            joined, lengths = self.encoding.joined(values)
+        except TypeError:
+            return self.fill_in_joined(*self.joined(values))
+        if not self.frames or len(joined) * self.uses > FRAME_VALUES:
+            return self.fill_in_joined(joined, lengths, ())
+        try:
+            run, words, room, at = frame = self.frames.pop()
+        except IndexError:
+            return self.fill_in_joined(joined, lengths, ())
+        room[:len(joined)] = joined
+        index = HEAD + 2
+        for length in lengths:
+            words[index] = at
+            words[index + 1] = length
+            at += length
+            index += PAIR
+        if run() != DONE:
+            return self.fill_in_joined(joined, lengths, ())
+        output = self.encoding.decoded(room[FRAME_VALUES:FRAME_VALUES + words[NEEDED]])
+        self.frames.append(frame)
+        return output
+
+    def fill_in_joined(self, joined: bytes, lengths: Sequence[int], absent: Sequence[int]) -> AnyStr:
+        """Fills in from what `joined` returned."""
+        start = len(joined)
+        size = start + self.length + min(start * self.uses, start + _MORE)
+        while True:
+            memory = taken(len(self.pairs), size)
+            memory.put(self.pairs, joined, lengths, absent)
+            result = self.call(self.encoded, self.length, memory.items_at, len(lengths), memory.bytes_at + start,
+                               memory.size - start, memory.head_at, memory.fault_at)
+            if result == DONE:
+                break
+            if result != ROOM_TOO_SMALL:
+                raise self.refused(memory) if result == REFUSED else _failure(result)
+            size = start + memory.words[NEEDED]
+        output = self.encoding.decoded(memory.room[start:start + memory.words[NEEDED]])
+        given_back(memory)
+        if self.is_used and not self.frames and self.length <= FRAME_SOURCE:
+            self.frames.append(frame_for(_library[self.call.__name__], self.encoded, self.pairs))
+        self.is_used = True
+        return output
+
+    def asked(self, variables: Mapping[Any, Any], more: Mapping[str, Any] = _NONE) -> Sequence[Any]:
+        """The value of each name, which is absent where neither has one."""
+        if type(variables) is dict and not more:
+            try:
+                return self.all_of(variables)
+            except KeyError:
+                return [variables.get(name, _ABSENT) for name in self.names]
+        if not isinstance(variables, abc.Mapping):
+            raise TypeError(f'variables must be a mapping, not {type(variables).__name__}')
+        names: Tuple[Any, ...] = self.names
+        values = []
+        for name in names:
+            value = more.get(name if isinstance(name, str) else name.decode(), _ABSENT)
+            if value is _ABSENT:
+                try:
+                    value = variables[name]
+                except KeyError:
+                    pass
+            values.append(value)
+        return values
+
+    def joined(self, values: Sequence[Any]) -> _Joined:
+        """These values, of the names in turn, as the library takes them: all together, how many bytes each has, and the
+        indices of those that are absent."""
+        try:
+            return (*self.encoding.joined(values), ())
+        except TypeError:
+            pass
+        given: List[Any] = []
+        absent: List[int] = []
+        for index, (name, value) in enumerate(zip(cycle(self.names), values)):
+            if value is _ABSENT:
+                absent.append(index)
+                value = self.encoding.kind()
+            elif not isinstance(value, self.encoding.types):
+                wanted = self.encoding.kind.__name__
+                raise TypeError(f'the value of {name!r} must be {wanted} as the source is, not {type(value).__name__}')
+            given.append(value)
+        return (*self.encoding.joined(given), absent)
+
+
+class Source(Filler[AnyStr]):
+    """A source that is a template."""
+
+    __slots__ = ('given', 'original', 'only', 'is_optional', 'records', 'places')
+
+    given: AnyStr
+
+    def __init__(self, encoding: Encoding[AnyStr], given: AnyStr, only: Optional[FrozenSet[bytes]] = None,
+                 optional: bool = False, names: Optional[Iterable[AnyStr]] = None) -> None:
+        """Raises SubstError where it is none. Where names are given, which are all that have a value, that isn't known,
+        and the variables aren't listed."""
+        original = encoded = encoding.encoded(given)
+        self.given = given if isinstance(given, encoding.kind) else encoding.decoded(bytearray(original))
+        self.original, self.only, self.is_optional = original, only, optional
+        starts: Sequence[int] = ()
+        if only is not None:
+            encoded, starts = _foreign.template_for(original, only.__contains__, optional)
+        elif optional:
+            records = _records(encoding, original)
+            starts = records[1::RECORD]
+            encoded = _foreign.with_optional(original, [
+                (start, start + length) for kind, start, length in _triples(records) if kind == VariableKind.REQUIRED])
+        self.records = _records(encoding, encoded) if names is None else array('Q')
+        # Where in the source the names begin that are elsewhere in the template for it.
+        self.places = dict(zip(self.records[1::RECORD], starts)) if starts else {}
+        if names is None:
+            names = dict.fromkeys(encoding.parts(encoded, self.records[1::RECORD], self.records[2::RECORD]))
+        super().__init__(encoding, encoded, _library.subst_bytes_into, names, encoded.count(b'$'))
+
+    def refused(self, memory: Memory) -> SubstError:
+        return self.error(memory.fault, memory.items_at)
+
+    def error(self, fault: Tuple[int, int, int], pairs_at: int, row: Optional[int] = None) -> SubstError:
+        """The error that a fault is, with the pairs at this address."""
+        kind, position, length = fault
+        place = self.places.get(position, position)
+        arguments = (self.encoded, self.length, pairs_at, len(self.names))
+        if self.places:
+            shown = _underlined(self.original, place, length)
+        else:
+            shown = _said(_library.subst_fault_highlighting, *arguments)
+        text = _said(_library.subst_fault_text, *arguments)
+        return _error(self.encoding, self.original, (kind, place, length), text, shown, row)
+
+    def fill_in_each(self, rows: Iterable[Mapping[Any, Any]]) -> List[AnyStr]:
+        asked: List[Sequence[Any]] = [self.asked(variables) for variables in rows]
+        count = len(asked)
+        values, lengths, absent = self.joined([*chain.from_iterable(asked)])
+        pairs, start, width = self.pairs * count, len(values), 8 * len(self.pairs)
+        size = start + min(count * self.length + start * self.uses, start + _MOST)
+        rows_from, ends_from = HEAD + len(pairs), HEAD + len(pairs) + 2 * count
+        while True:
+            memory = Memory(len(pairs) + 3 * count, size)
+            memory.put(pairs, values, lengths, absent)
+            memory.words[rows_from:ends_from:2] = array('Q', [memory.items_at + width * row for row in range(count)])
+            memory.words[rows_from + 1:ends_from:2] = array('Q', [len(self.names)]) * count
+            result = _library.subst_bytes_each(
+                self.encoded, self.length, memory.head_at + 8 * rows_from, count, memory.bytes_at + start,
+                memory.size - start, memory.head_at + 8 * ends_from, count, memory.head_at, memory.head_at + 8 * ROW,
+                memory.fault_at)
+            if result == DONE:
+                output = memory.room[start:start + memory.words[NEEDED]]
+                return self.encoding.cut(output, memory.words[ends_from:])
+            if result != ROOM_TOO_SMALL:
+                row = memory.words[ROW]
+                raise self.error(memory.fault, memory.items_at + width * row, row) if result == REFUSED \
+                    else _failure(result)
+            size = start + memory.words[NEEDED]
+
+    def variables(self) -> List[Variable[AnyStr]]:
+        return self.listed(self.records)
+
+    def missing(self, variables: Mapping[Any, Any], more: Mapping[str, Any]) -> List[Variable[AnyStr]]:
+        values, lengths, absent = self.joined(self.asked(variables, more))
+        memory, found = taken(len(self.pairs), len(values)), Memory(len(self.records), 0)
+        memory.put(self.pairs, values, lengths, absent)
+        result = _library.subst_missing(self.encoded, self.length, memory.items_at, len(lengths), found.items_at,
+                                        len(self.records) // RECORD, found.head_at, found.fault_at)
+        if result != DONE:
+            raise _failure(result)
+        given_back(memory)
+        return self.listed(found.words[HEAD:HEAD + RECORD * found.words[NEEDED]])
+
+    def listed(self, records: Sequence[int]) -> List[Variable[AnyStr]]:
+        """The variables of records of the template."""
+        places = [self.places.get(start, start) for start in records[1::RECORD]]
+        indices = _indices(self.encoding, self.original, places)
+        names = self.encoding.parts(self.encoded, records[1::RECORD], records[2::RECORD])
+        kinds = [VariableKind(kind) for kind, _, _ in _triples(records)]
+        return [Variable(kind, name, index) for kind, name, index in zip(kinds, names, indices)]
+
+
+class Document(Filler[str]):
+    """A document whose strings are filled in."""
+
+    __slots__ = ('kind',)
+
+    def __init__(self, kind: str, text: str) -> None:
+        """The kind is json or toml."""
+        encoded = TEXT.encoded(text)
+        names = [name.decode() for name in _foreign.names_in_document(encoded)]
+        super().__init__(TEXT, encoded, getattr(_library, f'subst_{kind}'), dict.fromkeys(names), len(names))
+        self.kind = kind
+
+    def refused(self, memory: Memory) -> Exception:
+        text = _said(getattr(_library, f'subst_{self.kind}_fault_text'), self.encoded, self.length, memory.items_at,
+                     len(self.names))
+        kind, position, length = memory.fault
+        if kind == INVALID_DOCUMENT:
+            return DocumentError(text, *_span(TEXT, self.encoded, position, length))
+        return _error(TEXT, self.encoded, memory.fault, text)
+
+
+def fill_in_large(encoding: Encoding[AnyStr], given: AnyStr, variables: Dict[Any, Any]) -> AnyStr:
+    """Fills in from all variables, of which few are there for the size of the source, and doesn't list those that it
+    has. It is a TypeError or a UnicodeEncodeError where one of them is no name or no value, used or not."""
+    items = [*variables.items()]
+    source: Source[AnyStr] = Source(encoding, given, names=[name for name, _ in items])
+    return source.fill_in_joined(*encoding.joined([value for _, value in items]), ())
+
+
+def _getter(names: Sequence[Any]) -> Callable[[Mapping[Any, Any]], Sequence[Any]]:
+    """What gives the values of names."""
+    if len(names) > 1:
+        return itemgetter(*names)
+    return lambda variables: [variables[name] for name in names]
+
+
+# What calls take and say
+
+
+def check(encoding: Encoding[Any], source: bytes) -> None:
+    memory = taken(0, 0)
+    result = _library.subst_check(source, len(source), memory.fault_at)
+    if result != DONE:
+        raise _fault_alone(encoding, source, memory) if result == REFUSED else _failure(result)
+    given_back(memory)
+
+
+def from_shell(encoding: Encoding[AnyStr], text: bytes) -> AnyStr:
+    """The template for a text of a shell."""
+    result, memory = _put(
+        lambda memory: _library.subst_from_shell(text, len(text), memory.bytes_at, memory.size, memory.head_at,
+                                                 memory.fault_at, memory.fault_at + 8), 2 * len(text))
+    if result == DONE:
+        return encoding.decoded(memory.room[:memory.words[NEEDED]])
+    form, position, _ = memory.fault
+    raise ShellError(_said(_library.subst_shell_form_text, form), ShellForm(form), *_span(encoding, text, position, 1))
+
+
+def _records(encoding: Encoding[Any], source: bytes) -> array[int]:
+    """The variables of a source, of which there are no more than dollars."""
+    count = source.count(b'$')
+    memory = taken(RECORD * count, 0)
+    result = _library.subst_variables(source, len(source), memory.items_at, count, memory.head_at, memory.fault_at)
+    if result != DONE:
+        raise _fault_alone(encoding, source, memory) if result == REFUSED else _failure(result)
+    found = memory.words[HEAD:HEAD + RECORD * memory.words[NEEDED]]
+    given_back(memory)
+    return found
+
+
+def _triples(records: Sequence[int]) -> Iterable[Tuple[int, int, int]]:
+    """The kind of each variable, of which the word has the lower half, the position of its name, and the length."""
+    return zip((word & 0xffffffff for word in records[0::RECORD]), records[1::RECORD], records[2::RECORD])
+
+
+def _failure(result: int) -> Exception:
+    """The error that a result is, but that of a source that is refused."""
+    if result == NOT_CONFIRMED:
+        return RuntimeError('the document with its strings filled in was not confirmed')
+    return MemoryError('subst is out of memory')
+
+
+def _fault_alone(encoding: Encoding[Any], source: bytes, memory: Memory) -> SubstError:
+    """The error that the fault of a source is, whatever the variables."""
+    text, shown = (_said(call, source, len(source), None, 0)
+                   for call in (_library.subst_fault_text, _library.subst_fault_highlighting))
+    return _error(encoding, source, memory.fault, text, shown)
+
+
+def _error(encoding: Encoding[Any], source: bytes, fault: Tuple[int, int, int], text: str, shown: str = '',
+           row: Optional[int] = None) -> SubstError:
+    """The error with this text. The text of a variable without a value ends with its name."""
+    kind, position, length = fault
+    name = text.rpartition('$')[2] if kind == FaultKind.NO_SUCH_VARIABLE else None
+    return SubstError(text, FaultKind(kind), *_span(encoding, source, position, length), shown, row, name)
+
+
+def _put(call: Callable[[Memory], Any], size: int) -> Tuple[int, Memory]:
+    """The result of a call, and memory that has room for all that it puts there. So many bytes are tried first."""
+    while True:
+        memory = Memory(0, size)
+        result = call(memory)
+        if result == OUT_OF_MEMORY:
+            raise _failure(result)
+        if result != ROOM_TOO_SMALL:
+            return result, memory
+        size = memory.words[NEEDED]
+
+
+def _said(call: _Call, *arguments: Any) -> str:
+    """What a call says of a source."""
+    result, memory = _put(lambda memory: call(*arguments, memory.bytes_at, memory.size, memory.head_at), 256)
+    return memory.room[:memory.words[NEEDED]].decode() if result == DONE else ''
+
+
+def _span(encoding: Encoding[Any], source: bytes, position: int,
+          length: int) -> Tuple[int, int, Optional[int], Optional[int]]:
+    """The position of a part of the source, its length, its line and its column."""
+    start, end = _indices(encoding, source, [position, position + length])
+    return (start, end - start, *_place(source, position))
+
+
+def _place(source: bytes, offset: int) -> Tuple[Optional[int], Optional[int]]:
+    """The line and the column at an offset, where the source is UTF-8."""
+    memory = taken(2, 0)
+    at = memory.items_at
+    if _library.subst_place(source, len(source), offset, at, at + 8) != DONE:
+        return None, None
+    line, column = memory.words[HEAD:HEAD + 2]
+    given_back(memory)
+    return line, column
+
+
+def _underlined(source: bytes, position: int, length: int) -> str:
+    """The line of a name, underlined as the library does it."""
+    line, column = _place(source, position)
+    if line is None or column is None:
+        return ''
+    text = re.split(b'\r\n|\r|\n', source)[line - 1]
+    _, end = _place(text, len(text))
+    return f'  {text.decode()}\n  {" " * (column - 1)}{"^" * length}\n' if end and end <= _WIDEST + 1 else ''
+
+
+def _indices(encoding: Encoding[Any], source: bytes, offsets: Iterable[int]) -> List[int]:
+    """Offsets in a source, in order, as indices of what was given."""
+    if encoding is BYTES or source.isascii():
+        return list(offsets)
+    found: List[int] = []
+    before = index = 0
+    for offset in offsets:
+        index += len(source[before:offset].decode('utf-8'))
+        before = offset
+        found.append(index)
+    return found
