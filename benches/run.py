@@ -1,9 +1,9 @@
 #!/usr/bin/env python3
 """run.py [--runs N] [--only WORD] [--write] [TABLE ..]   Times the programs and counts the instructions of the library.
 
-Prints these tables of RESULTS.md, or all, as Markdown: times, process, programs, texts, letters, growth, hostile, json and
-toml. README.md says what is in them. With --only, of the inputs in inputs.py only those with this word in their titles
-or as their name, and the empty one; with --write, the tables are put into RESULTS.md.
+Prints these tables of RESULTS.md, or all, as Markdown: times, process, programs, texts, letters, growth, hostile, json,
+toml and, as SVG, chart. README.md says what is in them. With --only, of the inputs in inputs.py only those with this word in their titles
+or as their name, and the empty one; with --write, the tables are put into RESULTS.md and the chart into chart.svg.
 """
 import argparse
 import atexit
@@ -28,7 +28,7 @@ from inputs import MIB
 from running import CRATES, build, path_of
 
 HERE = Path(__file__).resolve().parent
-RESULTS = HERE / "RESULTS.md"
+RESULTS, CHART = HERE / "RESULTS.md", HERE / "chart.svg"
 OURS, BENCH = "subst_filter", "subst_bench"
 OTHERS = ("cat", "envsubst", "perl", "string.Template")
 # The programs that have placeholders alone.
@@ -128,6 +128,9 @@ FAMILIES = (
 )
 
 
+# The longest bar of the chart, and the colours of ours and of others.
+LONGEST, FIRST, OTHER = 380, "#2c7a4b", "#9aa5ad"
+
 # Programs.
 
 
@@ -164,7 +167,7 @@ def bench_program():
     crate = folder() / "crates" / BENCH
     (crate / "src").mkdir(parents=True)
     shutil.copy(HERE / f"{BENCH}.rt.in", crate / "src/main.rt")
-    (folder() / "crates.txt").write_text(f"{library}{BENCH}: subst\n")
+    (folder() / "crates.txt").write_text(f"{library}{BENCH}: subst serde_json toml\n")
     subprocess.run(["rt", "run", "--", "parse", "0"], cwd=crate, check=True, stdin=subprocess.DEVNULL, stdout=sys.stderr)
     return str(crate / "out" / BENCH)
 
@@ -251,9 +254,9 @@ def under_valgrind(run, pattern, *options):
     return int(re.search(pattern, ran.stderr)[1].replace(b",", b""))
 
 
-def instructions(run, profile=os.devnull):
+def instructions(run):
     """How many instructions a run takes, by callgrind, start-up included."""
-    return under_valgrind(run, rb"Collected : (\d+)", "--tool=callgrind", f"--callgrind-out-file={profile}")
+    return under_valgrind(run, rb"Collected : (\d+)", "--tool=callgrind", f"--callgrind-out-file={os.devnull}")
 
 
 @functools.lru_cache(None)
@@ -436,38 +439,17 @@ def table_of_hostile_sources(options):
 # Trees.
 
 
-def calls_of(profile):
-    """The calls in a profile of callgrind, from one function to one: the caller, what is called, and the instructions
-    that they took in all."""
-    names, last = {}, {}
-    with open(profile, encoding="utf-8", errors="replace") as lines:
-        for line in lines:
-            if found := re.match(r"(c?fn)=\((\d+)\)(?: (.*))?", line):
-                last[found[1]] = found[2]
-                names.setdefault(found[2], found[3])
-            elif line.startswith("calls="):
-                yield names[last["fn"]], names[last["cfn"]], int(next(lines).split()[1])
-
-
 def table_of_trees(kind, _options):
-    """What counts as filling in are the calls of the walk from outside of it, with all that they call, and dropping the
-    tree that was read where the walk leaves it."""
-    made, profile, values = inputs.document(kind), folder() / "profile", folder() / "values"
-    values.write_bytes(made.lines())
-    total = instructions(run_on(made.source, program("subst_program"), f"--{kind}", "--values", str(values)), profile)
-    is_walk = re.compile(rf"subst_{kind}::walk::").search
-    is_drop = re.compile(rf"subst_{kind}::.*Destruct::drop").search
-    walk = drop = 0
-    for caller, callee, cost in calls_of(profile):
-        if is_walk(callee) and not is_walk(caller):
-            walk += cost
-        if is_drop(callee) and caller.startswith(f"subst_{kind}::") and not is_drop(caller) and not is_walk(caller):
-            drop += cost
+    made = inputs.document(kind)
+    pairs = [f"{name}={value}" for name, value in made.variables.items()]
+    read, filled = (run_on(made.source, bench_program(), kind, rounds, *pairs) for rounds in ("0", "1"))
+    if int(output_of(filled)) != len(made.source):
+        sys.exit(f"{kind}: the tree isn't filled in")
+    before, whole = map(instructions, (read, filled))
     counts = {
-        "filling in the tree": walk,
-        "dropping what the walk leaves of the tree that was read": drop,
+        "filling in the tree in place": whole - before,
         "the Rust crate, which fills in place": inputs.DOCUMENTS[kind][2],
-        "the whole run: reading, filling in and printing the tree": total,
+        "the whole run: reading the variables and the tree, filling it in and dropping it": whole,
     }
     title = (
         f"{kind.upper()}: a document of {len(made.source) / 1e6:.1f} MB, of which {made.source.count(b'${'):,} strings "
@@ -489,11 +471,41 @@ TABLES = {
 }
 
 
+# The chart.
+
+
+def bars(top, title, values):
+    """Bars of values by their names below a title, as SVG, and where they end."""
+    drawn = [f'<text x="12" y="{top + 26}" font-weight="bold">{title}</text>']
+    for row, (name, value) in enumerate(values.items()):
+        y, width = top + 46 + 22 * row, max(2, round(LONGEST * value / max(values.values())))
+        drawn += [f'<text x="12" y="{y}">{name}</text>',
+                  f'<rect x="150" y="{y - 12}" width="{width}" height="16" fill="{OTHER if row else FIRST}"/>',
+                  f'<text x="{158 + width}" y="{y}">{value:.1f}</text>']
+    return drawn, top + 46 + 22 * len(values)
+
+
+def chart(options):
+    """What one input takes our program and others, and the library and the Rust crate, as SVG."""
+    workload, = named(options, ["variables"])
+    least = times(workload, options.runs, OTHERS)
+    in_process = {"subst": counted(workload, "both") / 1e6, "the Rust crate": workload.rust["both"] / 1e6}
+    title = f"{workload.title}, one after each 34 to 49 bytes"
+    programs, end = bars(0, f"{title}: milliseconds of a run", {name: least[name] for name in (OURS, *SIMPLE)})
+    libraries, end = bars(end, "The same in process: millions of instructions", in_process)
+    head = (f'<svg xmlns="http://www.w3.org/2000/svg" width="600" height="{end}" font-family="sans-serif" '
+            f'font-size="13">\n<rect width="600" height="{end}" fill="white"/>')
+    return "\n".join([head, *programs, *libraries, "</svg>\n"])
+
+
 def written(title, columns, rows):
     """A table as Markdown."""
     lines = ["| " + " | ".join(row) + " |" for row in [columns, *rows]]
     lines.insert(1, "|---" + "|---:" * (len(columns) - 1) + "|")
     return textwrap.fill(title, 120) + "\n\n" + "\n".join(lines) + "\n"
+
+
+WRITES = {name: lambda options, table=table: written(*table(options)) for name, table in TABLES.items()} | {"chart": chart}
 
 
 def put_into_results(name, text):
@@ -512,18 +524,20 @@ def make_room_for_words():
 
 def main():
     parser = argparse.ArgumentParser(description=__doc__.partition("   ")[2].partition("\n")[0])
-    parser.add_argument("tables", nargs="*", metavar="TABLE", help=f"of {', '.join(TABLES)}; else all of them")
+    parser.add_argument("tables", nargs="*", metavar="TABLE", help=f"of {', '.join(WRITES)}; else all of them")
     parser.add_argument("--runs", type=int, default=15, help="runs of each program on each input")
     parser.add_argument("--only", metavar="WORD", default="", help="only inputs of this title or name, and empty")
-    parser.add_argument("--write", action="store_true", help="put the tables into RESULTS.md too")
+    parser.add_argument("--write", action="store_true", help="put them into RESULTS.md and chart.svg too")
     options = parser.parse_args()
-    if not set(options.tables) <= TABLES.keys() or (options.write and options.only):
+    if not set(options.tables) <= WRITES.keys() or (options.write and options.only):
         parser.error("there is no such table, or --write with some inputs")
     make_room_for_words()
-    for name in options.tables or TABLES:
-        text = written(*TABLES[name](options))
+    for name in options.tables or WRITES:
+        text = WRITES[name](options)
         print(text, flush=True)
-        if options.write:
+        if options.write and name == "chart":
+            CHART.write_text(text, encoding="utf-8")
+        elif options.write:
             put_into_results(name, text)
 
 

@@ -1,190 +1,31 @@
 #!/usr/bin/env python3
-"""pages.py   Tests tools/install, tools/deb, the completions, the pages of the programs, and the examples of the
-documents, run as they are written.
+"""pages.py   Tests the completions, the pages of the programs, and the examples of the documents, run as they are
+written.
 
 An example is a block of lines of which those with `$ ` in front are commands, and the others what these print, also on
 standard error: a block `console` in a document, or one between .EX and .EE in a page. All examples of a document run in
 one shell, in an empty folder, with the programs that tools/install put there. Pages are checked by `man` and `mandoc`,
-completions by their shells, and the package by `dpkg`, where these are installed. Each test prints a line, and the last
-line is 'N passed, M failed, K skipped'.
+and completions by their shells, where these are installed. Each test prints a line, and the last line is 'N passed, M
+failed, K skipped'.
 """
 import functools
-import gzip
-import io
 import os
 import pathlib
 import re
 import subprocess
 import sys
-import tarfile
 import tempfile
 
 sys.dont_write_bytecode = True
 import completions
 from filled import ROFF, filled
-from running import SECONDS, TOP, Skipped, expect_that, need, path_of, run_tests, version
+from running import PROGRAMS, SECONDS, TOP, expect_that, need, path_of, ran, run_tests
 
-# The crates of the programs, by the names under which these are installed.
-CRATES = {'subst': 'subst_program', 'subst_filter': 'subst_filter'}
-PAGES = [TOP / f'docs/{name}.1.in' for name in CRATES]
+PAGES = [TOP / f'docs/{name}.1.in' for name in PROGRAMS]
 # What the tests need of others, where it is there.
-TOOLS = ('dpkg', 'dpkg-deb', 'fish', 'man', 'mandoc', 'zsh')
-# The files over which a document's examples are run.
-GIVEN = {'README.md': {'shop.env': 'name=Shop\n',
-                       'web.conf.in': 'server {\nserver_name ${name};\nroot /srv/$app;\n}\n'}}
+TOOLS = ('fish', 'man', 'mandoc', 'zsh')
 # What an example of a document prints after each command, so that outputs can be distinguished.
 MARK = '\x01'
-
-
-def ran(command, **options):
-    """Runs a command, and returns its output, with standard error in it. It has to end with status 0."""
-    usual = {'stdin': subprocess.DEVNULL, 'stdout': subprocess.PIPE, 'stderr': subprocess.STDOUT, 'timeout': SECONDS}
-    end = subprocess.run(command, text=True, **{**usual, **options})
-    expect_that(end.returncode == 0, f'{command} ends with status {end.returncode}: {end.stdout}')
-    return end.stdout
-
-
-def install(*words, **options):
-    """Runs tools/install, which takes long where it has to prove a program first."""
-    return ran([TOP / 'tools/install', *words], timeout=None, **options)
-
-
-# What is installed
-
-
-def copies():
-    """What tools/install puts below a prefix beside the programs: the bytes of each file, by its path."""
-    texts = {'share/bash-completion/completions/subst': completions.bash(),
-             'share/zsh/site-functions/_subst': completions.zsh(),
-             'share/fish/vendor_completions.d/subst.fish': completions.fish(),
-             **{f'share/man/man1/{page.stem}': filled(page) for page in PAGES}}
-    return {path: text.encode() for path, text in texts.items()}
-
-
-def expect_files(folder, wanted):
-    """Fails the test unless a folder has files of these names alone, each with these bytes, packed or not."""
-    paths = [path for path in pathlib.Path(folder).rglob('*') if not path.is_dir()]
-    found = {str(path.relative_to(folder)): path.read_bytes() for path in paths}
-    found.update({path: gzip.decompress(data) for path, data in found.items() if path.endswith('.gz')})
-    wrong = sorted(path for path in {**found, **wanted} if found.get(path) != wanted.get(path))
-    expect_that(not wrong, f'{folder} has these files, or has not, or not as they are to be installed: {wrong}')
-
-
-def bytes_of(paths):
-    """The bytes of files, by the names that are given to them."""
-    return {name: pathlib.Path(path).read_bytes() for name, path in paths.items()}
-
-
-def expect_that_programs_run(folder):
-    """Fails the test unless the programs in a folder do their work without a loader."""
-    for name in CRATES:
-        expect_that(b'/ld-linux' not in pathlib.Path(folder, name).read_bytes(), f'{folder}/{name} needs a loader')
-    script = '"$0/subst" --version && printf "Hello \\$name!" | "$0/subst_filter" text name=world'
-    printed = ran(['sh', '-c', script, folder])
-    expect_that(printed == f'subst {version()}\nHello world!', f'the programs in {folder} printed {printed!r}')
-
-
-def need_static_library():
-    """Skips the test unless there is a static C library."""
-    try:
-        subprocess.run([os.environ.get('CC') or 'cc', '-static', '-x', 'c', '-o', 'static', '-'], check=True, text=True,
-                       input='int main(void) { return 0; }', stderr=subprocess.DEVNULL)
-    except subprocess.CalledProcessError:
-        raise Skipped('there is no static C library')
-
-
-def test_install_puts_programs_pages_and_completions_below_a_prefix():
-    install('prefix')
-    install('/usr', env={**os.environ, 'DESTDIR': os.path.abspath('stage')})
-    programs = bytes_of({f'bin/{name}': path_of(crate) for name, crate in CRATES.items()})
-    for folder in ('prefix', 'stage/usr'):
-        expect_files(folder, {**programs, **copies()})
-
-
-def test_install_links_static_programs():
-    need_static_library()
-    install('--static', 'static_prefix')
-    expect_that_programs_run('static_prefix/bin')
-
-
-def test_install_and_deb_refuse_other_words():
-    usages = {'install': 'usage: tools/install [--static | --library | --python] PREFIX\n',
-              'deb': 'usage: tools/deb FOLDER\n'}
-    for tool, usage in usages.items():
-        for words in ([], ['--prefix'], ['a', 'b'], ['--static'], ['--library'], ['--python'], ['']):
-            end = subprocess.run([TOP / 'tools' / tool, *words], stderr=subprocess.PIPE, text=True)
-            expect_that((end.returncode, end.stderr) == (2, usage), f'{tool} {words}: {end}')
-
-
-def test_install_says_what_it_does():
-    end = subprocess.run([TOP / 'tools/install', '--help'], stdout=subprocess.PIPE, stderr=subprocess.PIPE, text=True)
-    expect_that((end.returncode, end.stderr) == (0, ''), end)
-    expect_that(end.stdout.startswith('usage: tools/install [--static | --library | --python] PREFIX\n'), end.stdout)
-    installed = install('listed').splitlines()
-    count = len(copies()) + len(CRATES)
-    expect_that(installed[-count - 1:-count] == ['installed:'], installed)
-    expect_that(all(os.path.isfile(line.strip()) for line in installed[-count:]), installed)
-
-
-# The Debian package
-
-
-def deb(folder, **options):
-    """Makes the package in a folder, and returns its path."""
-    return ran([TOP / 'tools/deb', folder], timeout=None, **options).rstrip('\n')
-
-
-def dpkg(*words):
-    """Runs dpkg as any user may, with the folder `root` as its system, and without what this system leaves out."""
-    forced = ['--force-not-root', '--force-script-chrootless', '--force-depends', '--path-include=*', '--log=/dev/null']
-    path = f"{os.environ['PATH']}:/usr/sbin:/sbin"
-    return ran(['dpkg', f"--root={os.path.abspath('root')}", *forced, *words], env={**os.environ, 'PATH': path})
-
-
-def expect_that_all_can_read(package):
-    """Fails the test unless the files of a package are root's, with the permissions that such files have."""
-    files = subprocess.run(['dpkg-deb', '--fsys-tarfile', package], check=True, stdout=subprocess.PIPE).stdout
-    for file in tarfile.open(fileobj=io.BytesIO(files)):
-        mode = 0o755 if file.isdir() or '/bin/' in file.name else 0o644
-        owned = (file.mode, file.uid, file.gid)
-        expect_that(owned == (mode, 0, 0), f'{file.name} has mode {file.mode:o}, and is of {file.uid}:{file.gid}')
-
-
-def test_deb_makes_the_same_package_again():
-    need('dpkg-deb')
-    need_static_library()
-    packages = [deb('first'), deb('other', env={**os.environ, 'TZ': 'Asia/Tokyo'}, preexec_fn=lambda: os.umask(0o77))]
-    name = rf'subst_{re.escape(version())}(~\d+)?_amd64\.deb'
-    for folder, package in zip(('first', 'other'), packages):
-        expect_that(re.fullmatch(f'{os.path.abspath(folder)}/{name}', package), f'the package in {folder} is {package}')
-    first, other = (pathlib.Path(package).read_bytes() for package in packages)
-    expect_that(first == other, 'two packages of the same files are not the same')
-    expect_that_all_can_read(packages[0])
-
-
-def test_deb_is_installed_and_removed():
-    need('dpkg')
-    need_static_library()
-    install('--static', 'linked')
-    files = bytes_of({**{f'bin/{name}': f'linked/bin/{name}' for name in CRATES},
-                      'share/doc/subst/copyright': TOP / 'LICENSE',
-                      'share/doc/subst/changelog.gz': TOP / 'CHANGELOG.md'})
-    for path, data in copies().items():
-        files[f'{path}.gz' if '/man1/' in path else path.replace('site-functions', 'vendor-completions')] = data
-    for folder in ('info', 'updates', 'triggers'):
-        os.makedirs(f'root/var/lib/dpkg/{folder}')
-    for file in ('status', 'available'):
-        pathlib.Path('root/var/lib/dpkg', file).touch()
-    package = deb('package')
-    for word in ('--remove', '--purge'):
-        dpkg('--install', package)
-        expect_files('root/usr', files)
-        expect_that_programs_run('root/usr/bin')
-        wrong = dpkg('--verify', 'subst')
-        expect_that(not wrong, f'files are not as the package says: {wrong}')
-        dpkg(word, 'subst')
-        left = os.listdir('root')
-        expect_that(left == ['var'], f'{word} leaves {left}')
 
 
 # The completions
@@ -319,16 +160,15 @@ def documents():
     return [path for path in paths if path.endswith(('.md', '.1.in')) and path != 'docs/C.md' and examples(path)]
 
 
-def examples_print_what_is_written(path):
+def examples_print_what_is_written(path, shell='bash'):
     """Runs all examples of a document in one shell."""
-    install('prefix')
+    need(shell)
+    ran([TOP / 'tools/install', 'prefix'], timeout=None)
     wanted = examples(path)
     script = 'exec 2>&1\n' + ''.join(f'{command}printf "{MARK}"\n' for command, _ in wanted)
     env = {'PATH': f"{os.path.abspath('prefix/bin')}:/usr/bin:/bin", 'LC_ALL': 'C.UTF-8'}
     with tempfile.TemporaryDirectory() as folder:
-        for name, text in GIVEN.get(path, {}).items():
-            pathlib.Path(folder, name).write_text(text, encoding='utf-8')
-        printed = ran(['bash', '-c', script], cwd=folder, env=env).split(MARK)
+        printed = ran([shell, '-c', script], cwd=folder, env=env).split(MARK)
     for (command, output), is_ in zip(wanted, printed):
         expect_that(is_ == output, f'{command.rstrip()} prints {is_!r} and not {output!r}')
     expect_that(len(printed) == len(wanted) + 1, f'{len(printed) - 1} of {len(wanted)} commands ran')
@@ -336,4 +176,6 @@ def examples_print_what_is_written(path):
 
 TESTS = [(name.removeprefix('test_'), it) for name, it in globals().items() if name.startswith('test_')]
 EXAMPLES = [(f'examples_of_{path}', functools.partial(examples_print_what_is_written, path)) for path in documents()]
-run_tests(TESTS + EXAMPLES, CRATES.values(), TOOLS)
+RECIPES = 'docs/ENVSUBST.md'
+EXAMPLES.append((f'examples_of_{RECIPES}_by_dash', functools.partial(examples_print_what_is_written, RECIPES, 'dash')))
+run_tests(TESTS + EXAMPLES, PROGRAMS.values(), TOOLS)
