@@ -195,7 +195,7 @@ def programs_end_as_the_library_says(seed, prefix):
 def expect_filter_ends(source, variables, output, error):
     words = [name + b'=' + value for name, value in variables.items()]
     for word in (['bytes', *words], ['text', *words], ['env']):
-        errors = f'subst: {error}\n{"" if word[0] == "bytes" else error.highlighting}' if error else ''
+        errors = f'subst: {error.message}\n{"" if word[0] == "bytes" else error.highlighting}' if error else ''
         expect(run('subst_filter', word, source, env=variables), 1 if error else 0, output, errors.encode())
 
 
@@ -203,7 +203,7 @@ def expect_subst_ends(source, variables, output, error):
     """Of the messages the first line is compared, which has the position and the text of the first fault."""
     words = [word for name, value in variables.items() for word in (b'-s', name + b'=' + value)]
     end = run('subst_program', words, source, name='subst')
-    first = f'<stdin>:{error.line}:{error.column}: {as_told(str(error))}\n'.encode() if error else b''
+    first = f'<stdin>:{error.line}:{error.column}: {as_told(error.message)}\n'.encode() if error else b''
     expect(end._replace(errors=end.errors[:len(first) or None]), 1 if error else 0, output, first)
 
 

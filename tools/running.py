@@ -18,6 +18,8 @@ from typing import NamedTuple
 
 TOP = pathlib.Path(__file__).resolve().parent.parent
 CRATES = TOP / 'crates'
+# The crates of the programs, by the names under which these are installed.
+PROGRAMS = {'subst': 'subst_program', 'subst_filter': 'subst_filter'}
 # Arguments with which a program does its work, where it needs some.
 WORDS = {'subst_filter': ['bytes'], 'subst_vectors': ['data/variables.tsv']}
 # How long a program may run. Each run takes less than a second on a machine that does nothing else.
@@ -85,7 +87,17 @@ def build(program):
     return ran.returncode == 0
 
 
+# What `subst` says beside its messages: what may have been meant.
+HINT = re.compile(rb'^(?:subst: hint: .*|.* begins with \'.\': for a shell\'s default see --shell)\n', re.MULTILINE)
+
+
 def run(program, words=(), source=b'', name=None, **options):
+    """Runs a program, under its path or another name, and returns how it ended, without hints."""
+    end = run_with_hints(program, words, source, name, **options)
+    return end._replace(errors=HINT.sub(b'', end.errors))
+
+
+def run_with_hints(program, words=(), source=b'', name=None, **options):
     """Runs a program, under its path or another name. The source is its input, through a pipe, unless the options,
     those of subprocess.run, name an input; an output that they don't name is kept."""
     if 'stdin' not in options:
@@ -95,6 +107,19 @@ def run(program, words=(), source=b'', name=None, **options):
     options.setdefault('executable', path_of(program))
     ran = subprocess.run([name or path_of(program), *words], timeout=SECONDS, **options)
     return End(ran.returncode, ran.stdout or b'', ran.stderr or b'')
+
+
+def ended(command, **options):
+    """Runs any command, and returns how it ended, with its standard error in its output."""
+    usual = {'stdin': subprocess.DEVNULL, 'stdout': subprocess.PIPE, 'stderr': subprocess.STDOUT, 'timeout': SECONDS}
+    return subprocess.run(command, text=True, check=False, **{**usual, **options})
+
+
+def ran(command, **options):
+    """Runs any command, and returns its output. It has to end with status 0."""
+    end = ended(command, **options)
+    expect_that(end.returncode == 0, f'{command} ends with status {end.returncode}: {end.stdout}')
+    return end.stdout
 
 
 def compiled(source, *options):
