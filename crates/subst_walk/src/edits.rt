@@ -81,7 +81,7 @@ pub fn changed<F: Fill>(alloc: Global, text: &str, filler: &F) -> Result<Option<
     if filler.gives_itself(text) {
         return Ok(None);
     }
-    let value = filler.fill(alloc, String::from_str(alloc, text)?)?;
+    let value = filler.fill(alloc, text)?;
     if value.as_str() == text {
         Ok(None)
     } else {

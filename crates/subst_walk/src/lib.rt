@@ -29,7 +29,7 @@ use std::alloc::{AllocError, Global};
 use std::convert::AsStr;
 use subst_error::Error;
 use subst_map::VariableMap;
-use subst_template::{is_plain, substitute, substitute_owned};
+use subst_template::{is_plain, substitute};
 
 mod changes;
 mod edits;
@@ -51,9 +51,9 @@ pub trait Fill {
         ensures itself { IsTrue result → answers self.now text.now (Gives text.now) };
 
     /// Returns `source` with its variables filled in.
-    fn fill(&self, alloc: Global, source: String) -> Result<String, Error>
+    fn fill(&self, alloc: Global, source: &str) -> Result<String, Error>
         ensures answer { IfSome (answer_of (λ text. string_bytes text) result)
-            (answers self.now (string_bytes source)) }
+            (answers self.now source.now) }
         ensures range { OnFault error_fault result HasRange };
 
     /// Returns why `source` is refused, or nothing where it gives a text.
@@ -86,8 +86,8 @@ where
 
     // A walk calls it at each level, so its frame is kept out of the walk's.
     #[inline(never)]
-    fn fill(&self, alloc: Global, source: String) -> Result<String, Error> {
-        substitute_owned(alloc, source, self.variables)
+    fn fill(&self, alloc: Global, source: &str) -> Result<String, Error> {
+        substitute(alloc, source, self.variables)
     }
 
     fn refusal(&self, alloc: Global, source: &str) -> Result<Option<Error>, AllocError> {

@@ -69,11 +69,11 @@ impl Fill for StringFiller<'_, '_, '_> {
 
     // A walk calls it at each level, so its frame is kept out of the walk's.
     #[inline(never)]
-    fn fill(&self, alloc: Global, source: String) -> Result<String, Error> {
+    fn fill(&self, alloc: Global, source: &str) -> Result<String, Error> {
         let Some(variables) = self.variables else {
-            return Ok(source);
+            return Ok(String::from_str(alloc, source)?);
         };
-        match fill_text(alloc, &source, self.placeholders, variables)? {
+        match fill_text(alloc, source, self.placeholders, variables)? {
             Ok(output) => Ok(output),
             Err(_) => Err(refused()),
         }

@@ -5,6 +5,6 @@ use Rattle.subst_walk.proofs.FillerFill.fill.Goals as goal
 
 pub returns-clause-answer : goal.returns-clause-answer
 returns-clause-answer g c =
-    let call = c.substitute_owned.ensures in
-    stated_answer _ _ _ _ (λ text. string_bytes text) c.substitute_owned.result call.answer call.sentence
+    let call = c.substitute.ensures in
+    stated_answer _ _ _ _ (λ text. string_bytes text) c.substitute.result call.answer call.sentence
     call.refusal call.range
