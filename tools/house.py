@@ -24,7 +24,7 @@ LINES = {'README.md': 172, 'docs/DESIGN.md': 160, 'docs/DEFINITIONS.md': 200, 'd
          'docs/CONTRIBUTING.md': 200, 'docs/decisions/[0-9]*.md': 40}
 # The words of README.md and of the pages that are no decisions, the lines of code, of definitions and proofs, and of
 # scripts, and the crates, at most; and the ends of files beside scripts that are none.
-SIZES = {'words of pages': 14000, '.rt': 30310, '.antt': 33010, 'scripts': 12940, 'crates': 24}
+SIZES = {'words of pages': 14000, '.rt': 30310, '.antt': 33060, 'scripts': 12940, 'crates': 24}
 NO_SCRIPTS = ('.rt', '.antt', '.md', '.svg', '.tsv', '.txt', 'args', 'stdin', 'stdout')
 # The files that have an option of subst, at most, and those that have the text of a fault.
 OPTION_FILES, FAULT_FILES = 9, 6

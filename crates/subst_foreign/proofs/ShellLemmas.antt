@@ -9,12 +9,12 @@ use Rattle.std.specs.Str.{IsUtf8}
 use Rattle.subst_foreign.proofs.ForeignLemmas.{braced_is_text, byte_item, unplaced_joined, unplaced_found, utf8_byte}
 use Rattle.subst_foreign.proofs.ShellReadings.{after_braced, after_byte, after_closing, after_opening, after_required, after_short, after_two, no_brace, no_end, no_message_end}
 use Rattle.subst_foreign.specs.Foreign.{unplaced}
-use Rattle.subst_foreign.specs.Shell.{ShellItem, ShellText, item_spelling, spelling, IsShellVariable, IsNoBrace, IsShellItem, IsShellText, shell_item_value, shell_value, minus, FollowsName, IsOfShell, IsShellTemplateFor, RefusesShell, StandsAt}
+use Rattle.subst_foreign.specs.Shell.{ShellItem, ShellText, item_spelling, spelling, IsShellVariable, IsNoBrace, IsShellItem, IsShellText, shell_item_value, shell_value, minus, IsOfShell, IsUnclosed, IsShellTemplateFor, RefusesShell}
 use Rattle.subst_foreign.specs.Shell as shell
 use Rattle.subst_foreign.specs.declared.shell_error.ShellError.{ShellError}
 use Rattle.subst_foreign.specs.declared.shell_error.ShellError.TheVariants as error
 use Rattle.subst_foreign.specs.declared.shell_error.ShellForm.TheVariants as form
-use Rattle.subst_foreign.specs.ShellTemplate.{item_of_shell, tree_of_shell, CanBe, IsRest, IsStep, IsWhole, RefusesAt, is_inside, head}
+use Rattle.subst_foreign.specs.ShellTemplate.{item_of_shell, tree_of_shell, CanBe, CanStep, FollowsName, IsOpened, IsRest, IsStep, IsWhole, RefusesAt, is_inside, head}
 use Rattle.subst_foreign.specs.Template.{is_escaped, item_of_byte}
 use Rattle.subst_language.proofs.Language.BalancedLemmas.{balanced_append}
 use Rattle.subst_language.proofs.Language.ItemLemmas.{braced_balanced, optional_balanced, default_balanced, escape_balanced}
@@ -187,7 +187,7 @@ shell_template (t, read, spelled, written) = record {
 pub step_item : (depth : ℕ) (item : ShellItem) (old s new rest : List ℕ) → s ≡ item_spelling item ++ rest
     → new ≡ old ++ item_text (item_of_shell item) → 0 < length (item_spelling item) → FitsBefore depth item rest
     → (IsUtf8 (old ++ (item_spelling item ++ rest)) → IsUtf8 (old ++ (item_text (item_of_shell item) ++ rest)))
-    → (CanBe depth s → CanBe depth rest) → IsStep old s depth new rest depth
+    → CanStep depth s depth rest → IsStep old s depth new rest depth
 step_item depth item old s new rest taken added some fits texts back =
     let lengths : length s ≡ length (item_spelling item) + length rest =
     ap length taken ∙ length-append (item_spelling item) rest in
@@ -214,7 +214,7 @@ pub step_byte : (depth : ℕ) (b : ℕ) (old s new rest : List ℕ) → s ≡ b 
 step_byte depth b old s new rest taken added differs none =
     step_item depth (shell.Byte b) old s new rest taken added (omega arith) (λ next after is. (differs, none))
     (λ is. utf8_byte old rest rest b (λ v same. same) (is_escaped b) refl is)
-    (λ can. after_byte depth b rest differs none (subst (CanBe depth) taken can))
+    (rw taken (after_byte depth b rest differs none))
 
 -- a step over two dollars
 pub step_dollar : (depth : ℕ) (old s new rest : List ℕ) → s ≡ dollar ∷ dollar ∷ rest
@@ -224,7 +224,7 @@ step_dollar depth old s new rest taken added =
     (λ is. let (before, after) = cut_at old (dollar ∷ rest) dollar (omega arith) is in
     IsUtf8-append old (backslash ∷ dollar ∷ rest) before
     (IsUtf8-append (backslash ∷ []) (dollar ∷ rest) (ascii_alone backslash (omega arith)) after))
-    (λ can. after_two depth rest (subst (CanBe depth) taken can))
+    (rw taken (after_two depth rest))
 
 -- what begins before a text begins before its front
 begins_front : (x z : List ℕ) → BeginsWithNo IsNameByte (x ++ z) → BeginsWithNo IsNameByte x
@@ -251,7 +251,7 @@ step_short depth n old s new rest named taken ended added =
     (λ is. let (before, after) = cut_at old (n ++ rest) dollar (omega arith) is in
     named_text old n (question_mark ∷ closing_brace ∷ []) rest named.0 before
     (ascii_two question_mark closing_brace (omega arith) (omega arith)) (after_name n rest named.0 after))
-    (λ can. after_short depth (n ++ rest) n rest named ended refl (subst (CanBe depth) taken can))
+    (rw taken (after_short depth (n ++ rest) n rest named ended refl))
 
 -- what is before a variable in braces is UTF-8, and what is after its name
 head_cut : (u n x : List ℕ) → IsName n → IsUtf8 (u ++ head n x) → IsUtf8 u × IsUtf8 x
@@ -275,7 +275,7 @@ step_braced depth n old s new rest named taken added =
     named_text old n (question_mark ∷ closing_brace ∷ []) rest named.0 before
     (ascii_two question_mark closing_brace (omega arith) (omega arith))
     (after_ascii rest closing_brace (omega arith) after))
-    (λ can. after_braced depth n rest (name_bytes n named.0) (subst (CanBe depth) taken can))
+    (rw taken (after_braced depth n rest (name_bytes n named.0)))
 
 -- a step over a variable with a message
 pub step_required : (depth : ℕ) (n m old s new rest : List ℕ) → IsShellVariable n → AllByRecursion IsNoBrace m
@@ -292,7 +292,7 @@ step_required depth n m old s new rest named each taken added =
     (subst (λ z. IsUtf8 (old ++ z)) same is) in
     named_text old n (closing_brace ∷ []) rest named.0 before (ascii_alone closing_brace (omega arith))
     ((cut_at (colon ∷ question_mark ∷ m) rest closing_brace (omega arith) after).1))
-    (λ can. after_required depth n m rest (name_bytes n named.0) each (subst (CanBe depth) taken can))
+    (rw taken (after_required depth n m rest (name_bytes n named.0) each))
 
 -- a step into a default
 pub step_opened : (depth : ℕ) (n old s new rest : List ℕ) → IsShellVariable n
@@ -308,8 +308,7 @@ step_opened depth n old s new rest named taken added =
       added = added;
       written = λ y is. subst (λ z. IsRest depth z (head n (colon ∷ []) ++ y)) (sym taken)
           (rest_opened depth n rest y named (subst (λ d. IsRest d rest y) (add-one depth) is));
-      back = λ can. subst (λ d. CanBe d rest) (sym (add-one depth))
-          (after_opening depth n rest (name_bytes n named.0) (subst (CanBe depth) taken can));
+      back = rw (taken, add-one depth) (after_opening depth n rest (name_bytes n named.0));
       front = front;
       taken = splits;
       shorter = omega (arith, lengths);
@@ -320,7 +319,13 @@ step_opened depth n old s new rest named taken added =
           subst IsUtf8 (sym (ap (λ z. z ++ rest) added ∙ append_assoc old (head n (colon ∷ [])) rest))
           (named_text old n (colon ∷ []) rest named.0 before (ascii_alone colon (omega arith))
           ((cut_at (colon ∷ []) rest minus (omega arith) after).1));
-      opens = λ none more. (n, colon ∷ minus ∷ rest, named, taken);
+      opens = λ none more. (
+        n,
+        rest,
+        named,
+        taken,
+        λ (t, x, read, is). subst (λ d. CanBe false (d + 1) rest) (sym none) (t, x, read, is, tt),
+      );
     }
 
 -- a step out of a default
@@ -335,8 +340,7 @@ step_closed (suc depth) old s new rest inside taken added =
       added = added;
       written = λ y is. subst (λ z. IsRest (suc depth) z (closing_brace ∷ y)) (sym taken)
           (rest_closed depth rest y (subst (λ d. IsRest d rest y) back is));
-      back = λ can. subst (λ d. CanBe d rest) (sym back)
-          (after_closing depth rest (subst (CanBe (suc depth)) taken can));
+      back = rw (taken, back) (after_closing depth rest);
       front = closing_brace ∷ [];
       taken = taken;
       shorter = omega (arith, lengths);
@@ -351,13 +355,13 @@ step_closed (suc depth) old s new rest inside taken added =
 pub record IsReading (s written_so_far rest : List ℕ) (depth : ℕ) (outermost : List ℕ) : Type 0 where
   pub written : (y : List ℕ) → IsRest depth rest y → IsRest 0 s (written_so_far ++ y)
   pub texts : IsUtf8 s → IsUtf8 (written_so_far ++ rest)
-  pub back : CanBe 0 s → CanBe depth rest
+  pub back : IsOfShell s → CanBe true depth rest
   pub few : depth + length rest ≤ length s
   pub front : List ℕ
   pub taken : s ≡ front ++ rest
   pub before : List ℕ
   pub around : s ≡ before ++ outermost
-  pub opens : 0 < depth → StandsAt form.Unclosed outermost
+  pub opens : 0 < depth → IsOpened outermost depth rest
 
 -- a turn
 pub reading_turn : (s old rest : List ℕ) (depth : ℕ) (outermost : List ℕ) (new rest' : List ℕ) (after : ℕ)
@@ -370,14 +374,14 @@ reading_turn s old rest depth outermost new rest' after outermost' reading step 
     taken = reading.taken ∙ ap (λ z. reading.front ++ z) step.taken
         ∙ sym (append_assoc reading.front step.front rest')
 
-    turn : (before : List ℕ) → s ≡ before ++ outermost' → (0 < after → StandsAt form.Unclosed outermost')
+    turn : (before : List ℕ) → s ≡ before ++ outermost' → (0 < after → IsOpened outermost' after rest')
         → IsReading s new rest' after outermost'
     turn before around opens = record {
       written = λ y is. subst (IsRest 0 s)
           (sym (ap (λ z. z ++ y) step.added ∙ append_assoc old step.part y))
           (reading.written (step.part ++ y) (step.written y is));
       texts = λ is. step.texts (reading.texts is);
-      back = λ can. step.back (reading.back can);
+      back = λ is. step.back true (inl refl) (reading.back is);
       few = omega (arith, reading.few, step.few);
       front = reading.front ++ step.front;
       taken = taken;
@@ -393,7 +397,9 @@ reading_turn s old rest depth outermost new rest' after outermost' reading step 
     of (suc d) is =
         let inside : 0 < depth = omega (arith, is) in
         let same = kept inside in
-        turn reading.before (rw same reading.around) (λ more. rw same (reading.opens inside))
+        let (n, x, named, begins, closed) = reading.opens inside in
+        turn reading.before (rw same reading.around)
+        (λ more. (n, x, named, same ∙ begins, λ ends. step.back false (inr inside) (closed ends)))
 
 -- the end, where no default is open
 pub reading_whole : {s source outermost : List ℕ} (rest : List ℕ) (depth : ℕ)
@@ -407,14 +413,15 @@ reading_whole (b ∷ rest) depth reading closed none = absurd (omega (arith, non
 
 -- what can't be read where something is left is no text of a shell
 not_of_shell : {s written rest outermost : List ℕ} {depth : ℕ} → IsReading s written rest depth outermost
-    → ¬ (CanBe depth rest) → ¬ (IsOfShell s)
-not_of_shell reading none (t, read, spelled) = none (reading.back (_, (t, read, spelled, refl)))
+    → ¬ (CanBe true depth rest) → ¬ (IsOfShell s)
+not_of_shell reading none is = none (reading.back is)
 
 -- a default is open at the end
-no_open_end : (depth : ℕ) (rest : List ℕ) → 0 < depth → length rest ≡ 0 → ¬ (CanBe depth rest)
-no_open_end zero rest more none can = omega (arith, more)
-no_open_end (suc depth) [] more none can = no_end depth can
-no_open_end (suc depth) (b ∷ rest) more none can = omega (arith, none)
+no_open_end : (whole : Bool) (depth : ℕ) (rest : List ℕ) → 0 < depth → length rest ≡ 0
+    → ¬ (CanBe whole depth rest)
+no_open_end whole zero rest more none can = omega (arith, more)
+no_open_end whole (suc depth) [] more none can = no_end whole depth can
+no_open_end whole (suc depth) (b ∷ rest) more none can = omega (arith, none)
 
 -- a default that never ends is refused where it begins
 pub reading_unclosed : (s written rest : List ℕ) (depth : ℕ) (outermost : List ℕ)
@@ -422,9 +429,18 @@ pub reading_unclosed : (s written rest : List ℕ) (depth : ℕ) (outermost : Li
     → position ≡ length s - length outermost → RefusesShell s (error.Refused position form.Unclosed)
 reading_unclosed s written rest depth outermost reading more none position is =
     let lengths : length s ≡ length reading.before + length outermost =
-    ap length reading.around ∙ length-append reading.before outermost in (
-      not_of_shell reading (no_open_end depth rest more none),
-      (reading.before, outermost, reading.around, omega (arith, is, lengths), reading.opens more),
+    ap length reading.around ∙ length-append reading.before outermost in
+    let (n, x, named, begins, closed) = reading.opens more in
+    let unclosed : IsUnclosed (colon ∷ minus ∷ x) =
+    inr (inr (x, refl, λ ends. no_open_end false depth rest more none (closed ends))) in (
+      not_of_shell reading (no_open_end true depth rest more none),
+      (
+        reading.before,
+        outermost,
+        reading.around,
+        omega (arith, is, lengths),
+        (n, colon ∷ minus ∷ x, named, begins, unclosed),
+      ),
     )
 
 -- a refusal of a rest is one of the text
@@ -440,7 +456,7 @@ refused_at s written rest depth outermost reading position (error.Refused at for
 refused_at s written rest depth outermost reading position (error.OutOfMemory e) is refuses = tt
 
 -- a default has no opening brace of its own
-pub no_brace_inside : (depth : ℕ) (x : List ℕ) → 0 < depth → ¬ (CanBe depth (opening_brace ∷ x))
+pub no_brace_inside : (depth : ℕ) (x : List ℕ) → 0 < depth → ¬ (CanBe true depth (opening_brace ∷ x))
 no_brace_inside zero x more can = omega (arith, more)
 no_brace_inside (suc depth) x more can = no_brace depth x can
 
@@ -495,21 +511,7 @@ split_at_brace (b ∷ x) zero inside hit differs =
     (x, ap (λ c. c ∷ x) same)
 split_at_brace (b ∷ x) (suc at) inside hit differs = split_at_brace x at (omega (arith, inside)) hit differs
 
--- nothing that follows a name begins here
-pub no_plain : (s : List ℕ) → ((x : List ℕ) → ¬ (s ≡ closing_brace ∷ x)) → ((x : List ℕ) → ¬ (s ≡ colon ∷ x))
-    → ¬ (FollowsName s)
-no_plain s no_closing no_colons (inl (x, is)) = no_closing x is
-no_plain s no_closing no_colons (inr (inl (x, is))) = no_colons _ is
-no_plain s no_closing no_colons (inr (inr (m, x, all, is))) = no_colons _ is
-
--- nor after a colon
-pub no_colon : (s : List ℕ) → ((x : List ℕ) → ¬ (s ≡ minus ∷ x)) → ((x : List ℕ) → ¬ (s ≡ question_mark ∷ x))
-    → ¬ (FollowsName (colon ∷ s))
-no_colon s no_minus no_question (inl (x, is)) = absurd (omega (arith, first_same is))
-no_colon s no_minus no_question (inr (inl (x, is))) = no_minus x (rest_same is)
-no_colon s no_minus no_question (inr (inr (m, x, all, is))) = no_question _ (rest_same is)
-
--- nor a message that never ends
+-- a message that never ends doesn't follow a name
 pub no_end_of_message : (s : List ℕ) → AllByRecursion IsNoBrace s → ¬ (FollowsName (colon ∷ question_mark ∷ s))
 no_end_of_message s each (inl (x, is)) = absurd (omega (arith, first_same is))
 no_end_of_message s each (inr (inl (x, is))) = absurd (omega (arith, first_same (rest_same is)))

@@ -1,10 +1,10 @@
 -- What a text of a shell begins with, in each way in which it can be read: so what isn't taken is no such text.
-use Rattle.std.proofs.Common.{◌≡◌, ◌≢◌, inl, inr, Bool, true, false, ℕ, zero, suc, List, [], ◌∷◌, ◌++◌, IsTrue, refl, sym, ap, ◌∙◌, subst, append_assoc, append-nil, arith}
+use Rattle.std.proofs.Common.{◌≡◌, ◌≢◌, ◌⊎◌, inl, inr, Bool, true, false, ℕ, ◌<◌, zero, suc, List, [], ◌∷◌, ◌++◌, IsTrue, refl, sym, ap, ◌∙◌, subst, append_assoc, append-nil, arith}
 use Rattle.std.specs.Char.{is_ascii_digit}
 use Rattle.std.specs.List.{AllByRecursion}
-use Rattle.subst_foreign.specs.Shell.{ShellItem, ShellText, item_spelling, spelling, IsShellVariable, IsNoBrace, IsShellItem, IsShellText, minus, FollowsDollar, FollowsName}
+use Rattle.subst_foreign.specs.Shell.{ShellItem, ShellText, item_spelling, spelling, IsShellVariable, IsNoBrace, IsShellItem, IsShellText, minus, FollowsDollar}
 use Rattle.subst_foreign.specs.Shell as shell
-use Rattle.subst_foreign.specs.ShellTemplate.{CanBe, is_inside, head}
+use Rattle.subst_foreign.specs.ShellTemplate.{CanBe, CanStep, FollowsName, is_inside, head}
 use Rattle.subst_language.proofs.Language.ListLemmas.{first_same, rest_same}
 use Rattle.subst_language.proofs.Language.NameLemmas.{closing_no_name, colon_no_name, dollar_no_name, opening_no_name, name_bytes, split_unique}
 use Rattle.subst_language.specs.Language.Bytes.{dollar, colon, question_mark, opening_brace, closing_brace}
@@ -35,44 +35,47 @@ is_before inside (shell.Default n t) next z fits ends = fits
 is_before inside (shell.Required n m) next z fits ends = fits
 
 -- what is left begins with a brace that closes a default, or with an item, or it is the end
-data Begins (depth : ℕ) (s : List ℕ) : Type 0 where
-  at_end : s ≡ [] → depth ≡ 0 → Begins depth s
-  closing : (outer : ℕ) (x : List ℕ) → depth ≡ suc outer → s ≡ closing_brace ∷ x → CanBe outer x
-      → Begins depth s
+data Begins (whole : Bool) (depth : ℕ) (s : List ℕ) : Type 0 where
+  at_end : s ≡ [] → depth ≡ 0 → Begins whole depth s
+  closing : (outer : ℕ) (x : List ℕ) → depth ≡ suc outer → s ≡ closing_brace ∷ x → CanBe whole outer x
+      → Begins whole depth s
   item_first : (item : ShellItem) (x : List ℕ) → IsBefore (is_inside depth) item x → s ≡ item_spelling item ++ x
-      → CanBe depth x → Begins depth s
+      → CanBe whole depth x → Begins whole depth s
 
-begins : (depth : ℕ) (s : List ℕ) → CanBe depth s → Begins depth s
-begins zero s (y, (shell.Empty, read, spelled, written)) = at_end spelled refl
-begins zero s (y, (shell.Then item t, read, spelled, written)) =
+begins : (whole : Bool) (depth : ℕ) (s : List ℕ) → IsTrue whole ⊎ (0 < depth) → CanBe whole depth s
+    → Begins whole depth s
+begins true zero s told (shell.Empty, read, spelled) = at_end spelled refl
+begins true zero s told (shell.Then item t, read, spelled) =
     item_first item (spelling t)
     (subst (IsBefore false item) (append-nil (spelling t)) (is_before false item t [] read.0 tt))
-    spelled (_, (t, read.1, refl, refl))
-begins (suc depth) s (y, (shell.Empty, x, z, read, spelled, written, rest)) =
-    closing depth x refl spelled (z, rest)
-begins (suc depth) s (y, (shell.Then item t, x, z, read, spelled, written, rest)) =
+    spelled (t, read.1, refl)
+begins false zero s (inl is) can = absurd cc
+begins false zero s (inr more) can = absurd (omega (arith, more))
+begins whole (suc depth) s told (shell.Empty, x, read, spelled, rest) = closing depth x refl spelled rest
+begins whole (suc depth) s told (shell.Then item t, x, read, spelled, rest) =
     item_first item (spelling t ++ closing_brace ∷ x)
     (is_before true item t (closing_brace ∷ x) read.0 closing_no_name)
     (spelled ∙ append_assoc (item_spelling item) (spelling t) (closing_brace ∷ x))
-    (_, (t, x, z, read.1, refl, refl, rest))
+    (t, x, read.1, refl, rest)
 
 -- what follows a dollar that begins an item
-data AfterDollar (depth : ℕ) (x : List ℕ) : Type 0 where
-  two : (z : List ℕ) → x ≡ dollar ∷ z → CanBe depth z → AfterDollar depth x
-  short : (n z : List ℕ) → IsShellVariable n → BeginsWithNo IsNameByte z → x ≡ n ++ z → CanBe depth z
-      → AfterDollar depth x
-  braced : (n z : List ℕ) → IsShellVariable n → x ≡ opening_brace ∷ n ++ closing_brace ∷ z → CanBe depth z
-      → AfterDollar depth x
+data AfterDollar (whole : Bool) (depth : ℕ) (x : List ℕ) : Type 0 where
+  two : (z : List ℕ) → x ≡ dollar ∷ z → CanBe whole depth z → AfterDollar whole depth x
+  short : (n z : List ℕ) → IsShellVariable n → BeginsWithNo IsNameByte z → x ≡ n ++ z → CanBe whole depth z
+      → AfterDollar whole depth x
+  braced : (n z : List ℕ) → IsShellVariable n → x ≡ opening_brace ∷ n ++ closing_brace ∷ z → CanBe whole depth z
+      → AfterDollar whole depth x
   opened : (n z : List ℕ) → IsShellVariable n → x ≡ opening_brace ∷ n ++ (colon ∷ minus ∷ z)
-      → CanBe (suc depth) z → AfterDollar depth x
+      → CanBe whole (suc depth) z → AfterDollar whole depth x
   required : (n m z : List ℕ) → IsShellVariable n → AllByRecursion IsNoBrace m
-      → x ≡ opening_brace ∷ n ++ (colon ∷ question_mark ∷ m ++ closing_brace ∷ z) → CanBe depth z
-      → AfterDollar depth x
+      → x ≡ opening_brace ∷ n ++ (colon ∷ question_mark ∷ m ++ closing_brace ∷ z) → CanBe whole depth z
+      → AfterDollar whole depth x
 
-after_dollar : (depth : ℕ) (x : List ℕ) → CanBe depth (dollar ∷ x) → AfterDollar depth x
-after_dollar depth x can = of (begins depth (dollar ∷ x) can)
+after_dollar : (whole : Bool) (depth : ℕ) (x : List ℕ) → IsTrue whole ⊎ (0 < depth)
+    → CanBe whole depth (dollar ∷ x) → AfterDollar whole depth x
+after_dollar whole depth x told can = of (begins whole depth (dollar ∷ x) told can)
   where
-    of : Begins depth (dollar ∷ x) → AfterDollar depth x
+    of : Begins whole depth (dollar ∷ x) → AfterDollar whole depth x
     of (at_end is closed) = absurd cc
     of (closing outer z deep is rest) = absurd (omega (arith, first_same is))
     of (item_first (shell.Byte b) z fits is rest) = absurd (fits.0 (sym (first_same is)))
@@ -81,12 +84,12 @@ after_dollar depth x can = of (begins depth (dollar ∷ x) can)
     of (item_first (shell.Braced n) z fits is rest) =
         braced n z fits
         (rest_same is ∙ ap (λ w. opening_brace ∷ w) (append_assoc n (closing_brace ∷ []) z)) rest
-    of (item_first (shell.Default n t) z fits is (y, rest)) =
+    of (item_first (shell.Default n t) z fits is rest) =
         opened n (spelling t ++ closing_brace ∷ z) fits.0
         (rest_same is ∙ ap (λ w. opening_brace ∷ w)
         (append_assoc n (colon ∷ minus ∷ spelling t ++ closing_brace ∷ []) z
         ∙ ap (λ w. n ++ (colon ∷ minus ∷ w)) (append_assoc (spelling t) (closing_brace ∷ []) z)))
-        (_, (t, z, y, fits.1, refl, refl, rest))
+        (t, z, fits.1, refl, rest)
     of (item_first (shell.Required n m) z fits is rest) =
         required n m z fits.0 fits.1
         (rest_same is ∙ ap (λ w. opening_brace ∷ w)
@@ -106,34 +109,34 @@ begins_dollar (shell.Required n m) x b z is differs = absurd (differs (first_sam
 
 -- after a byte
 pub after_byte : (depth b : ℕ) (x : List ℕ) → b ≢ dollar → (IsTrue (is_inside depth) → IsNoBrace b)
-    → CanBe depth (b ∷ x) → CanBe depth x
-after_byte depth b x differs none can = of (begins depth (b ∷ x) can)
+    → CanStep depth (b ∷ x) depth x
+after_byte depth b x differs none whole told can = of (begins whole depth (b ∷ x) told can)
   where
-    of : Begins depth (b ∷ x) → CanBe depth x
+    of : Begins whole depth (b ∷ x) → CanBe whole depth x
     of (at_end is closed) = absurd cc
     of (closing outer z deep is rest) =
         absurd ((none (subst (λ d. IsTrue (is_inside d)) (sym deep) refl)).1 (first_same is))
     of (item_first item z fits is rest) =
-        subst (CanBe depth) (sym (begins_dollar item z b x is differs).1) rest
+        subst (CanBe whole depth) (sym (begins_dollar item z b x is differs).1) rest
 
 -- after a brace that closes a default
-pub after_closing : (depth : ℕ) (x : List ℕ) → CanBe (suc depth) (closing_brace ∷ x) → CanBe depth x
-after_closing depth x can = of (begins (suc depth) (closing_brace ∷ x) can)
+pub after_closing : (depth : ℕ) (x : List ℕ) → CanStep (suc depth) (closing_brace ∷ x) depth x
+after_closing depth x whole told can = of (begins whole (suc depth) (closing_brace ∷ x) told can)
   where
-    of : Begins (suc depth) (closing_brace ∷ x) → CanBe depth x
+    of : Begins whole (suc depth) (closing_brace ∷ x) → CanBe whole depth x
     of (at_end is closed) = absurd cc
     of (closing outer z deep is rest) =
         let same : outer ≡ depth = omega (arith, deep) in
-        subst (CanBe depth) (sym (rest_same is)) (subst (λ d. CanBe d z) same rest)
+        subst (CanBe whole depth) (sym (rest_same is)) (subst (λ d. CanBe whole d z) same rest)
     of (item_first item z fits is rest) =
         let byte = begins_dollar item z closing_brace x is (omega arith) in
         absurd (((subst (λ i. IsBefore true i z) byte.0 fits).1 refl).1 refl)
 
 -- no default goes on with an opening brace
-pub no_brace : (depth : ℕ) (x : List ℕ) → ¬ (CanBe (suc depth) (opening_brace ∷ x))
-no_brace depth x can = of (begins (suc depth) (opening_brace ∷ x) can)
+pub no_brace : (depth : ℕ) (x : List ℕ) → ¬ (CanBe true (suc depth) (opening_brace ∷ x))
+no_brace depth x can = of (begins true (suc depth) (opening_brace ∷ x) (inl refl) can)
   where
-    of : Begins (suc depth) (opening_brace ∷ x) → ⊥
+    of : Begins true (suc depth) (opening_brace ∷ x) → ⊥
     of (at_end is closed) = cc
     of (closing outer z deep is rest) = omega (arith, first_same is)
     of (item_first item z fits is rest) =
@@ -141,10 +144,10 @@ no_brace depth x can = of (begins (suc depth) (opening_brace ∷ x) can)
         ((subst (λ i. IsBefore true i z) byte.0 fits).1 refl).0 refl
 
 -- no default is open at the end
-pub no_end : (depth : ℕ) → ¬ (CanBe (suc depth) [])
-no_end depth can = of (begins (suc depth) [] can)
+pub no_end : (whole : Bool) (depth : ℕ) → ¬ (CanBe whole (suc depth) [])
+no_end whole depth can = of (begins whole (suc depth) [] (inr (omega arith)) can)
   where
-    of : Begins (suc depth) [] → ⊥
+    of : Begins whole (suc depth) [] → ⊥
     of (at_end is closed) = omega (arith, closed)
     of (closing outer z deep is rest) = cc
     of (item_first (shell.Byte b) z fits is rest) = cc
@@ -161,15 +164,15 @@ no_name_before (c ∷ n) x b z named none is = none (subst IsNameByte (sym (firs
 
 -- after a variable without braces
 pub after_short : (depth : ℕ) (x n end : List ℕ) → IsShellVariable n → BeginsWithNo IsNameByte end → x ≡ n ++ end
-    → CanBe depth (dollar ∷ x) → CanBe depth end
-after_short depth x n end named ended splits can = of (after_dollar depth x can)
+    → CanStep depth (dollar ∷ x) depth end
+after_short depth x n end named ended splits whole told can = of (after_dollar whole depth x told can)
   where
-    of : AfterDollar depth x → CanBe depth end
+    of : AfterDollar whole depth x → CanBe whole depth end
     of (two z is rest) = absurd (no_name_before n end dollar z named.0 dollar_no_name (sym is ∙ splits))
     of (short m z other ends is rest) =
         let same = split_unique n m end z (name_bytes n named.0) (name_bytes m other.0) ended ends
         (sym splits ∙ is) in
-        subst (CanBe depth) (sym same.1) rest
+        subst (CanBe whole depth) (sym same.1) rest
     of (braced m z other is rest) =
         absurd (no_name_before n end opening_brace _ named.0 opening_no_name (sym is ∙ splits))
     of (opened m z other is rest) =
@@ -178,11 +181,11 @@ after_short depth x n end named ended splits can = of (after_dollar depth x can)
         absurd (no_name_before n end opening_brace _ named.0 opening_no_name (sym is ∙ splits))
 
 -- after two dollars
-pub after_two : (depth : ℕ) (x : List ℕ) → CanBe depth (dollar ∷ dollar ∷ x) → CanBe depth x
-after_two depth x can = of (after_dollar depth (dollar ∷ x) can)
+pub after_two : (depth : ℕ) (x : List ℕ) → CanStep depth (dollar ∷ dollar ∷ x) depth x
+after_two depth x whole told can = of (after_dollar whole depth (dollar ∷ x) told can)
   where
-    of : AfterDollar depth (dollar ∷ x) → CanBe depth x
-    of (two z is rest) = subst (CanBe depth) (sym (rest_same is)) rest
+    of : AfterDollar whole depth (dollar ∷ x) → CanBe whole depth x
+    of (two z is rest) = subst (CanBe whole depth) (sym (rest_same is)) rest
     of (short n z named ends is rest) = absurd (no_name_before n z dollar x named.0 dollar_no_name is)
     of (braced n z named is rest) = absurd (omega (arith, first_same is))
     of (opened n z named is rest) = absurd (omega (arith, first_same is))
@@ -191,10 +194,11 @@ after_two depth x can = of (after_dollar depth (dollar ∷ x) can)
 -- no item begins with a dollar that nothing follows which may follow it
 pub no_dollar : (depth : ℕ) (x run end : List ℕ) → x ≡ run ++ end → AllByRecursion IsNameByte run
     → BeginsWithNo IsNameByte end → ¬ (IsShellVariable run) → ((z : List ℕ) → ¬ (x ≡ dollar ∷ z))
-    → ((z : List ℕ) → ¬ (x ≡ opening_brace ∷ z)) → ¬ (CanBe depth (dollar ∷ x))
-no_dollar depth x run end splits each ended none no_two no_braces can = of (after_dollar depth x can)
+    → ((z : List ℕ) → ¬ (x ≡ opening_brace ∷ z)) → ¬ (CanBe true depth (dollar ∷ x))
+no_dollar depth x run end splits each ended none no_two no_braces can =
+    of (after_dollar true depth x (inl refl) can)
   where
-    of : AfterDollar depth x → ⊥
+    of : AfterDollar true depth x → ⊥
     of (two z is rest) = no_two z is
     of (short n z named ends is rest) =
         let same = split_unique n run z end (name_bytes n named.0) each ends ended (sym is ∙ splits) in
@@ -204,23 +208,25 @@ no_dollar depth x run end splits each ended none no_two no_braces can = of (afte
     of (required n m z named all is rest) = no_braces _ is
 
 -- what follows a name in braces
-data AfterName (depth : ℕ) (x : List ℕ) : Type 0 where
-  closed_name : (z : List ℕ) → x ≡ closing_brace ∷ z → CanBe depth z → AfterName depth x
-  opened_name : (z : List ℕ) → x ≡ colon ∷ minus ∷ z → CanBe (suc depth) z → AfterName depth x
+data AfterName (whole : Bool) (depth : ℕ) (x : List ℕ) : Type 0 where
+  closed_name : (z : List ℕ) → x ≡ closing_brace ∷ z → CanBe whole depth z → AfterName whole depth x
+  opened_name : (z : List ℕ) → x ≡ colon ∷ minus ∷ z → CanBe whole (suc depth) z → AfterName whole depth x
   required_name : (m z : List ℕ) → AllByRecursion IsNoBrace m
-      → x ≡ colon ∷ question_mark ∷ m ++ closing_brace ∷ z → CanBe depth z → AfterName depth x
+      → x ≡ colon ∷ question_mark ∷ m ++ closing_brace ∷ z → CanBe whole depth z → AfterName whole depth x
 
 -- the longest run of name bytes after an opening brace is the name of a variable, and this follows it
-after_name : (depth : ℕ) (run end : List ℕ) → AllByRecursion IsNameByte run → BeginsWithNo IsNameByte end
-    → CanBe depth (head run end) → IsShellVariable run × AfterName depth end
-after_name depth run end each ended can = of (after_dollar depth (opening_brace ∷ run ++ end) can)
+after_name : (whole : Bool) (depth : ℕ) (run end : List ℕ) → AllByRecursion IsNameByte run
+    → BeginsWithNo IsNameByte end → IsTrue whole ⊎ (0 < depth) → CanBe whole depth (head run end)
+    → IsShellVariable run × AfterName whole depth end
+after_name whole depth run end each ended told can =
+    of (after_dollar whole depth (opening_brace ∷ run ++ end) told can)
   where
     same : (n z : List ℕ) → IsShellVariable n → BeginsWithNo IsNameByte z
         → opening_brace ∷ run ++ end ≡ opening_brace ∷ n ++ z → (run ≡ n) × (end ≡ z)
     same n z named ends is =
         split_unique run n end z each (name_bytes n named.0) ended ends (rest_same is)
 
-    of : AfterDollar depth (opening_brace ∷ run ++ end) → IsShellVariable run × AfterName depth end
+    of : AfterDollar whole depth (opening_brace ∷ run ++ end) → IsShellVariable run × AfterName whole depth end
     of (two z is rest) = absurd (omega (arith, first_same is))
     of (short n z named ends is rest) = absurd (no_name_before n z opening_brace _ named.0 opening_no_name is)
     of (braced n z named is rest) =
@@ -235,39 +241,41 @@ after_name depth run end each ended can = of (after_dollar depth (opening_brace 
 
 -- no variable in braces begins without its name
 pub no_variable : (depth : ℕ) (run end : List ℕ) → AllByRecursion IsNameByte run → BeginsWithNo IsNameByte end
-    → ¬ (IsShellVariable run) → ¬ (CanBe depth (head run end))
-no_variable depth run end each ended none can = none (after_name depth run end each ended can).0
+    → ¬ (IsShellVariable run) → ¬ (CanBe true depth (head run end))
+no_variable depth run end each ended none can =
+    none (after_name true depth run end each ended (inl refl) can).0
 
 -- nor where its name goes on with nothing that may follow it
 pub no_operator : (depth : ℕ) (run end : List ℕ) → AllByRecursion IsNameByte run → BeginsWithNo IsNameByte end
-    → ¬ (FollowsName end) → ¬ (CanBe depth (head run end))
-no_operator depth run end each ended none can = of (after_name depth run end each ended can).1
+    → ¬ (FollowsName end) → ¬ (CanBe true depth (head run end))
+no_operator depth run end each ended none can =
+    of (after_name true depth run end each ended (inl refl) can).1
   where
-    of : AfterName depth end → ⊥
+    of : AfterName true depth end → ⊥
     of (closed_name z is rest) = none (inl (z, is))
     of (opened_name z is rest) = none (inr (inl (z, is)))
     of (required_name m z all is rest) = none (inr (inr (m, z, all, is)))
 
 -- after a variable in braces
 pub after_braced : (depth : ℕ) (run x : List ℕ) → AllByRecursion IsNameByte run
-    → CanBe depth (head run (closing_brace ∷ x)) → CanBe depth x
-after_braced depth run x each can =
-    of (after_name depth run (closing_brace ∷ x) each closing_no_name can).1
+    → CanStep depth (head run (closing_brace ∷ x)) depth x
+after_braced depth run x each whole told can =
+    of (after_name whole depth run (closing_brace ∷ x) each closing_no_name told can).1
   where
-    of : AfterName depth (closing_brace ∷ x) → CanBe depth x
-    of (closed_name z is rest) = subst (CanBe depth) (sym (rest_same is)) rest
+    of : AfterName whole depth (closing_brace ∷ x) → CanBe whole depth x
+    of (closed_name z is rest) = subst (CanBe whole depth) (sym (rest_same is)) rest
     of (opened_name z is rest) = absurd (omega (arith, first_same is))
     of (required_name m z all is rest) = absurd (omega (arith, first_same is))
 
 -- in a default
 pub after_opening : (depth : ℕ) (run x : List ℕ) → AllByRecursion IsNameByte run
-    → CanBe depth (head run (colon ∷ minus ∷ x)) → CanBe (suc depth) x
-after_opening depth run x each can =
-    of (after_name depth run (colon ∷ minus ∷ x) each colon_no_name can).1
+    → CanStep depth (head run (colon ∷ minus ∷ x)) (suc depth) x
+after_opening depth run x each whole told can =
+    of (after_name whole depth run (colon ∷ minus ∷ x) each colon_no_name told can).1
   where
-    of : AfterName depth (colon ∷ minus ∷ x) → CanBe (suc depth) x
+    of : AfterName whole depth (colon ∷ minus ∷ x) → CanBe whole (suc depth) x
     of (closed_name z is rest) = absurd (omega (arith, first_same is))
-    of (opened_name z is rest) = subst (CanBe (suc depth)) (sym (rest_same (rest_same is))) rest
+    of (opened_name z is rest) = subst (CanBe whole (suc depth)) (sym (rest_same (rest_same is))) rest
     of (required_name m z all is rest) = absurd (omega (arith, first_same (rest_same is)))
 
 -- two messages before a closing brace are one
@@ -280,16 +288,17 @@ message_unique (b ∷ m) (c ∷ k) x z each all is = message_unique m k x z each
 
 -- after a variable with a message
 pub after_required : (depth : ℕ) (run m x : List ℕ) → AllByRecursion IsNameByte run
-    → AllByRecursion IsNoBrace m → CanBe depth (head run (colon ∷ question_mark ∷ m ++ closing_brace ∷ x))
-    → CanBe depth x
-after_required depth run m x each all can =
-    of (after_name depth run (colon ∷ question_mark ∷ m ++ closing_brace ∷ x) each colon_no_name can).1
+    → AllByRecursion IsNoBrace m
+    → CanStep depth (head run (colon ∷ question_mark ∷ m ++ closing_brace ∷ x)) depth x
+after_required depth run m x each all whole told can =
+    of (after_name whole depth run (colon ∷ question_mark ∷ m ++ closing_brace ∷ x) each colon_no_name told
+    can).1
   where
-    of : AfterName depth (colon ∷ question_mark ∷ m ++ closing_brace ∷ x) → CanBe depth x
+    of : AfterName whole depth (colon ∷ question_mark ∷ m ++ closing_brace ∷ x) → CanBe whole depth x
     of (closed_name z is rest) = absurd (omega (arith, first_same is))
     of (opened_name z is rest) = absurd (omega (arith, first_same (rest_same is)))
     of (required_name k z others is rest) =
-        subst (CanBe depth) (sym (message_unique m k x z all others (rest_same (rest_same is)))) rest
+        subst (CanBe whole depth) (sym (message_unique m k x z all others (rest_same (rest_same is)))) rest
 
 -- a text without braces has no message
 pub no_message_end : (s m z : List ℕ) → AllByRecursion IsNoBrace s → ¬ (s ≡ m ++ closing_brace ∷ z)

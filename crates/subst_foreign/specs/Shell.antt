@@ -122,12 +122,17 @@ pub record IsShellTemplateFor (s source : List ℕ) : Type 0 where
 abbrev pub FollowsDollar : ℕ → Type 0
 FollowsDollar b = (b ≡ dollar) ⊎ (b ≡ opening_brace) ⊎ IsShellVariable (b ∷ [])
 
--- the text goes on with what may follow a name in braces
-abbrev pub FollowsName : List ℕ → Type 0
-FollowsName s = ((x : List ℕ) × (s ≡ closing_brace ∷ x)) ⊎ ((x : List ℕ) × (s ≡ colon ∷ minus ∷ x))
-    ⊎ ((m x : List ℕ) × AllByRecursion IsNoBrace m × (s ≡ colon ∷ question_mark ∷ m ++ closing_brace ∷ x))
+-- the text begins with a default and the brace that closes it
+abbrev pub IsClosed : List ℕ → Type 0
+IsClosed s = (t : ShellText) × (x : List ℕ) × IsShellText true t × (s ≡ spelling t ++ closing_brace ∷ x)
 
--- what is after the name, of a form that is told by it
+-- What is after a name in braces never closes them: it is nothing, or a message without braces up to the end
+-- of the text, or a default that no brace closes.
+abbrev pub IsUnclosed : List ℕ → Type 0
+IsUnclosed s = (s ≡ []) ⊎ ((m : List ℕ) × AllByRecursion IsNoBrace m × (s ≡ colon ∷ question_mark ∷ m))
+    ⊎ ((x : List ℕ) × (s ≡ colon ∷ minus ∷ x) × ¬ (IsClosed x))
+
+-- what is after the name, of a form that is told by it alone
 abbrev pub operator_text : ShellForm → List ℕ
 operator_text form.Minus = codes "-"
 operator_text form.Question = codes "?"
@@ -138,20 +143,32 @@ operator_text form.Percent = codes "%"
 operator_text form.Slash = codes "/"
 operator_text form.ColonEquals = codes ":="
 operator_text form.ColonPlus = codes ":+"
-operator_text form.Colon = codes ":"
-operator_text form.Message = codes ":?"
 operator_text _ = []
 
+-- none of these bytes begins the text
+abbrev pub BeginsWithNone : List ℕ → List ℕ → Type 0
+BeginsWithNone bytes [] = Unit {0}
+BeginsWithNone bytes (b ∷ s) = AllByRecursion (λ other. b ≢ other) bytes
+
+-- the text begins with a variable in braces, after whose name it goes on so
+abbrev pub GoesOn : (List ℕ → Type 0) → List ℕ → Type 0
+GoesOn P s = (n x : List ℕ) × IsShellVariable n × (s ≡ dollar ∷ opening_brace ∷ n ++ x) × P x
+
 -- The text begins with a form that is refused: a dollar that goes on with nothing, or with a brace and no
--- name; a brace in a default; a default that never ends; or a name and what may not follow it.
+-- name; a brace in a default; or a name and what may not follow it: what never closes the variable, a message
+-- up to an opening brace, another colon, any other byte, or an operator.
 abbrev pub StandsAt : ShellForm → List ℕ → Type 0
 StandsAt form.Dollar s = (x : List ℕ) × (s ≡ dollar ∷ x) × BeginsWithNo FollowsDollar x
 StandsAt form.NoName s =
     (x : List ℕ) × (s ≡ dollar ∷ opening_brace ∷ x) × BeginsWithNo (λ b. IsShellVariable (b ∷ [])) x
 StandsAt form.Brace s = (x : List ℕ) × (s ≡ opening_brace ∷ x)
-StandsAt form.Unclosed s = (n x : List ℕ) × IsShellVariable n × (s ≡ dollar ∷ opening_brace ∷ n ++ x)
-StandsAt form s = (n x : List ℕ) × IsShellVariable n × (s ≡ dollar ∷ opening_brace ∷ n ++ (operator_text form ++ x))
-    × ¬ (FollowsName (operator_text form ++ x))
+StandsAt form.Unclosed s = GoesOn IsUnclosed s
+StandsAt form.Message s = GoesOn (λ x. (m y : List ℕ) × AllByRecursion IsNoBrace m
+    × (x ≡ colon ∷ question_mark ∷ m ++ opening_brace ∷ y)) s
+StandsAt form.Colon s = GoesOn (λ x. (y : List ℕ) × (x ≡ colon ∷ y) × BeginsWithNone (codes "-?=+") y) s
+StandsAt form.Other s =
+    GoesOn (λ x. (x ≢ []) × BeginsWithNo IsNameByte x × BeginsWithNone (codes "}:-?=+#%/") x) s
+StandsAt form s = GoesOn (λ x. (y : List ℕ) × (x ≡ operator_text form ++ y)) s
 
 -- The error says at which place of the text, which isn't taken, such a form begins, or that memory ran out.
 abbrev pub RefusesShell : List ℕ → ShellError → Type 0

@@ -1,15 +1,14 @@
 -- How a template for a text of a shell is written, item by item.
-use Rattle.std.specs.Prelude.{◌≡◌, ◌+◌, ◌<◌, ◌≤◌, ℕ, zero, suc, true, false, List, ◌∷◌, ◌++◌, length, Bool}
+use Rattle.std.specs.Prelude.{◌≡◌, ◌⊎◌, ◌+◌, ◌<◌, ◌≤◌, ℕ, zero, suc, true, false, List, ◌∷◌, ◌++◌, length, Bool, IsTrue}
 use Rattle.std.specs.List.{AllByRecursion}
 use Rattle.std.specs.Str.{IsUtf8}
-use Rattle.subst_foreign.specs.Shell.{ShellItem, ShellText, spelling, minus, IsNoBrace, IsShellText, IsShellVariable, FollowsName, StandsAt}
+use Rattle.subst_foreign.specs.Shell.{ShellItem, ShellText, spelling, minus, IsNoBrace, IsShellText, IsShellVariable, IsOfShell, IsClosed, StandsAt}
 use Rattle.subst_foreign.specs.Shell as shell
 use Rattle.subst_foreign.specs.Template.{is_escaped, item_of_byte}
 use Rattle.subst_foreign.specs.declared.shell.Operator.{Operator}
 use Rattle.subst_foreign.specs.declared.shell.Operator.TheVariants as operator
 use Rattle.subst_foreign.specs.declared.shell_error.ShellError.{ShellError}
 use Rattle.subst_foreign.specs.declared.shell_error.ShellError.TheVariants as error
-use Rattle.subst_foreign.specs.declared.shell_error.ShellForm.TheVariants as form
 use Rattle.subst_language.specs.Language.Bytes.{dollar, colon, question_mark, opening_brace, closing_brace}
 use Rattle.subst_language.specs.Language.Tree.{Item, Tree, text}
 use Rattle.subst_language.specs.Language.Tree as template
@@ -36,9 +35,19 @@ IsRest (suc depth) s y = (t : ShellText) × (x z : List ℕ) × IsShellText true
     × (s ≡ spelling t ++ closing_brace ∷ x) × (y ≡ text (tree_of_shell t) ++ closing_brace ∷ z)
     × IsRest depth x z
 
--- what is left can be read
-abbrev pub CanBe : ℕ → List ℕ → Type 0
-CanBe depth s = (y : List ℕ) × IsRest depth s y
+-- What is left, where so many defaults are open, can be read: up to its end, or else up to the brace that
+-- closes the outermost of them.
+abbrev pub CanBe : (whole : Bool) → ℕ → List ℕ → Type 0
+CanBe true zero s = IsOfShell s
+CanBe false zero s = Unit {0}
+CanBe whole (suc depth) s = (t : ShellText) × (x : List ℕ) × IsShellText true t
+    × (s ≡ spelling t ++ closing_brace ∷ x) × CanBe whole depth x
+
+-- Where the text can be read, what a step leaves of it can be too: up to its end, or else while a default is
+-- open.
+abbrev pub CanStep : ℕ → List ℕ → ℕ → List ℕ → Type 0
+CanStep depth s after rest =
+    (whole : Bool) → IsTrue whole ⊎ (0 < depth) → CanBe whole depth s → CanBe whole after rest
 
 -- whether a default is open
 abbrev pub is_inside : ℕ → Bool
@@ -48,6 +57,12 @@ is_inside (suc depth) = true
 -- the beginning of a variable in braces with what comes after its name
 abbrev pub head : List ℕ → List ℕ → List ℕ
 head name end = dollar ∷ opening_brace ∷ name ++ end
+
+-- The text begins with a variable and its default, the outermost of so many that are open where the rest
+-- begins: if a brace closes it, that brace is in the rest.
+abbrev pub IsOpened : List ℕ → ℕ → List ℕ → Type 0
+IsOpened s depth rest = (n x : List ℕ) × IsShellVariable n × (s ≡ head n (colon ∷ minus ∷ x))
+    × (IsClosed x → CanBe false depth rest)
 
 -- the template is one for the whole text, and UTF-8 where that is
 abbrev pub IsWhole : List ℕ → List ℕ → Type 0
@@ -59,13 +74,18 @@ pub record IsStep (old s : List ℕ) (depth : ℕ) (new rest : List ℕ) (after 
   pub part : List ℕ
   pub added : new ≡ old ++ part
   pub written : (y : List ℕ) → IsRest after rest y → IsRest depth s (part ++ y)
-  pub back : CanBe depth s → CanBe after rest
+  pub back : CanStep depth s after rest
   pub front : List ℕ
   pub taken : s ≡ front ++ rest
   pub shorter : length rest < length s
   pub few : after + length rest ≤ depth + length s
   pub texts : IsUtf8 (old ++ s) → IsUtf8 (new ++ rest)
-  pub opens : depth ≡ 0 → 0 < after → StandsAt form.Unclosed s
+  pub opens : depth ≡ 0 → 0 < after → IsOpened s after rest
+
+-- the text goes on with what may follow a name in braces
+abbrev pub FollowsName : List ℕ → Type 0
+FollowsName s = ((x : List ℕ) × (s ≡ closing_brace ∷ x)) ⊎ ((x : List ℕ) × (s ≡ colon ∷ minus ∷ x))
+    ⊎ ((m x : List ℕ) × AllByRecursion IsNoBrace m × (s ≡ colon ∷ question_mark ∷ m ++ closing_brace ∷ x))
 
 -- what is after a name in braces
 abbrev pub IsOperatorAt : List ℕ → Operator → Type 0
@@ -78,5 +98,5 @@ IsOperatorAt s (operator.Refused form) =
 
 -- the error says that the text, which is at this position, begins with a form that is refused
 abbrev pub RefusesAt : (position depth : ℕ) → List ℕ → ShellError → Type 0
-RefusesAt position depth s (error.Refused at form) = (at ≡ position) × StandsAt form s × ¬ (CanBe depth s)
+RefusesAt position depth s (error.Refused at form) = (at ≡ position) × StandsAt form s × ¬ (CanBe true depth s)
 RefusesAt position depth s (error.OutOfMemory e) = Unit {0}

@@ -1,9 +1,10 @@
 //! Writing a template for a text of a shell.
 
 ghost use Rattle.std.specs.Prelude.{◌≡◌, ◌≢◌, ◌+◌, ◌<◌, ◌≤◌, ◌^◌, ◌++◌, ◌∷◌, ℕ, List, length, IfErr, IfOk, OnOk};
-ghost use Rattle.subst_language.specs.Language.Bytes.{colon, dollar, opening_brace, question_mark};
+ghost use Rattle.subst_language.specs.Language.Bytes.{closing_brace, colon, dollar, opening_brace, question_mark};
+ghost use Rattle.subst_language.specs.Language.Name.{IsNameByte, BeginsWithNo};
 ghost use Rattle.subst_language.specs.Language.Tree.{item_text};
-ghost use Rattle.subst_foreign.specs.Shell.{FollowsName, IsShellVariable, RefusesShell, StandsAt};
+ghost use Rattle.subst_foreign.specs.Shell.{minus, IsShellVariable, RefusesShell, StandsAt};
 ghost use Rattle.subst_foreign.specs.ShellTemplate.{head, IsOperatorAt, IsStep, IsWhole, RefusesAt};
 ghost use Rattle.subst_foreign.specs.Template.{is_escaped, item_of_byte};
 
@@ -232,6 +233,7 @@ fn append_byte(template: &mut Vec<u8>, byte: u8) -> Result<(), AllocError>
 
 /// Returns what comes after a name in braces.
 fn operator_at(text: &[u8]) -> Operator<'_>
+    requires { BeginsWithNo IsNameByte text.now }
     ensures { IsOperatorAt text.now result }
 {
     if let Some(rest) = after_byte(text, b'}') {
@@ -265,7 +267,9 @@ fn message_at(text: &[u8]) -> Operator<'_>
 
 /// Returns the form of what comes after a name in braces and may not follow it.
 fn form_at(text: &[u8]) -> ShellForm
-    requires { ¬ (FollowsName text.now) }
+    requires no_name { BeginsWithNo IsNameByte text.now }
+    requires no_closing { (x : List ℕ) → ¬ (text.now ≡ closing_brace ∷ x) }
+    requires no_colon { (x : List ℕ) → ¬ (text.now ≡ colon ∷ x) }
     ensures { (n : List ℕ) → IsShellVariable n → StandsAt result (head n text.now) }
 {
     match text.first() {
@@ -283,7 +287,8 @@ fn form_at(text: &[u8]) -> ShellForm
 
 /// Returns the form of what comes after a name in braces and a colon, and may not follow these.
 fn colon_form_at(text: &[u8]) -> ShellForm
-    requires { ¬ (FollowsName (colon ∷ text.now)) }
+    requires no_default { (x : List ℕ) → ¬ (text.now ≡ minus ∷ x) }
+    requires no_message { (x : List ℕ) → ¬ (text.now ≡ question_mark ∷ x) }
     ensures { (n : List ℕ) → IsShellVariable n → StandsAt result (head n (colon ∷ text.now)) }
 {
     match text.first() {

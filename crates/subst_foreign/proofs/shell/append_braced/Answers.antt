@@ -1,4 +1,4 @@
-use Rattle.std.proofs.Common.{◌∷◌, ◌++◌, ◌∙◌, ap, refl, subst, sym}
+use Rattle.std.proofs.Common.{true, ◌∷◌, ◌++◌, ◌∙◌, ap, refl, subst, sym}
 use Rattle.std.specs.List.{AllByRecursion}
 use Rattle.subst_foreign.proofs.ShellLemmas.{step_braced, step_opened, step_required}
 use Rattle.subst_foreign.proofs.ShellReadings.{no_first, no_operator, no_variable}
@@ -7,6 +7,9 @@ use Rattle.subst_foreign.specs.Shell.{IsShellVariable, StandsAt}
 use Rattle.subst_foreign.specs.ShellTemplate.{CanBe}
 use Rattle.subst_language.specs.Language.Bytes.{dollar, opening_brace}
 use Rattle.subst_language.specs.Language.Name.{IsNameByte, BeginsWithNo}
+
+pub operator_at-requires : goal.operator_at-requires
+operator_at-requires c = subst (BeginsWithNo IsNameByte) (sym c.split_at.ensures.back) c.name_len.ensures.end
 
 pub returns-in_ok-append_named-in-Closed-clause-step :
     goal.returns-in_ok-append_named-in-Closed-clause-step
@@ -52,7 +55,7 @@ returns-then-not-is_variable-clause-err c =
       refl,
       (x, refl, no_first x run end splits each ended none),
       λ can. no_variable c.args.rest.depth run end each ended none
-          (subst (λ z. CanBe c.args.rest.depth (dollar ∷ opening_brace ∷ z)) splits can),
+          (subst (λ z. CanBe true c.args.rest.depth (dollar ∷ opening_brace ∷ z)) splits can),
     )
 
 pub returns-in-Refused-clause-err : goal.returns-in-Refused-clause-err
@@ -67,5 +70,5 @@ returns-in-Refused-clause-err c =
       subst (StandsAt c.in-Refused.form) (ap (λ z. dollar ∷ opening_brace ∷ z) (sym splits))
           (c.in-Refused.ensures.1 run named),
       λ can. no_operator c.args.rest.depth run end each ended c.in-Refused.ensures.0
-          (subst (λ z. CanBe c.args.rest.depth (dollar ∷ opening_brace ∷ z)) splits can),
+          (subst (λ z. CanBe true c.args.rest.depth (dollar ∷ opening_brace ∷ z)) splits can),
     )

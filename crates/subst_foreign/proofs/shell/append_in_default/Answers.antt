@@ -1,4 +1,4 @@
-use Rattle.std.proofs.Common.{◌≡◌, ◌++◌, ◌∷◌, ap, refl, subst}
+use Rattle.std.proofs.Common.{◌≡◌, true, ◌++◌, ◌∷◌, ap, refl, subst}
 use Rattle.subst_foreign.proofs.ShellLemmas.{no_brace_inside, step_byte, step_closed}
 use Rattle.subst_foreign.proofs.shell.append_in_default.Goals as goal
 use Rattle.subst_foreign.specs.ShellTemplate.{CanBe}
@@ -29,5 +29,6 @@ returns-then-first-eq123-clause-err c =
     let is : c.args.first ∷ rest ≡ opening_brace ∷ rest = ap (λ b. b ∷ rest) c.if-first-eq123.true in (
       refl,
       (rest, is),
-      λ can. no_brace_inside c.args.rest.depth rest c.requires.inside (subst (CanBe c.args.rest.depth) is can),
+      λ can. no_brace_inside c.args.rest.depth rest c.requires.inside
+          (subst (CanBe true c.args.rest.depth) is can),
     )

@@ -1,4 +1,4 @@
-use Rattle.std.proofs.Common.{◌∷◌, ◌++◌, ◌∙◌, length, take, ap, refl, subst, arith}
+use Rattle.std.proofs.Common.{inl, inr, ◌∷◌, ◌++◌, ◌∙◌, length, take, ap, refl, subst, arith}
 use Rattle.std.proofs.Math.Seq.{take-length}
 use Rattle.std.specs.List.{AllByRecursion}
 use Rattle.subst_foreign.proofs.ForeignLemmas.{none_before}
@@ -32,13 +32,23 @@ returns-in-None c =
     let splits = c.split_at.ensures.by_index.0
     ∙ ap (λ z. z ++ c.split_at.result.1.now) c.split_at.ensures.front
     ∙ ap (λ z. take at text ++ z) (c.split_at.ensures.back ∙ is) in
-    let none = message_refused text (take at text) y splits each in
-    (none, λ n named. (n, text, named, refl, none))
+    let none = message_refused text (take at text) y splits each in (
+      none,
+      λ n named. (
+        n,
+        colon ∷ question_mark ∷ text,
+        named,
+        refl,
+        (take at text, y, each, ap (λ z. colon ∷ question_mark ∷ z) splits),
+      ),
+    )
 
 pub returns-in_default : goal.returns-in_default
 returns-in_default c =
     let text = c.args.text.now in
     let each = subst (AllByRecursion IsNoBrace) (take-length text)
     (none_before opening_brace closing_brace text (length text) (omega arith)
-    (λ k below. c.in_default.ensures k (omega arith) below)) in
-    (no_end_of_message text each, λ n named. (n, colon ∷ question_mark ∷ text, named, refl))
+    (λ k below. c.in_default.ensures k (omega arith) below)) in (
+      no_end_of_message text each,
+      λ n named. (n, colon ∷ question_mark ∷ text, named, refl, inr (inl (text, each, refl))),
+    )
