@@ -310,6 +310,10 @@ NO_SHELL = (
     ('5 $', 3, 'a dollar that begins no variable can\'t be given here'),
     ('${B:-x', 1, 'a variable without its closing brace can\'t be given here'),
     ('${B:-{}', 6, 'an opening brace in a default can\'t be given here'),
+    # of two forms the one at which reading stops
+    ('$1 ${A-x}', 1, 'a dollar that begins no variable can\'t be given here'),
+    ('$${1} ${A+x} $1', 7, '`+` of a shell\'s variable can\'t be given here'),
+    ('${B:-${A-x} y', 6, '`-` of a shell\'s variable can\'t be given here'),
 )
 
 
