@@ -22,7 +22,7 @@ pub use Rattle.subst_language.proofs.CallingLemmas.{given_as_read}
 -- an error of a source that gives bytes, under values that are bytes already, says that memory ran out
 pub use Rattle.subst_language.proofs.CallingLemmas.{alone_as_read}
 -- what holds of a map's look-up of bytes holds of the look-up that its values are read as
-pub use Rattle.subst_map.proofs.CallingLemmas.{by_look_up_bytes}
+pub use Rattle.subst_language.proofs.MapLemmas.{by_look_up_bytes}
 -- outputs of several sources, with one more
 pub use Rattle.subst_language.proofs.Language.SeveralLemmas.{each_more}
 -- sources that give bytes, and more of them

@@ -3,4 +3,4 @@ pub use Rattle.subst_language.specs.Calls.Clauses
 pub use Rattle.subst_language.specs.Calls.Outcome
 pub use Rattle.subst_language.specs.Calls.VariableMap
 pub use Rattle.subst_language.specs.Calls.Variables
-pub use Rattle.subst_map.specs.Maps
+pub use Rattle.subst_language.specs.Maps

@@ -1,14 +1,14 @@
 //! Laws of the definitions that the contracts cite. Each is the contract of a function that does nothing. And
 //! [`escaped`], of which one of them speaks.
 
-pub use subst_escape::escaped;
+pub use subst_foreign::escape::escaped;
 pub use subst_json::laws::{pointers_find_strings, trees_have_one_outcome};
 pub use subst_language::laws::{
     law_1, law_2, law_3, law_4, law_5, law_6, law_7, law_8, law_9, missing_lists_are_whole,
     missing_variables_are_missing, outputs_are_bounded, texts_give_texts, turns_are_bounded,
     writes_are_bounded,
 };
-pub use subst_map::laws::{
+pub use subst_language::maps::laws::{
     filled_maps_are_look_ups, filled_maps_are_look_ups_of_texts, layers_are_look_ups,
     layers_are_look_ups_of_texts, maps_are_look_ups, maps_are_look_ups_of_texts,
 };

@@ -32,7 +32,7 @@
 pub use subst_error as error;
 pub use subst_error::Error;
 pub use subst_language::{Variable, VariableKind};
-pub use subst_map::{
+pub use subst_language::{
     BytesMap, Env, Layered, NeverValue, NoEmpty, NoSubstitution, OneOf, VariableMap,
 };
 pub use subst_raw::counters as steps;

@@ -9,7 +9,7 @@ use Rattle.std.specs.Cmp.Lexicographic.{bytes_decides, nat_list_eq_equiv, slice_
 use Rattle.std.specs.Option.{option_map, option_or, unwrap_or}
 use Rattle.std.specs.Ordering.{nat_cmp}
 use Rattle.std.specs.Str.{bytes_eq}
-use Rattle.subst_map.specs.Maps.{btree_get_by_lent_text}
+use Rattle.subst_language.specs.Maps.{btree_get_by_lent_text}
 use Rattle.subst_c.specs.Index.{indexed_value}
 use Rattle.subst_c.specs.Pairs.{pair_value}
 use Rattle.subst_c.specs.declared.pairs.Pair.{Pair}

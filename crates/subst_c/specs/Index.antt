@@ -4,7 +4,7 @@ use Rattle.std.specs.Prelude.{List, ℕ}
 use Rattle.std.specs.BTreeMap.{BTreeMap}
 use Rattle.std.specs.Option.{option_map}
 use Rattle.subst_language.specs.Language.LookUp.{LookUp}
-use Rattle.subst_map.specs.Maps.{btree_get_by_lent_text}
+use Rattle.subst_language.specs.Maps.{btree_get_by_lent_text}
 
 -- the value that a map of borrowed bytes has under a name
 abbrev pub indexed_value : BTreeMap (Bor (List ℕ)) (Bor (List ℕ)) → LookUp

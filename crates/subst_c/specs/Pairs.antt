@@ -3,7 +3,7 @@ use Rattle.std.specs.Prelude.{ℕ, List, IsUtf8}
 use Rattle.subst_error.specs.Fault.{Fault}
 use Rattle.subst_language.specs.Language.Answer.{Answers, Gives, Refuses}
 use Rattle.subst_language.specs.Language.LookUp.{LookUp}
-use Rattle.subst_map.specs.Maps.{first_value_by}
+use Rattle.subst_language.specs.Maps.{first_value_by}
 use Rattle.subst_c.specs.declared.pairs.Pair.{Pair}
 
 -- the value of the first pair with this name

@@ -11,7 +11,7 @@ ghost use Rattle.subst_c.specs.Text.{have_texts};
 use memchr::memchr_iter;
 use std::alloc::{AllocError, Global};
 use std::collections::BTreeMap;
-use subst_map::VariableMap;
+use subst_language::VariableMap;
 
 /// How many pairs, or placeholders, there are at most for which searching the pairs in turn takes no longer
 /// than an index.

@@ -30,7 +30,7 @@ use Rattle.subst_cli.specs.declared.options.Missing.TheVariants.{Fault, Nothing,
 use Rattle.subst_cli.specs.declared.options.Placeholders.{Placeholders}
 use Rattle.subst_cli.specs.declared.options.Placeholders.TheVariants.{Own, Chosen, Shell}
 use Rattle.subst_filter_lib.specs.Words.{value_under}
-use Rattle.subst_map.specs.Maps.{without_empty}
+use Rattle.subst_language.specs.Maps.{without_empty}
 
 -- the name is one of those that are chosen, by what the entries give
 abbrev pub IsChosen : Choice → List Entry → List ℕ → Type 0

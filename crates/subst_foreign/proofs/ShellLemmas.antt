@@ -31,7 +31,7 @@ use Rattle.subst_language.specs.Language.Tree as template
 use Rattle.subst_language.specs.Language.Value.{Value, Bytes, Missing, joined, item_value, value}
 use Rattle.subst_language.specs.Language.Value as valued
 use Rattle.subst_language.specs.Language.WellFormed.{IsItem, IsWellFormed}
-use Rattle.subst_map.specs.Maps.{without_empty}
+use Rattle.subst_language.specs.Maps.{without_empty}
 
 -- a byte that is no brace is balanced, also where it is escaped
 byte_balanced : (b : ℕ) → IsNoBrace b → IsBalanced (item_text (item_of_byte (is_escaped b) b))

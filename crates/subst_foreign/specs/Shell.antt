@@ -13,7 +13,7 @@ use Rattle.subst_language.specs.Language.Name.{IsName, IsNameByte, BeginsWithNo}
 use Rattle.subst_language.specs.Language.Sentence.{Spells}
 use Rattle.subst_language.specs.Language.Tree.{Tree}
 use Rattle.subst_language.specs.Language.Value.{value}
-use Rattle.subst_map.specs.Maps.{without_empty}
+use Rattle.subst_language.specs.Maps.{without_empty}
 
 -- `-` after a colon begins a default
 abbrev pub minus : ℕ

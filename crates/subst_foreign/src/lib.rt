@@ -13,9 +13,10 @@ use place::unescaped_len;
 use shell::shell_template_for;
 pub use shell_error::{ShellError, ShellForm};
 use std::alloc::{AllocError, Global};
-use subst_map::VariableMap;
+use subst_language::VariableMap;
 
 mod convert;
+pub mod escape;
 mod names;
 mod place;
 mod shell;

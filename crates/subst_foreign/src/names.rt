@@ -6,7 +6,7 @@ ghost use Rattle.subst_foreign.specs.Foreign.{HasValue, IsListed, IsShellName};
 
 use std::alloc::{AllocError, Global};
 use std::collections::BTreeSet;
-use subst_map::VariableMap;
+use subst_language::VariableMap;
 
 /// A choice of names: those of variables. An implementation gives a ghost member, `counts`: which names are
 /// chosen.

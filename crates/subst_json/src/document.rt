@@ -22,7 +22,7 @@ use serde_json::Value;
 use std::alloc::{AllocError, Global};
 use std::convert::AsStr;
 use std::str::from_utf8;
-use subst_map::VariableMap;
+use subst_language::VariableMap;
 use subst_walk::{Fill, Filler};
 
 /// How deep arrays and objects may nest, as the reader of trees has it.

@@ -38,7 +38,7 @@ use serde_json::Value;
 use std::alloc::Global;
 use std::convert::AsStr;
 pub use stop::{ReaderStop, reader_stop};
-use subst_map::VariableMap;
+use subst_language::VariableMap;
 pub use subst_walk::{Fill, Filler, PathStep, StringAt};
 use typed::FromTree;
 

@@ -23,7 +23,7 @@ use serde_json::Value;
 use std::alloc::{AllocError, Global};
 use std::convert::AsStr;
 use std::ops::Range;
-use subst_map::VariableMap;
+use subst_language::VariableMap;
 use subst_walk::{Fill, Filler, PathStep, StringAt, string_at};
 
 /// A string of a text that is refused.

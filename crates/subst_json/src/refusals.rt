@@ -19,7 +19,7 @@ use crate::refused::refused;
 use serde_json::Value;
 use std::alloc::{AllocError, Global};
 use std::convert::AsStr;
-use subst_map::VariableMap;
+use subst_language::VariableMap;
 use subst_walk::{Filler, HowMany, all_found, first_found};
 
 /// A string of a tree that is refused.

@@ -1,5 +1,6 @@
 pub mod CallingLemmas
 pub mod Earlier
 pub mod Language
+pub mod MapLemmas
 pub mod TreeOf
 pub mod WorkedExamples

@@ -8,7 +8,7 @@ use crate::expand::{Stop, bytes_at, name_at};
 use crate::output::Output;
 use crate::part::Part;
 use crate::read_value::ReadValue;
-use subst_map::VariableMap;
+use subst_language::VariableMap;
 
 /// Appends what a part gives by itself, and returns whether it is that of a default whose name has a value.
 ///

@@ -29,7 +29,7 @@ use crate::read_value::ReadValue;
 use std::alloc::{AllocError, Global};
 use std::{mem, str};
 use subst_error::{ExpandError, ExpandIntoError, NoSuchVariableRef};
-use subst_map::VariableMap;
+use subst_language::VariableMap;
 
 /// For how many bytes more than its source an output has capacity at first: values are often longer than
 /// their placeholders.

@@ -23,7 +23,7 @@ use std::alloc::Global;
 use std::convert::AsStr;
 use std::mem;
 use subst_error::{ExpandError, ExpandIntoError};
-use subst_map::VariableMap;
+use subst_language::VariableMap;
 
 /// Returns the text that the parts of a text give, with the values of `variables`.
 ///

@@ -25,7 +25,7 @@ use std::alloc::Global;
 use std::convert::AsStr;
 use std::mem;
 use subst_error::{Error, ExpandIntoError, ParseError, SubstituteIntoError};
-use subst_map::VariableMap;
+use subst_language::VariableMap;
 
 /// Appends what a source gives to `output`, with the values of `variables` as `R` reads them. Its first
 /// `plain` bytes have no dollar and no backslash. The others are read once, and variables are looked up as

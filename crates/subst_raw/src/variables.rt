@@ -23,7 +23,7 @@ use crate::part_vec::{CowParts, PartSlice};
 use std::alloc::{AllocError, Global};
 use subst_error::{NoSuchVariable, NoSuchVariableRef};
 use subst_language::{Variable, VariableKind};
-use subst_map::VariableMap;
+use subst_language::VariableMap;
 
 /// Returns the variables of the parts of a source, in the order of the source, also those in defaults.
 ///

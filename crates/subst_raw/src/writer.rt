@@ -12,7 +12,7 @@ use crate::read_value::ReadValue;
 use crate::sink::Sink;
 use std::alloc::AllocError;
 use std::marker::PhantomData;
-use subst_map::VariableMap;
+use subst_language::VariableMap;
 
 /// What a writer does with the next part.
 #[derive(Clone, Copy)]

@@ -10,7 +10,7 @@ use serde_json::Value;
 use std::alloc::{AllocError, Global};
 use std::convert::AsStr;
 use subst_json::{Error, RefusalAt, place_in, reader_stop, refusals_in};
-use subst_map::VariableMap;
+use subst_language::VariableMap;
 
 /// Returns what is wrong with `source`, the text of a file, for which a call of `subst_json` returned the
 /// error `e` with these variables.

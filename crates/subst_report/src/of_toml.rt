@@ -10,7 +10,7 @@ use crate::lines::{Reportable, fault, lines, refusals};
 use std::alloc::{AllocError, Global};
 use std::convert::AsStr;
 use std::ops::Range;
-use subst_map::VariableMap;
+use subst_language::VariableMap;
 use subst_toml::{Error, RefusalAt, place_in, refusals_in};
 use toml::de;
 

@@ -11,7 +11,7 @@ ghost use Rattle.subst_language.specs.Calls.Clauses.{ByWritten, NeedsMemory, Ove
 use std::alloc::Global;
 use std::convert::{AsSlice, AsStr};
 use subst_error::SubstituteIntoError;
-use subst_map::VariableMap;
+use subst_language::VariableMap;
 use subst_raw::{SliceBytes, one_pass, plain_len};
 
 /// Appends what [`substitute_bytes`](crate::substitute_bytes) returns to `output`.

@@ -17,7 +17,7 @@ pub use owned::{is_plain, substitute_bytes_owned, substitute_owned};
 use std::alloc::Global;
 use std::convert::{AsSlice, AsStr};
 use subst_error::Error;
-use subst_map::VariableMap;
+use subst_language::VariableMap;
 use subst_raw::{SliceBytes, one_pass, plain_len};
 pub use template::{ByteTemplate, ByteTemplateBuf, Template, TemplateBuf};
 

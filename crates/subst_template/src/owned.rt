@@ -13,7 +13,7 @@ ghost use Rattle.subst_language.specs.Calls.Clauses.{EndsWithin, IsRangedIn};
 use std::alloc::Global;
 use std::convert::{AsSlice, AsStr};
 use subst_error::Error;
-use subst_map::VariableMap;
+use subst_language::VariableMap;
 use subst_raw::{SliceBytes, one_pass, plain_len};
 
 /// For how many bytes more than those of the source there is capacity at first. Outputs of sources that are

@@ -23,7 +23,7 @@ use crate::{changes, text_of};
 use same::is_same_table;
 use std::alloc::{AllocError, Global};
 use std::convert::AsStr;
-use subst_map::VariableMap;
+use subst_language::VariableMap;
 use subst_walk::{Fill, Filler, StringAt, fill_in_string};
 use token::Quoted;
 use toml::Table;

@@ -41,7 +41,7 @@ pub use refusals::{RefusedString, all_refusals, first_refusal};
 use std::alloc::Global;
 use std::convert::AsStr;
 use std::str::{self, Utf8Error};
-use subst_map::VariableMap;
+use subst_language::VariableMap;
 pub use subst_walk::{Fill, Filler, PathStep, StringAt};
 use toml::{Table, Value};
 use typed::FromText;

@@ -18,7 +18,7 @@ use crate::Path;
 use crate::refused::refused;
 use std::alloc::{AllocError, Global};
 use std::convert::AsStr;
-use subst_map::VariableMap;
+use subst_language::VariableMap;
 use subst_walk::{Filler, HowMany, all_found, first_found};
 use toml::Value;
 

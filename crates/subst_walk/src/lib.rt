@@ -28,7 +28,7 @@ pub use refused::{HowMany, PathStepRef, Refused, add_below, refused_string};
 use std::alloc::{AllocError, Global};
 use std::convert::AsStr;
 use subst_error::Error;
-use subst_map::VariableMap;
+use subst_language::VariableMap;
 use subst_template::{is_plain, substitute};
 
 mod changes;

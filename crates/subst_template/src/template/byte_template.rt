@@ -21,7 +21,7 @@ use std::fmt;
 use std::marker::Model;
 use subst_error::{ExpandError, ExpandIntoError, NoSuchVariable, ParseError};
 use subst_language::Variable;
-use subst_map::VariableMap;
+use subst_language::VariableMap;
 use subst_raw::counters::{Reads, Turns};
 use subst_raw::expand::{expand, expand_into, expand_into_slice};
 use subst_raw::parse::parse;

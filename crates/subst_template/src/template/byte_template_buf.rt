@@ -18,7 +18,7 @@ use std::fmt;
 use std::marker::Model;
 use subst_error::{ExpandError, ExpandIntoError, NoSuchVariable, ParseError};
 use subst_language::Variable;
-use subst_map::VariableMap;
+use subst_language::VariableMap;
 use subst_raw::counters::Reads;
 use subst_raw::parse::parse;
 use subst_raw::{CowParts, PartVec};

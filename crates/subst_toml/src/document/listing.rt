@@ -20,7 +20,7 @@ use crate::path::Path;
 use crate::place::{string_at, table_of};
 use std::alloc::{AllocError, Global};
 use std::convert::AsStr;
-use subst_map::VariableMap;
+use subst_language::VariableMap;
 use subst_walk::{Fill, Filler, StringAt};
 use toml::Value;
 

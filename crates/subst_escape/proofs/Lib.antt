@@ -1,2 +1,0 @@
-pub mod BoundaryLemmas
-pub mod SearchLemmas

@@ -1,0 +1,98 @@
+//! Escaping texts, so that templates give them as they are: a backslash is put before each special byte.
+
+ghost use Rattle.std.specs.Prelude.{◌≡◌, ◌≤◌, ◌<◌, ◌+◌, ◌++◌, ℕ, List, ◌∷◌, length, IfOk, OnOk, OnErr};
+ghost use Rattle.std.specs.Prelude.{string_bytes, string_capacity, string_len};
+ghost use Rattle.std.specs.List.{position};
+ghost use Rattle.subst_language.specs.Language.Bytes.{backslash};
+ghost use Rattle.subst_language.specs.Language.Escaped as language;
+
+use std::alloc::{AllocError, Global};
+
+/// Returns the text with a backslash before each `\`, `$`, `{`, `}` and `:`. As a template, and as a default,
+/// it gives the text, whatever the variables.
+///
+/// # Errors
+///
+/// When allocation fails.
+pub fn escaped(alloc: Global, text: &str) -> Result<String, AllocError>
+    ensures escaped { IfOk result (λ template. string_bytes template ≡ language.escaped text.now) }
+{
+    let mut output = String::with_capacity(alloc, text.len())?;
+    escape_into(text, &mut output)?;
+    Ok(output)
+}
+
+/// Appends to `output` what [`escaped`] returns. Memory is asked for only where the output's capacity doesn't
+/// suffice.
+///
+/// # Errors
+///
+/// When the output has to grow and allocation fails. The output's text is as it was then.
+pub fn escape_into(text: &str, output: &mut String) -> Result<(), AllocError>
+    ensures escaped { OnOk result
+        (string_bytes output.new ≡ string_bytes output.old ++ language.escaped text.now) }
+    ensures unchanged { OnErr result (string_bytes output.new ≡ string_bytes output.old) }
+    ensures full { OnErr result
+        (string_capacity output.old < string_len output.old + length (language.escaped text.now)) }
+    ensures capacity { string_capacity output.old ≤ string_capacity output.new }
+{
+    let before = output.len();
+    let result = append_escaped(text, output);
+    if result.is_err() {
+        output.truncate(before);
+    }
+    result
+}
+
+/// Appends to `output` what [`escaped`] returns.
+///
+/// # Errors
+///
+/// When the output has to grow and allocation fails. A part may have been appended then.
+fn append_escaped(text: &str, output: &mut String) -> Result<(), AllocError>
+    ensures escaped { OnOk result
+        (string_bytes output.new ≡ string_bytes output.old ++ language.escaped text.now) }
+    ensures part { (part : List ℕ) × (string_bytes output.new ≡ string_bytes output.old ++ part) }
+    ensures full { OnErr result
+        (string_capacity output.old < string_len output.old + length (language.escaped text.now)) }
+    ensures capacity { string_capacity output.old ≤ string_capacity output.new }
+{
+    let mut rest = text;
+    while let Some(at) = first_special(rest) {
+        output.push_str(&rest[..at])?;
+        append_after_backslash(&rest[at..at + 1], output)?;
+        rest = &rest[at + 1..];
+    }
+    output.push_str(rest)
+}
+
+/// Appends a backslash and the text to `output`.
+///
+/// # Errors
+///
+/// When the output has to grow and allocation fails. The backslash may have been appended then.
+fn append_after_backslash(text: &str, output: &mut String) -> Result<(), AllocError>
+    ensures escaped { OnOk result
+        (string_bytes output.new ≡ string_bytes output.old ++ backslash ∷ text.now) }
+    ensures part { (part : List ℕ) × (string_bytes output.new ≡ string_bytes output.old ++ part) }
+    ensures full { OnErr result
+        (string_capacity output.old < string_len output.old + (1 + length text.now)) }
+    ensures capacity { string_capacity output.old ≤ string_capacity output.new }
+{
+    output.push('\\')?;
+    output.push_str(text)
+}
+
+/// Returns the index of the first byte that a backslash escapes.
+fn first_special(text: &str) -> Option<usize>
+    ensures { result ≡ position language.is_special text.now }
+{
+    text.as_bytes().iter().position(|byte| is_special(*byte))
+}
+
+/// Returns whether a backslash escapes the byte.
+fn is_special(byte: u8) -> bool
+    ensures { result ≡ language.is_special byte }
+{
+    matches!(byte, b'\\' | b'$' | b'{' | b'}' | b':')
+}

@@ -1,0 +1,60 @@
+//! `BTreeMap` as a map of variables, with keys that it owns or keys that are borrowed.
+
+ghost use Rattle.std.specs.Prelude.{◌≡◌, refl};
+ghost use Rattle.subst_language.specs.Calls.VariableMap.{look_up_of};
+
+use crate::{BytesMap, VariableMap};
+use std::collections::BTreeMap;
+use std::convert::AsSlice;
+
+/// The value under the key.
+impl<'a, V: 'a> VariableMap<'a> for BTreeMap<String, V> {
+    ghost use Rattle.std.specs.BTreeMap.{get_by_text};
+
+    type Value = &'a V;
+
+    ghost Seen = { V };
+
+    ghost see = { λ v. v.now };
+
+    ghost look_up = { get_by_text };
+
+    fn get(&'a self, key: &str) -> Option<&'a V> {
+        self.get(key)
+    }
+}
+
+/// The value under the key, where keys are borrowed.
+impl<'a, 'k, V: 'a> VariableMap<'a> for BTreeMap<&'k str, V> {
+    ghost use Rattle.subst_language.specs.Maps.{btree_get_by_lent_text};
+
+    type Value = &'a V;
+
+    ghost Seen = { V };
+
+    ghost see = { λ v. v.now };
+
+    ghost look_up = { btree_get_by_lent_text };
+
+    fn get(&'a self, name: &str) -> Option<&'a V> {
+        self.get(name)
+    }
+}
+
+/// The bytes of the value under the key.
+impl<'a, V: AsSlice<u8> + 'a> BytesMap<'a> for BTreeMap<String, V> {
+    ghost use Rattle.std.specs.BTreeMap.{get_by_text};
+
+    ghost look_up_bytes = { λ self. look_up_of V.items (get_by_text self) };
+
+    ghost reads = { (V.items, (λ v. refl), (λ self name. refl)) };
+}
+
+/// The bytes of the value under the key.
+impl<'a, 'k, V: AsSlice<u8> + 'a> BytesMap<'a> for BTreeMap<&'k str, V> {
+    ghost use Rattle.subst_language.specs.Maps.{btree_get_by_lent_text};
+
+    ghost look_up_bytes = { λ self. look_up_of V.items (btree_get_by_lent_text self) };
+
+    ghost reads = { (V.items, (λ v. refl), (λ self name. refl)) };
+}
