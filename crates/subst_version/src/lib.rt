@@ -4,7 +4,7 @@
 /// The version: one of its numbers, or its text.
 macro_rules! version {
     ($part:ident) => {
-        version!($part of 0, 2, 0)
+        version!($part of 0, 3, 0)
     };
     (major of $major:literal, $minor:literal, $patch:literal) => {
         $major
