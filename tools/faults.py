@@ -24,7 +24,7 @@ def texts():
 
 def expected_after_name():
     """The words for what may come after a name in braces."""
-    source = (CRATES / 'subst_raw/src/halt.rt').read_text(encoding='utf-8')
+    source = (CRATES / 'subst_parse/src/halt.rt').read_text(encoding='utf-8')
     return re.search(r'"(a closing brace[^"]*colon[^"]*)"', source)[1]
 
 

@@ -18,8 +18,13 @@ DOORS = ('subst', 'subst_filter_lib', 'subst_cli', 'subst_c')
 # Files that aren't printed, since callers don't reach their functions, and why; the longest beginning of a path counts,
 # and one without a reason is printed.
 HIDDEN = {
-    'subst_raw/': '`subst` re-exports the module `steps` alone',
-    'subst_raw/src/counters.rt': '',
+    'subst_language/src/counter.rt': 'it is there for the crates above',
+    'subst_language/src/part.rt': 'it is there for the crates above',
+    'subst_language/src/sink.rt': 'it is there for the crates above',
+    'subst_parse/': '`subst` re-exports `Reads` alone',
+    'subst_parse/src/reads.rt': '',
+    'subst_expand/': '`subst` re-exports `Turns` alone',
+    'subst_expand/src/turns.rt': '',
     'subst_walk/': '`subst` has no function of it',
     'subst_walk/src/lib.rt': '',
     'subst_json/src/typed.rt': 'its module is private, and its trait is there for each type of `serde`',

@@ -35,7 +35,6 @@ pub use subst_language::{Variable, VariableKind};
 pub use subst_language::{
     BytesMap, Env, Layered, NeverValue, NoEmpty, NoSubstitution, OneOf, VariableMap,
 };
-pub use subst_raw::counters as steps;
 pub use subst_template::{
     ByteTemplate, ByteTemplateBuf, Template, TemplateBuf, substitute, substitute_bytes,
     substitute_bytes_into, substitute_bytes_owned, substitute_into, substitute_owned,
@@ -45,4 +44,5 @@ pub mod escape;
 pub mod foreign;
 pub mod json;
 pub mod laws;
+pub mod steps;
 pub mod toml;

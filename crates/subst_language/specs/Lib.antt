@@ -4,3 +4,4 @@ pub mod Language
 pub mod LayeredLemmas
 pub mod Lemmas
 pub mod Maps
+pub mod Parts

@@ -8,11 +8,13 @@ ghost use Rattle.subst_language.specs.Calls.VariableMap.{ByLookUp};
 ghost use Rattle.subst_language.specs.Calls.Outcome.{SubstitutesInto};
 ghost use Rattle.subst_language.specs.Calls.Clauses.{ByWritten, NeedsMemory, OverflowsParsed, StatesRefusal, StatesKind, EndsWithin, IsRangedIn};
 
+use crate::one_pass;
 use std::alloc::Global;
 use std::convert::{AsSlice, AsStr};
 use subst_error::SubstituteIntoError;
+use subst_expand::SliceBytes;
 use subst_language::VariableMap;
-use subst_raw::{SliceBytes, one_pass, plain_len};
+use subst_parse::plain_len;
 
 /// Appends what [`substitute_bytes`](crate::substitute_bytes) returns to `output`.
 ///

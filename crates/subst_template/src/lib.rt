@@ -17,12 +17,15 @@ pub use owned::{is_plain, substitute_bytes_owned, substitute_owned};
 use std::alloc::Global;
 use std::convert::{AsSlice, AsStr};
 use subst_error::Error;
+use subst_expand::SliceBytes;
 use subst_language::VariableMap;
-use subst_raw::{SliceBytes, one_pass, plain_len};
+use subst_parse::plain_len;
 pub use template::{ByteTemplate, ByteTemplateBuf, Template, TemplateBuf};
 
 mod into;
+mod one_pass;
 mod owned;
+mod parse;
 mod template;
 
 /// For how many bytes more than those of the source there is capacity at first: most values are longer than

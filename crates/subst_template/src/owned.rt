@@ -10,11 +10,13 @@ ghost use Rattle.subst_language.specs.Calls.VariableMap.{ByLookUp, ByNames};
 ghost use Rattle.subst_language.specs.Calls.Outcome.{answer_of, refusal_of};
 ghost use Rattle.subst_language.specs.Calls.Clauses.{EndsWithin, IsRangedIn};
 
+use crate::one_pass;
 use std::alloc::Global;
 use std::convert::{AsSlice, AsStr};
 use subst_error::Error;
+use subst_expand::SliceBytes;
 use subst_language::VariableMap;
-use subst_raw::{SliceBytes, one_pass, plain_len};
+use subst_parse::plain_len;
 
 /// For how many bytes more than those of the source there is capacity at first. Outputs of sources that are
 /// given away are often kept, as the strings of a tree.

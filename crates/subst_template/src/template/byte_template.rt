@@ -14,19 +14,18 @@ ghost use Rattle.subst_language.specs.Calls.Outcome.{OnFault, Expands};
 ghost use Rattle.subst_language.specs.Calls.Outcome.{ExpandsInto, ExpandsIntoSlice, OnOutOfMemory};
 ghost use Rattle.subst_language.specs.Calls.Clauses.{ByValue, ByWritten, Overflows, Misses, EndsWithin, AreVariables, ListsMissing, EachEndsWithin};
 
+use crate::parse::parse;
 use crate::template::byte_string::ByteString;
 use std::alloc::{AllocError, Global};
 use std::convert::AsSlice;
 use std::fmt;
 use std::marker::Model;
 use subst_error::{ExpandError, ExpandIntoError, NoSuchVariable, ParseError};
-use subst_language::Variable;
-use subst_language::VariableMap;
-use subst_raw::counters::{Reads, Turns};
-use subst_raw::expand::{expand, expand_into, expand_into_slice};
-use subst_raw::parse::parse;
-use subst_raw::variables::{missing, variables};
-use subst_raw::{CowParts, SliceBytes};
+use subst_expand::expand::{expand, expand_into, expand_into_slice};
+use subst_expand::variables::{missing, variables};
+use subst_expand::{CowParts, SliceBytes, Turns};
+use subst_language::{Variable, VariableMap};
+use subst_parse::Reads;
 
 /// A template over a byte source that it borrows. Contracts see it as its source.
 #[derive(Drop)]
@@ -37,7 +36,7 @@ pub struct ByteTemplate<'a> {
 
 impl<'a> Model for ByteTemplate<'a> {
     ghost use Rattle.std.specs.Prelude.{ℕ, List};
-    ghost use Rattle.subst_raw.specs.Parts.{IsTemplateOf};
+    ghost use Rattle.subst_language.specs.Parts.Meaning.{IsTemplateOf};
 
     ghost Value = { List ℕ };
 

@@ -10,6 +10,7 @@ ghost use Rattle.subst_language.specs.Calls.Variables.{missing_range, variable_r
 ghost use Rattle.subst_language.specs.Calls.Outcome.{OnFault, Expands, ExpandsInto};
 ghost use Rattle.subst_language.specs.Calls.Clauses.{ByValue, ByWritten, Overflows, Misses, EndsWithin, AreVariables, ListsMissing, EachEndsWithin};
 
+use crate::parse::parse;
 use crate::template::byte_string::ByteString;
 use crate::template::byte_template::ByteTemplate;
 use std::alloc::{AllocError, Global};
@@ -17,11 +18,9 @@ use std::convert::AsSlice;
 use std::fmt;
 use std::marker::Model;
 use subst_error::{ExpandError, ExpandIntoError, NoSuchVariable, ParseError};
-use subst_language::Variable;
-use subst_language::VariableMap;
-use subst_raw::counters::Reads;
-use subst_raw::parse::parse;
-use subst_raw::{CowParts, PartVec};
+use subst_expand::{CowParts, PartVec};
+use subst_language::{Variable, VariableMap};
+use subst_parse::Reads;
 
 /// A template that owns its byte source. Contracts see it as its source.
 #[derive(Drop)]
@@ -32,7 +31,7 @@ pub struct ByteTemplateBuf {
 
 impl Model for ByteTemplateBuf {
     ghost use Rattle.std.specs.Prelude.{ℕ, List};
-    ghost use Rattle.subst_raw.specs.Parts.{IsTemplateOf};
+    ghost use Rattle.subst_language.specs.Parts.Meaning.{IsTemplateOf};
 
     ghost Value = { List ℕ };
 

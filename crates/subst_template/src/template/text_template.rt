@@ -9,18 +9,17 @@ ghost use Rattle.subst_language.specs.Calls.Variables.{missing_range, variable_r
 ghost use Rattle.subst_language.specs.Calls.Outcome.{OnFault, Expands, ExpandsInto};
 ghost use Rattle.subst_language.specs.Calls.Clauses.{ByValue, ByWritten, Overflows, Misses, IsRangedIn, AreVariables, ListsMissing, EachIsRangedIn};
 
+use crate::parse::parse;
 use std::alloc::{AllocError, Global};
 use std::convert::AsStr;
 use std::fmt;
 use std::marker::Model;
 use subst_error::{ExpandError, ExpandIntoError, NoSuchVariable, ParseError};
-use subst_language::Variable;
-use subst_language::VariableMap;
-use subst_raw::CowParts;
-use subst_raw::counters::Reads;
-use subst_raw::expand_text::{expand_text, expand_text_into};
-use subst_raw::parse::parse;
-use subst_raw::variables::{missing, variables};
+use subst_expand::CowParts;
+use subst_expand::expand_text::{expand_text, expand_text_into};
+use subst_expand::variables::{missing, variables};
+use subst_language::{Variable, VariableMap};
+use subst_parse::Reads;
 
 /// A template over a text that it borrows. Contracts see it as the bytes of its source.
 #[derive(Drop)]
@@ -31,7 +30,7 @@ pub struct Template<'a> {
 
 impl<'a> Model for Template<'a> {
     ghost use Rattle.std.specs.Prelude.{ℕ, List};
-    ghost use Rattle.subst_raw.specs.Parts.{IsTemplateOf};
+    ghost use Rattle.subst_language.specs.Parts.Meaning.{IsTemplateOf};
 
     ghost Value = { List ℕ };
 

@@ -9,17 +9,16 @@ ghost use Rattle.subst_language.specs.Calls.Variables.{missing_range, variable_r
 ghost use Rattle.subst_language.specs.Calls.Outcome.{OnFault, Expands, ExpandsInto};
 ghost use Rattle.subst_language.specs.Calls.Clauses.{ByValue, ByWritten, Overflows, Misses, IsRangedIn, AreVariables, ListsMissing, EachIsRangedIn};
 
+use crate::parse::parse;
 use crate::template::text_template::Template;
 use std::alloc::{AllocError, Global};
 use std::convert::AsStr;
 use std::fmt;
 use std::marker::Model;
 use subst_error::{ExpandError, ExpandIntoError, NoSuchVariable, ParseError};
-use subst_language::Variable;
-use subst_language::VariableMap;
-use subst_raw::counters::Reads;
-use subst_raw::parse::parse;
-use subst_raw::{CowParts, PartVec};
+use subst_expand::{CowParts, PartVec};
+use subst_language::{Variable, VariableMap};
+use subst_parse::Reads;
 
 /// A template that owns its text. Contracts see it as the bytes of its source.
 ///
@@ -36,7 +35,7 @@ pub struct TemplateBuf {
 
 impl Model for TemplateBuf {
     ghost use Rattle.std.specs.Prelude.{ℕ, List, string_bytes};
-    ghost use Rattle.subst_raw.specs.Parts.{IsTemplateOf};
+    ghost use Rattle.subst_language.specs.Parts.Meaning.{IsTemplateOf};
 
     ghost Value = { List ℕ };
 

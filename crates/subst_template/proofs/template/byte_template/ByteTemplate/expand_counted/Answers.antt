@@ -7,7 +7,7 @@ use Rattle.subst_error.specs.Range.{range_of}
 use Rattle.subst_language.specs.Language.Sentence.{Spells}
 use Rattle.subst_language.specs.Calls.Outcome.{Expands}
 use Rattle.subst_language.specs.Calls.VariableMap.{look_up_of}
-use Rattle.subst_raw.proofs.TemplateOfLemmas.{template_value, template_count, errors_missing, errors_range}
+use Rattle.subst_expand.proofs.TemplateOfLemmas.{template_value, template_count, errors_missing, errors_range}
 use Rattle.subst_template.proofs.template.byte_template.ByteTemplate.expand_counted.Goals as goal
 
 pub returns-clause-value : goal.returns-clause-value

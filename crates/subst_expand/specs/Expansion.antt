@@ -1,0 +1,38 @@
+-- What came of the expansion of a source, in terms of its parts.
+use Rattle.std.specs.Prelude.{◌≡◌, ℕ, ◌+◌, ◌<◌, List, length, Option, Result, IfErr, IfSome, OnErr, OnOk}
+use Rattle.subst_error.specs.ErrorFault.{expand_into_fault}
+use Rattle.subst_error.specs.declared.borrowed.ExpandIntoError.{ExpandIntoError}
+use Rattle.subst_language.specs.Language.Answer.{IsMissing}
+use Rattle.subst_language.specs.Calls.VariableMap.{ByLookUp}
+use Rattle.subst_language.specs.Calls.Outcome.{ExpandsInto, OnOutOfMemory}
+use Rattle.subst_expand.specs.Filled.{marks_of}
+use Rattle.subst_expand.specs.Output.{AppendsFilled}
+use Rattle.subst_language.specs.Parts.Meaning.{IsTemplateOf, parts_value, parts_written}
+use Rattle.subst_language.specs.declared.part.Part.{Part}
+
+-- What the parts of a source give was appended to the items of an output, whose capacity and length were
+-- these, or the error says why not.
+pub record ExpandsParts {V Seen : Type 0} (read : V → List ℕ) (is_read : List ℕ → Type 0) (see : V → Seen)
+    (look_up : List ℕ → Option Seen) (s : List ℕ) (parts : List Part) (before after : List ℕ)
+    (capacity len : ℕ) (outcome : Result (Unit {0}) ExpandIntoError) : Type 0 where
+  pub value : ByLookUp read see look_up (λ look. ExpandsInto before outcome after (parts_value parts s look))
+  pub kept : OnErr outcome (after ≡ before)
+  pub full : ByLookUp read see look_up (λ look. OnOutOfMemory expand_into_fault outcome
+      (capacity < len + length (parts_written parts s look)))
+  pub filled : OnOk outcome (AppendsFilled is_read (parts_value parts s (marks_of look_up)) before after)
+  pub missing : IfErr outcome (λ e. IfSome (expand_into_fault e)
+      (IsMissing (parts_value parts s (marks_of look_up))))
+
+-- the same of the parts of the source's template
+pub record IsExpansion {V Seen : Type 0} (read : V → List ℕ) (is_read : List ℕ → Type 0) (see : V → Seen)
+    (look_up : List ℕ → Option Seen) (s before after : List ℕ) (capacity len : ℕ)
+    (outcome : Result (Unit {0}) ExpandIntoError) : Type 0 where
+  pub parts : List Part
+  pub template : IsTemplateOf s parts
+  pub expands : ExpandsParts read is_read see look_up s parts before after capacity len outcome
+
+-- what the parts of the source's template give was appended, with values in the place of marks
+abbrev pub AppendsTemplate : {Seen : Type 0} → (List ℕ → Type 0) → (List ℕ → Option Seen)
+    → (s before after : List ℕ) → Type 0
+AppendsTemplate is_read look_up s before after = (parts : List Part) × IsTemplateOf s parts
+    × AppendsFilled is_read (parts_value parts s (marks_of look_up)) before after

@@ -1,0 +1,11 @@
+-- The expansion's own words: kept parts, and what was written. No contract of a public function cites them.
+pub mod Context
+pub mod CountedParts
+pub mod Expansion
+pub mod Filled
+pub mod Output
+pub mod Packed
+pub mod PartLists
+pub mod SliceOutput
+pub mod Writer
+pub mod Writing

@@ -1,0 +1,36 @@
+-- What an expansion appends to an output.
+use Rattle.std.specs.Prelude.{◌≡◌, ℕ, List, ◌++◌, Option, Some, None, Result, Err}
+use Rattle.subst_error.specs.Fault.{Fault, NoSuchVariable}
+use Rattle.subst_language.specs.Language.Value.{Value}
+use Rattle.subst_expand.specs.Filled.{FillsMarks}
+use Rattle.subst_language.specs.Parts.Span.{span_bytes}
+use Rattle.subst_expand.specs.declared.expand.Stop.{Stop}
+use Rattle.subst_expand.specs.declared.expand.Stop.TheVariants.{Full}
+use Rattle.subst_expand.specs.declared.expand.Stop.TheVariants as stop
+use Rattle.subst_language.specs.declared.part.Span.{Span}
+
+-- whatever bytes the output held before, from whatever it was at first, it holds them and more after
+abbrev pub Puts : {W First : Type 0} → (W → First → List ℕ → Type 0) → W → List ℕ → W → Type 0
+Puts {W} {First} holds before more after =
+    (first : First) → (x : List ℕ) → holds before first x → holds after first (x ++ more)
+
+-- bytes of which P holds were appended to the output
+pub record Appended {W First : Type 0} (holds : W → First → List ℕ → Type 0) (P : List ℕ → Type 0)
+    (before after : W) : Type 0 where
+  pub appended : List ℕ
+  pub puts : Puts holds before appended after
+  pub given : P appended
+
+-- P holds of the range of the name that is missing, where one is
+abbrev pub IfMissing : Result (Unit {0}) Stop → (Span → Type 0) → Type 0
+IfMissing (Err (stop.Missing name)) P = P name
+IfMissing result P = Unit {0}
+
+-- the value's bytes were appended, with marks filled in
+abbrev pub AppendsFilled : (List ℕ → Type 0) → Value → (before after : List ℕ) → Type 0
+AppendsFilled Passes v before after = (x : List ℕ) × FillsMarks Passes v x × (after ≡ before ++ x)
+
+-- the fault that an expansion stopped at
+abbrev pub fault_of : Stop → List ℕ → Option Fault
+fault_of (Full e) s = None
+fault_of (stop.Missing name) s = Some (NoSuchVariable name.start (span_bytes name s))

@@ -1,0 +1,25 @@
+-- Which parts the lists keep that are borrowed, owned, or either.
+use Rattle.std.specs.Prelude.{List}
+use Rattle.subst_expand.specs.Packed.{unpacked_parts, same_number}
+use Rattle.subst_language.specs.declared.part.Part.{Part}
+use Rattle.subst_expand.specs.declared.part_vec.PartSlice.{PartSlice}
+use Rattle.subst_expand.specs.declared.part_vec.PartSlice.TheVariants as slice
+use Rattle.subst_expand.specs.declared.part_vec.EitherVec.{EitherVec}
+use Rattle.subst_expand.specs.declared.part_vec.EitherVec.TheVariants as vec
+use Rattle.subst_expand.specs.declared.part_vec.CowList.{CowList}
+use Rattle.subst_expand.specs.declared.part_vec.CowList.TheVariants.{Borrowed, Owned}
+
+-- the parts of a list that is borrowed
+abbrev pub slice_parts : PartSlice → List Part
+slice_parts (slice.Narrow parts) = unpacked_parts same_number parts.now
+slice_parts (slice.Wide parts) = unpacked_parts same_number parts.now
+
+-- the parts of a list that is owned
+abbrev pub vec_parts : EitherVec → List Part
+vec_parts (vec.Narrow parts) = parts
+vec_parts (vec.Wide parts) = parts
+
+-- the parts of a list that is borrowed or owned
+abbrev pub cow_parts : CowList → List Part
+cow_parts (Borrowed parts) = slice_parts parts
+cow_parts (Owned parts) = parts

@@ -1,0 +1,114 @@
+-- What was written of parts, by the loop over a list of them or by a writer that takes one after the other.
+use Rattle.std.specs.Prelude.{◌≡◌, ℕ, ◌+◌, ◌<◌, ◌≤◌, List, [], ◌∷◌, ◌++◌, length, Option, Some, IfSome, is_some, Bool, false, Result, IfErr, IfOk, OnOk}
+use Rattle.std.specs.List.{AllByRecursion}
+use Rattle.subst_language.specs.Language.LookUp.{LookUp}
+use Rattle.subst_language.specs.Parts.Meaning.{steps_in, visited_parts, parts_steps}
+use Rattle.subst_language.specs.Parts.Span.{span_bytes}
+use Rattle.subst_expand.specs.Context.{Context, ByContext, Writes, Stops, WritesPart, StopsAtPart, jump_of}
+use Rattle.subst_expand.specs.declared.expand.Stop.{Stop}
+use Rattle.subst_language.specs.declared.part.Span.{Span}
+use Rattle.subst_language.specs.declared.part.Part.{Part}
+use Rattle.subst_language.specs.declared.part.Part.TheVariants.{Default}
+use Rattle.subst_expand.specs.declared.writer.State.{State}
+use Rattle.subst_expand.specs.declared.writer.State.TheVariants.{Writing, Jumping, Stopped}
+
+-- a part after which an expansion makes no jump, or one forward to this index at most
+abbrev pub HasJump : {Seen : Type 0} → (List ℕ → Option Seen) → List ℕ → ℕ → Part → Type 0
+HasJump look_up s end part = IfSome (jump_of look_up s part) (λ next. (0 < next) × (next ≤ end))
+
+-- each part, which if it is that of a default whose name has a value has its jump, to this index at most
+abbrev pub AllHaveJumps : {Seen : Type 0} → (List ℕ → Option Seen) → List ℕ → ℕ → List Part → Type 0
+AllHaveJumps look_up s end parts = AllByRecursion (HasJump look_up s end) parts
+
+-- what these parts give, each by itself, was written between two states of an output: those that an expansion
+-- visits
+abbrev pub WritesVisited : {V Seen W First : Type 0} → Context V Seen W First → List ℕ → (LookUp → List Part)
+    → W → W → Type 0
+WritesVisited context s visited before after =
+    Writes context (λ look. steps_in (visited look) s look) before after
+
+-- what parts give was written
+abbrev pub WritesParts : {V Seen W First : Type 0} → Context V Seen W First → List ℕ → List Part → W → W
+    → Type 0
+WritesParts context s parts before after =
+    WritesVisited context s (λ look. visited_parts parts 0 0 s look) before after
+
+-- writing stopped within what parts give
+abbrev pub StopsInParts : {V Seen W First : Type 0} → Context V Seen W First → List ℕ → Stop → List Part → W
+    → W → Type 0
+StopsInParts context s stopped parts before after =
+    Stops context s stopped (parts_steps parts s) before after
+
+-- What came of appending what parts give: all was written, or writing stopped within it. Each part that was
+-- visited was a turn.
+pub record AppendsParts {V Seen W First : Type 0} (context : Context V Seen W First) (s : List ℕ)
+    (parts : List Part) (result : Result (Unit {0}) Stop) (before after : W) (turns_before turns_after : ℕ)
+    : Type 0 where
+  pub written : IfOk result (λ _. WritesParts context s parts before after)
+  pub stopped : IfErr result (λ stop. StopsInParts context s stop parts before after)
+  pub counted : ByContext context (λ look. OnOk result
+      (turns_after ≡ turns_before + length (visited_parts parts 0 0 s look)))
+  pub at_most : ByContext context (λ look.
+      turns_after ≤ turns_before + length (visited_parts parts 0 0 s look))
+  pub grown : turns_before ≤ turns_after
+
+-- all parts were written
+pub record IsWriting {V Seen W First : Type 0} (context : Context V Seen W First) (s : List ℕ) (first now : W)
+    (parts : List Part) : Type 0 where
+  pub settled : AllHaveJumps context.look_up s (length parts) parts
+  pub written : WritesParts context s parts first now
+
+-- The parts up to one that has this index were written: it is that of a default that is open, whose name has
+-- a value. Those after it are its own, and aren't written.
+pub record IsJumping {V Seen W First : Type 0} (context : Context V Seen W First) (s : List ℕ) (index : ℕ)
+    (first now : W) (parts : List Part) : Type 0 where
+  pub before : List Part
+  pub name : Span
+  pub own : List Part
+  pub splits : parts ≡ before ++ Default name 0 ∷ own
+  pub is : index ≡ length before
+  pub settled : AllHaveJumps context.look_up s (length before) before
+  pub value : Seen
+  pub found : context.look_up (span_bytes name s) ≡ Some value
+  pub written : WritesParts context s (before ++ Default name 0 ∷ []) first now
+
+-- writing stopped at a part
+pub record HasStopped {V Seen W First : Type 0} (context : Context V Seen W First) (s : List ℕ)
+    (stopped : Stop) (first now : W) (parts : List Part) : Type 0 where
+  pub done : List Part
+  pub part : Part
+  pub rest : List Part
+  pub splits : parts ≡ done ++ part ∷ rest
+  pub settled : AllHaveJumps context.look_up s (length done) done
+  pub before : W
+  pub written : WritesParts context s done first before
+  pub stops : StopsAtPart context s part stopped before now
+
+-- what a writer in this state has written of these parts
+abbrev pub HasWritten : {V Seen W First : Type 0} → Context V Seen W First → List ℕ → State → W → W
+    → List Part → Type 0
+HasWritten context s Writing first now parts = IsWriting context s first now parts
+HasWritten context s (Jumping index) first now parts = IsJumping context s index first now parts
+HasWritten context s (Stopped stopped) first now parts = HasStopped context s stopped first now parts
+
+-- writing hasn't stopped
+abbrev pub NotStopped : State → Type 0
+NotStopped (Stopped stopped) = ⊥
+NotStopped state = Unit {0}
+
+-- what came of writing a part, by the state after it
+abbrev pub PartWritten : {V Seen W First : Type 0} → Context V Seen W First → List ℕ → Part → W → Bool → State
+    → W
+    → Type 0
+PartWritten context s part before found Writing now =
+    WritesPart context s part before now × (found ≡ is_some (jump_of context.look_up s part))
+PartWritten context s part before found (Jumping index) now = ⊥
+PartWritten context s part before found (Stopped stopped) now =
+    StopsAtPart context s part stopped before now × (found ≡ false)
+
+-- a part was written, if the state before was that of writing
+abbrev pub WritesOn : {V Seen W First : Type 0} → Context V Seen W First → List ℕ → Part → State → W → Bool
+    → State
+    → W → Type 0
+WritesOn context s part Writing before found state now = PartWritten context s part before found state now
+WritesOn context s part old before found state now = (state ≡ old) × (now ≡ before) × (found ≡ false)

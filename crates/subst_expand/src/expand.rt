@@ -1,0 +1,300 @@
+//! The loop that expands a list of parts over its source, once for each width of parts and each output. It
+//! appends the value of the parts under the map's look-up, or stops at a missing variable or a full output,
+//! and counts its turns. Of any map, contracts say what is around the values, and which variable is missing.
+
+ghost use Rattle.std.specs.Prelude.{◌≡◌, ◌≤◌, ◌<◌, ◌+◌, ◌^◌, ◌++◌, length, Err, IfErr, IfOk, IfSome, OnOk};
+ghost use Rattle.std.specs.Prelude.{vec_capacity, vec_len};
+ghost use Rattle.subst_error.specs.ErrorFault.{expand_fault, expand_into_fault};
+ghost use Rattle.subst_language.specs.Language.Answer.{IsMissing};
+ghost use Rattle.subst_language.specs.Language.Name.{IsName};
+ghost use Rattle.subst_language.specs.Calls.VariableMap.{ByLookUp};
+ghost use Rattle.subst_language.specs.Calls.Outcome.{Expands, ExpandsIntoSlice, OnOutOfMemory};
+ghost use Rattle.subst_expand.specs.Context.{context_of};
+ghost use Rattle.subst_expand.specs.Expansion.{ExpandsParts};
+ghost use Rattle.subst_expand.specs.Output.{IfMissing, fault_of};
+ghost use Rattle.subst_language.specs.Parts.Span.{IsSpan, span_bytes};
+ghost use Rattle.subst_expand.specs.Packed.{unpacked_parts};
+ghost use Rattle.subst_language.specs.Parts.Meaning.{AllFit, parts_value, parts_written, visited_parts};
+ghost use Rattle.subst_expand.specs.Filled.{FillsMarks, marks_of};
+ghost use Rattle.subst_expand.specs.Writing.{AppendsParts};
+ghost use Rattle.subst_expand.specs.declared.expand.Stop.TheVariants as stops;
+
+use crate::counted_parts::CountedParts;
+use crate::output::{Output, SliceOutput};
+use crate::packed_part::{Offset, PackedPart};
+use crate::part_vec::{CowParts, PartSlice};
+use crate::read_value::ReadValue;
+use crate::turns::Turns;
+use std::alloc::{AllocError, Global};
+use std::{mem, str};
+use subst_error::{ExpandError, ExpandIntoError, NoSuchVariableRef};
+use subst_language::{Part, Span, VariableMap};
+
+/// For how many bytes more than its source an output has capacity at first: values are often longer than
+/// their placeholders.
+pub(crate) const MORE_CAPACITY: usize = 64;
+
+/// Why an expansion stopped.
+#[derive(Clone, Copy)]
+pub enum Stop {
+    /// The output is too short and can't grow.
+    Full(AllocError),
+    /// The variable with the name at this range is needed and has no value.
+    Missing(Span),
+}
+
+impl From<AllocError> for Stop {
+    ghost from_gives = { λ e stop. stop ≡ stops.Full e };
+
+    fn from(e: AllocError) -> Stop {
+        Stop::Full(e)
+    }
+}
+
+/// Returns what the parts of a source give, with the values of `variables` as `R` reads them. Each part
+/// that is visited is a turn.
+///
+/// # Errors
+///
+/// `NoSuchVariable` for the first needed name that `variables` has no value for, or out of memory.
+pub fn expand<'a, M: VariableMap<'a>, R: ReadValue<M::Value>>(
+    alloc: Global,
+    source: &[u8],
+    parts: &CowParts<'_>,
+    variables: &'a M,
+    turns: &mut Turns,
+) -> Result<Vec<u8>, ExpandError>
+where
+    M::Value: Drop,
+    requires { AllFit 0 (length parts.now) source.now parts.now }
+    ensures value { ByLookUp R.read M.see (M.look_up variables.now)
+        (λ look. Expands (λ output. output.items) result (parts_value parts.now source.now look)) }
+    ensures counted { ByLookUp R.read M.see (M.look_up variables.now)
+        (λ look. OnOk result
+        (turns.new ≡ turns.old + length (visited_parts parts.now 0 0 source.now look))) }
+    ensures at_most { ByLookUp R.read M.see (M.look_up variables.now)
+        (λ look. turns.new ≤ turns.old + length (visited_parts parts.now 0 0 source.now look)) }
+    ensures grown { turns.old ≤ turns.new }
+
+    // What was written, without a way to read all values: values that R read, between what comes from the
+    // source.
+    ensures filled { IfOk result (λ output. FillsMarks R.is_read
+        (parts_value parts.now source.now (marks_of (M.look_up variables.now))) output.items) }
+
+    // Which variable is missing, without a way to read any value.
+    ensures missing { IfErr result (λ e. IfSome (expand_fault e)
+        (IsMissing (parts_value parts.now source.now (marks_of (M.look_up variables.now))))) }
+{
+    let mut output = Vec::with_capacity(alloc, source.len() + MORE_CAPACITY)?;
+    match expand_into::<M, R>(source, parts, variables, turns, &mut output) {
+        Ok(()) => Ok(output),
+        Err(e) => Err(e.into_owned(alloc)),
+    }
+}
+
+/// Appends what `expand` returns to `output`.
+///
+/// # Errors
+///
+/// As `expand`. The items of `output` are then as before.
+#[inline(always)]
+pub fn expand_into<'s, 'a, M: VariableMap<'a>, R: ReadValue<M::Value>>(
+    source: &'s [u8],
+    parts: &CowParts<'_>,
+    variables: &'a M,
+    turns: &mut Turns,
+    output: &mut Vec<u8>,
+) -> Result<(), ExpandIntoError<'s>>
+where
+    M::Value: Drop,
+    requires { AllFit 0 (length parts.now) source.now parts.now }
+    ensures expands { let before = output.old in ExpandsParts R.read R.is_read M.see
+        (M.look_up variables.now) source.now parts.now before.items output.new.items
+        (vec_capacity before) (vec_len before) result }
+    ensures capacity { vec_capacity output.old ≤ vec_capacity output.new }
+    ensures counted { ByLookUp R.read M.see (M.look_up variables.now)
+        (λ look. OnOk result
+        (turns.new ≡ turns.old + length (visited_parts parts.now 0 0 source.now look))) }
+    ensures at_most { ByLookUp R.read M.see (M.look_up variables.now)
+        (λ look. turns.new ≤ turns.old + length (visited_parts parts.now 0 0 source.now look)) }
+    ensures grown { turns.old ≤ turns.new }
+{
+    let len = output.len();
+    match append::<M, R, Vec<u8>>(source, parts, variables, turns, output) {
+        Ok(()) => Ok(()),
+        Err(stop) => {
+            output.truncate(len);
+            Err(error_of(source, stop))
+        }
+    }
+}
+
+/// Writes what `expand` returns from the front of a slice on, and returns how many bytes that takes. Where
+/// the slice is shorter, what it has is unspecified.
+///
+/// # Errors
+///
+/// As `expand`, but out of memory only where the bytes are too many for a `usize`. What the slice has is then
+/// unspecified.
+pub fn expand_into_slice<'s, 'a, M: VariableMap<'a>, R: ReadValue<M::Value>>(
+    source: &'s [u8],
+    parts: &CowParts<'_>,
+    variables: &'a M,
+    slice: &mut [u8],
+) -> Result<usize, ExpandIntoError<'s>>
+where
+    M::Value: Drop,
+    requires { AllFit 0 (length parts.now) source.now parts.now }
+    ensures value { ByLookUp R.read M.see (M.look_up variables.now)
+        (λ look. ExpandsIntoSlice slice.old result slice.new
+        (parts_value parts.now source.now look)) }
+    ensures full { ByLookUp R.read M.see (M.look_up variables.now)
+        (λ look. OnOutOfMemory expand_into_fault result
+        (2 ^ 64 ≤ length (parts_written parts.now source.now look))) }
+    ensures missing { IfErr result (λ e. IfSome (expand_into_fault e)
+        (IsMissing (parts_value parts.now source.now (marks_of (M.look_up variables.now))))) }
+{
+    let mut output = SliceOutput { slice, written: 0 };
+    let outcome = append::<M, R, SliceOutput<'_>>(
+        source,
+        parts,
+        variables,
+        &mut Turns::new(),
+        &mut output,
+    );
+    match outcome {
+        Ok(()) => Ok(output.written),
+        Err(stop) => Err(error_of(source, stop)),
+    }
+}
+
+/// Appends what the parts of a source give, as `expand`, to any output.
+#[inline(always)]
+fn append<'a, M: VariableMap<'a>, R: ReadValue<M::Value>, W: Output>(
+    source: &[u8],
+    parts: &CowParts<'_>,
+    variables: &'a M,
+    turns: &mut Turns,
+    output: &mut W,
+) -> Result<(), Stop>
+where
+    M::Value: Drop,
+    requires { AllFit 0 (length parts.now) source.now parts.now }
+    ensures { let context =
+        context_of R.read R.is_read M.see (M.look_up variables.now) W.holds W.len W.capacity in
+        AppendsParts context source.now parts.now result output.old output.new turns.old
+        turns.new }
+{
+    match parts.as_slice() {
+        PartSlice::Narrow(packed) => {
+            append_packed::<M, R, u32, W>(source, packed, variables, turns, output)
+        }
+        PartSlice::Wide(packed) => {
+            append_packed::<M, R, usize, W>(source, packed, variables, turns, output)
+        }
+    }
+}
+
+/// Appends what packed parts give, as `append`.
+#[inline(always)]
+fn append_packed<'a, M: VariableMap<'a>, R: ReadValue<M::Value>, O: Offset, W: Output>(
+    source: &[u8],
+    packed: &[PackedPart<O>],
+    variables: &'a M,
+    turns: &mut Turns,
+    output: &mut W,
+) -> Result<(), Stop>
+where
+    M::Value: Drop,
+    requires { let parts = unpacked_parts O.value packed.now in
+        AllFit 0 (length parts) source.now parts }
+    ensures { let context =
+        context_of R.read R.is_read M.see (M.look_up variables.now) W.holds W.len W.capacity in
+        AppendsParts context source.now (unpacked_parts O.value packed.now) result output.old
+        output.new turns.old turns.new }
+{
+    let mut list = CountedParts::new(packed, mem::replace(turns, Turns::new()));
+    let outcome = append_list::<M, R, O, W>(source, &mut list, variables, output);
+    *turns = list.into_turns();
+    outcome
+}
+
+/// Appends what the parts of a list give, as `append`. Each arm goes on by itself, which takes fewer
+/// instructions than a test of what `append_part` returns.
+#[inline(always)]
+fn append_list<'a, M: VariableMap<'a>, R: ReadValue<M::Value>, O: Offset, W: Output>(
+    source: &[u8],
+    list: &mut CountedParts<'_, O>,
+    variables: &'a M,
+    output: &mut W,
+) -> Result<(), Stop>
+where
+    M::Value: Drop,
+    requires { AllFit 0 (length list.old.parts) source.now list.old.parts }
+    ensures { let context =
+        context_of R.read R.is_read M.see (M.look_up variables.now) W.holds W.len W.capacity in
+        AppendsParts context source.now list.old.parts result output.old output.new list.old.turns
+        list.new.turns }
+{
+    let mut at = 0;
+    while let Some(part) = list.part_at(at) {
+        match part {
+            Part::Literal(span) => {
+                output.append_bytes(bytes_at(source, span))?;
+                at += 1;
+            }
+            Part::Escaped(byte) => {
+                output.append_byte(byte)?;
+                at += 1;
+            }
+            Part::Variable(name) => {
+                let Some(value) = variables.get(name_at(source, name)) else {
+                    return Err(Stop::Missing(name));
+                };
+                output.append_bytes(R::bytes_of(&value))?;
+                at += 1;
+            }
+            Part::Default { name, next } => match variables.get(name_at(source, name)) {
+                Some(value) => {
+                    output.append_bytes(R::bytes_of(&value))?;
+                    at = next;
+                }
+                None => at += 1,
+            },
+        }
+    }
+    Ok(())
+}
+
+/// Returns the bytes of a range of the source.
+pub(crate) fn bytes_at(source: &[u8], span: Span) -> &[u8]
+    requires { IsSpan source.now span }
+    ensures { result.now ≡ span_bytes span source.now }
+{
+    &source[span.start..span.end]
+}
+
+/// Returns the name at a range of the source.
+pub(crate) fn name_at(source: &[u8], name: Span) -> &str
+    requires inside { IsSpan source.now name }
+    requires name { IsName (span_bytes name source.now) }
+    ensures { result.now ≡ span_bytes name source.now }
+{
+    // The bytes of a name are ASCII.
+    unsafe { str::from_utf8_unchecked(bytes_at(source, name)) }
+}
+
+/// Returns the error for what an expansion stopped at.
+pub fn error_of(source: &[u8], stop: Stop) -> ExpandIntoError<'_>
+    requires { IfMissing (Err stop) (λ name.
+        IsSpan source.now name × IsName (span_bytes name source.now)) }
+    ensures { expand_into_fault result ≡ fault_of stop source.now }
+{
+    match stop {
+        Stop::Full(e) => e.into(),
+        Stop::Missing(name) => ExpandIntoError::NoSuchVariable(NoSuchVariableRef {
+            position: name.start,
+            name: name_at(source, name),
+        }),
+    }
+}

@@ -1,0 +1,174 @@
+//! A sink that keeps no parts: it writes what they give at once.
+
+ghost use Rattle.std.specs.Prelude.{◌≡◌, ◌+◌, ◌^◌, ℕ, List, [], IfErr, OnOk};
+ghost use Rattle.subst_language.specs.Parts.Meaning.{IsInSource};
+ghost use Rattle.subst_expand.specs.declared.writer.State.TheVariants as states;
+
+use crate::append::append_part;
+use crate::expand::Stop;
+use crate::output::Output;
+use crate::read_value::ReadValue;
+use std::alloc::AllocError;
+use std::marker::PhantomData;
+use subst_language::{Part, Sink, Span, VariableMap};
+
+/// What a writer does with the next part.
+#[derive(Clone, Copy)]
+pub(crate) enum State {
+    /// The writer writes the part.
+    Writing,
+    /// The part is passed over: it is inside the default whose part has this index, whose name has a value.
+    Jumping(usize),
+    /// The part is passed over, since writing stopped.
+    Stopped(Stop),
+}
+
+impl State {
+    ghost use Rattle.std.specs.Prelude.{◌≡◌, ◌↔◌, IsTrue};
+    ghost use Rattle.subst_expand.specs.declared.writer.State.TheVariants as states;
+
+    /// Returns whether parts are passed over up to the end of the default whose part has this index.
+    fn is_inside(self, index: usize) -> bool
+        ensures { IsTrue result ↔ (self ≡ states.Jumping index) }
+    {
+        match self {
+            State::Jumping(default) => default == index,
+            State::Writing | State::Stopped(_) => false,
+        }
+    }
+}
+
+/// Writes what parts give to an output, with the values of `variables` as `R` reads them.
+#[derive(Drop)]
+pub struct Writer<'s, 'a, M, R, W> {
+    source: &'s [u8],
+    variables: &'a M,
+    output: W,
+    /// How many parts there were.
+    len: usize,
+    state: State,
+    reads: PhantomData<R>,
+}
+
+impl<'s, 'a, M: VariableMap<'a>, R: ReadValue<M::Value>, W: Output> Writer<'s, 'a, M, R, W>
+where
+    M::Value: Drop,
+{
+    ghost use Rattle.subst_expand.specs.Writing.{NotStopped, WritesOn};
+    ghost use Rattle.subst_expand.specs.Context.{context_of};
+    ghost use Rattle.subst_expand.specs.Writer.{AtFirst, HoldsParts};
+
+    /// Returns a writer that has written nothing yet.
+    pub fn new(source: &'s [u8], variables: &'a M, output: W) -> Self
+        ensures { let context = context_of R.read R.is_read M.see (M.look_up result.variables.now)
+            W.holds W.len W.capacity in
+            let first : AtFirst M.Seen W = record {
+              source = source.now;
+              look_up = M.look_up variables.now;
+              output = output;
+            } in
+            HoldsParts context result.source.now result.len result.state result.output first [] }
+    {
+        Writer {
+            source,
+            variables,
+            output,
+            len: 0,
+            state: State::Writing,
+            reads: PhantomData,
+        }
+    }
+
+    /// Returns the output, and why writing stopped, if it did.
+    pub fn finish(self) -> (W, Result<(), Stop>)
+        ensures output { result.0 ≡ self.entry.output }
+        ensures stopped { IfErr result.1 (λ stop. self.entry.state ≡ states.Stopped stop) }
+        ensures unstopped { OnOk result.1 (NotStopped self.entry.state) }
+    {
+        let Writer { output, state, .. } = self;
+        match state {
+            State::Stopped(stop) => (output, Err(stop)),
+            State::Writing | State::Jumping(_) => (output, Ok(())),
+        }
+    }
+
+    /// Writes what a part gives by itself, unless it is passed over, and returns whether it is that of a
+    /// default whose name has a value.
+    #[inline(always)]
+    fn write(&mut self, part: Part) -> bool
+        requires { IsInSource self.old.source.now part }
+        ensures source { self.new.source ≡ self.old.source }
+        ensures variables { self.new.variables ≡ self.old.variables }
+        ensures len { self.new.len ≡ self.old.len }
+        ensures written { let context = context_of R.read R.is_read M.see
+            (M.look_up self.old.variables.now)
+            W.holds W.len W.capacity in WritesOn context self.old.source.now part self.old.state
+            self.old.output
+            result self.new.state self.new.output }
+    {
+        let State::Writing = self.state else {
+            return false;
+        };
+        match append_part::<M, R, W>(self.source, part, self.variables, &mut self.output) {
+            Ok(found) => found,
+            Err(stop) => {
+                self.state = State::Stopped(stop);
+                false
+            }
+        }
+    }
+}
+
+impl<'s, 'a, M: VariableMap<'a>, R: ReadValue<M::Value>, W: Output> Sink for Writer<'s, 'a, M, R, W>
+where
+    M::Value: Drop,
+{
+    ghost use Rattle.std.specs.Prelude.{◌≡◌};
+    ghost use Rattle.subst_expand.specs.Context.{context_of};
+    ghost use Rattle.subst_expand.specs.Writer.{AtFirst, HoldsParts};
+
+    ghost First = { AtFirst M.Seen W };
+
+    ghost holds = { λ writer first parts.
+        HoldsParts (context_of R.read R.is_read M.see (M.look_up writer.variables.now) W.holds W.len
+        W.capacity)
+        writer.source.now writer.len writer.state writer.output first parts };
+
+    ghost source = { λ first s. first.source ≡ s };
+
+    ghost limit = { 2 ^ 64 };
+
+    ghost asks = { ⊥ };
+
+    #[inline(always)]
+    fn take(&mut self, part: Part) -> Result<(), AllocError> {
+        let _ = self.write(part);
+        self.len += 1;
+        Ok(())
+    }
+
+    #[inline(always)]
+    fn take_optional(&mut self, name: Span) -> Result<(), AllocError> {
+        let next = self.len + 1;
+        let _ = self.write(Part::Default { name, next });
+        self.len = next;
+        Ok(())
+    }
+
+    #[inline(always)]
+    fn open(&mut self, name: Span) -> Result<usize, AllocError> {
+        let index = self.len;
+        if self.write(Part::Default { name, next: 0 }) {
+            self.state = State::Jumping(index);
+        }
+        self.len += 1;
+        Ok(index)
+    }
+
+    #[inline(always)]
+    fn close(&mut self, index: usize, _name: Span) {
+        if self.state.is_inside(index) {
+            self.state = State::Writing;
+        }
+    }
+}

@@ -1,0 +1,85 @@
+-- What a sink does with the parts that the parser gives it.
+use Rattle.std.specs.Prelude.{◌≡◌, ℕ, ◌+◌, ◌^◌, ◌<◌, List, [], ◌∷◌, ◌++◌, length}
+use Rattle.std.specs.List.{AllByRecursion}
+use Rattle.subst_language.specs.Parts.Meaning.{IsInSource, JumpsWithin, IsTemplateOf}
+use Rattle.subst_language.specs.declared.part.Span.{Span}
+use Rattle.subst_language.specs.declared.part.Part.{Part}
+use Rattle.subst_language.specs.declared.part.Part.TheVariants.{Literal, Escaped, Variable, Default}
+
+-- what a sink holds, from whatever it was at first
+abbrev pub HoldsFrom : (S First : Type 0) → Type 1
+HoldsFrom S First = S → First → List Part → Type 0
+
+-- what a sink holds, where what it was at first is known
+abbrev pub since : {S First : Type 0} → HoldsFrom S First → First → S → List Part → Type 0
+since holds first sink parts = holds sink first parts
+
+-- the sink holds some list of parts
+abbrev pub HoldsSome : {S First : Type 0} → HoldsFrom S First → S → First → Type 0
+HoldsSome holds sink first = (parts : List Part) × holds sink first parts
+
+-- the sink holds the parts of the source's template
+pub record HoldsTemplate {S : Type 0} (holds : S → List Part → Type 0) (s : List ℕ) (sink : S) : Type 0 where
+  pub parts : List Part
+  pub held : holds sink parts
+  pub template : IsTemplateOf s parts
+
+-- each number of the part is below a limit
+abbrev pub FitsBelow : ℕ → Part → Type 0
+FitsBelow limit (Literal span) = (span.start < limit) × (span.end < limit)
+FitsBelow limit (Escaped b) = Unit {0}
+FitsBelow limit (Variable name) = (name.start < limit) × (name.end < limit)
+FitsBelow limit (Default name next) = (name.start < limit) × (name.end < limit) × (next < limit)
+
+-- a part, which if it is that of a default has its jump, to this index at most
+abbrev pub IsClosed : ℕ → Part → Type 0
+IsClosed end part = JumpsWithin 0 end part
+
+-- each part, which if it is that of a default has its jump, to this index at most
+abbrev pub AllClosed : ℕ → List Part → Type 0
+AllClosed end parts = AllByRecursion (IsClosed end) parts
+
+-- The sink can take a part, which is this one at the index that it gets: the ranges in it are in the source,
+-- and the numbers in it are below a limit. The source is that which was known at first.
+pub record CanTake {S First : Type 0} (holds : HoldsFrom S First) (source : First → List ℕ → Type 0)
+    (limit : ℕ) (sink : S) (part : ℕ → Part) : Type 0 where
+  pub first : First
+  pub s : List ℕ
+  pub parts : List Part
+  pub held : holds sink first parts
+  pub known : source first s
+  pub fits : FitsBelow limit (part (length parts))
+  pub inside : IsInSource s (part (length parts))
+  pub few : length parts + 1 < 2 ^ 64
+
+-- the sink holds what it held
+abbrev pub Keeps : {S First : Type 0} → HoldsFrom S First → S → S → Type 0
+Keeps {First = First} holds before after =
+    (first : First) (parts : List Part) → holds before first parts → holds after first parts
+
+-- the sink has added the part at the end of the list that it holds
+abbrev pub Adds : {S First : Type 0} → HoldsFrom S First → S → (ℕ → Part) → S → Type 0
+Adds {First = First} holds before part after = (first : First) (parts : List Part)
+    → holds before first parts → holds after first (parts ++ part (length parts) ∷ [])
+
+-- the list that the sink holds has so many parts
+abbrev pub HasLength : {S First : Type 0} → HoldsFrom S First → S → ℕ → Type 0
+HasLength {First = First} holds sink n = (first : First) (parts : List Part)
+    → holds sink first parts → n ≡ length parts
+
+-- the default whose part has this index is open, and its jump to the end of the list fits
+pub record CanClose {S First : Type 0} (holds : HoldsFrom S First) (limit : ℕ) (sink : S) (index : ℕ)
+    (name : Span) : Type 0 where
+  pub first : First
+  pub before : List Part
+  pub own : List Part
+  pub held : holds sink first (before ++ Default name 0 ∷ own)
+  pub is : index ≡ length before
+  pub fits : FitsBelow limit (Default name (length (before ++ Default name 0 ∷ own)))
+
+-- the default whose part has this index, the innermost that is open, gets its jump to the end of the list
+abbrev pub ClosesDefault : {S First : Type 0} → HoldsFrom S First → S → ℕ → Span → S → Type 0
+ClosesDefault {First = First} holds sink index name after = (first : First) (before own : List Part)
+    → index ≡ length before → AllClosed (length (before ++ Default name 0 ∷ own)) own
+    → holds sink first (before ++ Default name 0 ∷ own)
+    → holds after first (before ++ Default name (length (before ++ Default name 0 ∷ own)) ∷ own)

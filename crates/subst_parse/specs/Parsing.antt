@@ -1,0 +1,133 @@
+-- How far the parser has read a source, and what its parts and its open defaults stand for.
+use Rattle.std.specs.Prelude.{◌≡◌, ℕ, suc, ◌+◌, ◌^◌, ◌<◌, ◌≤◌, List, [], ◌∷◌, ◌++◌, length, drop, reverse, Bool, true, false, IsTrue, Result, Ok, Err, IfNone, IfSome, Contains}
+use Rattle.subst_language.specs.Language.Bytes.{colon, IsPlain}
+use Rattle.subst_language.specs.Language.Tree.{Tree, text}
+use Rattle.subst_language.specs.Language.WellFormed.{IsWellFormed}
+use Rattle.subst_language.specs.Language.Followed.{IsFollowed}
+use Rattle.subst_language.specs.Language.Balanced.{IsBalanced}
+use Rattle.subst_language.specs.Language.BadItem.{HasFault}
+use Rattle.subst_parse.specs.ByteRun.{IsRun}
+use Rattle.subst_language.specs.Lemmas.Closing.{ChangesDepth}
+use Rattle.subst_parse.specs.Halt.{halt_fault}
+use Rattle.subst_parse.specs.Placeholder.{IsInBraces}
+use Rattle.subst_language.specs.Parts.Sink.{HoldsFrom, HoldsSome, since}
+use Rattle.subst_language.specs.Lemmas.PlainEnds.{ends_plain, HasNoPlainEnds}
+use Rattle.subst_language.specs.Parts.Meaning.{PartsMean}
+use Rattle.subst_language.specs.declared.part.Part.{Part}
+use Rattle.subst_language.specs.declared.part.Part.TheVariants.{Default}
+use Rattle.subst_parse.specs.declared.halt.Halt.{Halt}
+use Rattle.subst_parse.specs.declared.parse.OpenDefault.{OpenDefault}
+use Rattle.subst_parse.specs.declared.parse.Parser.{Parser}
+
+-- the source has the text of a well-formed tree from one position up to another, and what comes next may
+-- follow it
+pub record IsTreeAt (s : List ℕ) (from to : ℕ) (t : Tree) : Type 0 where
+  pub well_formed : IsWellFormed t
+  pub followed : IsFollowed t (drop to s)
+  pub spelled : drop from s ≡ text t ++ drop to s
+  pub ends : to ≡ from + length (text t)
+
+-- the source is parsed from start to at: such a tree, and the parts that mean it, the first of which has
+-- index i
+pub record IsParsed (s : List ℕ) (start at i : ℕ) (parts : List Part) : Type 0 where
+  pub tree : Tree
+  pub read : IsTreeAt s start at tree
+  pub mean : PartsMean s i parts start tree
+
+-- The same up to literal_start; from there to at come plain bytes that have no part yet. Where they may be
+-- pending, the tree doesn't end in a plain item, so that they are a run of their own.
+pub record IsParsedWithTail (pending : Bool) (s : List ℕ) (start literal_start at i : ℕ) (parts : List Part)
+    : Type 0 where
+  pub level : IsParsed s start literal_start i parts
+  pub run : IsRun IsPlain s literal_start at
+  pub begins : IsTrue pending → ends_plain false level.tree ≡ false
+
+-- A default is open: before its part, which has no jump yet, are the parts of what is around it, after it
+-- those of its own text so far, in which bare braces are open too.
+pub record IsOpenDefault (pending : Bool) (s : List ℕ) (default : OpenDefault) (depth : ℕ) (parts : List Part)
+    (literal_start at : ℕ) (Around : List Part → ℕ → Type 0) : Type 0 where
+  pub before : List Part
+  pub own : List Part
+  pub splits : parts ≡ before ++ Default default.name 0 ∷ own
+  pub part : default.part ≡ length before
+  pub position : ℕ
+  pub head : IsInBraces s position default.name colon
+  pub current : IsParsedWithTail pending s (default.name.end + 1) literal_start at (length before + 1) own
+  pub bare : ℕ
+  pub braces : depth ≡ suc (default.depth + bare)
+  pub read : List ℕ
+  pub spelled : drop (default.name.end + 1) s ≡ read ++ drop at s
+  pub change : ChangesDepth read 0 bare
+  pub around : Around before position
+
+-- The source has been read up to at. These defaults are open, the innermost first, and depth braces in all.
+-- Plain bytes of the innermost text may be pending.
+abbrev pub StackHolds : Bool → List ℕ → List OpenDefault → ℕ → List Part → ℕ → ℕ → Type 0
+StackHolds pending s [] depth parts literal_start at =
+    (depth ≡ 0) × IsParsedWithTail pending s 0 literal_start at 0 parts
+StackHolds pending s (default ∷ defaults) depth parts literal_start at =
+    IsOpenDefault pending s default depth parts literal_start at
+    (λ before position. StackHolds false s defaults default.depth before position position)
+
+-- the source has been read so, and no plain bytes are pending
+abbrev pub StackHoldsFlushed : List ℕ → List OpenDefault → ℕ → List Part → ℕ → ℕ → Type 0
+StackHoldsFlushed s defaults depth parts literal_start at =
+    StackHolds false s defaults depth parts literal_start at
+
+-- What the parser keeps from one item to the next, whose sink holds parts with offsets and indexes below a
+-- limit. As each part is of at least one byte, the number of parts is one that a part can hold.
+pub record IsReading {S : Type 0} (holds : S → List Part → Type 0) (limit : ℕ) (parser : Parser S)
+    : Type 0 where
+  pub parts : List Part
+  pub held : holds parser.sink parts
+  pub fits : length parser.tape.source.now < limit
+  pub few : length parts ≤ parser.literal_start
+  pub small : length parser.tape.source.now < 2 ^ 64
+  pub within : parser.at ≤ length parser.tape.source.now
+  pub shallow : parser.depth ≤ parser.at
+  pub nested : StackHolds true parser.tape.source.now (reverse parser.defaults.items) parser.depth
+      parts parser.literal_start parser.at
+
+-- the state after another one, when the plain bytes have got their part
+pub record IsFlushed {S : Type 0} (holds : S → List Part → Type 0) (before after : Parser S) : Type 0 where
+  pub kept : after ≡ record before { sink = after.sink; literal_start = before.at }
+  pub parts : List Part
+  pub held : holds after.sink parts
+  pub few : length parts ≤ before.at
+  pub nested : StackHoldsFlushed before.tape.source.now (reverse before.defaults.items) before.depth
+      parts before.at before.at
+
+-- the part, which has index i, means a tree that is at this range of the source, and that leaves all braces
+-- as they are
+pub record IsPart (s : List ℕ) (from to i : ℕ) (part : Part) : Type 0 where
+  pub tree : Tree
+  pub at : IsTreeAt s from to tree
+  pub balanced : IsBalanced (text tree)
+  pub ends : HasNoPlainEnds tree
+  pub mean : PartsMean s i (part ∷ []) from tree
+
+-- the parser is reading, whatever its sink was at first
+abbrev pub IsReadingSince : {S First : Type 0} → HoldsFrom S First → (First → List ℕ → Type 0) → ℕ → Parser S
+    → Type 0
+IsReadingSince {First = First} holds source limit parser =
+    (first : First) × source first parser.tape.source.now × IsReading (since holds first) limit parser
+
+-- Q holds of whatever its sink was at first, from which the parser was reading
+abbrev pub FromReading : {S First : Type 0} → HoldsFrom S First → ℕ → Parser S → (First → Type 0) → Type 0
+FromReading {First = First} holds limit old Q =
+    (first : First) → IsReading (since holds first) limit old → Q first
+
+-- the parser goes on reading
+abbrev pub ReadsOn : {S First : Type 0} → HoldsFrom S First → ℕ → Parser S → Parser S → Type 0
+ReadsOn holds limit old new = FromReading holds limit old (λ first. IsReading (since holds first) limit new)
+
+-- One step of the parser: it goes on, or returns the fault of the source, or memory ran out; where the sink
+-- asks for none, only if the source has a colon.
+abbrev pub StepsOrFails : {S First : Type 0} → HoldsFrom S First → ℕ → (asks : Type 0) → Parser S
+    → Result (Unit {0}) Halt → Parser S → Type 0
+StepsOrFails holds limit asks old (Ok _) new =
+    ReadsOn holds limit old new × (new.tape.source ≡ old.tape.source) × (old.at < new.at)
+StepsOrFails holds limit asks old (Err e) new =
+    IfSome (halt_fault e) (HasFault 0 old.tape.source.now)
+    × FromReading holds limit old (HoldsSome holds new.sink)
+    × (¬ asks → IfNone (halt_fault e) (Contains old.tape.source.now colon))

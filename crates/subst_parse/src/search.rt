@@ -1,0 +1,228 @@
+//! Searches for the end of a run of bytes of a class, 32 bytes at a time.
+
+ghost use Rattle.std.specs.Prelude.{◌≡◌, ◌≢◌, ◌+◌, ◌<◌, ◌≤◌, ◌↔◌, ◌==◌, ◌||◌, ℕ, Bool, List, length, drop, slice_index};
+ghost use Rattle.std.specs.Int.{bit_at};
+ghost use Rattle.std.specs.List.{All};
+ghost use Rattle.subst_language.specs.Language.Bytes.{IsPlain};
+ghost use Rattle.subst_parse.specs.ByteRun.{EndsRun, EndsRunBefore, IsRun};
+ghost use Rattle.subst_parse.specs.Inner.{IsInner};
+ghost use Rattle.subst_parse.specs.Lanes.{HasBytes, HasTest, MarksOutside};
+
+use crate::byte_class::{ByteClass, InnerBytes, PlainBytes, VectorClass};
+use memchr::memchr2;
+use std::simd::prelude::*;
+
+/// How many bytes a vector has.
+const WIDTH: usize = 32;
+
+/// How many plain bytes come before `memchr2` is faster, which goes by more bytes at a time.
+const NEAR: usize = 1024;
+
+/// How many bytes of a default come before vectors are faster than a byte at a time.
+const FEW: usize = 8;
+
+/// A class whose runs are searched for.
+pub(crate) trait SearchedClass: ByteClass {
+    /// Returns the first offset from `from` on of a byte that isn't in the class, or the end of the source.
+    fn find_outside(source: &[u8], from: usize) -> usize
+        requires { from ≤ length source.now }
+        ensures { EndsRun Self.is_in source.now from result };
+}
+
+impl SearchedClass for PlainBytes {
+    #[inline(always)]
+    fn find_outside(source: &[u8], from: usize) -> usize {
+        find_special(source, from)
+    }
+}
+
+impl SearchedClass for InnerBytes {
+    #[inline(always)]
+    fn find_outside(source: &[u8], from: usize) -> usize {
+        find_inner(source, from)
+    }
+}
+
+/// Returns how many bytes come before the first dollar or backslash, or all of them.
+pub fn plain_len(source: &[u8]) -> usize
+    ensures run { IsRun IsPlain source.now 0 result }
+    ensures within { result ≤ length source.now }
+    ensures whole { (result ≡ length source.now) ↔ All IsPlain source.now }
+{
+    if source.len() < WIDTH {
+        find_special_far(source, 0)
+    } else {
+        find_special(source, 0)
+    }
+}
+
+/// Returns the first offset from `from` on of a dollar or a backslash, or the end of the source.
+#[inline(always)]
+fn find_special(source: &[u8], from: usize) -> usize
+    requires { from ≤ length source.now }
+    ensures { EndsRun IsPlain source.now from result }
+{
+    let near = source.len().min(from + NEAR);
+    let end = first_outside::<PlainBytes>(source, from, near);
+    if end < near || near == source.len() {
+        return end;
+    }
+    find_special_far(source, near)
+}
+
+/// Returns the first offset from `from` on of a `$` or a `\`, or the end of the source, fast where it is far.
+#[inline(never)]
+fn find_special_far(source: &[u8], from: usize) -> usize
+    requires { from ≤ length source.now }
+    ensures { EndsRun IsPlain source.now from result }
+{
+    match memchr2(b'$', b'\\', rest(source, from)) {
+        Some(found) => from + found,
+        None => source.len(),
+    }
+}
+
+/// Returns the first offset from `from` on of a backslash, a dollar or a brace, or the end of the source.
+#[inline(always)]
+fn find_inner(source: &[u8], from: usize) -> usize
+    requires { from ≤ length source.now }
+    ensures { EndsRun IsInner source.now from result }
+{
+    let few = source.len().min(from + FEW);
+    let end = first_outside_bytewise::<InnerBytes>(source, from, few);
+    if end < few {
+        return end;
+    }
+    first_outside::<InnerBytes>(source, few, source.len())
+}
+
+/// Returns the first offset from `from` on of a byte that isn't in a class, or `to` where all before it are.
+#[inline(always)]
+fn first_outside<C: VectorClass>(source: &[u8], from: usize, to: usize) -> usize
+    requires ordered { from ≤ to }
+    requires within { to ≤ length source.now }
+    ensures { EndsRunBefore C.is_in source.now from to result }
+{
+    let mut at = from;
+    while WIDTH <= to - at {
+        let marked = outside_at::<C>(source, at);
+        if marked != 0 {
+            return at + lowest(marked);
+        }
+        at += WIDTH;
+    }
+    first_outside_tail::<C>(source, at, to)
+}
+
+/// Returns the first offset from `from` on of a byte that isn't in a class, or `to`, which is less than a
+/// vector further on: a vector that ends at `to` is read, of which the first bytes were read before.
+#[inline(always)]
+fn first_outside_tail<C: VectorClass>(source: &[u8], from: usize, to: usize) -> usize
+    requires ordered { from ≤ to }
+    requires few { to < from + 32 }
+    requires within { to ≤ length source.now }
+    ensures { EndsRunBefore C.is_in source.now from to result }
+{
+    if to < WIDTH {
+        return first_outside_bytewise::<C>(source, from, to);
+    }
+    let marked = outside_before::<C>(source, from, to);
+    if marked == 0 {
+        to
+    } else {
+        from + lowest(marked)
+    }
+}
+
+/// Returns the first offset from `from` on of a byte that isn't in a class, or `to`, a byte at a time.
+#[inline(always)]
+fn first_outside_bytewise<C: ByteClass>(source: &[u8], from: usize, to: usize) -> usize
+    requires ordered { from ≤ to }
+    requires within { to ≤ length source.now }
+    ensures { EndsRunBefore C.is_in source.now from to result }
+{
+    let mut at = from;
+    while at < to && C::has(source[at]) {
+        at += 1;
+    }
+    at
+}
+
+/// Returns a mask of the 32 bytes from an offset on that aren't in a class, of the first one the lowest bit.
+#[inline(always)]
+fn outside_at<C: VectorClass>(source: &[u8], at: usize) -> u64
+    requires { at + 32 ≤ length source.now }
+    ensures { MarksOutside C.is_in source.now at (at + 32) result }
+{
+    top_bits(C::outside(load(source, at)))
+}
+
+/// Returns a mask of the bytes from `from` to `to`, under 32, that aren't in a class, as `outside_at`.
+#[inline(always)]
+fn outside_before<C: VectorClass>(source: &[u8], from: usize, to: usize) -> u64
+    requires ordered { from ≤ to }
+    requires few { to < from + 32 }
+    requires whole { 32 ≤ to }
+    requires within { to ≤ length source.now }
+    ensures { MarksOutside C.is_in source.now from to result }
+{
+    let passed = WIDTH - (to - from);
+    outside_at::<C>(source, to - WIDTH) >> passed
+}
+
+/// Returns the index of the lowest bit that is set.
+#[inline(always)]
+fn lowest(mask: u64) -> usize
+    requires { mask ≢ 0 }
+    ensures set { bit_at mask result ≡ 1 }
+    ensures below { (k : ℕ) → k < result → bit_at mask k ≡ 0 }
+    ensures small { result < 64 }
+{
+    mask.trailing_zeros() as usize
+}
+
+/// Returns the 32 bytes from an offset on.
+#[inline(always)]
+fn load(source: &[u8], at: usize) -> u8x32
+    requires { at + 32 ≤ length source.now }
+    ensures { HasBytes source.now at result }
+{
+    u8x32::from_slice(&source[at..])
+}
+
+/// Returns the top bit of each lane, of the first one as the lowest bit.
+#[inline(always)]
+fn top_bits(lanes: u8x32) -> u64
+    ensures { (k : ℕ) → (bit_at result k ≡ 1) ↔ (128 ≤ slice_index lanes k) }
+{
+    lanes.simd_ge(u8x32::splat(128)).to_bitmask()
+}
+
+/// Returns 255 in each lane that has this byte, and 0 in the others.
+#[inline(always)]
+pub(crate) fn equal_to(bytes: u8x32, byte: u8) -> u8x32
+    ensures { HasTest (λ b. b == byte) bytes result }
+{
+    bytes
+        .simd_eq(u8x32::splat(byte))
+        .select(u8x32::splat(255), u8x32::splat(0))
+}
+
+/// Returns 255 in each lane that has it in one of two vectors, and 0 in the others.
+#[inline(always)]
+pub(crate) fn either(first: u8x32, second: u8x32) -> u8x32
+    ensures { (a b : ℕ → Bool) (bytes : List ℕ)
+        → HasTest a bytes first → HasTest b bytes second
+        → HasTest (λ byte. a byte || b byte) bytes result }
+{
+    first | second
+}
+
+/// Returns the bytes from an offset on.
+#[inline(always)]
+pub(crate) fn rest(source: &[u8], from: usize) -> &[u8]
+    requires { from ≤ length source.now }
+    ensures { result.now ≡ drop from source.now }
+{
+    &source[from..]
+}

@@ -1,0 +1,170 @@
+//! The source as the parser sees it: the byte at an offset, three searches, and the character at an
+//! offset. Contracts say what is there, as an equation on the rest of the source, and how many reads that
+//! was.
+
+ghost use Rattle.std.specs.Prelude.{◌≡◌, ◌+◌, ◌-◌, ◌<◌, ◌≤◌, [], ◌∷◌, length, drop, min, IsSome, IsTrue, ◌↔◌, MatchOption};
+ghost use Rattle.subst_language.specs.Language.Bytes.{IsPlain};
+ghost use Rattle.subst_language.specs.Language.Name.{IsNameByte, BeginsWithNo};
+ghost use Rattle.subst_language.specs.Language.Character.{IsFrontCharacter};
+ghost use Rattle.subst_parse.specs.ByteRun.{IsRun};
+ghost use Rattle.subst_parse.specs.Cost.{FindsEnd};
+ghost use Rattle.subst_parse.specs.Inner.{IsInner};
+
+use crate::byte_class::{ByteClass, InnerBytes, NameBytes, PlainBytes};
+use crate::character::front_character;
+use crate::reads::Reads;
+use crate::search::{SearchedClass, rest};
+use subst_error::CharOrByte;
+
+/// A source that is read one byte at a time, or searched, with the counter of its reads. The parser has no
+/// other way to the source and no other counter, so each byte that it looks at is counted.
+#[derive(Drop)]
+pub(crate) struct Tape<'s> {
+    source: &'s [u8],
+    reads: Reads,
+}
+
+impl<'s> Tape<'s> {
+    pub fn new(source: &'s [u8], reads: Reads) -> Self
+        ensures source { result.source.now ≡ source.now }
+        ensures reads { result.reads ≡ reads }
+    {
+        Tape { source, reads }
+    }
+
+    /// Returns the counter.
+    pub fn into_reads(self) -> Reads
+        ensures { result ≡ self.entry.reads }
+    {
+        let Tape { reads, .. } = self;
+        reads
+    }
+
+    /// Returns whether there is a byte at an offset. Reads nothing.
+    #[inline(always)]
+    pub fn has(&self, at: usize) -> bool
+        ensures { IsTrue result ↔ (at < length self.now.source.now) }
+    {
+        at < self.source.len()
+    }
+
+    /// Returns the byte at an offset, or nothing after the last byte.
+    #[inline(always)]
+    pub fn byte_at(&mut self, at: usize) -> Option<u8>
+        ensures byte { MatchOption result (drop at self.old.source.now ≡ [])
+            (λ b. drop at self.old.source.now ≡ b ∷ drop (at + 1) self.old.source.now) }
+        ensures within { IsSome result → at < length self.old.source.now }
+        ensures same { self.new.source ≡ self.old.source }
+        ensures cost { self.new.reads ≡ self.old.reads + 1 }
+    {
+        self.reads.add(1);
+        self.source.get(at).copied()
+    }
+
+    /// Returns the first offset from `from` on of a dollar or a backslash, or the end of the source.
+    #[inline(always)]
+    pub fn find_special(&mut self, from: usize) -> usize
+        requires { from < length self.old.source.now }
+        ensures { FindsEnd IsPlain self.old from result self.new }
+    {
+        self.find_outside::<PlainBytes>(from)
+    }
+
+    /// Returns the first offset from `from` on of a byte that is no name byte, or the end of the source.
+    #[inline(always)]
+    pub fn name_end(&mut self, from: usize) -> usize
+        requires { from ≤ length self.old.source.now }
+        ensures { FindsEnd IsNameByte self.old from result self.new }
+    {
+        self.first_outside::<NameBytes>(from)
+    }
+
+    /// Returns the first offset from `from` on of a backslash, a dollar or a brace, or the end of the source.
+    #[inline(always)]
+    pub fn find_inner(&mut self, from: usize) -> usize
+        requires { from < length self.old.source.now }
+        ensures { FindsEnd IsInner self.old from result self.new }
+    {
+        self.find_outside::<InnerBytes>(from)
+    }
+
+    /// Returns the first offset from `from` on of a byte that isn't in a class, or the end of the source.
+    /// After an escape or a placeholder it often is one of the first two, so a search begins only after
+    /// these.
+    #[inline(always)]
+    fn find_outside<C: SearchedClass>(&mut self, from: usize) -> usize
+        requires { from < length self.old.source.now }
+        ensures { FindsEnd C.is_in self.old from result self.new }
+    {
+        if !self.is_at::<C>(from) {
+            return from;
+        }
+        let next = from + 1;
+        if !self.has(next) || !self.is_at::<C>(next) {
+            return next;
+        }
+        self.search::<C>(next + 1)
+    }
+
+    /// Searches from `from` on for a byte that isn't in a class, and returns its offset, or the source's end.
+    #[inline(never)]
+    fn search<C: SearchedClass>(&mut self, from: usize) -> usize
+        requires { from ≤ length self.old.source.now }
+        ensures { FindsEnd C.is_in self.old from result self.new }
+    {
+        let end = C::find_outside(self.source, from);
+        self.reads.add((end + 1).min(self.source.len()) - from);
+        end
+    }
+
+    /// Returns the first offset from `from` on of a byte that isn't in a class, or the end of the source.
+    /// Each turn looks at two bytes, so that fewer instructions go to the loop.
+    #[inline(always)]
+    fn first_outside<C: ByteClass>(&mut self, from: usize) -> usize
+        requires { from ≤ length self.old.source.now }
+        ensures { FindsEnd C.is_in self.old from result self.new }
+    {
+        let mut at = from;
+        while self.has(at + 1) {
+            if !self.is_at::<C>(at) {
+                return at;
+            }
+            if !self.is_at::<C>(at + 1) {
+                return at + 1;
+            }
+            at += 2;
+        }
+        if self.has(at) && self.is_at::<C>(at) {
+            at += 1;
+        }
+        at
+    }
+
+    /// Returns whether the byte at an offset is in a class.
+    #[inline(always)]
+    fn is_at<C: ByteClass>(&mut self, at: usize) -> bool
+        requires { at < length self.old.source.now }
+        ensures run { IsTrue result → IsRun C.is_in self.old.source.now at (at + 1) }
+        ensures end { ¬ (IsTrue result) → BeginsWithNo C.is_in (drop at self.old.source.now) }
+        ensures same { self.new.source ≡ self.old.source }
+        ensures cost { self.new.reads ≡ self.old.reads + 1 }
+    {
+        self.reads.add(1);
+        C::has(self.source[at])
+    }
+
+    /// Returns the character at an offset, or the byte there where no character begins. Looks at up to four
+    /// bytes.
+    #[cold]
+    #[inline(never)]
+    pub fn character_at(&mut self, at: usize) -> CharOrByte
+        requires { at < length self.old.source.now }
+        ensures answer { IsFrontCharacter (drop at self.old.source.now) result }
+        ensures same { self.new.source ≡ self.old.source }
+        ensures cost { self.new.reads ≡ self.old.reads + min 4 (length self.old.source.now - at) }
+    {
+        let rest = rest(self.source, at);
+        self.reads.add(rest.len().min(4));
+        front_character(rest)
+    }
+}
