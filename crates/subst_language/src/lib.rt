@@ -10,8 +10,6 @@ pub mod maps;
 mod name;
 mod variable;
 
-pub use maps::{
-    BytesMap, Env, Layered, NeverValue, NoEmpty, NoSubstitution, OneOf, VariableMap,
-};
+pub use maps::{BytesMap, Env, Layered, NeverValue, NoEmpty, NoSubstitution, OneOf, VariableMap};
 pub use name::{is_name, name_len};
 pub use variable::{Variable, VariableKind};
