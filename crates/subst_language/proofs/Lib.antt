@@ -2,5 +2,6 @@ pub mod CallingLemmas
 pub mod Earlier
 pub mod Language
 pub mod MapLemmas
+pub mod TestLemmas
 pub mod TreeOf
 pub mod WorkedExamples
