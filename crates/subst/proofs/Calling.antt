@@ -1,6 +1,6 @@
 -- The lemmas for proofs of callers; docs/CALLING.md says how to use each.
 -- a tree that passes the test, and whose value under the look-up is bytes: its text gives them
-pub use Rattle.subst_language.proofs.WorkedExamples.Forms.{gives}
+pub use Rattle.subst_language.proofs.TreeOf.{gives}
 -- a source that is written out, whose value is computed: `computed_gives _ _ _ refl` says that it gives it
 pub use Rattle.subst_language.proofs.TreeOf.{tree_of, spelled, value_of, computed_gives}
 -- a source has at most one answer under a look-up
@@ -56,11 +56,11 @@ pub use Rattle.subst_language.proofs.Language.ValueLengthLemmas.{output_at_most}
 -- a sentence has no fault
 pub use Rattle.subst_language.proofs.Language.FaultLemmas.{exclusive}
 -- a tree that passes the test is well-formed
-pub use Rattle.subst_language.proofs.WorkedExamples.Forms.{well_formed_from_test}
+pub use Rattle.subst_language.proofs.TestLemmas.{well_formed_from_test}
 -- the test for well-formed trees
-pub use Rattle.subst_language.proofs.WorkedExamples.Forms.{is_well_formed}
+pub use Rattle.subst_language.proofs.TestLemmas.{is_well_formed}
 -- how trees are written: bytes that are for themselves before a tree, such bytes alone, and an item alone
-pub use Rattle.subst_language.proofs.WorkedExamples.Words.{plain, only_plain, only}
+pub use Rattle.subst_language.proofs.TreeOf.{plain, only_plain, only}
 -- a JSON tree is filled in as one tree, or refused for one fault, and never both
 pub use Rattle.subst_json.proofs.OneOutcomeLemmas.{one_outcome}
 -- a TOML tree is filled in as one tree, or refused for one fault, and never both

@@ -27,13 +27,13 @@ use Rattle.subst_language.specs.Calls.Outcome.{Expands, ExpandsInto, OnFault, On
 use Rattle.subst_language.proofs.Language.FaultLemmas.{exclusive}
 use Rattle.subst_language.proofs.Language.ListLemmas.{each_by_recursion}
 use Rattle.subst_language.proofs.Language.PlainLemmas.{plains, text-plains, value-plains, well_formed_plains}
-use Rattle.subst_language.proofs.WorkedExamples.Forms.{is_well_formed, well_formed_from_test}
 use Rattle.subst_language.proofs.Language.AlikeLemmas.{found_as_read}
 use Rattle.subst_language.proofs.Language.AnswerLemmas.{answer_unique, refused_for}
 use Rattle.subst_language.proofs.Language.RangeLemmas.{error_in_text}
 use Rattle.subst_language.proofs.Language.SeveralLemmas.{first_weaker}
 use Rattle.subst_language.proofs.Language.RangeWithinLemmas.{refusal_within}
 use Rattle.subst_language.proofs.Language.ValueLengthLemmas.{value_length_within, written_exact, written_length_at_most}
+use Rattle.subst_language.proofs.TestLemmas.{is_well_formed, well_formed_from_test}
 
 -- a tree that passes the test and whose text the source is, is the source's tree
 pub spells : (s : List ℕ) (t : Tree) → IsTrue (is_well_formed t) → s ≡ text t → Spells t s

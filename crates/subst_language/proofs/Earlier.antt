@@ -3,4 +3,3 @@ pub mod ExtendedLemmas
 pub mod ExtensionLemmas
 pub mod FaultLemmas
 pub mod QuestionMarkLemmas
-pub mod WorkedExamples

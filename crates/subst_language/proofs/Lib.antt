@@ -3,5 +3,6 @@ pub mod Earlier
 pub mod Language
 pub mod MapLemmas
 pub mod PartsLemmas
+pub mod TestLemmas
 pub mod TreeOf
 pub mod WorkedExamples

@@ -1,15 +1,17 @@
 -- The tree of a source that is written out, computed: a caller with such a source writes `refl`, and no tree.
-use Rattle.std.proofs.Common.{◌≡◌, ℕ, zero, suc, ◌==◌, Bool, true, false, ◌&&◌, if◌then◌else◌, List, [], ◌∷◌, Option, Some, None, option_map, bytes_eq, refl, subst}
+-- How a tree is written by hand.
+use Rattle.std.proofs.Common.{◌≡◌, IsTrue, inr, ℕ, zero, suc, ◌==◌, Bool, true, false, ◌&&◌, if◌then◌else◌, List, [], ◌∷◌, Option, Some, None, option_map, bytes_eq, refl, subst}
 use Rattle.std.proofs.lemmas.Bool.{and_parts}
 use Rattle.std.proofs.lemmas.Slice.Eq.{bytes_eq-Decides}
+use Rattle.subst_error.specs.Fault.{NoSuchVariable}
 use Rattle.subst_language.specs.Language.Bytes.{dollar, colon, question_mark, backslash, opening_brace, closing_brace}
 use Rattle.subst_language.specs.Language.Name.{is_name_byte}
-use Rattle.subst_language.specs.Language.Tree.{Escaped, Plain, Short, Braced, Optional, Default, Tree, Empty, Then, text}
+use Rattle.subst_language.specs.Language.Tree.{Item, Escaped, Plain, Short, Braced, Optional, Default, Tree, Empty, Then, text}
 use Rattle.subst_language.specs.Language.Sentence.{Spells}
 use Rattle.subst_language.specs.Language.LookUp.{LookUp}
-use Rattle.subst_language.specs.Language.Value.{Value, value, Bytes}
-use Rattle.subst_language.specs.Language.Answer.{Answers, Gives}
-use Rattle.subst_language.proofs.WorkedExamples.Forms.{is_well_formed, well_formed_from_test}
+use Rattle.subst_language.specs.Language.Value.{Value, value, Bytes, Missing}
+use Rattle.subst_language.specs.Language.Answer.{Answers, Gives, Refuses}
+use Rattle.subst_language.proofs.TestLemmas.{is_well_formed, well_formed_from_test}
 
 -- a byte before the first of two texts
 abbrev before : ℕ → List ℕ × List ℕ → List ℕ × List ℕ
@@ -86,12 +88,42 @@ spelled s t found = passed s (read_within s s) t _ refl found
 abbrev pub value_of : List ℕ → LookUp → Option Value
 value_of s look = option_map (λ t. value 0 t look) (tree_of s)
 
+-- a value that is computed is that of the source's tree
+computed : (s : List ℕ) (look : LookUp) (v : Value) → value_of s look ≡ Some v
+    → (t : Tree) × Spells t s × (value 0 t look ≡ v)
+computed s look v is = of (tree_of s) (spelled s) is
+  where
+    of : (found : Option Tree) → ((t : Tree) → found ≡ Some t → Spells t s)
+        → option_map (λ t. value 0 t look) found ≡ Some v → (t : Tree) × Spells t s × (value 0 t look ≡ v)
+    of None each e = absurd cc
+    of (Some t) each e = (t, each t refl, cc)
+
 -- a source whose value is bytes gives them
 pub computed_gives : (s x : List ℕ) (look : LookUp) → value_of s look ≡ Some (Bytes x)
     → Answers s look (Gives x)
-computed_gives s x look is = of (tree_of s) (spelled s) is
-  where
-    of : (found : Option Tree) → ((t : Tree) → found ≡ Some t → Spells t s)
-        → option_map (λ t. value 0 t look) found ≡ Some (Bytes x) → Answers s look (Gives x)
-    of None each e = absurd cc
-    of (Some t) each e = (t, each t refl, cc)
+computed_gives s x look is = computed s look (Bytes x) is
+
+-- a source whose value is a missing variable is refused for it
+pub computed_missing : (s : List ℕ) (position : ℕ) (name : List ℕ) (look : LookUp)
+    → value_of s look ≡ Some (Missing position name) → Answers s look (Refuses (NoSuchVariable position name))
+computed_missing s position name look is =
+    let (t, spells, lacks) = computed s look (Missing position name) is in
+    inr (t, spells, (position, name, lacks, refl))
+
+-- a tree that passes the test, and whose value under the look-up is bytes: its text gives them
+pub gives : (s x : List ℕ) (look : LookUp) (t : Tree) → IsTrue (is_well_formed t) → s ≡ text t
+    → value 0 t look ≡ Bytes x → Answers s look (Gives x)
+gives s x look t w e v = (t, record { well_formed = well_formed_from_test t w; spelled = e }, v)
+
+-- the bytes as items that are for themselves, before the items of a tree
+abbrev pub plain : List ℕ → Tree → Tree
+plain [] rest = rest
+plain (b ∷ bytes) rest = Then (Plain b) (plain bytes rest)
+
+-- the bytes alone
+abbrev pub only_plain : List ℕ → Tree
+only_plain bytes = plain bytes Empty
+
+-- an item alone
+abbrev pub only : Item → Tree
+only item = Then item Empty
