@@ -1,5 +1,5 @@
 -- Parts as lists keep them.
-use Rattle.std.specs.Prelude.{ℕ, ◌<◌, List, map}
+use Rattle.std.specs.Prelude.{ℕ, List, map}
 use Rattle.subst_language.specs.declared.part.Part.{Part}
 use Rattle.subst_language.specs.declared.part.Part.TheVariants.{Literal, Escaped, Variable, Default}
 use Rattle.subst_expand.specs.declared.packed_part.PackedPart.{PackedPart}

@@ -56,18 +56,17 @@ where
 {
     ghost use Rattle.subst_expand.specs.Writing.{NotStopped, WritesOn};
     ghost use Rattle.subst_expand.specs.Context.{context_of};
-    ghost use Rattle.subst_expand.specs.Writer.{AtFirst, HoldsParts};
+    ghost use Rattle.subst_expand.specs.Writer.{AtFirst, WriterHolds, output_of, state_of};
 
     /// Returns a writer that has written nothing yet.
     pub fn new(source: &'s [u8], variables: &'a M, output: W) -> Self
-        ensures { let context = context_of R.read R.is_read M.see (M.look_up result.variables.now)
-            W.holds W.len W.capacity in
-            let first : AtFirst M.Seen W = record {
-              source = source.now;
-              look_up = M.look_up variables.now;
-              output = output;
-            } in
-            HoldsParts context result.source.now result.len result.state result.output first [] }
+        ensures { let first : AtFirst M.Seen W = record {
+          source = source.now;
+          look_up = M.look_up variables.now;
+          output = output;
+        } in WriterHolds
+            (λ map. context_of R.read R.is_read M.see (M.look_up map) W.holds W.len W.capacity)
+            result first [] }
     {
         Writer {
             source,
@@ -81,9 +80,9 @@ where
 
     /// Returns the output, and why writing stopped, if it did.
     pub fn finish(self) -> (W, Result<(), Stop>)
-        ensures output { result.0 ≡ self.entry.output }
-        ensures stopped { IfErr result.1 (λ stop. self.entry.state ≡ states.Stopped stop) }
-        ensures unstopped { OnOk result.1 (NotStopped self.entry.state) }
+        ensures output { result.0 ≡ output_of self.entry }
+        ensures stopped { IfErr result.1 (λ stop. state_of self.entry ≡ states.Stopped stop) }
+        ensures unstopped { OnOk result.1 (NotStopped (state_of self.entry)) }
     {
         let Writer { output, state, .. } = self;
         match state {
@@ -125,14 +124,12 @@ where
 {
     ghost use Rattle.std.specs.Prelude.{◌≡◌};
     ghost use Rattle.subst_expand.specs.Context.{context_of};
-    ghost use Rattle.subst_expand.specs.Writer.{AtFirst, HoldsParts};
+    ghost use Rattle.subst_expand.specs.Writer.{AtFirst, WriterHolds};
 
     ghost First = { AtFirst M.Seen W };
 
-    ghost holds = { λ writer first parts.
-        HoldsParts (context_of R.read R.is_read M.see (M.look_up writer.variables.now) W.holds W.len
-        W.capacity)
-        writer.source.now writer.len writer.state writer.output first parts };
+    ghost holds = { WriterHolds
+        (λ map. context_of R.read R.is_read M.see (M.look_up map) W.holds W.len W.capacity) };
 
     ghost source = { λ first s. first.source ≡ s };
 
