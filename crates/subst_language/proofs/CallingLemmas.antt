@@ -1,5 +1,5 @@
 -- What callers need beside the contracts of the calls: known answers, which memory alone can prevent.
-use Rattle.std.proofs.Common.{◌≡◌, ◌≤◌, ◌<◌, ◌+◌, ◌*◌, ◌==◌, ℕ, List, length, count_by, Option, Some, None, Result, Ok, Err, IfErr, IfNone, IfOk, IfSome, IsOk, IsTrue, OnOk, ◌++◌, refl, ap, subst, sym, arith}
+use Rattle.std.proofs.Common.{rules, ◌≡◌, ◌≤◌, ◌<◌, ◌+◌, ◌*◌, ◌==◌, ℕ, List, length, count_by, Option, Some, None, Result, Ok, Err, IfErr, IfNone, IfOk, IfSome, IsOk, IsTrue, OnOk, ◌++◌, refl, subst, sym, arith}
 use Rattle.std.proofs.Math.Path.{fun_ext}
 use Rattle.std.proofs.lemmas.Iterator.Adapters.{option_map_id}
 use Rattle.std.specs.List.{All}
@@ -78,11 +78,7 @@ range_in_source s look e = of (error_fault e)
 -- a sentence has no fault: an error of its parsing says that memory ran out
 pub parsed_memory_alone : (s : List ℕ) (t : Tree) (e : ParseError) → Spells t s
     → IfSome (parse_fault e) (HasFault 0 s) → parse_fault e ≡ None
-parsed_memory_alone s t e known = no_fault (parse_fault e)
-  where
-    no_fault : (o : Option Fault) → IfSome o (HasFault 0 s) → o ≡ None
-    no_fault None h = refl
-    no_fault (Some f) h = absurd (exclusive s t 0 f known h)
+parsed_memory_alone s t e known = search (rules, parse_fault, exclusive)
 
 -- a tree whose value is the bytes x: the output of its expansion is x
 pub expanded : {T : Type 0} (bytes_of : T → List ℕ) (x : List ℕ) (v : Value) (result : Result T ExpandError)
@@ -93,11 +89,7 @@ expanded bytes_of x v (Err e) known h = tt
 -- a tree whose value is bytes: an error of its expansion says that memory ran out
 pub expanded_memory_alone : (x : List ℕ) (v : Value) (e : ExpandError) → v ≡ Bytes x
     → IfSome (expand_fault e) (IsMissing v) → expand_fault e ≡ None
-expanded_memory_alone x v e known = nothing_missing (expand_fault e)
-  where
-    nothing_missing : (o : Option Fault) → IfSome o (IsMissing v) → o ≡ None
-    nothing_missing None h = refl
-    nothing_missing (Some f) (position, name, missing, is) = absurd cc
+expanded_memory_alone x v e known = search (rules, expand_fault)
 
 -- an expansion of a source into an output appends what the source gives
 pub given_into : {T : Type 0} (s : List ℕ) (look : LookUp) (before after : List ℕ)
@@ -125,13 +117,7 @@ pub given_in_capacity : {T : Type 0} (s x : List ℕ) (look : LookUp) (before af
     → IsOk result
 given_in_capacity s x look before after len capacity (Ok done) given enough into full = refl
 given_in_capacity s x look before after len capacity (Err e) (t, spells, gives) enough into full =
-    absurd (no_error (expand_into_fault e) (into t spells) (full t spells))
-  where
-    no_error : (o : Option Fault) → IfSome o (IsMissing (value 0 t look))
-        → IfNone o (capacity < len + length (written 0 t look)) → ⊥
-    no_error None missing short =
-        omega (arith, enough, short, ap length (written_exact 0 t look x gives))
-    no_error (Some f) (position, name, missing, is) short = absurd cc
+    search (rules, expand_into_fault, spells, value, written, written_exact)
 
 -- Where no value is longer than `longest`, an output with enough for the source, and for `longest` for each
 -- dollar of the source, is never too short.
@@ -168,9 +154,7 @@ answer_by_map items see look_up s (Refuses f) h = λ bytes reads.
 pub first_by_map : {V Seen : Type 0} (items : V → List ℕ) (see : V → Seen) (look_up : List ℕ → Option Seen)
     (texts : List (List ℕ)) (f : Fault) → RefusesFirst (AnswersText items see look_up) texts f
     → ByLookUp items see look_up (λ look. IsFirstRefusal look texts f)
-first_by_map items see look_up texts f h = λ bytes reads.
-    first_weaker (AnswersText items see look_up) (under (look_up_of bytes look_up))
-    (λ s answer known. answer_by_map items see look_up s answer known bytes reads) texts f h
+first_by_map items see look_up texts f h = search (rules, first_weaker, under, look_up_of, answer_by_map)
 
 -- an answer under a look-up whose values are bytes already, read as they are, is one under the look-up
 pub answer_as_read : (s : List ℕ) (look : LookUp) (found : Option Answer)

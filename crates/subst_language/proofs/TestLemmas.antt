@@ -1,5 +1,5 @@
 -- Tests for names, balanced texts, well-formed trees and characters: `refl` proves that one passes.
-use Rattle.std.proofs.Common.{◌≡◌, refl, ◌≢◌, ℕ, zero, suc, Bool, true, false, not, ◌&&◌, ◌==◌, IsTrue, if◌then◌else◌, List, [], ◌∷◌, sym, ◌∙◌, append-nil, true≢false, ◌<◌, ◌++◌, length, take, Option, Some, None, bytes_eq, ap, IsFalse, ltb, ltb-true, arith}
+use Rattle.std.proofs.Common.{rules, ◌≡◌, refl, ◌≢◌, ℕ, zero, suc, Bool, true, false, not, ◌&&◌, ◌==◌, IsTrue, if◌then◌else◌, List, [], ◌∷◌, sym, ◌∙◌, append-nil, true≢false, ◌<◌, ◌++◌, length, take, Option, Some, None, bytes_eq, ap, IsFalse, ltb, ltb-true, arith}
 use Rattle.std.proofs.Math.Seq.{take-append_seam}
 use Rattle.std.proofs.lemmas.Bool.{and_from, and_parts, eqb-false, ne_eqb, not-true}
 use Rattle.std.proofs.lemmas.Slice.Eq.{bytes_eq-Decides}
@@ -89,9 +89,7 @@ name_bytes_from_test (b ∷ bytes) h =
 -- what passes the test for a name
 pub name_from_test : (n : List ℕ) → IsTrue (is_name n) → IsName n
 name_from_test [] h = true≢false (sym h)
-name_from_test (b ∷ bytes) h =
-    let p = and_parts (is_name_byte b) (are_name_bytes bytes) h in
-    (p.0, name_bytes_from_test bytes p.1)
+name_from_test (b ∷ bytes) h = search (rules, and_parts, is_name_byte, are_name_bytes, name_bytes_from_test)
 
 -- a test for a tree before which a name ends
 abbrev ends_name : Tree → Bool

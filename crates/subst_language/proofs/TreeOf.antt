@@ -1,6 +1,6 @@
 -- The tree of a source that is written out, computed: a caller with such a source writes `refl`, and no tree.
 -- How a tree is written by hand.
-use Rattle.std.proofs.Common.{◌≡◌, IsTrue, inr, ℕ, zero, suc, ◌==◌, Bool, true, false, ◌&&◌, if◌then◌else◌, List, [], ◌∷◌, Option, Some, None, option_map, bytes_eq, refl, subst}
+use Rattle.std.proofs.Common.{rules, ◌≡◌, IsTrue, inr, ℕ, zero, suc, ◌==◌, Bool, true, false, ◌&&◌, if◌then◌else◌, List, [], ◌∷◌, Option, Some, None, option_map, bytes_eq, refl, subst}
 use Rattle.std.proofs.lemmas.Bool.{and_parts}
 use Rattle.std.proofs.lemmas.Slice.Eq.{bytes_eq-Decides}
 use Rattle.subst_error.specs.Fault.{NoSuchVariable}
@@ -91,12 +91,7 @@ value_of s look = option_map (λ t. value 0 t look) (tree_of s)
 -- a value that is computed is that of the source's tree
 computed : (s : List ℕ) (look : LookUp) (v : Value) → value_of s look ≡ Some v
     → (t : Tree) × Spells t s × (value 0 t look ≡ v)
-computed s look v is = of (tree_of s) (spelled s) is
-  where
-    of : (found : Option Tree) → ((t : Tree) → found ≡ Some t → Spells t s)
-        → option_map (λ t. value 0 t look) found ≡ Some v → (t : Tree) × Spells t s × (value 0 t look ≡ v)
-    of None each e = absurd cc
-    of (Some t) each e = (t, each t refl, cc)
+computed s look v is = search (rules, tree_of, spelled, option_map, value)
 
 -- a source whose value is bytes gives them
 pub computed_gives : (s x : List ℕ) (look : LookUp) → value_of s look ≡ Some (Bytes x)
@@ -106,9 +101,7 @@ computed_gives s x look is = computed s look (Bytes x) is
 -- a source whose value is a missing variable is refused for it
 pub computed_missing : (s : List ℕ) (position : ℕ) (name : List ℕ) (look : LookUp)
     → value_of s look ≡ Some (Missing position name) → Answers s look (Refuses (NoSuchVariable position name))
-computed_missing s position name look is =
-    let (t, spells, lacks) = computed s look (Missing position name) is in
-    inr (t, spells, (position, name, lacks, refl))
+computed_missing s position name look is = search (rules, computed, inr)
 
 -- a tree that passes the test, and whose value under the look-up is bytes: its text gives them
 pub gives : (s x : List ℕ) (look : LookUp) (t : Tree) → IsTrue (is_well_formed t) → s ≡ text t

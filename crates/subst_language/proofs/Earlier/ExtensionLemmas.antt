@@ -1,5 +1,5 @@
 -- Each text keeps the reading that it had in the earlier language.
-use Rattle.std.proofs.Common.{◌≡◌, ℕ, List, sym, ap, ◌∙◌}
+use Rattle.std.proofs.Common.{rules, ◌≡◌, ℕ, List, sym, ap, ◌∙◌}
 use Rattle.subst_error.specs.Fault.{Fault}
 use Rattle.subst_language.specs.Language.BadItem.{HasFault}
 use Rattle.subst_language.specs.Earlier.BadItem.{HasFault as HasEarlierFault}
@@ -19,19 +19,8 @@ same_fault s none p f g h k =
 
 -- a text without a question mark reads as before
 reads_as_before : (s : List ℕ) → HasNoQuestionMark s → ReadsAsBefore s
-reads_as_before s none = record {
-  tree = spells_before s none;
-  fault = λ p. (
-    λ now. let (g, k, same) = fault_before now.1 none in (g, k),
-    λ before. let (f, h, same) = fault_extended before.1 none in (f, h),
-  );
-  same_fault = same_fault s none;
-}
+reads_as_before s none = search (rules, spells_before, fault_before, fault_extended, same_fault)
 
 -- each text keeps its earlier reading
 pub keeps_reading : (s : List ℕ) → KeepsReading s
-keeps_reading s = record {
-  tree = spells_extended s;
-  same_value = λ t p look. value-extended p t look;
-  no_other = reads_as_before s;
-}
+keeps_reading s = search (rules, spells_extended, value-extended, reads_as_before)

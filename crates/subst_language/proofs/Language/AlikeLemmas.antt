@@ -1,5 +1,5 @@
 -- Which variable is missing depends on the names alone that a look-up has something for.
-use Rattle.std.proofs.Common.{◌≡◌, ℕ, List, ◌∷◌, Option, Some, None, IfSome, is_some, refl, sym, ap, ◌∙◌}
+use Rattle.std.proofs.Common.{rules, ◌≡◌, ℕ, List, ◌∷◌, Option, Some, None, IfSome, is_some, refl, sym, ◌∙◌}
 use Rattle.std.specs.List.{filter_map}
 use Rattle.std.specs.Option.{option_map}
 use Rattle.subst_error.specs.Fault.{Fault}
@@ -17,9 +17,7 @@ use Rattle.subst_language.proofs.Language.VariablesLemmas.{missing_first}
 missing_of_first : (steps : List Step) (v : Value) (position : ℕ) (name : List ℕ) (more : List Variable)
     → Tells steps v → filter_map lacked steps ≡ required position name ∷ more → v ≡ Missing position name
 missing_of_first steps (Bytes x) position name more tells is = let none = tells.2 in absurd cc
-missing_of_first steps (Missing q n) position name more (rest, first) is =
-    let same : required q n ≡ required position name = cc in
-    ap (λ v. Missing v.position v.name) same
+missing_of_first steps (Missing q n) position name more (rest, first) is = search (rules, required)
 
 -- something is found where something was before its bytes were read
 pub found_as_read : {Seen : Type 0} (bytes : Seen → List ℕ) (o : Option Seen)

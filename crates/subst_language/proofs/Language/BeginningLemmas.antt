@@ -1,6 +1,6 @@
 -- What a text begins with: one function finds it and shows that it is so; it finds each item and each bad
 -- item.
-use Rattle.std.proofs.Common.{◌≡◌, ◌≢◌, ◌⊎◌, ◌==◌, ℕ, ◌+◌, ◌<◌, Bool, IsTrue, IsFalse, cond, List, [], ◌∷◌, ◌++◌, length, Some, None, refl, sym, ap, ◌∙◌, subst, inl, inr, append_assoc, append-nil, ne_eqb}
+use Rattle.std.proofs.Common.{rules, ◌≡◌, ◌≢◌, ◌⊎◌, ◌==◌, ℕ, ◌+◌, ◌<◌, Bool, IsTrue, IsFalse, cond, List, [], ◌∷◌, ◌++◌, length, Some, None, refl, sym, ap, ◌∙◌, subst, inl, inr, append_assoc, append-nil, ne_eqb}
 use Rattle.std.proofs.lemmas.Bool.{cond-true, cond-false, cond_both, eqb-true, eqb-false, false≢true, false_from_ne_true}
 use Rattle.std.specs.List.{AllByRecursion}
 use Rattle.subst_language.specs.Language.Bytes.{dollar, colon, question_mark, backslash, opening_brace, closing_brace, is_escapable}
@@ -168,10 +168,7 @@ begins s = (found s).1 tt
 split_as : (F : List ℕ → List ℕ → Beginning) (s n x : List ℕ) → s ≡ n ++ x → AllByRecursion IsNameByte n
     → BeginsWithNo IsNameByte x
     → F (split s).0 (split s).1 ≡ F n x
-split_as F s n x e h f =
-    let p = split s in
-    let k = split_unique n p.0 x p.1 h p.2.name_part f p.2.rest_part (sym e ∙ p.2.parts) in
-    cc (k.0, k.1)
+split_as F s n x e h f = search (rules, split, split_unique)
 
 -- a dollar, and no opening brace after it
 beginning-short : (b : ℕ) (s n x : List ℕ) → b ≢ opening_brace → b ∷ s ≡ n ++ x → AllByRecursion IsNameByte n
@@ -245,10 +242,7 @@ pub beginning-bad : {p : ℕ} {r : List ℕ} {f : Fault} → IsBad p r f
     → BeginningHasFault p (length r) (beginning r) f
 beginning-bad escape_at_end = refl
 beginning-bad {p = p} (escape {b = b} {x = x} {c = c} n h) =
-    let k = front_character b x in
-    rw (cond-false (is_escapable b) (Simple (Escaped b) x) (Bad (λ p. InvalidEscapeSequence p (Some k.0)))
-    (false_from_ne_true (is_escapable b) n))
-    (ap (λ c. InvalidEscapeSequence p (Some c)) (character_unique (b ∷ x) c k.0 h k.1))
+    search (rules, front_character, cond-false, is_escapable, false_from_ne_true, character_unique)
 beginning-bad dollar_at_end = refl
 beginning-bad (dollar_alone {b = b} {x = x} o f) = rw (beginning-short b x [] (b ∷ x) o refl tt f) refl
 beginning-bad brace_at_end = rw (beginning-no_name [] tt) refl

@@ -1,7 +1,6 @@
 -- The character at the start of a text, or the first byte where no character is there.
-use Rattle.std.proofs.Common.{◌≡◌, ◌⊎◌, ℕ, zero, suc, ◌≤◌, ◌<◌, List, [], ◌∷◌, take, get_or, chars, encode_utf8, true, refl, sym, ap, ◌∙◌, subst, inl, inr, append-nil, arith, take_at}
-use Rattle.std.proofs.Math.Decide.{ℕ_discrete}
-use Rattle.std.proofs.Math.Bool.{Bool-discrete}
+use Rattle.std.proofs.lemmas.Grind.{common_steps}
+use Rattle.std.proofs.Common.{rules, ◌≡◌, ◌⊎◌, ℕ, zero, suc, ◌≤◌, ◌<◌, List, [], ◌∷◌, take, get_or, chars, encode_utf8, true, refl, sym, ap, ◌∙◌, inl, inr, append-nil, arith, take_at}
 use Rattle.std.proofs.Math.Utf8.{scalar}
 use Rattle.std.proofs.lemmas.Str.{encode_same, chars-encodes, length-encode, len_utf8_bounds}
 use Rattle.std.specs.Char.{len_utf8}
@@ -9,7 +8,7 @@ use Rattle.std.proofs.lemmas.Bool.{and_from}
 use Rattle.subst_language.specs.Language.Character.{BeginsWithChar, IsFrontCharacter}
 use Rattle.subst_error.specs.declared.CharOrByte.{CharOrByte}
 use Rattle.subst_error.specs.declared.CharOrByte.TheVariants.{Char, Byte}
-use Rattle.subst_language.proofs.Language.ListLemmas.{BeginsWith, begins_or_not}
+use Rattle.subst_language.proofs.Language.ListLemmas.{begins_or_not}
 
 -- two characters at the start of one text are equal
 pub character_unique : (s : List ℕ) (c d : CharOrByte) → IsFrontCharacter s c → IsFrontCharacter s d → c ≡ d
@@ -20,12 +19,7 @@ character_unique s (Byte b) (Byte d) h k = cc (h.1.1, k.1.1)
 
 -- a text begins with the character c, or doesn't
 begins_with_or_not : (s : List ℕ) (c : ℕ) → Dec (BeginsWithChar s c)
-begins_with_or_not s c = of (Bool-discrete (scalar c) true) (begins_or_not (encode_utf8 c) s)
-  where
-    of : Dec (scalar c ≡ true) → Dec (BeginsWith (encode_utf8 c) s) → Dec (BeginsWithChar s c)
-    of (yes i) (yes h) = yes (i, h)
-    of (yes i) (no n) = no (λ h. n h.1)
-    of (no n) _ = no (λ h. n h.0)
+begins_with_or_not s c = grind (arith, common_steps, scalar c, begins_or_not (encode_utf8 c) s, encode_utf8 c)
 
 -- the character that the first n bytes spell, if they spell one
 spelled_by : ℕ → List ℕ → ℕ
@@ -39,10 +33,7 @@ chars_of_one c h =
 -- a character at the start of a text is the one that its first bytes spell
 spelled_by_front : (s : List ℕ) (c : ℕ) → BeginsWithChar s c → spelled_by (len_utf8 c) s ≡ c
 unfolding spelled_by
-spelled_by_front s c h =
-    ap (λ x. get_or (chars (take (len_utf8 c) x)) 0 0) h.1.1
-    ∙ ap (λ x. get_or (chars x) 0 0) (take_at (encode_utf8 c) h.1.0 (len_utf8 c) (length-encode c))
-    ∙ ap (λ x. get_or x 0 0) (chars_of_one c h.0)
+spelled_by_front s c h = search (rules, chars, len_utf8, take_at, encode_utf8, length-encode, chars_of_one)
 
 -- of the characters that the first bytes may spell, none of more than k bytes is at the start of the text
 abbrev NoneAbove : List ℕ → ℕ → Type 0
@@ -61,11 +52,7 @@ no_other_character s none c h =
 -- one more of the four isn't there
 none_from : (s : List ℕ) (k : ℕ) → ¬ (BeginsWithChar s (spelled_by (suc k) s)) → NoneAbove s (suc k)
     → NoneAbove s k
-none_from s k one none n h l c = of (ℕ_discrete n (suc k))
-  where
-    of : Dec (n ≡ suc k) → ⊥
-    of (yes e) = one (subst (λ m. BeginsWithChar s (spelled_by m s)) e c)
-    of (no d) = none n (omega arith) l c
+none_from s k one none n h l c = search (rules, spelled_by)
 
 -- the four are tried in turn, from the longest
 try_from : (s : List ℕ) (k : ℕ) → NoneAbove s k → CharacterOrNone s

@@ -1,5 +1,5 @@
 -- Texts that close open braces, a byte at a time.
-use Rattle.std.proofs.Common.{◌≡◌, ◌≢◌, ◌↔◌, ℕ, zero, suc, ◌+◌, List, [], ◌∷◌, ◌++◌, refl, sym, ap, ◌∙◌, subst, arith}
+use Rattle.std.proofs.Common.{rules, ◌≡◌, ◌≢◌, ◌↔◌, ℕ, zero, suc, ◌+◌, List, [], ◌∷◌, ◌++◌, refl, sym, ap, ◌∙◌, subst, arith}
 use Rattle.std.proofs.lemmas.List.{append_assoc}
 use Rattle.subst_language.specs.Language.Balanced.{IsBalanced, Closes}
 use Rattle.subst_language.specs.Language.Balanced.IsBalanced.{empty, byte, escape, braces}
@@ -11,10 +11,7 @@ use Rattle.subst_language.proofs.Language.ListLemmas.{first_same, rest_same, no_
 -- after an opening brace, two closings one after the other are a text in braces and one closing
 around : {v w : List ℕ} (x y z : List ℕ) → v ≡ x ++ closing_brace ∷ w → w ≡ y ++ closing_brace ∷ z
     → opening_brace ∷ v ≡ (opening_brace ∷ x ++ closing_brace ∷ y) ++ closing_brace ∷ z
-around x y z e f =
-    ap (λ (u : List ℕ). opening_brace ∷ u)
-    (e ∙ ap (λ (u : List ℕ). x ++ closing_brace ∷ u) f
-    ∙ sym (append_assoc x (closing_brace ∷ y) (closing_brace ∷ z)))
+around x y z e f = search (rules, opening_brace, closing_brace, append_assoc)
 
 -- a balanced prefix of the text is followed by a closing brace, and R holds of what is after that
 abbrev pub ClosesThen : (List ℕ → Type 0) → List ℕ → Type 0
@@ -148,9 +145,7 @@ completes_escape (suc d) v b done =
 
 -- an opening brace is one more to complete
 pub completes_opening : (d : ℕ) (v : List ℕ) → Completes (suc d) v → Completes d (opening_brace ∷ v)
-completes_opening zero v =
-    λ (x, y, inner, e, more). subst (λ (w : List ℕ). IsBalanced (opening_brace ∷ w)) (sym e)
-    (braces inner more)
+completes_opening zero v = search (rules, opening_brace, braces)
 completes_opening (suc d) v =
     λ (x, w, inner, e, (y, z, more, f, rest)).
     (opening_brace ∷ x ++ closing_brace ∷ y, z, braces inner more, around x y z e f, rest)

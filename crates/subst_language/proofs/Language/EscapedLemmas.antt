@@ -1,5 +1,5 @@
 -- Escaped texts: their trees, and what they give.
-use Rattle.std.proofs.Common.{◌≡◌, ◌≢◌, ℕ, ◌+◌, true, false, IsFalse, IsTrue, List, [], ◌∷◌, ◌++◌, length, None, refl, sym, ap, ◌∙◌, subst, append-nil}
+use Rattle.std.proofs.Common.{rules, ◌≡◌, ◌≢◌, ℕ, ◌+◌, IsFalse, IsTrue, List, [], ◌∷◌, ◌++◌, length, None, refl, sym, ap, ◌∙◌, subst, append-nil}
 use Rattle.std.specs.Prelude.{if◌then◌else◌}
 use Rattle.std.proofs.lemmas.Bool.{cond_both, false≢true}
 use Rattle.subst_language.specs.Language.Bytes.{dollar, colon, backslash, opening_brace, closing_brace}
@@ -30,10 +30,7 @@ not_special_differs b c not_special special e = false≢true (sym not_special �
 
 -- the item of a byte is written as the escaped byte
 text-escape_item : (b : ℕ) → item_text (escape_item b) ≡ escaped_byte b
-text-escape_item b =
-    elim (is_special b) as
-    (λ d. item_text (if d then Escaped b else Plain b) ≡ (if d then backslash ∷ b ∷ [] else b ∷ []))
-    [ true ↦ refl | false ↦ refl ]
+text-escape_item b = search (rules, is_special, item_text, backslash)
 
 -- the tree is written as the escaped text
 pub text-escapes : (x : List ℕ) → text (escapes x) ≡ escaped x
@@ -43,9 +40,7 @@ text-escapes (b ∷ x) =
 
 -- the item gives the byte
 value-escape_item : (p b : ℕ) (look : LookUp) → item_value p (escape_item b) look ≡ Bytes (b ∷ [])
-value-escape_item p b look =
-    elim (is_special b) as (λ d. item_value p (if d then Escaped b else Plain b) look ≡ Bytes (b ∷ []))
-    [ true ↦ refl | false ↦ refl ]
+value-escape_item p b look = search (rules, is_special, item_value)
 
 -- the tree gives the text
 pub value-escapes : (p : ℕ) (x : List ℕ) (look : LookUp) → value p (escapes x) look ≡ Bytes x
@@ -57,12 +52,7 @@ value-escapes p (b ∷ x) look =
 
 -- the item may be before each tree
 fits-escape_item : (b : ℕ) (next : Tree) → IsItem (escape_item b) next
-fits-escape_item b next =
-    cond_both (is_special b) (Escaped b) (Plain b) (λ item. IsItem item next) (λ special. special)
-    (λ not_special. (
-      not_special_differs b dollar not_special refl,
-      not_special_differs b backslash not_special refl,
-    ))
+fits-escape_item b next = search (rules, cond_both, is_special, not_special_differs, dollar, backslash)
 
 -- the tree is well-formed
 pub well_formed_escapes : (x : List ℕ) → IsWellFormed (escapes x)
@@ -106,11 +96,7 @@ text-with_default n x =
 -- what a variable whose default is an escaped text gives where the name has no value
 value-with_default : (n x : List ℕ) (look : LookUp) → look n ≡ None
     → value 0 (with_default n x) look ≡ Bytes x
-value-with_default n x look none =
-    let inner = value (0 + 3 + length n) (escapes x) look in
-    joined-right (found_or (look n) inner)
-    ∙ ap (λ o. found_or o inner) none
-    ∙ value-escapes (0 + 3 + length n) x look
+value-with_default n x look none = search (rules, value, escapes, joined-right, found_or, value-escapes)
 
 -- as a default an escaped text gives the text where the name has no value
 pub escaped_default_gives : (n x : List ℕ) (look : LookUp) → IsName n → look n ≡ None

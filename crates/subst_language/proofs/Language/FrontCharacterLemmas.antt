@@ -1,4 +1,5 @@
 -- Characters at the start of bytes.
+use Rattle.std.proofs.lemmas.Grind.{common_steps}
 use Rattle.std.proofs.Common.{◌≡◌, ℕ, ◌<◌, ◌≤◌, min, List, [], ◌∷◌, ◌++◌, length, take, get_or, refl, sym, ap, ◌∙◌, ⊎_elim, arith, length-append}
 use Rattle.std.specs.Prelude.{encode_utf8, Result, Ok, Err, MatchResult}
 use Rattle.std.specs.Result.{result_unwrap_or}
@@ -28,13 +29,7 @@ character_within bytes k c is (scalar, (rest, e)) =
 pub no_character_in_nothing : (bytes : List ℕ) (k : ℕ) → k ≡ min (length bytes) 4 → take k bytes ≡ []
     → (c : ℕ) → ¬ (BeginsWithChar bytes c)
 no_character_in_nothing bytes k is none c begins =
-    omega (
-      arith,
-      character_length c,
-      character_within bytes k c is begins,
-      ap length none,
-      length-take-le k bytes (omega arith),
-    )
+    grind (arith, common_steps, character_length, character_within, length-take-le)
 
 -- where no text is at the start of the first four bytes, no character is
 pub no_character_in_no_text : (bytes : List ℕ) (k n : ℕ) → k ≡ min (length bytes) 4

@@ -1,5 +1,5 @@
 -- Faults that only the end of a source shows: none of them is in a balanced text.
-use Rattle.std.proofs.Common.{◌≡◌, ◌≢◌, ℕ, zero, suc, ◌+◌, Some, None, List, [], ◌∷◌, ◌++◌, length, refl, sym, ap, subst, append_assoc, append-nil, length-append, arith}
+use Rattle.std.proofs.Common.{rules, ◌≡◌, ◌≢◌, ℕ, zero, suc, ◌+◌, Some, None, List, [], ◌∷◌, ◌++◌, length, refl, sym, ap, subst, append_assoc, append-nil, length-append, arith}
 use Rattle.subst_error.specs.Fault.{Fault, InvalidEscapeSequence, MissingVariableName, UnexpectedCharacter, MissingClosingBrace, NoSuchVariable}
 use Rattle.subst_language.specs.Language.Bytes.{dollar, colon, question_mark, backslash, opening_brace, closing_brace}
 use Rattle.subst_language.specs.Language.Balanced.{IsBalanced}
@@ -214,13 +214,7 @@ source_by_bad p t r (InvalidEscapeSequence position None) formed (e, at) =
 source_by_bad p t r (InvalidEscapeSequence position (Some c)) formed h = tt
 source_by_bad p t r (MissingVariableName position len) formed h = tt
 source_by_bad p t r (UnexpectedCharacter position c expected) formed h = tt
-source_by_bad p t r (MissingClosingBrace position) formed (more, e, at) = record {
-  before = text t;
-  after = more;
-  sentence = (t, record { well_formed = formed; spelled = refl });
-  parts = ap (λ w. text t ++ w) e;
-  brace = at;
-}
+source_by_bad p t r (MissingClosingBrace position) formed (more, e, at) = search (rules, text)
 source_by_bad p t r (NoSuchVariable position name) formed h = tt
 
 -- each source with a fault is so

@@ -1,4 +1,5 @@
 -- Lists: equal lists, a list at an index, the two ends of a stack, prefixes, and induction by length.
+use Rattle.std.proofs.lemmas.Grind.{common_steps}
 use Rattle.std.proofs.Common.{◌≡◌, ℕ, zero, suc, ◌+◌, ◌-◌, ◌<◌, ◌≤◌, eqb, true, List, [], ◌∷◌, ◌++◌, length, map, get_or, take, drop, reverse, Option, Some, None, refl, sym, ap, ◌∙◌, subst, append_assoc, length-append, length-drop, arith}
 use Rattle.std.proofs.Math.Decide.{ℕ_discrete}
 use Rattle.std.proofs.Math.Seq.{take-append_seam}
@@ -151,9 +152,7 @@ no_last (y ∷ xs) is = let some = slice_get-get_or (y ∷ xs) (length (y ∷ xs
 pub pop_front : {X : Type 0} (popped xs front : List X) (x : X) (n : ℕ) → xs ≡ front ++ x ∷ [] → n ≡ length xs
     → popped ≡ take (n - 1) xs
     → popped ≡ front
-pop_front popped xs front x n split count taken =
-    let size : n - 1 ≡ length front = omega (arith, count, simp length-append at (ap length split)) in
-    taken ∙ rw (size, split) (take-append_seam front (x ∷ []))
+pop_front popped xs front x n split count taken = grind (arith, common_steps, length-append, take-append_seam)
 
 -- the last element comes first in reverse
 pub reverse_last : {X : Type 0} (front : List X) (x : X) → reverse (front ++ x ∷ []) ≡ x ∷ reverse front

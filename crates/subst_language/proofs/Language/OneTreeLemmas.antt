@@ -1,5 +1,5 @@
 -- A text is the text of one well-formed tree at most.
-use Rattle.std.proofs.Common.{◌≡◌, ◌⊎◌, ℕ, List, [], ◌++◌, refl, sym, ap, ◌∙◌, inl, inr, append_assoc}
+use Rattle.std.proofs.Common.{rules, ◌≡◌, ◌⊎◌, ℕ, List, [], ◌++◌, refl, sym, ap, ◌∙◌, inl, inr, append_assoc}
 use Rattle.subst_language.specs.Language.Tree.{Item, Plain, Escaped, Short, Braced, Optional, Default, Tree, Empty, Then, item_text, text}
 use Rattle.subst_language.specs.Language.WellFormed.{IsItem, IsWellFormed}
 use Rattle.subst_language.specs.Language.Sentence.{Spells}
@@ -98,9 +98,7 @@ one_goes_on (Then i t) (Then j u) x y wt wu ft fu e =
 
 -- a text is the text of one well-formed tree at most
 pub same_tree : (t u : Tree) → IsWellFormed t → IsWellFormed u → text t ≡ text u → t ≡ u
-same_tree t u wt wu e =
-    same_by_ends t u
-    (one_goes_on t u [] [] wt wu (followed_by_nothing t) (followed_by_nothing u) (ap (λ z. z ++ []) e))
+same_tree t u wt wu e = search (rules, same_by_ends, one_goes_on, followed_by_nothing)
 
 -- a source spells one tree at most
 pub tree_unique : (s : List ℕ) (t u : Tree) → Spells t s → Spells u s → t ≡ u

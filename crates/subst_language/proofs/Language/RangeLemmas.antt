@@ -1,5 +1,5 @@
 -- Where a text that is refused is at fault: the range begins and ends between characters.
-use Rattle.std.proofs.Common.{◌≡◌, ℕ, ◌+◌, ◌<◌, Option, Some, None, IfSome, Result, Ok, Err, IfErr, List, [], ◌∷◌, ◌++◌, length, refl, sym, ap, ◌∙◌, subst, inl, inr, append_assoc, append-nil, length-append, encode_utf8, arith}
+use Rattle.std.proofs.Common.{rules, ◌≡◌, ℕ, ◌+◌, ◌<◌, Option, Some, None, IfSome, Result, Ok, Err, IfErr, List, [], ◌∷◌, ◌++◌, length, refl, sym, ap, ◌∙◌, subst, inl, inr, append_assoc, append-nil, length-append, encode_utf8, arith}
 use Rattle.std.proofs.lemmas.Bool.{and_parts}
 use Rattle.std.proofs.lemmas.Str.{IsUtf8-append, IsUtf8-nil, IsUtf8-encode, IsUtf8-past_char, IsCharBoundary-at_seam, IsCharBoundary-start}
 use Rattle.std.specs.Str.{IsUtf8, IsCharBoundary}
@@ -45,16 +45,7 @@ record IsPlaced (p : ℕ) (s : List ℕ) (range : Range ℕ) : Type 0 where
 -- a range of a text, by the three parts of the text
 placed : (p : ℕ) (x y z : List ℕ) (start len : ℕ) → start ≡ p + length x → len ≡ length y → IsUtf8 y
     → IsUtf8 z → IsPlaced p (x ++ (y ++ z)) (range_at start len)
-placed p x y z start len starts long here after = record {
-  before = x;
-  within = y;
-  after = z;
-  parts = refl;
-  starts = starts;
-  ends = ap (λ n. start + n) long;
-  within_text = here;
-  after_text = after;
-}
+placed p x y z start len starts long here after = search rules
 
 -- a range of a text is one of a text around it
 placed_inside : {range : Range ℕ} (p q : ℕ) (u s v : List ℕ) → q ≡ p + length u → IsUtf8 v

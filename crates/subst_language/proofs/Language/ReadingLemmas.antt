@@ -1,5 +1,5 @@
 -- Each text has one reading: as the text of one well-formed tree, or with one fault.
-use Rattle.std.proofs.Common.{◌≡◌, ◌⊎◌, ℕ, ◌+◌, ◌<◌, List, ◌∷◌, ◌++◌, length, sym, subst, inl, inr, append-nil, add-zero}
+use Rattle.std.proofs.Common.{rules, ◌≡◌, ◌⊎◌, ℕ, ◌+◌, ◌<◌, List, ◌∷◌, ◌++◌, length, sym, subst, inl, inr, append-nil, add-zero}
 use Rattle.subst_language.specs.Language.Bytes.{dollar, colon, opening_brace, closing_brace}
 use Rattle.subst_language.specs.Language.Name.{IsName}
 use Rattle.subst_language.specs.Language.Tree.{Item, Default, Tree, Empty, Then, item_text, text}
@@ -94,9 +94,4 @@ sentence_or_fault s = of (read s 0)
 
 -- each text has one reading
 pub one_reading : (s : List ℕ) → OneTreeOrOneFault s
-one_reading s = record {
-  either = sentence_or_fault s;
-  tree_unique = tree_unique s;
-  fault_unique = fault_unique s;
-  never_both = exclusive s;
-}
+one_reading s = search (rules, sentence_or_fault, tree_unique, fault_unique, exclusive)

@@ -1,6 +1,7 @@
 -- Several sources, one after the other: their outputs, the first that is refused, and more sources around
 -- them. There is one first refusal at most, and none where each source gives bytes.
-use Rattle.std.proofs.Common.{◌≡◌, ◌⊎◌, ℕ, suc, ◌+◌, ◌<◌, List, [], ◌∷◌, ◌++◌, take, drop, get_or, length, inl, inr, refl, sym, ap, ◌∙◌, subst, append_assoc, arith}
+use Rattle.std.proofs.lemmas.Grind.{common_steps}
+use Rattle.std.proofs.Common.{◌≡◌, ◌⊎◌, ℕ, suc, ◌<◌, List, [], ◌∷◌, ◌++◌, take, get_or, length, inl, inr, refl, sym, ap, ◌∙◌, subst, append_assoc, arith}
 use Rattle.std.proofs.lemmas.List.{drop_more, length-take-le, take-append-drop}
 use Rattle.subst_error.specs.Fault.{Fault, NoSuchVariable}
 use Rattle.subst_language.specs.Language.LookUp.{LookUp}
@@ -43,15 +44,8 @@ given_append ask xs more h k = (h.0 ++ k.0, each_append ask xs more h.0 k.0 h.1 
 -- the refusal of the element at an index, after elements whose sources give bytes
 pub refused_at : {T : Type 0} (ask : T → Answer → Type 0) (xs : List T) (i : ℕ) (d : T) (f : Fault) → i < length xs
     → AreGiven ask (take i xs) → ask (get_or xs i d) (Refuses f) → RefusesAt ask xs i f
-refused_at ask xs i d f h given refused = record {
-  before = take i xs;
-  here = get_or xs i d;
-  after = drop (i + 1) xs;
-  cut = sym (take-append-drop i xs) ∙ ap (λ rest. take i xs ++ rest) (drop_more xs i d h);
-  index = sym (length-take-le i xs (omega arith));
-  given = given;
-  refused = refused;
-}
+refused_at ask xs i d f h given refused =
+    grind (arith, common_steps, take-append-drop i xs, drop_more xs i d h, length-take-le i xs (omega arith))
 
 -- the refusal of the only element
 pub refusal_alone : {T : Type 0} (ask : T → Answer → Type 0) (x : T) (f : Fault) → ask x (Refuses f)

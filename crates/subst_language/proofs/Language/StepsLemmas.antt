@@ -1,5 +1,6 @@
 -- The steps of trees, and what they say of the trees' values.
-use Rattle.std.proofs.Common.{◌≡◌, ℕ, ◌+◌, ◌≤◌, List, [], ◌∷◌, ◌++◌, length, map, sum_by, Option, Some, None, refl, sym, ap, ◌∙◌, subst, append_assoc, length-append, add_assoc, add-zero, arith}
+use Rattle.std.proofs.lemmas.Grind.{common_steps}
+use Rattle.std.proofs.Common.{rules, ◌≡◌, ℕ, ◌+◌, ◌≤◌, List, [], ◌∷◌, ◌++◌, length, map, sum_by, Option, Some, None, refl, sym, ap, ◌∙◌, subst, append_assoc, length-append, add_assoc, add-zero, arith}
 use Rattle.std.proofs.lemmas.List.Sums.{sum_by-cons}
 use Rattle.std.specs.List.{filter_map}
 use Rattle.subst_language.specs.Language.Join.{join}
@@ -79,11 +80,8 @@ Tells steps (Missing position name) =
 tells_more : (x : List ℕ) (step : Step) (rest : List Step) (v : Value)
     → steps_written (step ∷ rest) ≡ x ++ steps_written rest → step_length step ≡ length x
     → lacked step ≡ None → Tells rest v → Tells (step ∷ rest) (joined (Bytes x) v)
-tells_more x step rest (Bytes y) is long none (written, count, missing) = (
-  is ∙ ap (λ z. x ++ z) written,
-  omega (arith, long, count, sum_by-cons step_length step rest, length-append x y),
-  rw none missing,
-)
+tells_more x step rest (Bytes y) is long none (written, count, missing) =
+    grind (arith, common_steps, sum_by-cons, step_length, length-append)
 tells_more x step rest (Missing position name) is long none (more, missing) = (more, rw none missing)
 
 -- the value of steps
@@ -120,13 +118,7 @@ steps_written-append (Lacks position name ∷ xs) ys x gives = absurd cc
 pub written_front : (xs ys : List Step) → length (steps_written xs) ≤ length (steps_written (xs ++ ys))
 written_front [] ys = omega arith
 written_front (Own b ∷ xs) ys = omega (arith, written_front xs ys)
-written_front (Given x ∷ xs) ys =
-    omega (
-      arith,
-      written_front xs ys,
-      length-append x (steps_written xs),
-      length-append x (steps_written (xs ++ ys)),
-    )
+written_front (Given x ∷ xs) ys = search (rules, length-append, steps_written, written_front xs ys)
 written_front (Lacks position name ∷ xs) ys = omega arith
 
 -- no more is written than is counted
@@ -134,10 +126,5 @@ pub written_at_most : (steps : List Step) → length (steps_written steps) ≤ s
 written_at_most [] = omega arith
 written_at_most (Own b ∷ rest) = omega (arith, written_at_most rest, sum_by-cons step_length (Own b) rest)
 written_at_most (Given x ∷ rest) =
-    omega (
-      arith,
-      written_at_most rest,
-      sum_by-cons step_length (Given x) rest,
-      length-append x (steps_written rest),
-    )
+    grind (arith, common_steps, sum_by-cons, step_length, length-append, steps_written, written_at_most rest)
 written_at_most (Lacks position name ∷ rest) = omega arith

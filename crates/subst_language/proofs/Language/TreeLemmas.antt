@@ -1,5 +1,5 @@
 -- Trees concatenated: the items of one tree, and after them the items of another.
-use Rattle.std.proofs.Common.{◌≡◌, ℕ, ◌+◌, List, [], ◌∷◌, ◌++◌, length, refl, ap, subst, append_assoc, length-append, add_assoc, add-zero}
+use Rattle.std.proofs.Common.{rules, ◌≡◌, ℕ, ◌+◌, List, [], ◌∷◌, ◌++◌, length, refl, ap, append_assoc, length-append, add_assoc, add-zero}
 use Rattle.subst_language.specs.Language.Name.{IsNameByte}
 use Rattle.subst_language.specs.Language.Tree.{Item, Plain, Short, Tree, Empty, Then, item_text, text}
 use Rattle.subst_language.specs.Language.Name.{BeginsWithNo}
@@ -87,10 +87,4 @@ followed_join (Then item rest) u x f g = followed_join rest u x f g
 -- two sentences concatenated are a sentence, where the second may follow the tree of the first
 pub spells_join : (t u : Tree) (x y : List ℕ) → Spells t x → Spells u y → IsFollowed t y
     → Spells (join t u) (x ++ y)
-spells_join t u x y a b f =
-    let k = a.spelled in
-    let l = b.spelled in
-    record {
-      well_formed = well_formed_join t u a.well_formed b.well_formed (subst (IsFollowed t) l f);
-      spelled = cc (text-join t u);
-    }
+spells_join t u x y a b f = search (rules, well_formed_join, text-join)

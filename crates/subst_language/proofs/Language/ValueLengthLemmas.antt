@@ -1,5 +1,5 @@
 -- How long values are: exactly, and at most.
-use Rattle.std.proofs.Common.{◌≡◌, ℕ, ◌+◌, ◌*◌, ◌≤◌, ◌==◌, List, [], ◌∷◌, ◌++◌, length, Option, Some, None, unwrap_or, refl, ◌∙◌, subst, count_by, sum_by, length-append, arith}
+use Rattle.std.proofs.Common.{rules, ◌≡◌, ℕ, ◌+◌, ◌*◌, ◌≤◌, ◌==◌, List, [], ◌∷◌, ◌++◌, length, Option, Some, None, unwrap_or, refl, ◌∙◌, subst, count_by, sum_by, length-append, arith}
 use Rattle.std.proofs.lemmas.List.Sums.{sum_by-append, sum_by-cons, sum_by-le}
 use Rattle.std.proofs.Math.Nat.{mul-le-mul_right}
 use Rattle.subst_language.specs.Language.Bytes.{dollar, colon, question_mark, opening_brace, closing_brace}
@@ -72,10 +72,7 @@ found_bounded None own found steps bounded = record { all = omega arith; given =
 -- of steps concatenated
 append_bounded : (a b c d : ℕ) (xs ys : List Step) → IsBounded a c xs → IsBounded b d ys
     → IsBounded (a + b) (c + d) (xs ++ ys)
-append_bounded a b c d xs ys first second =
-    let all = sum_by-append step_length xs ys in
-    let given = sum_by-append given_length xs ys in
-    record { all = omega arith; given = omega arith }
+append_bounded a b c d xs ys first second = search (rules, sum_by-append, step_length, given_length)
 
 -- up to larger bounds
 wider : (a b c d : ℕ) {steps : List Step} → IsBounded a c steps → a ≤ b → c ≤ d → IsBounded b d steps
@@ -174,12 +171,7 @@ mutual
 lengths_at_most : (look : LookUp) (longest : ℕ)
     → ((name y : List ℕ) → look name ≡ Some y → length y ≤ longest) → (name : List ℕ)
     → length_of look name ≤ longest
-lengths_at_most look longest short name = of (look name) (short name)
-  where
-    of : (found : Option (List ℕ)) → ((y : List ℕ) → found ≡ Some y → length y ≤ longest)
-        → length (unwrap_or found []) ≤ longest
-    of (Some y) each = each y refl
-    of None each = omega arith
+lengths_at_most look longest short name = search (rules, unwrap_or)
 
 -- Where no value is longer than `longest`, a value is at most as long as the text of its tree and `longest`
 -- for each dollar of the text.

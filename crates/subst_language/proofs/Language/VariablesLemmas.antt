@@ -1,12 +1,13 @@
 -- The variables of trees, and what is missing of them.
-use Rattle.std.proofs.Common.{◌≡◌, ◌↔◌, ℕ, ◌+◌, List, [], ◌∷◌, ◌++◌, length, map, refl, ap, subst, append_assoc, length-append, add_assoc, add-zero}
+use Rattle.std.proofs.lemmas.Grind.{common_steps}
+use Rattle.std.proofs.Common.{arith, ◌≡◌, ◌↔◌, ℕ, ◌+◌, List, [], ◌∷◌, ◌++◌, length, map, refl, ap, subst, append_assoc, length-append, add_assoc, add-zero}
 use Rattle.std.proofs.lemmas.List.{map-append}
 use Rattle.subst_language.specs.Language.Tree.{Item, Plain, Escaped, Short, Braced, Optional, Default, Tree, Empty, Then, item_text, text}
 use Rattle.subst_language.specs.Language.Join.{join}
 use Rattle.subst_language.specs.Language.LookUp.{LookUp}
 use Rattle.subst_language.specs.Language.NamesIn.{names_in_item, names_in}
 use Rattle.subst_language.specs.Language.Steps.{steps_of}
-use Rattle.subst_language.specs.Language.Value.{Value, Bytes, Missing, value}
+use Rattle.subst_language.specs.Language.Value.{Bytes, Missing, value}
 use Rattle.subst_language.specs.Language.Variables.{Variable, required, name_of, item_variables, variables_of, all_missing}
 use Rattle.subst_language.proofs.Language.PlainLemmas.{plains}
 use Rattle.subst_language.proofs.Language.StepsLemmas.{Tells, value_tells}
@@ -42,16 +43,8 @@ variables_of-plains p (b ∷ x) = variables_of-plains (p + 1) x
 -- nothing is missing exactly where the value is bytes
 pub none_missing : (p : ℕ) (t : Tree) (look : LookUp)
     → (all_missing p t look ≡ [] ↔ ((x : List ℕ) × (value p t look ≡ Bytes x)))
-none_missing p t look = (
-  is_bytes (value p t look) (value_tells p t look),
-  λ (x, gives).
-      (subst (Tells (steps_of p t look)) gives (value_tells p t look)).2,
-)
-  where
-    is_bytes : (v : Value) → Tells (steps_of p t look) v → all_missing p t look ≡ []
-        → (x : List ℕ) × (v ≡ Bytes x)
-    is_bytes (Bytes x) tells none = (x, refl)
-    is_bytes (Missing position name) (more, is) none = absurd cc
+none_missing p t look =
+    grind (arith, common_steps, value p t look, value_tells p t look, steps_of p t look, all_missing p t look)
 
 -- where the value is missing a variable, what is missing begins with that
 pub missing_first : (p position : ℕ) (t : Tree) (look : LookUp) (name : List ℕ)

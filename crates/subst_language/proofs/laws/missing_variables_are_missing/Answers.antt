@@ -1,7 +1,6 @@
 -- What a refusal says of the look-up, and what the look-up says of refusals.
-use Rattle.std.proofs.Common.{◌≡◌, ℕ, List, None, IsSome, refl, subst, inl, inr}
+use Rattle.std.proofs.Common.{rules, ◌≡◌, ℕ, List, None, IsSome, refl, subst, inl, inr}
 use Rattle.std.proofs.lemmas.Bool.{false≢true}
-use Rattle.std.specs.List.{AllByRecursion}
 use Rattle.subst_error.specs.Fault.{NoSuchVariable}
 use Rattle.subst_language.specs.Language.Answer.{Answers, Refuses}
 use Rattle.subst_language.specs.Language.LookUp.{LookUp}
@@ -15,9 +14,7 @@ refused_missing : (s : List ℕ) (look : LookUp) (position : ℕ) (name : List �
     → Answers s look (Refuses (NoSuchVariable position name)) → look name ≡ None
 refused_missing s look position name (inl fault) = absurd (fault_is_known position name fault refl)
 refused_missing s look position name (inr (t, spells, (q, n, missing, same))) =
-    let (more, is) = missing_first 0 q t look n missing in
-    let lacked = (subst (AllByRecursion (λ v. look v.name ≡ None)) is (missing_lacked 0 t look)).0 in
-    let name_same : n ≡ name = cc in cc
+    search (rules, missing_first, missing_lacked)
 
 pub returns-clause-missing : goal.returns-clause-missing
 returns-clause-missing c = refused_missing
