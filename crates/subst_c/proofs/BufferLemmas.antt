@@ -3,29 +3,40 @@ use Rattle.std.proofs.Common.{◌≡◌, ◌<◌, ◌≤◌, ℕ, ◌+◌, List,
 use Rattle.std.proofs.Math.ListN.{set}
 use Rattle.std.proofs.Math.Seq.{set-append_seam}
 use Rattle.std.proofs.lemmas.List.{drop_more, length-map, length-take-le, map-append, take_more}
-use Rattle.subst_c.specs.Buffer.{IsPut, IsTooLong}
+use Rattle.subst_c.specs.Buffer.{FillsBuffer, IsPut}
 
--- items that are wanted, at the front of the buffer
-pub is_put : {A : Type 0} (IsWanted : List A → Type 0) (x items old new : List A) (needed : ℕ) → IsWanted x
-    → items ≡ x → needed ≡ length items → new ≡ items ++ drop (length items) old
-    → IsPut IsWanted needed old new
-is_put IsWanted x items old new needed wanted same counted put = record {
-  items = items;
-  wanted = subst IsWanted (sym same) wanted;
-  counted = counted;
-  put = subst (λ n. new ≡ items ++ drop n old) (sym counted) put;
+-- what is put into the buffer is so, wherever what is wanted is so
+pub put_as : {A : Type 0} {W V : List A → Type 0} {needed : ℕ} {old new : List A}
+    → ((x : List A) → W x → V x) → IsPut W needed old new → IsPut V needed old new
+put_as so put = record {
+  items = put.items;
+  wanted = so put.items put.wanted;
+  counted = put.counted;
+  put = put.put;
 }
 
--- items that are wanted, and more than the buffer has
-pub is_too_long : {A : Type 0} (IsWanted : List A → Type 0) (x items buffer : List A) (needed : ℕ)
-    → IsWanted x → items ≡ x → needed ≡ length items → length buffer < length items
-    → IsTooLong IsWanted needed buffer
-is_too_long IsWanted x items buffer needed wanted same counted longer = record {
-  items = items;
-  wanted = subst IsWanted (sym same) wanted;
-  counted = counted;
-  longer = subst (λ n. length buffer < n) (sym counted) longer;
+-- a call fills the buffer so, wherever what is wanted is so
+pub fills_as : {A : Type 0} {W V : List A → Type 0} {result needed_old needed : ℕ} {old new : List A}
+    → ((x : List A) → W x → V x) → FillsBuffer W result needed_old needed old new
+    → FillsBuffer V result needed_old needed old new
+fills_as so fills = record {
+  done = λ is. put_as so (fills.done is);
+  too_small = λ is.
+      let long = fills.too_small is in record {
+        items = long.items;
+        wanted = so long.items long.wanted;
+        counted = long.counted;
+        longer = long.longer;
+      };
+  buffer_kept = fills.buffer_kept;
+  needed_kept = fills.needed_kept;
 }
+
+-- a call fills the buffer with these items, which are wanted
+pub fills_with : {A : Type 0} {W : List A → Type 0} {items : List A} {result needed_old needed : ℕ}
+    {old new : List A} → W items → FillsBuffer (λ x. x ≡ items) result needed_old needed old new
+    → FillsBuffer W result needed_old needed old new
+fills_with {W = W} wanted fills = fills_as (λ x same. subst W (sym same) wanted) fills
 
 -- one more item of a list is written to the buffer, after those before it
 pub one_more_put : {A B : Type 0} (f : A → B) (xs : List A) (old new : List B) (i : ℕ) (x : A) (y : B)

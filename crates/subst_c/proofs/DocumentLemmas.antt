@@ -12,22 +12,21 @@ use Rattle.subst_error.specs.Fault.{Fault}
 use Rattle.subst_error.specs.Range.{range_at, range_of}
 use Rattle.subst_language.proofs.CallingLemmas.{answer_by_map, same_look_up}
 use Rattle.subst_language.specs.Calls.Clauses.{AnswersText}
-use Rattle.subst_language.specs.Calls.VariableMap.{look_up_of, ByLookUp}
-use Rattle.subst_language.specs.Language.Answer.{Answer, Gives, Refuses}
+use Rattle.subst_language.specs.Language.Answer.{Answer, Answers, Gives, Refuses}
 use Rattle.subst_language.specs.Language.LookUp.{LookUp}
 use Rattle.subst_language.specs.Language.Several.{GivesBy, under}
 use Rattle.subst_walk.proofs.EditLemmas.{filled_weaker}
 use Rattle.subst_walk.specs.Edits.{AreSpelled}
 use Rattle.subst_walk.specs.Paths.{AreRefusals, Located, PathStep, Refusal}
 use Rattle.subst_walk.specs.declared.found.RefusalAt.{RefusalAt}
-use Rattle.subst_json.proofs.MappedLemmas.{mapped_by_map}
+use Rattle.subst_json.proofs.MappedLemmas.{each_weaker}
 use Rattle.subst_json.specs.Filled.{IsFilledJson, IsStringToken}
 use Rattle.subst_json.specs.Listed.{located_in, refusal_at, string_of}
 use Rattle.subst_json.specs.Mapped as json_tree
 use Rattle.subst_json.specs.Outcome as json_outcome
 use Rattle.subst_json.specs.Paths as json_paths
 use Rattle.subst_json.specs.declared.path.Path as json
-use Rattle.subst_toml.proofs.MappedLemmas.{mapped_by_map as toml_mapped_by_map}
+use Rattle.subst_toml.proofs.MappedLemmas.{each_weaker as toml_each_weaker}
 use Rattle.subst_toml.specs.Filled.{AreAllRefusals, AreRefusalsIn, IsFound, RefusalIn, Spelled, refusal_in}
 use Rattle.subst_toml.specs.Filled as toml_text
 use Rattle.subst_toml.specs.Mapped as toml_tree
@@ -35,79 +34,57 @@ use Rattle.subst_toml.specs.Outcome.{ReadsAsTree}
 use Rattle.subst_toml.specs.Outcome as toml_outcome
 use Rattle.subst_toml.specs.Paths as toml_paths
 use Rattle.subst_toml.specs.declared.path.Path as toml
-use Rattle.subst_c.specs.Buffer.{IsPut, IsTooLong}
 use Rattle.subst_c.specs.Documents.{Format, Json, Toml, IfRefused, IsFilledIn, IsFirst, IsPlaceIn, IsRefusal, IsResultOf, IsSaidBy, IsSaidOf, Says, path_text}
 use Rattle.subst_c.specs.Fault.{fault_number}
 use Rattle.subst_c.specs.declared.document.Unfilled.{Unfilled}
 use Rattle.subst_c.specs.declared.document.Unfilled.TheVariants.{NotConfirmed, OutOfMemory, Refused}
 
--- what holds of the look-up of a map whose values are their bytes
-pub at_look_up : (look : LookUp) (P : LookUp → Type 0) → P (look_up_of (λ v. v) look) → P look
-at_look_up look P h = subst P (same_look_up look) h
+-- what is known of the answers under values that are bytes already is so of them
+pub known_answer : {V : Type 0} (items see : V → List ℕ) (look : LookUp) → ((v : V) → items v ≡ see v)
+    → (s : List ℕ) (a : Answer) → AnswersText items see look s a → under look s a
+known_answer items see look reads s a known =
+    subst (λ l. Answers s l a) (same_look_up look) (answer_by_map items see look s a known (λ v. v) reads)
 
--- What is known of a map's answers is so under its look-up of bytes.
-module _ {V Seen : Type 0} (items : V → List ℕ) (see : V → Seen) (look_up : List ℕ → Option Seen) where
-  abbrev known : List ℕ → Answer → Type 0
-  known = AnswersText items see look_up
-
-  -- documents that are filled in
-  pub json_by_map : (s x : List ℕ)
+-- what is known of answers is so of documents
+module _ (known : List ℕ → Answer → Type 0) (look : LookUp)
+    (so : (s : List ℕ) (a : Answer) → known s a → under look s a) where
+  -- that are filled in
+  pub json_filled : (s x : List ℕ)
       → json_outcome.ReadsAsTree s (λ d. json_outcome.ReadsAsTree x (json_tree.IsEach (GivesBy known) d))
-      → IsFilledJson (GivesBy known) s x → ByLookUp items see look_up (λ look. IsFilledIn Json look s x)
-  json_by_map s x (d, read, (e, read_as, each)) kept = λ bytes reads. (
-    (d, read, (e, read_as, mapped_by_map items see look_up d e each bytes reads)),
-    filled_weaker _ _ (GivesBy known) (GivesBy (under (look_up_of bytes look_up)))
-        (λ y z gives. answer_by_map items see look_up y (Gives z) gives bytes reads) _ s x kept,
+      → IsFilledJson (GivesBy known) s x → IsFilledIn Json look s x
+  json_filled s x (d, read, (e, read_as, each)) kept = (
+    (d, read, (e, read_as, each_weaker _ (GivesBy (under look)) (λ y z. so y (Gives z)) d e each)),
+    filled_weaker _ _ _ (GivesBy (under look)) (λ y z. so y (Gives z)) _ s x kept,
   )
 
-  pub toml_by_map : (s x : List ℕ)
+  pub toml_filled : (s x : List ℕ)
       → toml_outcome.ReadsAsTree s (λ d. toml_outcome.ReadsAsTree x (toml_tree.IsEach (GivesBy known) d))
-      → toml_text.IsFilledIn (GivesBy known) s x → ByLookUp items see look_up (λ look. IsFilledIn Toml look s x)
-  toml_by_map s x (ms, read, (ns, read_as, each)) (found, strings, kept) = λ bytes reads. (
-    (ms, read, (ns, read_as, toml_mapped_by_map items see look_up (table ms) (table ns) each bytes reads)),
+      → toml_text.IsFilledIn (GivesBy known) s x → IsFilledIn Toml look s x
+  toml_filled s x (ms, read, (ns, read_as, each)) (found, strings, kept) = (
     (
-      found,
-      strings,
-      filled_weaker _ _ (GivesBy known) (GivesBy (under (look_up_of bytes look_up)))
-          (λ y z gives. answer_by_map items see look_up y (Gives z) gives bytes reads) _ s x kept,
+      ms,
+      read,
+      (ns, read_as, toml_each_weaker _ (GivesBy (under look)) (λ y z. so y (Gives z)) (table ms) (table ns) each),
     ),
+    (found, strings, filled_weaker _ _ _ (GivesBy (under look)) (λ y z. so y (Gives z)) _ s x kept),
   )
 
-  -- the refusals of some strings
-  pub refusals_by_map : (strings : List Located) (refusals : List Refusal) → AreRefusals known strings refusals
-      → ByLookUp items see look_up (λ look. AreRefusals (under look) strings refusals)
-  refusals_by_map [] refusals none = λ bytes reads. none
-  refusals_by_map (it ∷ strings) refusals (inl ((x, gives), more)) = λ bytes reads.
-      inl (
-        (x, answer_by_map items see look_up it.text (Gives x) gives bytes reads),
-        refusals_by_map strings refusals more bytes reads,
-      )
-  refusals_by_map (it ∷ strings) refusals (inr (f, rest, refused, is, more)) = λ bytes reads.
-      inr (
-        f,
-        rest,
-        answer_by_map items see look_up it.text (Refuses f) refused bytes reads,
-        is,
-        refusals_by_map strings rest more bytes reads,
-      )
+  -- whose strings are refused
+  pub refusals : (strings : List Located) (list : List Refusal) → AreRefusals known strings list
+      → AreRefusals (under look) strings list
+  refusals [] list none = none
+  refusals (it ∷ strings) list (inl ((x, gives), more)) =
+      inl ((x, so it.text (Gives x) gives), refusals strings list more)
+  refusals (it ∷ strings) list (inr (f, rest, refused, is, more)) =
+      inr (f, rest, so it.text (Refuses f) refused, is, refusals strings rest more)
 
-  pub refusals_in_by_map : (strings : List Spelled) (refusals : List RefusalIn)
-      → AreRefusalsIn known strings refusals
-      → ByLookUp items see look_up (λ look. AreRefusalsIn (under look) strings refusals)
-  refusals_in_by_map [] refusals none = λ bytes reads. none
-  refusals_in_by_map (it ∷ strings) refusals (inl ((x, gives), more)) = λ bytes reads.
-      inl (
-        (x, answer_by_map items see look_up it.text (Gives x) gives bytes reads),
-        refusals_in_by_map strings refusals more bytes reads,
-      )
-  refusals_in_by_map (it ∷ strings) refusals (inr (f, rest, refused, is, more)) = λ bytes reads.
-      inr (
-        f,
-        rest,
-        answer_by_map items see look_up it.text (Refuses f) refused bytes reads,
-        is,
-        refusals_in_by_map strings rest more bytes reads,
-      )
+  pub refusals_in : (strings : List Spelled) (list : List RefusalIn) → AreRefusalsIn known strings list
+      → AreRefusalsIn (under look) strings list
+  refusals_in [] list none = none
+  refusals_in (it ∷ strings) list (inl ((x, gives), more)) =
+      inl ((x, so it.text (Gives x) gives), refusals_in strings list more)
+  refusals_in (it ∷ strings) list (inr (f, rest, refused, is, more)) =
+      inr (f, rest, so it.text (Refuses f) refused, is, refusals_in strings rest more)
 
 -- the span of a part of a string is in the text
 place_within : (format : Format) (s : List ℕ) (token range place : Range ℕ)
@@ -189,62 +166,17 @@ first_of_toml look s (item ∷ items) it f first all (ms, reads, found) is =
     let found_it = subst (IsFound s (table ms)) same found.0 in
     ((map refusal_in items, rw is at all_it), found_it.1, (ms, reads, found_it.0))
 
--- the output that is put into the buffer is the document filled in
-pub puts_filled : (format : Format) (look : LookUp) (s : List ℕ) (r : Result (String Global) Unfilled)
-    (needed : ℕ) (old new : List ℕ) → IsResultOf format look s r
-    → IsOkAnd r (λ text. IsPut (λ x. x ≡ string_bytes text) needed old new)
-    → IsPut (IsFilledIn format look s) needed old new
-puts_filled format look s (Ok text) needed old new is put =
-    record {
-      items = put.items;
-      wanted = subst (IsFilledIn format look s) (sym put.wanted) is;
-      counted = put.counted;
-      put = put.put;
-    }
-puts_filled format look s (Err e) needed old new is put = absurd put
-
--- the output that is too long for the buffer is the document filled in
-pub filled_too_long : (format : Format) (look : LookUp) (s : List ℕ) (r : Result (String Global) Unfilled)
-    (needed : ℕ) (buffer : List ℕ) → IsResultOf format look s r
-    → IsOkAnd r (λ text. IsTooLong (λ x. x ≡ string_bytes text) needed buffer)
-    → IsTooLong (IsFilledIn format look s) needed buffer
-filled_too_long format look s (Ok text) needed buffer is long =
-    record {
-      items = long.items;
-      wanted = subst (IsFilledIn format look s) (sym long.wanted) is;
-      counted = long.counted;
-      longer = long.longer;
-    }
-filled_too_long format look s (Err e) needed buffer is long = absurd long
+-- the output of a result is the document filled in
+pub filled_by : (format : Format) (look : LookUp) (s : List ℕ) (r : Result (String Global) Unfilled)
+    → IsResultOf format look s r → (x : List ℕ) → IsOkAnd r (λ text. x ≡ string_bytes text)
+    → IsFilledIn format look s x
+filled_by format look s (Ok text) is x same = subst (IsFilledIn format look s) (sym same) is
+filled_by format look s (Err e) is x none = absurd none
 
 -- what a result says is what is said of the document
-pub said_by : (format : Format) (look : LookUp) (s text : List ℕ) (r : Result (String Global) Unfilled)
-    → IsResultOf format look s r → IsSaidBy r text → IsSaidOf format look s text
-said_by format look s text (Ok output) is says = inl ((string_bytes output, is), says)
-said_by format look s text (Err (Refused report)) is says = subst (IsSaidOf format look s) (sym says) is.said
-said_by format look s text (Err NotConfirmed) is says = absurd says
-said_by format look s text (Err (OutOfMemory e)) is says = absurd says
-
--- the text that is put into the buffer is said of the document
-pub puts_said : (format : Format) (look : LookUp) (s : List ℕ) (r : Result (String Global) Unfilled)
-    (needed : ℕ) (old new : List ℕ) → IsResultOf format look s r → IsPut (IsSaidBy r) needed old new
-    → IsPut (IsSaidOf format look s) needed old new
-puts_said format look s r needed old new is put =
-    record {
-      items = put.items;
-      wanted = said_by format look s put.items r is put.wanted;
-      counted = put.counted;
-      put = put.put;
-    }
-
--- the text that is too long for the buffer is said of the document
-pub said_too_long : (format : Format) (look : LookUp) (s : List ℕ) (r : Result (String Global) Unfilled)
-    (needed : ℕ) (buffer : List ℕ) → IsResultOf format look s r → IsTooLong (IsSaidBy r) needed buffer
-    → IsTooLong (IsSaidOf format look s) needed buffer
-said_too_long format look s r needed buffer is long =
-    record {
-      items = long.items;
-      wanted = said_by format look s long.items r is long.wanted;
-      counted = long.counted;
-      longer = long.longer;
-    }
+pub said_by : (format : Format) (look : LookUp) (s : List ℕ) (r : Result (String Global) Unfilled)
+    → IsResultOf format look s r → (text : List ℕ) → IsSaidBy r text → IsSaidOf format look s text
+said_by format look s (Ok output) is text says = inl ((string_bytes output, is), says)
+said_by format look s (Err (Refused report)) is text says = subst (IsSaidOf format look s) (sym says) is.said
+said_by format look s (Err NotConfirmed) is text says = absurd says
+said_by format look s (Err (OutOfMemory e)) is text says = absurd says

@@ -3,12 +3,10 @@ use Rattle.std.proofs.Common.{◌≡◌, ℕ, Bool, true, false, ◌&&◌, if◌
 use Rattle.std.proofs.lemmas.Str.{IsUtf8-from_is_utf8, is_utf8-from_IsUtf8}
 use Rattle.std.specs.Option.{option_map}
 use Rattle.std.specs.Str.{IsUtf8, bytes_eq, is_utf8}
-use Rattle.subst_language.specs.Language.Answer.{Answers, Gives}
 use Rattle.subst_language.specs.Language.LookUp.{LookUp, GivesTexts}
 use Rattle.subst_language.specs.Language.Sentence.{ByTree}
 use Rattle.subst_language.specs.Language.Value.{value, Bytes}
-use Rattle.subst_c.specs.Pairs.{pair_value}
-use Rattle.subst_c.specs.Buffer.{IsPut}
+use Rattle.subst_c.specs.Pairs.{GivenBy, TextGivenBy, pair_value}
 use Rattle.subst_c.specs.Text.{are_texts, have_texts}
 use Rattle.subst_c.specs.declared.pairs.Pair.{Pair}
 
@@ -75,13 +73,10 @@ texts_of_no_text s pairs none = of (is_utf8 s) refl
     of true is = absurd (none (IsUtf8-from_is_utf8 s is))
     of false is = refl
 
--- what is put into the buffer is a text
-pub puts_text : (law : TextsGiveTexts) (s : List ℕ) (pairs : List Pair) (needed : ℕ) (old new : List ℕ)
-    → are_texts s pairs ≡ true → IsPut (λ x. Answers s (pair_value pairs) (Gives x)) needed old new
-    → IsPut (λ x. IsUtf8 x × Answers s (pair_value pairs) (Gives x)) needed old new
-puts_text law s pairs needed old new are put =
+-- what the source gives is a text
+pub gives_text : (law : TextsGiveTexts) (s : List ℕ) (pairs : List Pair) → are_texts s pairs ≡ true
+    → (x : List ℕ) → GivenBy s pairs x → TextGivenBy s pairs x
+gives_text law s pairs are x (t, spells, gives) =
     let texts = gives_texts pairs (second_passes (is_utf8 s) _ are) in
     let source = IsUtf8-from_is_utf8 s (first_passes (is_utf8 s) _ are) in
-    let tree = put.wanted in
-    let is = law s put.items 0 (pair_value pairs) source texts tree.0 tree.1 tree.2 in
-    record { items = put.items; wanted = (is, put.wanted); counted = put.counted; put = put.put }
+    (law s x 0 (pair_value pairs) source texts t spells gives, (t, spells, gives))

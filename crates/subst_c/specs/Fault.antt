@@ -1,8 +1,9 @@
 -- What calls from C report of a fault.
-use Rattle.std.specs.Prelude.{◌≡◌, ◌≤◌, ℕ, ◌+◌, ◌-◌, List, Some, length}
+use Rattle.std.specs.Prelude.{◌≡◌, ◌≢◌, ◌≤◌, ℕ, ◌+◌, ◌-◌, List, Some, length}
 use Rattle.subst_error.specs.Fault.{Fault, InvalidEscapeSequence, MissingVariableName, UnexpectedCharacter, MissingClosingBrace, NoSuchVariable}
 use Rattle.subst_error.specs.Range.{range_of}
 use Rattle.subst_c.specs.declared.fault.FaultRecord.{FaultRecord}
+use Rattle.subst_c.specs.declared.outcome.TheConstants.{REFUSED}
 
 -- the number of a fault's kind
 abbrev pub fault_number : Fault → ℕ
@@ -25,3 +26,13 @@ IsToldOf IsSuch told = (f : Fault) × IsSuch f × (told ≡ record_of f)
 -- it lies in the source s
 abbrev pub LiesIn : List ℕ → FaultRecord → Type 0
 LiesIn s told = told.position + told.length ≤ length s
+
+-- what a call with this result leaves in the record of a fault
+pub record SetsFault (IsSuch : FaultRecord → Type 0) (s : List ℕ) (result : ℕ) (old new : FaultRecord)
+    : Type 0 where
+  -- the record is such a one
+  pub refused : result ≡ REFUSED → IsSuch new
+  -- it lies in the source s
+  pub within : result ≡ REFUSED → LiesIn s new
+  -- unless the source is refused, the record stays as it was
+  pub fault_kept : result ≢ REFUSED → new ≡ old

@@ -1,5 +1,6 @@
 -- What calls from C report of variables.
-use Rattle.std.specs.Prelude.{◌≡◌, ℕ, List, length, map}
+use Rattle.std.specs.Prelude.{◌≡◌, ◌≤◌, ◌+◌, ℕ, List, length, map}
+use Rattle.std.specs.List.{All}
 use Rattle.subst_language.specs.Language.Sentence.{Spells}
 use Rattle.subst_language.specs.Language.Tree.{Tree}
 use Rattle.subst_language.specs.Language.Variables.{Kind, Required, OrNothing, OrDefault, Variable}
@@ -20,5 +21,10 @@ variable_record variable = record {
 }
 
 -- s is a sentence, and the records are those of these variables of its tree
-abbrev pub HasRecords : List ℕ → (Tree → List Variable) → List VariableRecord → Type 0
-HasRecords s variables_of records = (t : Tree) × Spells t s × (records ≡ map variable_record (variables_of t))
+pub record HasRecords (s : List ℕ) (variables_of : Tree → List Variable) (records : List VariableRecord)
+    : Type 0 where
+  pub tree : Tree
+  pub spelled : Spells tree s
+  pub are : records ≡ map variable_record (variables_of tree)
+  -- each name lies in s
+  pub within : All (λ r. r.position + r.length ≤ length s) records

@@ -1,6 +1,7 @@
 //! The caller's buffer.
 
-ghost use Rattle.std.specs.Prelude.{◌≡◌, ◌≢◌, ◌++◌, ◌<◌, drop, length};
+ghost use Rattle.std.specs.Prelude.{◌≡◌, ◌≢◌};
+ghost use Rattle.subst_c.specs.Buffer.{FillsBuffer};
 ghost use Rattle.subst_c.specs.declared.outcome.TheConstants.{DONE, ROOM_TOO_SMALL};
 
 use crate::outcome::{DONE, ROOM_TOO_SMALL};
@@ -8,11 +9,8 @@ use crate::outcome::{DONE, ROOM_TOO_SMALL};
 /// Puts bytes at the front of the buffer, and into `needed` how many they are. Where they are more than the
 /// buffer has, it stays as it is.
 pub fn deliver(bytes: &[u8], buffer: &mut [u8], needed: &mut usize) -> u32
-    ensures needed { needed.new ≡ length bytes.now }
-    ensures done { result ≡ DONE
-        → buffer.new ≡ bytes.now ++ drop (length bytes.now) buffer.old }
-    ensures too_small { result ≡ ROOM_TOO_SMALL → length buffer.old < length bytes.now }
-    ensures kept { result ≢ DONE → buffer.new ≡ buffer.old }
+    ensures buffer { FillsBuffer (λ x. x ≡ bytes.now)
+        result needed.old needed.new buffer.old buffer.new }
     ensures others { result ≢ DONE → result ≡ ROOM_TOO_SMALL }
 {
     *needed = bytes.len();

@@ -5,10 +5,10 @@ ghost use Rattle.std.specs.Result.{IsErrAnd, IsOkAnd};
 ghost use Rattle.subst_error.specs.Display.{IsDisplayOfError};
 ghost use Rattle.subst_error.specs.ErrorFault.{error_fault};
 ghost use Rattle.subst_error.specs.Fault.{Fault};
-ghost use Rattle.subst_c.specs.Buffer.{IsPut, IsTooLong};
+ghost use Rattle.subst_c.specs.Buffer.{FillsBuffer};
 ghost use Rattle.subst_c.specs.Documents.{IfRefused, IsInvalid, IsRefusedWith, IsSaidBy, Says, before_fault};
 ghost use Rattle.subst_c.specs.Fault.{fault_number};
-ghost use Rattle.subst_c.specs.Results.{IsOther, KeepsRest};
+ghost use Rattle.subst_c.specs.Results.{IsOther};
 ghost use Rattle.subst_c.specs.declared.outcome.TheConstants.{DONE, REFUSED, OUT_OF_MEMORY, ROOM_TOO_SMALL, NOT_UTF8, NOT_CONFIRMED};
 
 use crate::answer::text_of;
@@ -128,16 +128,13 @@ pub fn deliver(
     needed: &mut usize,
     fault: &mut FaultRecord,
 ) -> u32
-    ensures done { result ≡ DONE → IsOkAnd filled
-        (λ text. IsPut (λ x. x ≡ string_bytes text) needed.new buffer.old buffer.new) }
+    ensures buffer { FillsBuffer (λ x. IsOkAnd filled (λ text. x ≡ string_bytes text))
+        result needed.old needed.new buffer.old buffer.new }
     ensures refused { result ≡ REFUSED
         → IsErrAnd filled (λ e. IsRefusedWith e (λ report. fault.new ≡ report.fault)) }
-    ensures too_small { result ≡ ROOM_TOO_SMALL → IsOkAnd filled
-        (λ text. IsTooLong (λ x. x ≡ string_bytes text) needed.new buffer.old) }
+    ensures fault_kept { result ≢ REFUSED → fault.new ≡ fault.old }
     ensures others { result ≢ NOT_CONFIRMED → IsOther result }
     ensures text { result ≢ NOT_UTF8 }
-    ensures buffer_kept { result ≢ DONE → buffer.new ≡ buffer.old }
-    ensures kept { KeepsRest result fault.old fault.new needed.old needed.new }
 {
     match filled {
         Ok(text) => buffer::deliver(text.as_bytes(), buffer, needed),
@@ -155,14 +152,10 @@ pub fn deliver(
 /// Puts the text of the fault for which a document isn't filled in at the front of the buffer, or an empty
 /// text where it is.
 pub fn deliver_text(filled: Result<String, Unfilled>, buffer: &mut [u8], needed: &mut usize) -> u32
-    ensures done { result ≡ DONE
-        → IsPut (IsSaidBy filled) needed.new buffer.old buffer.new }
-    ensures too_small { result ≡ ROOM_TOO_SMALL
-        → IsTooLong (IsSaidBy filled) needed.new buffer.old }
+    ensures buffer { FillsBuffer (IsSaidBy filled)
+        result needed.old needed.new buffer.old buffer.new }
     ensures others { result ≢ DONE → result ≢ ROOM_TOO_SMALL → result ≢ NOT_CONFIRMED
         → result ≡ OUT_OF_MEMORY }
-    ensures buffer_kept { result ≢ DONE → buffer.new ≡ buffer.old }
-    ensures needed_kept { result ≢ DONE → result ≢ ROOM_TOO_SMALL → needed.new ≡ needed.old }
 {
     match filled {
         Ok(_) => buffer::deliver(&[], buffer, needed),

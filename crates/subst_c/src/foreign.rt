@@ -1,7 +1,7 @@
 //! Templates for texts of other tools.
 
 ghost use Rattle.std.specs.Prelude.{◌≡◌, ◌≢◌, IfOk, MatchOption, string_bytes};
-ghost use Rattle.subst_c.specs.Buffer.{IsPut, IsTooLong};
+ghost use Rattle.subst_c.specs.Buffer.{FillsBuffer};
 ghost use Rattle.subst_c.specs.Foreign.{IsFormText, IsTemplate, form_number};
 ghost use Rattle.subst_foreign.specs.declared.shell_error.ShellForm.{ShellForm};
 ghost use Rattle.subst_c.specs.declared.outcome.TheConstants.{DONE, OUT_OF_MEMORY, ROOM_TOO_SMALL};
@@ -21,14 +21,9 @@ pub fn deliver<N: Names>(
     buffer: &mut [u8],
     needed: &mut usize,
 ) -> u32
-    ensures done { result ≡ DONE
-        → IsPut (IsTemplate optional (N.counts names.now) text.now)
-        needed.new buffer.old buffer.new }
-    ensures too_small { result ≡ ROOM_TOO_SMALL
-        → IsTooLong (IsTemplate optional (N.counts names.now) text.now) needed.new buffer.old }
+    ensures buffer { FillsBuffer (IsTemplate optional (N.counts names.now) text.now)
+        result needed.old needed.new buffer.old buffer.new }
     ensures others { result ≢ DONE → result ≢ ROOM_TOO_SMALL → result ≡ OUT_OF_MEMORY }
-    ensures buffer_kept { result ≢ DONE → buffer.new ≡ buffer.old }
-    ensures needed_kept { result ≢ DONE → result ≢ ROOM_TOO_SMALL → needed.new ≡ needed.old }
 {
     match template_for(alloc, text, names, optional) {
         Ok(template) => buffer::deliver(&template, buffer, needed),

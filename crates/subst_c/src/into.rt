@@ -1,13 +1,13 @@
 //! Filling in straight into the caller's buffer.
 
-ghost use Rattle.std.specs.Prelude.{◌≡◌, ◌^◌, ◌≤◌, length};
+ghost use Rattle.std.specs.Prelude.{◌≡◌, ◌≢◌, ◌^◌, ◌≤◌, length};
 ghost use Rattle.subst_language.specs.Language.Sentence.{ByTree};
 ghost use Rattle.subst_language.specs.Language.Written.{written};
-ghost use Rattle.subst_c.specs.Fault.{IsToldOf, LiesIn};
+ghost use Rattle.subst_c.specs.Fault.{IsToldOf, SetsFault};
 ghost use Rattle.subst_c.specs.Pairs.{pair_value, GivenBy, RefusedBy};
 ghost use Rattle.subst_c.specs.Buffer.{IsPut, IsTooLong};
 ghost use Rattle.subst_c.specs.declared.outcome.TheConstants.{DONE, REFUSED, OUT_OF_MEMORY, ROOM_TOO_SMALL};
-ghost use Rattle.subst_c.specs.Results.{IsOther, KeepsRest};
+ghost use Rattle.subst_c.specs.Results.{IsOther};
 
 use crate::fault::{self, FaultRecord};
 use crate::outcome::{DONE, ROOM_TOO_SMALL};
@@ -29,14 +29,14 @@ pub fn expand_into_buffer(
 ) -> u32
     ensures done { result ≡ DONE
         → IsPut (GivenBy template.now pairs.now) needed.new buffer.old buffer.new }
-    ensures refused { result ≡ REFUSED → IsToldOf (RefusedBy template.now pairs.now) fault.new }
-    ensures within { result ≡ REFUSED → LiesIn template.now fault.new }
+    ensures fault { SetsFault (IsToldOf (RefusedBy template.now pairs.now)) template.now
+        result fault.old fault.new }
     ensures too_small { result ≡ ROOM_TOO_SMALL
         → IsTooLong (GivenBy template.now pairs.now) needed.new buffer.old }
     ensures others { IsOther result }
     ensures memory { result ≡ OUT_OF_MEMORY → ByTree template.now
         (λ t. 2 ^ 64 ≤ length (written 0 t (pair_value pairs.now))) }
-    ensures kept { KeepsRest result fault.old fault.new needed.old needed.new }
+    ensures needed_kept { result ≢ DONE → result ≢ ROOM_TOO_SMALL → needed.new ≡ needed.old }
 {
     let index = index_of(alloc, template.source(), pairs);
     let written = template.expand_into_slice(buffer, &Pairs { pairs, index });

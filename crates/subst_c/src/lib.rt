@@ -6,8 +6,7 @@
 //! it is only tested. What is borrowed to be written overlaps nothing else that is passed.
 #![tactic(auto)]
 
-ghost use Rattle.std.specs.Prelude.{◌≡◌, ◌≢◌, ◌⊎◌, ◌↔◌, ◌+◌, ◌*◌, ◌<◌, ◌≤◌, ◌++◌, ℕ, List, drop, length, take, true, false};
-ghost use Rattle.std.specs.List.{All};
+ghost use Rattle.std.specs.Prelude.{◌≡◌, ◌≢◌, ◌⊎◌, ◌↔◌, ◌+◌, ◌*◌, ◌<◌, ◌++◌, ℕ, List, drop, length, true, false};
 ghost use Rattle.std.specs.Str.{IsCharBoundary, IsUtf8};
 ghost use Rattle.subst_error.specs.Display.{IsDisplayOfFault};
 ghost use Rattle.subst_error.specs.Position.{position_at};
@@ -19,14 +18,14 @@ ghost use Rattle.subst_foreign.specs.Foreign.{HasValue, IsShellName};
 ghost use Rattle.subst_foreign.specs.Shell.{IsShellTemplateFor};
 ghost use Rattle.subst_c.specs.Documents.{IsFilledIn, IsReported, IsSaidOf, Json, Toml};
 ghost use Rattle.subst_c.specs.Each.{AreOutputs, IsRefusedIn};
-ghost use Rattle.subst_c.specs.Fault.{IsToldOf, LiesIn};
+ghost use Rattle.subst_c.specs.Fault.{IsToldOf, SetsFault};
 ghost use Rattle.subst_c.specs.Foreign.{IsFormText, IsRefusedFor, IsTemplate};
 ghost use Rattle.subst_c.specs.Pairs.{pair_value, GivenBy, TextGivenBy, RefusedBy};
 ghost use Rattle.subst_c.specs.Records.{HasRecords};
-ghost use Rattle.subst_c.specs.Buffer.{IsPut, IsTooLong};
+ghost use Rattle.subst_c.specs.Buffer.{FillsBuffer, IsPut, IsTooLong};
 ghost use Rattle.subst_c.specs.Text.{IsHighlighting, SaysOf, are_texts};
 ghost use Rattle.subst_c.specs.declared.outcome.TheConstants.{DONE, REFUSED, OUT_OF_MEMORY, ROOM_TOO_SMALL, NOT_UTF8, NOT_A_BOUNDARY, NOT_CONFIRMED};
-ghost use Rattle.subst_c.specs.Results.{IsOther, KeepsRest};
+ghost use Rattle.subst_c.specs.Results.{IsOther};
 ghost use Rattle.subst_version.specs.declared.TheConstants.{MAJOR, MINOR, PATCH};
 
 use document::{of_json, of_toml};
@@ -71,24 +70,16 @@ pub extern "C" fn subst_bytes(
     needed: &mut usize,
     fault: &mut FaultRecord,
 ) -> u32
-    // The buffer begins with what the source gives.
-    ensures done { result ≡ DONE
-        → IsPut (GivenBy source.now pairs.now) needed.new buffer.old buffer.new }
+    // The buffer begins with what the source gives, or is as it was.
+    ensures buffer { FillsBuffer (GivenBy source.now pairs.now)
+        result needed.old needed.new buffer.old buffer.new }
 
-    // The fault is that which the source is refused for.
-    ensures refused { result ≡ REFUSED → IsToldOf (RefusedBy source.now pairs.now) fault.new }
+    // The fault is that which the source is refused for, and lies in it.
+    ensures fault { SetsFault (IsToldOf (RefusedBy source.now pairs.now)) source.now
+        result fault.old fault.new }
 
-    // The fault lies in the source.
-    ensures within { result ≡ REFUSED → LiesIn source.now fault.new }
-
-    // What the source gives is longer than the buffer.
-    ensures too_small { result ≡ ROOM_TOO_SMALL
-        → IsTooLong (GivenBy source.now pairs.now) needed.new buffer.old }
-
-    // There is no other result, but out of memory, and each leaves the rest as it was.
+    // There is no other result, but out of memory.
     ensures others { IsOther result }
-    ensures buffer_kept { result ≢ DONE → buffer.new ≡ buffer.old }
-    ensures kept { KeepsRest result fault.old fault.new needed.old needed.new }
 {
     match answer::fill_in(alloc, source, pairs) {
         Ok(bytes) => buffer::deliver(&bytes, buffer, needed),
@@ -108,19 +99,15 @@ pub extern "C" fn subst_text(
     fault: &mut FaultRecord,
 ) -> u32
     // As `subst_bytes`, and what is put into the buffer is UTF-8.
-    ensures done { result ≡ DONE
-        → IsPut (TextGivenBy source.now pairs.now) needed.new buffer.old buffer.new }
-    ensures refused { result ≡ REFUSED → IsToldOf (RefusedBy source.now pairs.now) fault.new }
-    ensures within { result ≡ REFUSED → LiesIn source.now fault.new }
-    ensures too_small { result ≡ ROOM_TOO_SMALL
-        → IsTooLong (GivenBy source.now pairs.now) needed.new buffer.old }
+    ensures buffer { FillsBuffer (TextGivenBy source.now pairs.now)
+        result needed.old needed.new buffer.old buffer.new }
+    ensures fault { SetsFault (IsToldOf (RefusedBy source.now pairs.now)) source.now
+        result fault.old fault.new }
 
     // The source or a value is told not to be UTF-8 exactly where one isn't.
     ensures text { result ≢ NOT_UTF8 → are_texts source.now pairs.now ≡ true }
     ensures not_text { result ≡ NOT_UTF8 → are_texts source.now pairs.now ≡ false }
     ensures others { result ≢ NOT_UTF8 → IsOther result }
-    ensures buffer_kept { result ≢ DONE → buffer.new ≡ buffer.old }
-    ensures kept { KeepsRest result fault.old fault.new needed.old needed.new }
 {
     laws::texts_give_texts();
     if !answer::are_texts(source, pairs) {
@@ -145,12 +132,12 @@ pub extern "C" fn subst_bytes_into(
     // As `subst_bytes`.
     ensures done { result ≡ DONE
         → IsPut (GivenBy source.now pairs.now) needed.new buffer.old buffer.new }
-    ensures refused { result ≡ REFUSED → IsToldOf (RefusedBy source.now pairs.now) fault.new }
-    ensures within { result ≡ REFUSED → LiesIn source.now fault.new }
     ensures too_small { result ≡ ROOM_TOO_SMALL
         → IsTooLong (GivenBy source.now pairs.now) needed.new buffer.old }
+    ensures needed_kept { result ≢ DONE → result ≢ ROOM_TOO_SMALL → needed.new ≡ needed.old }
+    ensures fault { SetsFault (IsToldOf (RefusedBy source.now pairs.now)) source.now
+        result fault.old fault.new }
     ensures others { IsOther result }
-    ensures kept { KeepsRest result fault.old fault.new needed.old needed.new }
 
     // Only what a sentence gives is written to the buffer.
     ensures buffer_kept { ¬ (IsSentence source.now) → buffer.new ≡ buffer.old }
@@ -175,16 +162,16 @@ pub extern "C" fn subst_text_into(
     // As `subst_bytes_into`, and what is put into the buffer is UTF-8.
     ensures done { result ≡ DONE
         → IsPut (TextGivenBy source.now pairs.now) needed.new buffer.old buffer.new }
-    ensures refused { result ≡ REFUSED → IsToldOf (RefusedBy source.now pairs.now) fault.new }
-    ensures within { result ≡ REFUSED → LiesIn source.now fault.new }
     ensures too_small { result ≡ ROOM_TOO_SMALL
         → IsTooLong (GivenBy source.now pairs.now) needed.new buffer.old }
+    ensures needed_kept { result ≢ DONE → result ≢ ROOM_TOO_SMALL → needed.new ≡ needed.old }
+    ensures fault { SetsFault (IsToldOf (RefusedBy source.now pairs.now)) source.now
+        result fault.old fault.new }
 
     // The source or a value is told not to be UTF-8 exactly where one isn't.
     ensures text { result ≢ NOT_UTF8 → are_texts source.now pairs.now ≡ true }
     ensures not_text { result ≡ NOT_UTF8 → are_texts source.now pairs.now ≡ false }
     ensures others { result ≢ NOT_UTF8 → IsOther result }
-    ensures kept { KeepsRest result fault.old fault.new needed.old needed.new }
 
     // Only what a sentence gives is written to the buffer, and only where all is UTF-8.
     ensures buffer_kept { ¬ (IsSentence source.now) → buffer.new ≡ buffer.old }
@@ -216,9 +203,8 @@ pub extern "C" fn subst_bytes_each(
         × (ends.new ≡ outputs_end ++ drop (length outputs_end) ends.old) }
 
     // The fault is that of the source, or of the first row under which it is refused; `row` says which.
-    ensures refused { result ≡ REFUSED
-        → IsToldOf (IsRefusedIn source.now rows.now row.new) fault.new }
-    ensures within { result ≡ REFUSED → LiesIn source.now fault.new }
+    ensures fault { SetsFault (IsToldOf (IsRefusedIn source.now rows.now row.new)) source.now
+        result fault.old fault.new }
 
     // The outputs are longer than the buffer, or more than the ends that there is space for.
     ensures too_small { result ≡ ROOM_TOO_SMALL
@@ -227,7 +213,7 @@ pub extern "C" fn subst_bytes_each(
         × ((length buffer.old < needed.new) ⊎ (length ends.old < length outputs_end)) }
     ensures others { IsOther result }
     ensures buffer_kept { result ≢ DONE → (buffer.new ≡ buffer.old) × (ends.new ≡ ends.old) }
-    ensures fault_kept { result ≢ REFUSED → (fault.new ≡ fault.old) × (row.new ≡ row.old) }
+    ensures row_kept { result ≢ REFUSED → row.new ≡ row.old }
     ensures needed_kept { result ≢ DONE → result ≢ ROOM_TOO_SMALL → needed.new ≡ needed.old }
 {
     match each::fill_in_each(alloc, source, rows) {
@@ -254,23 +240,17 @@ pub extern "C" fn subst_json(
     fault: &mut FaultRecord,
 ) -> u32
     // The buffer begins with the document with its strings filled in.
-    ensures done { result ≡ DONE
-        → IsPut (IsFilledIn Json (pair_value pairs.now) source.now)
-        needed.new buffer.old buffer.new }
+    ensures buffer { FillsBuffer (IsFilledIn Json (pair_value pairs.now) source.now)
+        result needed.old needed.new buffer.old buffer.new }
 
     // The source is no document, or the fault is that of its first string that is refused, and where.
-    ensures refused { result ≡ REFUSED
-        → IsReported Json (pair_value pairs.now) source.now fault.new }
-    ensures within { result ≡ REFUSED → LiesIn source.now fault.new }
-    ensures too_small { result ≡ ROOM_TOO_SMALL
-        → IsTooLong (IsFilledIn Json (pair_value pairs.now) source.now) needed.new buffer.old }
+    ensures fault { SetsFault (IsReported Json (pair_value pairs.now) source.now) source.now
+        result fault.old fault.new }
 
     // The source or a value is told not to be UTF-8 exactly where one isn't.
     ensures text { result ≢ NOT_UTF8 → are_texts source.now pairs.now ≡ true }
     ensures not_text { result ≡ NOT_UTF8 → are_texts source.now pairs.now ≡ false }
     ensures others { result ≢ NOT_UTF8 → result ≢ NOT_CONFIRMED → IsOther result }
-    ensures buffer_kept { result ≢ DONE → buffer.new ≡ buffer.old }
-    ensures kept { KeepsRest result fault.old fault.new needed.old needed.new }
 {
     match answer::as_texts(alloc, source, pairs) {
         Some((text, pairs)) => {
@@ -292,23 +272,17 @@ pub extern "C" fn subst_toml(
     fault: &mut FaultRecord,
 ) -> u32
     // The buffer begins with the document with its strings filled in.
-    ensures done { result ≡ DONE
-        → IsPut (IsFilledIn Toml (pair_value pairs.now) source.now)
-        needed.new buffer.old buffer.new }
+    ensures buffer { FillsBuffer (IsFilledIn Toml (pair_value pairs.now) source.now)
+        result needed.old needed.new buffer.old buffer.new }
 
     // The source is no document, or the fault is that of its first string that is refused, and where.
-    ensures refused { result ≡ REFUSED
-        → IsReported Toml (pair_value pairs.now) source.now fault.new }
-    ensures within { result ≡ REFUSED → LiesIn source.now fault.new }
-    ensures too_small { result ≡ ROOM_TOO_SMALL
-        → IsTooLong (IsFilledIn Toml (pair_value pairs.now) source.now) needed.new buffer.old }
+    ensures fault { SetsFault (IsReported Toml (pair_value pairs.now) source.now) source.now
+        result fault.old fault.new }
 
     // The source or a value is told not to be UTF-8 exactly where one isn't.
     ensures text { result ≢ NOT_UTF8 → are_texts source.now pairs.now ≡ true }
     ensures not_text { result ≡ NOT_UTF8 → are_texts source.now pairs.now ≡ false }
     ensures others { result ≢ NOT_UTF8 → result ≢ NOT_CONFIRMED → IsOther result }
-    ensures buffer_kept { result ≢ DONE → buffer.new ≡ buffer.old }
-    ensures kept { KeepsRest result fault.old fault.new needed.old needed.new }
 {
     match answer::as_texts(alloc, source, pairs) {
         Some((text, pairs)) => {
@@ -322,10 +296,9 @@ pub extern "C" fn subst_toml(
 #[unsafe(no_mangle)]
 pub extern "C" fn subst_check(alloc: Global, source: &[u8], fault: &mut FaultRecord) -> u32
     ensures done { result ≡ DONE → IsSentence source.now }
-    ensures refused { result ≡ REFUSED → IsToldOf (HasFault 0 source.now) fault.new }
-    ensures within { result ≡ REFUSED → LiesIn source.now fault.new }
+    ensures fault { SetsFault (IsToldOf (HasFault 0 source.now)) source.now
+        result fault.old fault.new }
     ensures others { result ≢ DONE → result ≢ REFUSED → result ≡ OUT_OF_MEMORY }
-    ensures fault_kept { result ≢ REFUSED → fault.new ≡ fault.old }
 {
     match ByteTemplate::from_slice(alloc, source) {
         Ok(_) => DONE,
@@ -345,23 +318,13 @@ pub extern "C" fn subst_variables(
     fault: &mut FaultRecord,
 ) -> u32
     // The buffer begins with the records of the variables of the source's tree.
-    ensures done { result ≡ DONE
-        → IsPut (HasRecords source.now (variables_of 0)) needed.new buffer.old buffer.new }
-
-    // Each name lies in the source.
-    ensures names_within { result ≡ DONE
-        → All (λ r. r.position + r.length ≤ length source.now) (take needed.new buffer.new) }
+    ensures buffer { FillsBuffer (HasRecords source.now (variables_of 0))
+        result needed.old needed.new buffer.old buffer.new }
 
     // The source is no sentence, and the fault is that which it is refused for.
-    ensures refused { result ≡ REFUSED → IsToldOf (HasFault 0 source.now) fault.new }
-    ensures within { result ≡ REFUSED → LiesIn source.now fault.new }
-
-    // The variables are more than the buffer has records.
-    ensures too_small { result ≡ ROOM_TOO_SMALL
-        → IsTooLong (HasRecords source.now (variables_of 0)) needed.new buffer.old }
+    ensures fault { SetsFault (IsToldOf (HasFault 0 source.now)) source.now
+        result fault.old fault.new }
     ensures others { IsOther result }
-    ensures buffer_kept { result ≢ DONE → buffer.new ≡ buffer.old }
-    ensures kept { KeepsRest result fault.old fault.new needed.old needed.new }
 {
     match ByteTemplate::from_slice(alloc, source) {
         Ok(template) => match template.variables(alloc) {
@@ -385,23 +348,16 @@ pub extern "C" fn subst_missing(
     fault: &mut FaultRecord,
 ) -> u32
     // As `subst_variables`, of all that the source's tree is missing.
-    ensures done { result ≡ DONE
-        → IsPut (HasRecords source.now (λ t. all_missing 0 t (pair_value pairs.now)))
-        needed.new buffer.old buffer.new }
-    ensures names_within { result ≡ DONE
-        → All (λ r. r.position + r.length ≤ length source.now) (take needed.new buffer.new) }
+    ensures buffer { FillsBuffer
+        (HasRecords source.now (λ t. all_missing 0 t (pair_value pairs.now)))
+        result needed.old needed.new buffer.old buffer.new }
 
     // Nothing is missing exactly where the source gives bytes.
     ensures none { result ≡ DONE → (needed.new ≡ 0
         ↔ ((x : List ℕ) × Answers source.now (pair_value pairs.now) (Gives x))) }
-    ensures refused { result ≡ REFUSED → IsToldOf (HasFault 0 source.now) fault.new }
-    ensures within { result ≡ REFUSED → LiesIn source.now fault.new }
-    ensures too_small { result ≡ ROOM_TOO_SMALL
-        → IsTooLong (HasRecords source.now (λ t. all_missing 0 t (pair_value pairs.now)))
-        needed.new buffer.old }
+    ensures fault { SetsFault (IsToldOf (HasFault 0 source.now)) source.now
+        result fault.old fault.new }
     ensures others { IsOther result }
-    ensures buffer_kept { result ≢ DONE → buffer.new ≡ buffer.old }
-    ensures kept { KeepsRest result fault.old fault.new needed.old needed.new }
 {
     match ByteTemplate::from_slice(alloc, source) {
         Ok(template) => {
@@ -426,15 +382,10 @@ pub extern "C" fn subst_fault_text(
     buffer: &mut [u8],
     needed: &mut usize,
 ) -> u32
-    ensures done { result ≡ DONE
-        → IsPut (SaysOf (Answers source.now (pair_value pairs.now)) IsDisplayOfFault)
-        needed.new buffer.old buffer.new }
-    ensures too_small { result ≡ ROOM_TOO_SMALL
-        → IsTooLong (SaysOf (Answers source.now (pair_value pairs.now)) IsDisplayOfFault)
-        needed.new buffer.old }
+    ensures buffer { FillsBuffer
+        (SaysOf (Answers source.now (pair_value pairs.now)) IsDisplayOfFault)
+        result needed.old needed.new buffer.old buffer.new }
     ensures others { result ≢ DONE → result ≢ ROOM_TOO_SMALL → result ≡ OUT_OF_MEMORY }
-    ensures buffer_kept { result ≢ DONE → buffer.new ≡ buffer.old }
-    ensures needed_kept { result ≢ DONE → result ≢ ROOM_TOO_SMALL → needed.new ≡ needed.old }
 {
     match answer::fault_text(alloc, source, pairs) {
         Ok(text) => buffer::deliver(text.as_bytes(), buffer, needed),
@@ -453,16 +404,12 @@ pub extern "C" fn subst_json_fault_text(
     buffer: &mut [u8],
     needed: &mut usize,
 ) -> u32
-    ensures done { result ≡ DONE
-        → IsPut (IsSaidOf Json (pair_value pairs.now) source.now) needed.new buffer.old buffer.new }
-    ensures too_small { result ≡ ROOM_TOO_SMALL
-        → IsTooLong (IsSaidOf Json (pair_value pairs.now) source.now) needed.new buffer.old }
+    ensures buffer { FillsBuffer (IsSaidOf Json (pair_value pairs.now) source.now)
+        result needed.old needed.new buffer.old buffer.new }
     ensures text { result ≢ NOT_UTF8 → are_texts source.now pairs.now ≡ true }
     ensures not_text { result ≡ NOT_UTF8 → are_texts source.now pairs.now ≡ false }
     ensures others { result ≢ DONE → result ≢ ROOM_TOO_SMALL → result ≢ NOT_UTF8
         → result ≢ NOT_CONFIRMED → result ≡ OUT_OF_MEMORY }
-    ensures buffer_kept { result ≢ DONE → buffer.new ≡ buffer.old }
-    ensures needed_kept { result ≢ DONE → result ≢ ROOM_TOO_SMALL → needed.new ≡ needed.old }
 {
     match answer::as_texts(alloc, source, pairs) {
         Some((text, pairs)) => {
@@ -481,16 +428,12 @@ pub extern "C" fn subst_toml_fault_text(
     buffer: &mut [u8],
     needed: &mut usize,
 ) -> u32
-    ensures done { result ≡ DONE
-        → IsPut (IsSaidOf Toml (pair_value pairs.now) source.now) needed.new buffer.old buffer.new }
-    ensures too_small { result ≡ ROOM_TOO_SMALL
-        → IsTooLong (IsSaidOf Toml (pair_value pairs.now) source.now) needed.new buffer.old }
+    ensures buffer { FillsBuffer (IsSaidOf Toml (pair_value pairs.now) source.now)
+        result needed.old needed.new buffer.old buffer.new }
     ensures text { result ≢ NOT_UTF8 → are_texts source.now pairs.now ≡ true }
     ensures not_text { result ≡ NOT_UTF8 → are_texts source.now pairs.now ≡ false }
     ensures others { result ≢ DONE → result ≢ ROOM_TOO_SMALL → result ≢ NOT_UTF8
         → result ≢ NOT_CONFIRMED → result ≡ OUT_OF_MEMORY }
-    ensures buffer_kept { result ≢ DONE → buffer.new ≡ buffer.old }
-    ensures needed_kept { result ≢ DONE → result ≢ ROOM_TOO_SMALL → needed.new ≡ needed.old }
 {
     match answer::as_texts(alloc, source, pairs) {
         Some((text, pairs)) => {
@@ -511,20 +454,15 @@ pub extern "C" fn subst_fault_highlighting(
     buffer: &mut [u8],
     needed: &mut usize,
 ) -> u32
-    ensures done { result ≡ DONE
-        → IsPut (SaysOf (Answers source.now (pair_value pairs.now)) (IsHighlighting source.now))
-        needed.new buffer.old buffer.new }
-    ensures too_small { result ≡ ROOM_TOO_SMALL
-        → IsTooLong (SaysOf (Answers source.now (pair_value pairs.now))
-        (IsHighlighting source.now)) needed.new buffer.old }
+    ensures buffer { FillsBuffer
+        (SaysOf (Answers source.now (pair_value pairs.now)) (IsHighlighting source.now))
+        result needed.old needed.new buffer.old buffer.new }
 
     // The result is `NOT_UTF8` exactly where the source isn't UTF-8.
     ensures text { result ≢ NOT_UTF8 → IsUtf8 source.now }
     ensures not_text { result ≡ NOT_UTF8 → ¬ (IsUtf8 source.now) }
     ensures others { result ≢ DONE → result ≢ ROOM_TOO_SMALL → result ≢ NOT_UTF8
         → result ≡ OUT_OF_MEMORY }
-    ensures buffer_kept { result ≢ DONE → buffer.new ≡ buffer.old }
-    ensures needed_kept { result ≢ DONE → result ≢ ROOM_TOO_SMALL → needed.new ≡ needed.old }
 {
     let Ok(source) = str::from_utf8(source) else {
         return NOT_UTF8;
@@ -579,13 +517,9 @@ pub extern "C" fn subst_from_envsubst(
     needed: &mut usize,
 ) -> u32
     // The buffer begins with the template. No source is refused.
-    ensures done { result ≡ DONE
-        → IsPut (IsTemplate optional IsShellName source.now) needed.new buffer.old buffer.new }
-    ensures too_small { result ≡ ROOM_TOO_SMALL
-        → IsTooLong (IsTemplate optional IsShellName source.now) needed.new buffer.old }
+    ensures buffer { FillsBuffer (IsTemplate optional IsShellName source.now)
+        result needed.old needed.new buffer.old buffer.new }
     ensures others { result ≢ DONE → result ≢ ROOM_TOO_SMALL → result ≡ OUT_OF_MEMORY }
-    ensures buffer_kept { result ≢ DONE → buffer.new ≡ buffer.old }
-    ensures needed_kept { result ≢ DONE → result ≢ ROOM_TOO_SMALL → needed.new ≡ needed.old }
 {
     foreign::deliver(alloc, source, &ShellNames, optional, buffer, needed)
 }
@@ -601,15 +535,9 @@ pub extern "C" fn subst_with_only(
     buffer: &mut [u8],
     needed: &mut usize,
 ) -> u32
-    ensures done { result ≡ DONE
-        → IsPut (IsTemplate optional (HasValue (pair_value pairs.now)) source.now)
-        needed.new buffer.old buffer.new }
-    ensures too_small { result ≡ ROOM_TOO_SMALL
-        → IsTooLong (IsTemplate optional (HasValue (pair_value pairs.now)) source.now)
-        needed.new buffer.old }
+    ensures buffer { FillsBuffer (IsTemplate optional (HasValue (pair_value pairs.now)) source.now)
+        result needed.old needed.new buffer.old buffer.new }
     ensures others { result ≢ DONE → result ≢ ROOM_TOO_SMALL → result ≡ OUT_OF_MEMORY }
-    ensures buffer_kept { result ≢ DONE → buffer.new ≡ buffer.old }
-    ensures needed_kept { result ≢ DONE → result ≢ ROOM_TOO_SMALL → needed.new ≡ needed.old }
 {
     let index = index_of(alloc, source, pairs);
     let map = Pairs { pairs, index };
@@ -635,14 +563,10 @@ pub extern "C" fn subst_from_shell(
     form: &mut u32,
     position: &mut usize,
 ) -> u32
-    ensures done { result ≡ DONE
-        → IsPut (IsShellTemplateFor source.now) needed.new buffer.old buffer.new }
+    ensures buffer { FillsBuffer (IsShellTemplateFor source.now)
+        result needed.old needed.new buffer.old buffer.new }
     ensures refused { result ≡ REFUSED → IsRefusedFor source.now form.new position.new }
-    ensures too_small { result ≡ ROOM_TOO_SMALL
-        → IsTooLong (IsShellTemplateFor source.now) needed.new buffer.old }
     ensures others { IsOther result }
-    ensures buffer_kept { result ≢ DONE → buffer.new ≡ buffer.old }
-    ensures needed_kept { result ≢ DONE → result ≢ ROOM_TOO_SMALL → needed.new ≡ needed.old }
     ensures place_kept { result ≢ REFUSED
         → (form.new ≡ form.old) × (position.new ≡ position.old) }
 {
@@ -671,12 +595,9 @@ pub extern "C" fn subst_shell_form_text(
     buffer: &mut [u8],
     needed: &mut usize,
 ) -> u32
-    ensures done { result ≡ DONE → IsPut (IsFormText form) needed.new buffer.old buffer.new }
-    ensures too_small { result ≡ ROOM_TOO_SMALL
-        → IsTooLong (IsFormText form) needed.new buffer.old }
+    ensures buffer { FillsBuffer (IsFormText form)
+        result needed.old needed.new buffer.old buffer.new }
     ensures others { result ≢ DONE → result ≢ ROOM_TOO_SMALL → result ≡ OUT_OF_MEMORY }
-    ensures buffer_kept { result ≢ DONE → buffer.new ≡ buffer.old }
-    ensures needed_kept { result ≢ DONE → result ≢ ROOM_TOO_SMALL → needed.new ≡ needed.old }
 {
     match foreign::form_text(alloc, form) {
         Ok(message) => buffer::deliver(message.as_bytes(), buffer, needed),

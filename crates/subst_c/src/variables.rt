@@ -1,7 +1,8 @@
 //! What calls from C report of variables.
 
-ghost use Rattle.std.specs.Prelude.{◌≡◌, ◌≢◌, ◌++◌, ◌<◌, drop, length, map};
+ghost use Rattle.std.specs.Prelude.{◌≡◌, ◌≢◌, length, map};
 ghost use Rattle.subst_language.specs.Calls.Variables.{kind_of};
+ghost use Rattle.subst_c.specs.Buffer.{FillsBuffer};
 ghost use Rattle.subst_c.specs.Records.{kind_number};
 ghost use Rattle.subst_c.specs.declared.outcome.TheConstants.{DONE, ROOM_TOO_SMALL};
 ghost use Rattle.subst_c.specs.declared.variables.VariableRecord.{VariableRecord};
@@ -88,11 +89,8 @@ impl Recorded for NoSuchVariable {
 /// Writes the records of a list at the front of the buffer, and into `needed` how many they are. Where they
 /// are more than the buffer has, it stays as it is.
 pub fn deliver<T: Recorded>(list: &[T], buffer: &mut [VariableRecord], needed: &mut usize) -> u32
-    ensures needed { needed.new ≡ length list.now }
-    ensures done { result ≡ DONE
-        → buffer.new ≡ map T.recorded list.now ++ drop (length list.now) buffer.old }
-    ensures too_small { result ≡ ROOM_TOO_SMALL → length buffer.old < length list.now }
-    ensures kept { result ≢ DONE → buffer.new ≡ buffer.old }
+    ensures buffer { FillsBuffer (λ records. records ≡ map T.recorded list.now)
+        result needed.old needed.new buffer.old buffer.new }
     ensures others { result ≢ DONE → result ≡ ROOM_TOO_SMALL }
 {
     *needed = list.len();

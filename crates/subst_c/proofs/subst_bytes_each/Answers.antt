@@ -1,5 +1,5 @@
 -- The fault is one of the source, so its range ends within it.
-use Rattle.std.proofs.Common.{arith}
+use Rattle.std.proofs.Common.{arith, rules}
 use Rattle.subst_c.proofs.EachLemmas.{refused_within}
 use Rattle.subst_c.proofs.subst_bytes_each.Goals as goal
 
@@ -11,12 +11,15 @@ refuse-result-requires c =
           c.in-Err.ensures.err,
     )
 
-pub returns-after-result-eq-REFUSED-clause-within : goal.returns-after-result-eq-REFUSED-clause-within
-returns-after-result-eq-REFUSED-clause-within c refused =
-    let end = c.refuse-result.ensures.end refused in
-    omega (
-      arith,
-      end,
-      refused_within c.args.source.now c.args.rows.now c.in-Err.refusal.row c.in-Err.refusal.error
-          c.in-Err.ensures.err,
-    )
+pub returns-after-result-eq-REFUSED-clause-fault : goal.returns-after-result-eq-REFUSED-clause-fault
+returns-after-result-eq-REFUSED-clause-fault c = record {
+  refused = search rules;
+  within = λ is.
+      omega (
+        arith,
+        c.refuse-result.ensures.end is,
+        refused_within c.args.source.now c.args.rows.now c.in-Err.refusal.row c.in-Err.refusal.error
+            c.in-Err.ensures.err,
+      );
+  fault_kept = c.refuse-result.ensures.kept;
+}

@@ -1,16 +1,17 @@
 -- What the template gives, and what it is refused for, is so of its source.
 use Rattle.std.proofs.Common.{List, ℕ, subst}
-use Rattle.subst_language.specs.Language.Answer.{Answers, Gives, Refuses}
-use Rattle.subst_c.specs.Fault.{IsToldOf}
-use Rattle.subst_c.specs.Pairs.{pair_value}
+use Rattle.subst_language.specs.Language.Answer.{Answers, Gives}
 use Rattle.subst_c.specs.Buffer.{IsTooLong}
+use Rattle.subst_c.specs.Fault.{IsToldOf, SetsFault}
+use Rattle.subst_c.specs.Pairs.{RefusedBy, pair_value}
 use Rattle.subst_c.proofs.subst_bytes_into.Goals as goal
 
-pub returns-in-Ok-clause-refused : goal.returns-in-Ok-clause-refused
-returns-in-Ok-clause-refused c refused =
-    let look = pair_value c.args.pairs.now in
-    subst (λ (s : List ℕ). IsToldOf (λ f. Answers s look (Refuses f)) c.expand_into_buffer.new.fault)
-    c.in-Ok.ensures.ok.1 (c.expand_into_buffer.ensures.refused refused)
+pub returns-in-Ok-clause-fault : goal.returns-in-Ok-clause-fault
+returns-in-Ok-clause-fault c =
+    let pairs = c.args.pairs.now in
+    subst (λ (s : List ℕ). SetsFault (IsToldOf (RefusedBy s pairs)) s c.expand_into_buffer.result
+    c.args.fault.now c.expand_into_buffer.new.fault)
+    c.in-Ok.ensures.ok.1 c.expand_into_buffer.ensures.fault
 
 pub returns-in-Ok-clause-too_small : goal.returns-in-Ok-clause-too_small
 returns-in-Ok-clause-too_small c short =

@@ -1,11 +1,12 @@
 -- What is put is a text, since the source and the values are.
 use Rattle.std.proofs.Common.{◌≡◌, true, rules}
 use Rattle.subst_c.specs.Text.{are_texts}
-use Rattle.subst_c.proofs.TextLemmas.{puts_text}
+use Rattle.subst_c.proofs.BufferLemmas.{put_as}
+use Rattle.subst_c.proofs.TextLemmas.{gives_text}
 use Rattle.subst_c.proofs.subst_text_into.Goals as goal
 
 pub returns-clause-done : goal.returns-clause-done
 returns-clause-done c done =
     let are : are_texts c.args.source.now c.args.pairs.now ≡ true = search rules in
-    puts_text c.texts_give_texts.ensures.text c.args.source.now c.args.pairs.now _ _ _ are
+    put_as (gives_text c.texts_give_texts.ensures.text c.args.source.now c.args.pairs.now are)
     (c.subst_bytes_into.ensures.done done)

@@ -33,13 +33,17 @@ returns-else-buffer-length-clause-done c done =
       put = put fits;
     }
 
-pub returns-in-Err-clause-refused : goal.returns-in-Err-clause-refused
-returns-in-Err-clause-refused c refused =
-    let (t, spells) = c.in-Err.ensures.sentence in
-    let missing = c.in-Err.ensures.missing (pair_value c.args.pairs.now) (λ name. refl) t spells in
-    let (f, is, told) = told_of_refusal (expand_into_fault c.in-Err.e) _ _ missing
-    (c.refuse_missing.ensures.refused refused) in
-    (f, inr (t, spells, is), told)
+pub returns-in-Err-clause-fault : goal.returns-in-Err-clause-fault
+returns-in-Err-clause-fault c = record {
+  refused = λ is.
+      let (t, spells) = c.in-Err.ensures.sentence in
+      let missing = c.in-Err.ensures.missing (pair_value c.args.pairs.now) (λ name. refl) t spells in
+      let (f, of, told) = told_of_refusal (expand_into_fault c.in-Err.e) _ _ missing
+      (c.refuse_missing.ensures.refused is) in
+      (f, inr (t, spells, of), told);
+  within = λ is. omega (arith, c.refuse_missing.ensures.end is, c.in-Err.ensures.range);
+  fault_kept = c.refuse_missing.ensures.kept;
+}
 
 pub returns-in-Err-clause-memory : goal.returns-in-Err-clause-memory
 returns-in-Err-clause-memory c out t spells =

@@ -4,8 +4,8 @@ use Rattle.std.specs.declared.ops.Range.{Range}
 use Rattle.subst_error.specs.ErrorFault.{error_fault}
 use Rattle.subst_json.specs.Paths.{steps_of}
 use Rattle.subst_c.specs.Pairs.{pair_value}
-use Rattle.subst_c.specs.Documents.{IsFirst, Json}
-use Rattle.subst_c.proofs.DocumentLemmas.{at_look_up, first_of_json, first_refused, refusals_by_map}
+use Rattle.subst_c.specs.Documents.{Json}
+use Rattle.subst_c.proofs.DocumentLemmas.{first_of_json, first_refused, known_answer, refusals}
 use Rattle.subst_c.proofs.document.of_json.first_refusal.Goals as goal
 
 pub returns-in-Some-2 : goal.returns-in-Some-2
@@ -19,13 +19,7 @@ returns-in-Some-2 c =
     let token : Range ℕ = record { start = it.span.start; end = it.span.end } in
     let placed = rw (c.in-Some-2.is, c.source_range.ensures.range) at c.in_ok-place.ensures.place in
     let told = rw (c.deref-in-Some-2.ensures, c.in_ok-path-in-Some-2.ensures.ok) at c.refused.ensures in
+    let are = refusals _ look (known_answer _ _ look (λ v. refl)) _ _ all in
     first_refused Json look s (steps_of it.path) (string_bytes it.text) token c.in-Some-2.place
     (error_fault it.error) c.refused.result
-    (λ f is. at_look_up look (λ l. IsFirst Json l s (record {
-      path = steps_of it.path;
-      text = string_bytes it.text;
-      token = token;
-      fault = f;
-    })) (first_of_json _ s c.in-Ok-Some.all.items it f first
-    (refusals_by_map _ _ _ _ _ all (λ v. v) (λ v. refl)) spelled is))
-    placed told
+    (λ f is. first_of_json look s c.in-Ok-Some.all.items it f first are spelled is) placed told

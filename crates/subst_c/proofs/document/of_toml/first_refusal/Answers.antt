@@ -4,8 +4,8 @@ use Rattle.std.specs.declared.ops.Range.{Range}
 use Rattle.subst_error.specs.ErrorFault.{error_fault}
 use Rattle.subst_toml.specs.Paths.{steps_of}
 use Rattle.subst_c.specs.Pairs.{pair_value}
-use Rattle.subst_c.specs.Documents.{IsFirst, Toml}
-use Rattle.subst_c.proofs.DocumentLemmas.{at_look_up, first_of_toml, first_refused, refusals_in_by_map}
+use Rattle.subst_c.specs.Documents.{Toml}
+use Rattle.subst_c.proofs.DocumentLemmas.{first_of_toml, first_refused, known_answer, refusals_in}
 use Rattle.subst_c.proofs.document.of_toml.first_refusal.Goals as goal
 
 pub returns-in-Some-2 : goal.returns-in-Some-2
@@ -19,13 +19,8 @@ returns-in-Some-2 c =
     let token : Range ℕ = record { start = it.span.start; end = it.span.end } in
     let placed = rw (c.in-Some-2.is, c.source_range.ensures.range) at c.in_ok-place.ensures.place in
     let told = rw (c.deref-in-Some-2.ensures, c.in_ok-path-in-Some-2.ensures.ok) at c.refused.ensures in
+    let are = refusals_in _ look (known_answer _ _ look (λ v. refl)) all.0 _ all.2 in
     first_refused Toml look s (steps_of it.path) (string_bytes it.text) token c.in-Some-2.place
     (error_fault it.error) c.refused.result
-    (λ f is. at_look_up look (λ l. IsFirst Toml l s (record {
-      path = steps_of it.path;
-      text = string_bytes it.text;
-      token = token;
-      fault = f;
-    })) (first_of_toml _ s c.in-Ok-Some.all.items it f first
-    (all.0, all.1, refusals_in_by_map _ _ _ all.0 _ all.2 (λ v. v) (λ v. refl)) found is))
-    placed told
+    (λ f is. first_of_toml look s c.in-Ok-Some.all.items it f first (all.0, all.1, are) found is) placed
+    told
