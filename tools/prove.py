@@ -18,7 +18,7 @@ sys.dont_write_bytecode = True
 from running import CRATES, TOP, Wrong, build, end
 
 PARTS = ('src', 'specs', 'proofs')
-INSTALLED = ('subst_c', 'subst_filter', 'subst_program')
+INSTALLED = ('subst_c', 'subst_filter', 'subst_cli')
 LANES = int(os.environ.get('RT_JOBS') or len(os.sched_getaffinity(0)))
 
 
