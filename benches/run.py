@@ -25,7 +25,7 @@ sys.dont_write_bytecode = True
 sys.path.insert(0, str(Path(__file__).resolve().parent.parent / "tools"))
 import inputs
 from inputs import MIB
-from running import CRATES, build, path_of
+from building import CRATES, build, path_of
 
 HERE = Path(__file__).resolve().parent
 RESULTS, CHART = HERE / "RESULTS.md", HERE / "chart.svg"

@@ -11,7 +11,7 @@ from typing import NamedTuple
 
 sys.dont_write_bytecode = True
 from prove import crates, with_those_below
-from running import CRATES
+from building import CRATES
 
 # The crates that callers depend on.
 DOORS = ('subst', 'subst_filter_lib', 'subst_cli', 'subst_c')
