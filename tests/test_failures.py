@@ -234,7 +234,7 @@ class Writes(Built):
                 self.assertEqual(file.read(), result[:1000])
 
     def test_status_stays_where_standard_error_fails(self):
-        wrong = {FILTER: (([], 2), ([b'\xff=1'], 3)), COMMAND: ((['--wrong'], 2), (['nothing'], 3))}
+        wrong = {FILTER: (([], 2), (['bytes', b'\xff=1'], 3)), COMMAND: ((['--wrong'], 2), (['nothing'], 3))}
         for way in WAYS:
             with self.subTest(way), open('/dev/full', 'wb') as full:
                 self.assert_ends(way.run(HELLO, **without(2)), 0, b'Hello world!')
@@ -259,6 +259,7 @@ class Files(Subst):
         with open('/dev/full', 'wb') as full:
             for words in ([], ['--names']):
                 self.assert_refused(words, b'$', told('<stdin>:1:1', NO_NAME, '$', '^'), stdout=full)
+                self.assert_ends(subst(words, b'$', stderr=full), 1)
         self.assert_done(['-o', 'new'], b'a', **without(1))
         self.assert_file('new', b'a')
         self.assert_done(['-i', 'new'], **without(2))

@@ -6,6 +6,7 @@ program `subst` fills in each document; what it prints is the row's text, or is 
 are compared with tests/rules.py too. Of a row that differs is said what came in place of its answer.
 """
 import functools
+from concurrent.futures import ThreadPoolExecutor
 
 import faults
 from tests import installed, rules
@@ -174,16 +175,30 @@ class BySubst(Rows, Built):
         self.compare(lambda row: row.kind.startswith('toml'), by_subst)
 
 
-class Unproved(Tried):
-    """What the program `subst_vectors` prints, which `rt ci` runs once it is proved."""
+# What `rt try` runs, each with its crate: the program over all rows, and the functions that are tests.
+TRIED = {
+    'rows': ('subst_vectors', '--seconds', '300', '--', *(f'data/{name}' for name in FILES)),
+    'functions of subst_vectors': ('subst_vectors', '--seconds', '600', '--test'),
+    'functions of subst_filter': ('subst_filter', '--seconds', '600', '--test'),
+}
 
-    def test_rows_by_rt_try(self):
-        output = ran(['rt', 'try', '--seconds', '300', '--', *(f'data/{name}' for name in FILES)],
-                     cwd=CRATES / 'subst_vectors', timeout=None)
+
+class Unproved(Tried):
+    """What `rt try` prints, of runs side by side."""
+
+    @classmethod
+    def setUpClass(cls):
+        pool = ThreadPoolExecutor()
+        cls.addClassCleanup(pool.shutdown)
+        cls.runs = {name: pool.submit(ran, ['rt', 'try', *words], cwd=CRATES / crate, timeout=None)
+                    for name, (crate, *words) in TRIED.items()}
+
+    def test_rows_hold(self):
+        output = self.runs['rows'].result()
         for name in FILES:
             self.assertRegex(output, rf'data/{name}: \d+ rows hold\n')
 
-    def test_functions_that_are_tests_by_rt_try(self):
-        for crate in ('subst_filter', 'subst_vectors'):
-            with self.subTest(crate):
-                ran(['rt', 'try', '--test', '--seconds', '600'], cwd=CRATES / crate, timeout=None)
+    def test_functions_that_are_tests_pass(self):
+        for name in TRIED:
+            with self.subTest(name):
+                self.runs[name].result()
