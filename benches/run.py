@@ -25,7 +25,7 @@ sys.dont_write_bytecode = True
 sys.path.insert(0, str(Path(__file__).resolve().parent.parent / "tools"))
 import inputs
 from inputs import MIB
-from building import CRATES, build, path_of
+from building import build, copy_library, path_of
 
 HERE = Path(__file__).resolve().parent
 RESULTS, CHART = HERE / "RESULTS.md", HERE / "chart.svg"
@@ -161,10 +161,7 @@ def program(crate):
 def bench_program():
     """The path of the program that works in process, proved and built in a repository of its own beside copies of the
     library's crates, from which `rt` takes what it keeps of those here."""
-    library = re.search(r"^subst_error:.*^subst:.*?\n", (HERE.parent / "crates.txt").read_text(), re.M | re.S)[0]
-    for crate in re.findall(r"^\w+", library, re.M):
-        shutil.copytree(CRATES / crate, folder() / "crates" / crate, ignore=shutil.ignore_patterns("out"))
-    crate = folder() / "crates" / BENCH
+    library, crate = copy_library(folder()), folder() / "crates" / BENCH
     (crate / "src").mkdir(parents=True)
     shutil.copy(HERE / f"{BENCH}.rt.in", crate / "src/main.rt")
     (folder() / "crates.txt").write_text(f"{library}{BENCH}: subst serde_json toml\n")
