@@ -7,7 +7,7 @@ import functools
 import pathlib
 import re
 
-from tests.support import TOP, Case, ended
+from tests.support import TOP, Built, ended
 
 SECONDS = 300
 # A trait as `VariableMap` of one name, and a struct of two maps.
@@ -35,8 +35,8 @@ FORMS = {
 }
 
 
-class Forms(Case):
-    """Forms that `rt check` doesn't take."""
+class Forms(Built):
+    """Forms that are proved, or that `rt check` refuses."""
 
     def assert_ends_as_its_page_says(self, name):
         """Checks the first block of Rust of a page as a crate, which is a library for C if the page is about that."""
