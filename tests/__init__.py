@@ -1,4 +1,4 @@
-"""The tests, cases of unittest: at the top of a clone, `python3 -m unittest tests.test_files` runs those of one file."""
+"""The tests: at the top of a clone, `python3 -m unittest tests.test_files` runs those of one file."""
 import pathlib
 import sys
 

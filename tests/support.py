@@ -1,5 +1,6 @@
 """What tests share: running programs on inputs, pipes and limits, and cases that have a folder of their own."""
 import contextlib
+import ctypes
 import functools
 import os
 import pathlib
@@ -100,6 +101,16 @@ def without(stream):
     return {name: None, 'preexec_fn': lambda: os.close(stream)}
 
 
+def with_entries(crate, arguments, entries):
+    """Returns the option that runs the program of a crate with these arguments, its name first, and these entries as
+    its environment, which may be no names and values, or have a name twice."""
+    def strings(items):
+        return (ctypes.c_char_p * (len(items) + 1))(*items, None)
+
+    path, libc = os.fsencode(path_of(crate)), ctypes.CDLL(None)
+    return {'preexec_fn': lambda: libc.execve(path, strings(arguments), strings(entries))}
+
+
 # Pipes
 
 
@@ -177,12 +188,20 @@ def needs(*programs):
     return unittest.skipIf(missing, f'not installed: {", ".join(missing)}')
 
 
+def assert_ends(end, status, output=b'', errors=b''):
+    """Fails unless a program ended so."""
+    for field, found, wanted in zip(End._fields, end, End(status, output, errors)):
+        assert found == wanted, f'{field} is {shown(found)} and not {shown(wanted)}'
+
+
 class Case(unittest.TestCase):
     """Tests that each run in an empty folder, with the random numbers of the seed and of their names."""
+    seed = SEED
+    assert_ends = staticmethod(assert_ends)
 
     def setUp(self):
         resource.setrlimit(resource.RLIMIT_CORE, (0, 0))
-        random.seed(f'{SEED} {self.id()}')
+        random.seed(f'{self.seed} {self.id()}')
         self.addCleanup(os.chdir, os.getcwd())
         folder = tempfile.TemporaryDirectory(dir=SCRATCH.name)
         self.addCleanup(folder.cleanup)
@@ -190,19 +209,17 @@ class Case(unittest.TestCase):
 
     def shortDescription(self):
         """Names the seed where a test is reported."""
-        return f'SEED={SEED}'
-
-    def assert_ends(self, end, status, output=b'', errors=b''):
-        """Fails the test unless a program ended so."""
-        for field, found, wanted in zip(End._fields, end, End(status, output, errors)):
-            if found != wanted:
-                self.fail(f'{field} is {shown(found)} and not {shown(wanted)}')
+        return f'SEED={self.seed}'
 
     def need_to_run(self, *command):
         """Skips the test unless a command is installed, and ends well here."""
         is_there = shutil.which(command[0]) is not None
         if not is_there or ended(command).returncode != 0:
             self.skipTest(f"{command[0]} {'cannot do this here' if is_there else 'is not installed'}")
+
+
+class Tried(Case):
+    """Tests of what `rt try` runs, without a proof, and `rt ci` runs once it is proved."""
 
 
 class Built(Case):

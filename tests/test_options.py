@@ -1,12 +1,11 @@
 """The options of `subst` that give variables, and change their values."""
-import ctypes
 import errno
 import json
 import os
 import subprocess
 
 from tests.subst import PROGRAM, Subst, failed, missing, subst, told, told_without_line, write
-from tests.support import MIB, path_of, some_size
+from tests.support import MIB, some_size, with_entries
 
 READ_ONCE = "standard input is read once: '--values -' needs a FILE"
 # Arguments of --set, a source, and its output.
@@ -48,14 +47,6 @@ WRONG_VALUES = (
     ('\u6f22=1'.encode(), told_without_line('values:1:1', 'no template can spell this name')),
     (b'A=1\nB=hunter2\xff', told_without_line('values:2:10', 'invalid UTF-8')),
 )
-
-
-def with_entries(entries, words, source):
-    """Runs the program with these entries of the environment, in their order."""
-    def become():
-        texts = lambda all_: (ctypes.c_char_p * (len(all_) + 1))(*all_, None)
-        ctypes.CDLL(None).execve(os.fsencode(path_of(PROGRAM)), texts([b'subst', *words]), texts(entries))
-    return subst(words, source, preexec_fn=become)
 
 
 class Variables(Subst):
@@ -148,9 +139,10 @@ class Variables(Subst):
     def test_entries_of_one_name(self):
         what = "The value of this variable in the environment isn't UTF-8: $A"
         for entries in ([b'A=1', b'A=2'], [b'A=1', b'A=\xff'], [b'A=1', b'A=\xff', b'A=2']):
-            self.assert_ends(with_entries(entries, [b'-e'], b'$A'), 0, b'1')
+            self.assert_done([], b'$A', b'1', **with_entries(PROGRAM, [b'subst', b'-e'], entries))
         for entries in ([b'A=\xff', b'A=1'], [b'A=\xff', b'A=\xff', b'A=1']):
-            self.assert_faults(with_entries(entries, [b'-e'], b'$A'), told('<stdin>:1:2', what, '$A', ' ^'))
+            self.assert_refused([], b'$A', told('<stdin>:1:2', what, '$A', ' ^'),
+                                **with_entries(PROGRAM, [b'subst', b'-e'], entries))
 
     def test_many_values_that_are_not_utf8(self):
         names = [f'n{number}' for number in range(some_size(1000, 16000))]
