@@ -3,16 +3,22 @@ sources around 4 GiB, by its names, and with its requests for memory counted. te
 header says.
 """
 import ctypes
+import mmap
 import os
 import re
+import resource
 import time
 
 from tests.installed import CC, Compiling, prefix
-from tests.support import MIB, TOP, Built, ended, needs, preloading, ran, version
+from tests.support import KIB, MIB, TOP, Built, ended, needs, preloading, ran, version
 
 CXX = os.environ.get('CXX') or 'c++'
 STRICT = ('-O2', '-Wall', '-Wextra', '-Wpedantic', '-Wconversion', '-Werror')
 SANITIZED = ('-g', '-fsanitize=address,undefined', '-fno-sanitize-recover=all')
+# Results, kinds of faults and kinds of variables, as subst.h has them.
+DONE, REFUSED, ROOM_TOO_SMALL, MISSING_VARIABLE_NAME, NO_SUCH_VARIABLE, REQUIRED, WITH_DEFAULT = 0, 1, 5, 2, 5, 0, 2
+# The option of a map that takes no memory for its pages.
+MAP_NORESERVE = 0x4000
 # Templates, and some of each kind that is refused.
 SOURCES = ('Hello $name!', '${a?}${b:<${name}>}\\$', '$name ${a:$b$name}', '$name ${a:$name', '$name\\x')
 
@@ -37,27 +43,6 @@ def placeholders(count):
 def pairs(count):
     """Returns names and values, in turn. Each two pairs have the same name."""
     return [word for at in range(count) for word in (str(at // 2), 'vw'[at % 2])]
-
-
-class Pair(ctypes.Structure):
-    """A pair as subst.h has it."""
-    _fields_ = [('name', ctypes.c_char_p), ('name_len', ctypes.c_size_t),
-                ('value', ctypes.c_char_p), ('value_len', ctypes.c_size_t)]
-
-
-class Row(ctypes.Structure):
-    """A row as subst.h has it."""
-    _fields_ = [('pairs', ctypes.POINTER(Pair)), ('pairs_len', ctypes.c_size_t)]
-
-
-def sized(data):
-    """Returns bytes, or an array, and its length."""
-    return data, ctypes.c_size_t(len(data))
-
-
-def pairs_of(names):
-    """Returns an array of pairs of these names, whose values are one byte."""
-    return (Pair * len(names))(*(Pair(name, len(name), b'1', 1) for name in names))
 
 
 class CLibrary(Compiling, Built):
@@ -95,10 +80,6 @@ class CLibrary(Compiling, Built):
     def test_threads_pass_with_a_sanitizer(self):
         self.need_to_compile(CC, '-g', '-fsanitize=thread')
         ran([built('c_threads.c', '-pthread', '-g', '-fsanitize=thread')])
-
-    def test_sources_around_4_gib_are_filled_in(self):
-        """They take no memory but for the tables of their pages."""
-        ran([built('wide_source.c')], timeout=60)
 
     def test_filling_in_straight_asks_for_what_the_parse_takes(self):
         """Also to report that a variable is missing. One that puts its result in place at the end asks for more."""
@@ -144,38 +125,76 @@ class CLibrary(Compiling, Built):
         ran(['./found'], env={'LD_LIBRARY_PATH': str(prefix() / 'lib')})
 
 
+class Pair(ctypes.Structure):
+    """A pair as subst.h has it."""
+    _fields_ = [('name', ctypes.c_char_p), ('name_len', ctypes.c_size_t),
+                ('value', ctypes.c_char_p), ('value_len', ctypes.c_size_t)]
+
+
+class Row(ctypes.Structure):
+    """A row as subst.h has it."""
+    _fields_ = [('pairs', ctypes.POINTER(Pair)), ('pairs_len', ctypes.c_size_t)]
+
+
+class Place(ctypes.Structure):
+    """A fault or a variable as subst.h has it."""
+    _fields_ = [('kind', ctypes.c_uint32), ('position', ctypes.c_size_t), ('length', ctypes.c_size_t)]
+
+    def all(self):
+        return self.kind, self.position, self.length
+
+
+def sized(items):
+    """Returns bytes, or an array, and its length."""
+    return items, ctypes.c_size_t(len(items))
+
+
+def pairs_of(variables):
+    return (Pair * len(variables))(*(Pair(name, len(name), it, len(it)) for name, it in variables.items()))
+
+
+def source_of(length, begin, end):
+    """Maps a source that begins and ends so. All its pages but the first and the last are one page of zeros, which are
+    plain bytes."""
+    source = mmap.mmap(-1, length, mmap.MAP_PRIVATE | mmap.MAP_ANONYMOUS | MAP_NORESERVE)
+    source[:len(begin)], source[length - len(end):] = begin, end
+    return sized((ctypes.c_char * length).from_buffer(source))
+
+
 class Names(Built):
     """The library called by its names alone, as Python does."""
 
     def setUp(self):
         super().setUp()
         self.library = ctypes.CDLL(str(prefix() / 'lib/libsubst.so.0'))
-        self.needed, self.index, self.fault = ctypes.c_size_t(77), ctypes.c_size_t(), (ctypes.c_size_t * 3)()
+        self.needed, self.row, self.fault = ctypes.c_size_t(77), ctypes.c_size_t(), Place()
         self.buffer = ctypes.create_string_buffer(MIB)
 
-    def time_of(self, call, *arguments):
+    def call(self, name, *arguments):
+        """Makes a call, which writes what is needed and a fault, and returns its result."""
+        told = (self.needed, *[self.row] * (name == 'subst_bytes_each'), self.fault)
+        return self.library[name](*arguments, *map(ctypes.byref, told))
+
+    def time_of(self, *arguments):
         """Returns the processor time of a call, which is done."""
         begin = time.process_time()
-        self.assertEqual(call(*arguments), 0)
+        self.assertEqual(self.call(*arguments), DONE)
         return time.process_time() - begin
 
     def test_none_goes_beside_a_length_of_0(self):
-        for call in map(self.library.__getattr__, ('subst_bytes', 'subst_text', 'subst_bytes_into', 'subst_text_into')):
-            none = [word for _ in range(3) for word in (None, ctypes.c_size_t(0))]
+        none = [word for _ in range(3) for word in (None, ctypes.c_size_t(0))]
+        for call in ('subst_bytes', 'subst_text', 'subst_bytes_into', 'subst_text_into'):
             self.needed.value = 77
-            self.assertEqual(call(*none, ctypes.byref(self.needed), self.fault), 0)
-            self.assertEqual(self.needed.value, 0)
-            self.assertEqual(call(*sized(b'a'), *none[2:], ctypes.byref(self.needed), self.fault), 5)
-            self.assertEqual(self.needed.value, 1)
+            self.assertEqual((self.call(call, *none), self.needed.value), (DONE, 0))
+            self.assertEqual((self.call(call, *sized(b'a'), *none[2:]), self.needed.value), (ROOM_TOO_SMALL, 1))
 
     def test_each_name_is_looked_up_in_an_index(self):
         """Sixteen times the pairs, and as many placeholders, don't take the time of a search in turn, which is 256
         times that of one."""
         def time_of(count):
-            names = [b'a%d' % at for at in range(count)]
+            pairs = pairs_of({b'a%d' % at: b'1' for at in range(count)})
             source = b''.join(b'${a%d}' % (at * 7919 % count) for at in range(count))
-            took = self.time_of(self.library.subst_bytes, *sized(source), *sized(pairs_of(names)), *sized(self.buffer),
-                                ctypes.byref(self.needed), self.fault)
+            took = self.time_of('subst_bytes', *sized(source), *sized(pairs), *sized(self.buffer))
             self.assertEqual(self.needed.value, count)
             return took
         few, many = time_of(1000), time_of(16000)
@@ -184,12 +203,27 @@ class Names(Built):
     def test_a_source_is_parsed_once_for_all_rows(self):
         """A thousand rows don't take the time of a hundred parses."""
         def time_of(count):
-            source = b'${a:' + (MIB - 5) * b'd' + b'}'
-            pair, ends = pairs_of([b'a']), (ctypes.c_size_t * count)()
-            rows = (Row * count)(*count * [Row(pair, 1)])
-            took = self.time_of(self.library.subst_bytes_each, *sized(source), *sized(rows), *sized(self.buffer),
-                                *sized(ends), ctypes.byref(self.needed), ctypes.byref(self.index), self.fault)
+            source, pairs, ends = b'${a:' + (MIB - 5) * b'd' + b'}', pairs_of({b'a': b'1'}), (ctypes.c_size_t * count)()
+            rows = (Row * count)(*count * [Row(pairs, 1)])
+            took = self.time_of('subst_bytes_each', *sized(source), *sized(rows), *sized(self.buffer), *sized(ends))
             self.assertEqual(ends[-1], count)
             return took
         one, many = time_of(1), time_of(1000)
         self.assertLess(many, 100 * one + 0.1)
+
+    def test_sources_around_4_gib_take_little_memory(self):
+        """There the parts of a template begin to need offsets of 64 bits."""
+        before = resource.getrusage(resource.RUSAGE_SELF).ru_maxrss
+        for length in (2 ** 32 - 1, 2 ** 32):
+            source, pairs, variables = source_of(length, b'${a:', b'}x$b'), {b'a': b'1', b'b': b'2'}, (Place * 2)()
+            self.assertEqual(self.call('subst_bytes_into', *source, *sized(pairs_of(pairs)), *sized(self.buffer)), DONE)
+            self.assertEqual((self.needed.value, self.buffer[:4]), (3, b'1x2\0'))
+            pairs = pairs_of({b'a': b'1'})
+            self.assertEqual(self.call('subst_bytes_into', *source, *sized(pairs), *sized(self.buffer)), REFUSED)
+            self.assertEqual(self.fault.all(), (NO_SUCH_VARIABLE, length - 1, 1))
+            self.assertEqual((self.call('subst_variables', *source, *sized(variables)), self.needed.value), (DONE, 2))
+            self.assertEqual([it.all() for it in variables], [(WITH_DEFAULT, 2, 1), (REQUIRED, length - 1, 1)])
+            source = source_of(length, b'', b'$')
+            self.assertEqual(self.library.subst_check(*source, ctypes.byref(self.fault)), REFUSED)
+            self.assertEqual(self.fault.all(), (MISSING_VARIABLE_NAME, length - 1, 1))
+        self.assertLess(resource.getrusage(resource.RUSAGE_SELF).ru_maxrss - before, 128 * KIB)
