@@ -72,7 +72,7 @@ class CLibrary(Compiling, Built):
 
     @needs('valgrind')
     def test_calls_pass_under_valgrind(self):
-        ran(['valgrind', '-q', '--error-exitcode=9', '--leak-check=full', built('c_library.c')])
+        ran(['valgrind', '-q', '--error-exitcode=9', '--leak-check=full', built('c_library.c')], timeout=120)
 
     def test_several_threads_call_at_once(self):
         ran([built('c_threads.c', '-pthread')])

@@ -43,10 +43,12 @@ def times_refused(target, name):
         report = pathlib.Path(f'{name}.refused')
         printed = ran([target, name], env=preloading('refuse_memory.c', REFUSE_REQUEST=str(request),
                                                      REFUSE_REPORT=str(report)))
-        times += int(re.search(r'^1 inputs, (\d+) times out of memory$', printed, re.MULTILINE)[1])
+        found = int(re.search(r'^1 inputs, (\d+) times out of memory$', printed, re.MULTILINE)[1])
         if not report.exists():
+            assert found == 0, f'{name}: out of memory with no request refused'
             return request - 1, times
         report.unlink()
+        times += found
     raise AssertionError(f'{name}: no end of requests')
 
 
@@ -75,11 +77,12 @@ class Fuzzing(Compiling, Built):
 
     def test_calls_pass_with_sanitizers(self):
         self.need_to_compile(CC, *SANITIZED)
-        ran([built('-DSTANDALONE', *SANITIZED), *write_few()])
+        ran([built('-DSTANDALONE', *SANITIZED), *write_few()], timeout=600)
 
     @needs('valgrind')
     def test_calls_pass_under_valgrind(self):
-        ran(['valgrind', '-q', '--error-exitcode=9', '--leak-check=full', built('-DSTANDALONE'), *write_few()])
+        ran(['valgrind', '-q', '--error-exitcode=9', '--leak-check=full', built('-DSTANDALONE'), *write_few()],
+            timeout=600)
 
     @needs('clang')
     def test_libfuzzer_finds_no_call_that_is_wrong(self):
