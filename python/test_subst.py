@@ -1,5 +1,5 @@
 """Tests of the package subst, over the library that it finds. What it returns for each stored row, every text of a fault
-with it, is compared by tools/replay.py.
+with it, is compared by tests/test_vectors.py.
 """
 import collections.abc
 import concurrent.futures
