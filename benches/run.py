@@ -2,11 +2,11 @@
 """run.py [--runs N] [--only WORD] [--write] [TABLE ..]   Times the programs and counts the instructions of the library.
 
 Prints these tables of RESULTS.md, or all, as Markdown: times, process, programs, texts, letters, growth, hostile, json,
-toml and, as SVG, chart. README.md says what is in them. With --only, of the inputs in inputs.py only those with this word in their titles
-or as their name, and the empty one; with --write, the tables are put into RESULTS.md and the chart into chart.svg.
+toml and, as SVG, chart. README.md says what is in them. With --only, of the inputs in inputs.py only those with this
+word in their titles or as their name, and the empty one; with --write, the tables are put into RESULTS.md and the chart
+into chart.svg.
 """
 import argparse
-import atexit
 import contextlib
 import functools
 import math
@@ -37,6 +37,9 @@ SIMPLE = ("envsubst", "perl", "string.Template")
 WORKS = ("parse", "expand", "both")
 # The system takes arguments of a quarter of the stack that a program may have: enough for those of 100,000 variables.
 STACK = 16 * MIB
+# What is made for the runs.
+SCRATCH = tempfile.TemporaryDirectory()
+FOLDER = Path(SCRATCH.name)
 
 PERL = r"s/\$(?:\{(\w+)\}|(\w+))/$ENV{$1 \/\/ $2}/gea"
 PERL_WITH_DEFAULTS = r"s/\$(?:\{(\w+)(?::([^{}]*))?\}|(\w+))/$ENV{$1 \/\/ $3} \/\/ $2/gea"
@@ -110,24 +113,15 @@ IN_PROCESS = (
 TEXTS, LETTERS = ("variables", "plain", "cyrillic", "chinese"), ("configuration", "letter4k")
 
 
-def growing(title, name, sizes, **more):
-    """Workloads that grow, each with its size."""
-    return [(size, Workload(title.format(size), name.format(size), **more)) for size in sizes]
-
-
-def lengthening(name):
-    return [(size, Workload(f"{name}, {size} MiB", name, length=size * MIB)) for size in (1, 4, 16, 64)]
-
-
+# Workloads that grow, each with its size.
 FAMILIES = (
-    growing("nested defaults, {:,} deep", "depth{}", inputs.DEPTHS),
-    growing("variables, 1 MiB, {:,} arguments", "names{}", (10, 1_000, 100_000)),
-    growing("variables, 1 MiB, {:,} pairs of the environment", "names{}", (10, 1_000), word="env"),
-    lengthening("plain"),
-    lengthening("escapes"),
+    [(depth, Workload(f"nested defaults, {depth:,} deep", f"depth{depth}")) for depth in inputs.DEPTHS],
+    [(count, Workload(f"variables, 1 MiB, {count:,} arguments", f"names{count}")) for count in (10, 1_000, 100_000)],
+    [(count, Workload(f"variables, 1 MiB, {count:,} pairs of the environment", f"names{count}", word="env"))
+     for count in (10, 1_000)],
+    *([(size, Workload(f"{name}, {size} MiB", name, length=size * MIB)) for size in (1, 4, 16, 64)]
+      for name in ("plain", "escapes")),
 )
-
-
 # The longest bar of the chart, and the colours of ours and of others.
 LONGEST, FIRST, OTHER = 380, "#2c7a4b", "#9aa5ad"
 
@@ -143,14 +137,6 @@ class Run(NamedTuple):
 
 
 @functools.lru_cache(None)
-def folder():
-    """A folder that is gone at the end."""
-    made = Path(tempfile.mkdtemp())
-    atexit.register(shutil.rmtree, made)
-    return made
-
-
-@functools.lru_cache(None)
 def program(crate):
     """The path of a program of ours, proved and built where its sources have changed."""
     with contextlib.redirect_stdout(sys.stderr):
@@ -161,10 +147,10 @@ def program(crate):
 def bench_program():
     """The path of the program that works in process, proved and built in a repository of its own beside copies of the
     library's crates, from which `rt` takes what it keeps of those here."""
-    library, crate = copy_library(folder()), folder() / "crates" / BENCH
+    library, crate = copy_library(FOLDER), FOLDER / "crates" / BENCH
     (crate / "src").mkdir(parents=True)
     shutil.copy(HERE / f"{BENCH}.rt.in", crate / "src/main.rt")
-    (folder() / "crates.txt").write_text(f"{library}{BENCH}: subst serde_json toml\n")
+    (FOLDER / "crates.txt").write_text(f"{library}{BENCH}: subst serde_json toml\n")
     subprocess.run(["rt", "run", "--", "parse", "0"], cwd=crate, check=True, stdin=subprocess.DEVNULL, stdout=sys.stderr)
     return str(crate / "out" / BENCH)
 
@@ -172,15 +158,14 @@ def bench_program():
 @functools.lru_cache(None)
 def measure_program():
     """The path of the program that measures one run."""
-    path = folder() / "measure"
-    compiler = os.environ.get("CC") or "cc"
-    subprocess.run([compiler, "-O2", "-Wall", "-Wextra", "-Werror", "-o", path, HERE / "measure.c"], check=True)
-    return path
+    command = [os.environ.get("CC") or "cc", "-O2", "-Wall", "-Wextra", "-Werror", "-o", FOLDER / "measure"]
+    subprocess.run([*command, HERE / "measure.c"], check=True)
+    return FOLDER / "measure"
 
 
 def run_on(source, *command, **variables):
     """A run on these bytes, which stay in a file until the next ones."""
-    path = folder() / "source"
+    path = FOLDER / "source"
     path.write_bytes(source)
     return Run(list(command), {"PATH": os.environ["PATH"], "LC_ALL": "C", **variables}, path)
 

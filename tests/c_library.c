@@ -13,13 +13,23 @@
 enum { ROOM = 128, MOST_PAIRS = 64 };
 
 static int passed, failed;
+/* The call that is tested. */
+static const char *tested = "";
 
-#define EXPECT(name, fact) ((fact) ? (void)(passed += 1) : fail(name, #fact))
+#define EXPECT(fact) ((fact) ? (void)(passed += 1) : fail(#fact))
 
-static void fail(const char *name, const char *fact)
+static void fail(const char *fact)
 {
     failed += 1;
-    printf("%s: FAILED: %s\n", name, fact);
+    printf("%s FAILED: %s\n", tested, fact);
+}
+
+/* Whether a call is done that needs nothing. What it needs is then something again. */
+static int is_empty(uint32_t result, size_t *needed)
+{
+    int is_right = result == SUBST_DONE && *needed == 0;
+    *needed = ROOM;
+    return is_right;
 }
 
 typedef uint32_t filling(const void *source, size_t source_len, const struct subst_pair *pairs, size_t pairs_len,
@@ -32,61 +42,42 @@ static void test_filling(const char *name, filling *call)
     struct subst_fault fault = {0, 0, 0};
     size_t needed = ROOM;
     char buffer[ROOM];
-    EXPECT(name, call(NULL, 0, NULL, 0, NULL, 0, &needed, &fault) == SUBST_DONE && needed == 0);
-    EXPECT(name, call("${a:bc}", 7, NULL, 0, NULL, 0, &needed, &fault) == SUBST_ROOM_TOO_SMALL && needed == 2);
-    EXPECT(name, call("<${a:bc}>", 9, &empty, 1, buffer, 2, &needed, &fault) == SUBST_DONE && needed == 2
-                 && memcmp(buffer, "<>", 2) == 0);
-    EXPECT(name, call("$a", 2, &nameless, 1, NULL, 0, &needed, &fault) == SUBST_REFUSED
-                 && fault.kind == SUBST_NO_SUCH_VARIABLE);
+    tested = name;
+    EXPECT(is_empty(call(NULL, 0, NULL, 0, NULL, 0, &needed, &fault), &needed));
+    EXPECT(call("${a:bc}", 7, NULL, 0, NULL, 0, &needed, &fault) == SUBST_ROOM_TOO_SMALL && needed == 2);
+    EXPECT(call("<${a:bc}>", 9, &empty, 1, buffer, 2, &needed, &fault) == SUBST_DONE && needed == 2
+           && memcmp(buffer, "<>", 2) == 0);
+    EXPECT(call("$a", 2, &nameless, 1, NULL, 0, &needed, &fault) == SUBST_REFUSED
+           && fault.kind == SUBST_NO_SUCH_VARIABLE);
 }
 
-static void test_rows(void)
+static void test_rows_and_lists(void)
 {
     struct subst_row row = {NULL, 0};
     struct subst_fault fault;
     size_t needed = ROOM, end = ROOM, index;
     char buffer[1];
-    EXPECT("no rows", subst_bytes_each(NULL, 0, NULL, 0, NULL, 0, NULL, 0, &needed, &index, &fault) == SUBST_DONE
-                      && needed == 0);
-    EXPECT("a row of no pairs", subst_bytes_each("a", 1, &row, 1, buffer, 1, &end, 1, &needed, &index, &fault)
-                                == SUBST_DONE && needed == 1 && end == 1 && buffer[0] == 'a');
+    EXPECT(is_empty(subst_bytes_each(NULL, 0, NULL, 0, NULL, 0, NULL, 0, &needed, &index, &fault), &needed));
+    EXPECT(subst_bytes_each("a", 1, &row, 1, buffer, 1, &end, 1, &needed, &index, &fault) == SUBST_DONE
+           && needed == 1 && end == 1 && buffer[0] == 'a');
+    EXPECT(subst_check(NULL, 0, &fault) == SUBST_DONE);
+    EXPECT(is_empty(subst_variables(NULL, 0, NULL, 0, &needed, &fault), &needed));
+    EXPECT(is_empty(subst_missing(NULL, 0, NULL, 0, NULL, 0, &needed, &fault), &needed));
+    EXPECT(subst_missing("$a", 2, NULL, 0, NULL, 0, &needed, &fault) == SUBST_ROOM_TOO_SMALL && needed == 1);
 }
 
-static void test_lists(void)
+static void test_documents_and_faults(void)
 {
     struct subst_fault fault;
-    size_t needed = ROOM;
-    EXPECT("subst_check", subst_check(NULL, 0, &fault) == SUBST_DONE);
-    EXPECT("subst_variables", subst_variables(NULL, 0, NULL, 0, &needed, &fault) == SUBST_DONE && needed == 0);
-    needed = ROOM;
-    EXPECT("subst_missing", subst_missing(NULL, 0, NULL, 0, NULL, 0, &needed, &fault) == SUBST_DONE && needed == 0);
-    EXPECT("subst_missing", subst_missing("$a", 2, NULL, 0, NULL, 0, &needed, &fault) == SUBST_ROOM_TOO_SMALL
-                            && needed == 1);
-}
-
-static void test_documents(void)
-{
-    struct subst_fault fault;
-    size_t needed = ROOM;
-    EXPECT("subst_json", subst_json(NULL, 0, NULL, 0, NULL, 0, &needed, &fault) == SUBST_REFUSED
-                         && fault.kind == SUBST_INVALID_DOCUMENT);
-    EXPECT("subst_toml", subst_toml(NULL, 0, NULL, 0, NULL, 0, &needed, &fault) == SUBST_DONE && needed == 0);
-    needed = ROOM;
-    EXPECT("subst_json_fault_text", subst_json_fault_text("1", 1, NULL, 0, NULL, 0, &needed) == SUBST_DONE
-                                    && needed == 0);
-    needed = ROOM;
-    EXPECT("subst_toml_fault_text", subst_toml_fault_text(NULL, 0, NULL, 0, NULL, 0, &needed) == SUBST_DONE
-                                    && needed == 0);
-}
-
-static void test_faults(void)
-{
     size_t needed = ROOM, line = 0, column = 0;
-    EXPECT("subst_fault_text", subst_fault_text(NULL, 0, NULL, 0, NULL, 0, &needed) == SUBST_DONE && needed == 0);
-    needed = ROOM;
-    EXPECT("subst_fault_highlighting", subst_fault_highlighting(NULL, 0, NULL, 0, NULL, 0, &needed) == SUBST_DONE
-                                       && needed == 0);
-    EXPECT("subst_place", subst_place(NULL, 0, 0, &line, &column) == SUBST_DONE && line == 1 && column == 1);
+    EXPECT(subst_json(NULL, 0, NULL, 0, NULL, 0, &needed, &fault) == SUBST_REFUSED
+           && fault.kind == SUBST_INVALID_DOCUMENT);
+    EXPECT(is_empty(subst_toml(NULL, 0, NULL, 0, NULL, 0, &needed, &fault), &needed));
+    EXPECT(is_empty(subst_json_fault_text("1", 1, NULL, 0, NULL, 0, &needed), &needed));
+    EXPECT(is_empty(subst_toml_fault_text(NULL, 0, NULL, 0, NULL, 0, &needed), &needed));
+    EXPECT(is_empty(subst_fault_text(NULL, 0, NULL, 0, NULL, 0, &needed), &needed));
+    EXPECT(is_empty(subst_fault_highlighting(NULL, 0, NULL, 0, NULL, 0, &needed), &needed));
+    EXPECT(subst_place(NULL, 0, 0, &line, &column) == SUBST_DONE && line == 1 && column == 1);
 }
 
 /* Any number but 0 makes variables optional. No form has the largest number. */
@@ -95,20 +86,12 @@ static void test_other_tools(void)
     size_t needed = ROOM, position;
     uint32_t form;
     char buffer[ROOM];
-    EXPECT("subst_from_envsubst", subst_from_envsubst(NULL, 0, 0, NULL, 0, &needed) == SUBST_DONE && needed == 0);
-    EXPECT("subst_from_envsubst", subst_from_envsubst("$a", 2, 2, buffer, ROOM, &needed) == SUBST_DONE && needed == 5
-                                  && memcmp(buffer, "${a?}", 5) == 0);
-    EXPECT("subst_with_only", subst_with_only("$", 1, NULL, 0, 0, NULL, 0, &needed) == SUBST_ROOM_TOO_SMALL
-                              && needed == 2);
-    EXPECT("subst_from_shell", subst_from_shell(NULL, 0, NULL, 0, &needed, &form, &position) == SUBST_DONE
-                               && needed == 0);
-    needed = ROOM;
-    EXPECT("subst_shell_form_text", subst_shell_form_text(UINT32_MAX, NULL, 0, &needed) == SUBST_DONE && needed == 0);
-}
-
-static void test_version(void)
-{
-    EXPECT("subst_version", subst_version() == SUBST_VERSION && SUBST_VERSION_MINOR < 100 && SUBST_VERSION_PATCH < 100);
+    EXPECT(is_empty(subst_from_envsubst(NULL, 0, 0, NULL, 0, &needed), &needed));
+    EXPECT(subst_from_envsubst("$a", 2, 2, buffer, ROOM, &needed) == SUBST_DONE && needed == 5
+           && memcmp(buffer, "${a?}", 5) == 0);
+    EXPECT(subst_with_only("$", 1, NULL, 0, 0, NULL, 0, &needed) == SUBST_ROOM_TOO_SMALL && needed == 2);
+    EXPECT(is_empty(subst_from_shell(NULL, 0, NULL, 0, &needed, &form, &position), &needed));
+    EXPECT(is_empty(subst_shell_form_text(UINT32_MAX, NULL, 0, &needed), &needed));
 }
 
 /* Makes the call of this name, or fails. */
@@ -141,12 +124,11 @@ int main(int argc, char **argv)
     test_filling("subst_text", subst_text);
     test_filling("subst_bytes_into", subst_bytes_into);
     test_filling("subst_text_into", subst_text_into);
-    test_rows();
-    test_lists();
-    test_documents();
-    test_faults();
+    tested = "";
+    test_rows_and_lists();
+    test_documents_and_faults();
     test_other_tools();
-    test_version();
+    EXPECT(subst_version() == SUBST_VERSION && SUBST_VERSION_MINOR < 100 && SUBST_VERSION_PATCH < 100);
     printf("%d passed, %d failed\n", passed, failed);
     return failed == 0 ? EXIT_SUCCESS : EXIT_FAILURE;
 }
