@@ -297,10 +297,8 @@ def table_of_times(options):
         others = [f"{least[name]:.2f} ({least[name] / least[OURS]:.2f})" if name in least else "" for name in OTHERS]
         rows.append([workload.title, f"{least[OURS]:.2f}", *others])
     load = " ".join(f"{average:.1f}" for average in os.getloadavg())
-    title = (
-        f"Milliseconds on {os.cpu_count()} processors with load averages of {load}, the least of {options.runs} runs, "
-        "start-up included; in brackets how many times ours:"
-    )
+    title = (f"Milliseconds on {os.cpu_count()} processors with load averages of {load}, the least of {options.runs} "
+             "runs, start-up included; in brackets how many times ours:")
     return title, ["Input", OURS, *OTHERS], rows
 
 
@@ -312,12 +310,10 @@ def table_in_process(options):
         cells = [amount(counts.get(work)) for counts in (ours, rust) for work in WORKS]
         cells += [ratio(ours.get(work), rust.get(work)) for work in WORKS]
         rows.append([workload.title, *cells, amount(rust.get("limit")), ratio(ours.get("both"), rust.get("limit"))])
-    title = (
-        "Instructions in process: of `ByteTemplate::from_slice`, of `expand`, and of `substitute_bytes`, which does "
-        "both. Beside them those of the Rust crate, subst 0.3.8, on the same bytes, counted by callgrind once (rustc "
-        "1.95, memchr 2.5 with AVX2), and the limit, those of a search for each special byte and one copy of the "
-        "output:"
-    )
+    title = ("Instructions in process: of `ByteTemplate::from_slice`, of `expand`, and of `substitute_bytes`, which "
+             "does both. Beside them those of the Rust crate, subst 0.3.8, on the same bytes, counted by callgrind "
+             "once (rustc 1.95, memchr 2.5 with AVX2), and the limit, those of a search for each special byte and one "
+             "copy of the output:")
     columns = [before + work for before in ("", "Rust: ", "ours to Rust: ") for work in WORKS]
     return title, ["Input", *columns, "limit", "both to limit"], rows
 
@@ -341,10 +337,8 @@ def table_of_texts(options):
         kinds = [counted(workload, work) for work in ("expand", "text")]
         runs = [instructions_of(workload._replace(word=word), OURS) for word in ("bytes", "text")]
         rows.append([workload.title, *two(*kinds), *two(*runs)])
-    title = (
-        "Instructions in process of `expand` of the same input as bytes, by a `ByteTemplate`, and as a text, by a "
-        f"`Template`; and those of `{OURS}` with the arguments `bytes` and `text`, start-up included:"
-    )
+    title = ("Instructions in process of `expand` of the same input as bytes, by a `ByteTemplate`, and as a text, by a "
+             f"`Template`; and those of `{OURS}` with the arguments `bytes` and `text`, start-up included:")
     columns = ["expand: bytes", "text", "text to bytes", f"{OURS}: bytes", "text", "text to bytes"]
     return title, ["Input", *columns], rows
 
@@ -357,11 +351,9 @@ def table_of_letters(options):
         made = [requests(workload, work) for work in ("expand", "into")]
         ratios = [ratio(count, rust) for count in counts]
         rows.append([workload.title, *two(*counts), amount(rust), *ratios, *map(amount, made)])
-    title = (
-        "Instructions in process of `expand`, and of `expand_into` with one buffer, which has room from the start and "
-        "is cleared before each round; beside them those of the Rust crate's `expand` on the same bytes; and the "
-        "requests for memory of 1,000 rounds, without the parse and that room:"
-    )
+    title = ("Instructions in process of `expand`, and of `expand_into` with one buffer, which has room from the "
+             "start and is cleared before each round; beside them those of the Rust crate's `expand` on the same "
+             "bytes; and the requests for memory of 1,000 rounds, without the parse and that room:")
     columns = ["expand", "into one buffer", "into to expand", "Rust: expand", "expand to Rust", "into to Rust"]
     return title, ["Input", *columns, "requests: expand", "into"], rows
 
@@ -393,11 +385,9 @@ def rows_of_growth(family, options):
 
 def table_of_growth(options):
     families = [[(size, it) for size, it in family if chosen(options, [it])] for family in FAMILIES]
-    title = (
-        f"Growth: milliseconds of `{OURS}`, its instructions, and those of `substitute_bytes`, and of the Rust crate "
-        "where they are known. A slope is the exponent of the growth from the row before, without start-up: 1 is "
-        "linear, 2 quadratic:"
-    )
+    title = (f"Growth: milliseconds of `{OURS}`, its instructions, and those of `substitute_bytes`, and of the Rust "
+             "crate where they are known. A slope is the exponent of the growth from the row before, without "
+             "start-up: 1 is linear, 2 quadratic:")
     columns = ["Input", "ms", "slope", "program", "slope", "in process", "slope", "Rust: both"]
     return title, columns, [row for family in families for row in rows_of_growth(family, options)]
 
@@ -411,10 +401,8 @@ def table_of_hostile_sources(options):
             ended, memory = zip(*(measured(run, status) for _ in range(options.runs)))
             cells.append(f"{min(ended):.2f} ({max(memory):,})")
         rows.append([name, str(status), *cells])
-    title = (
-        f"Milliseconds of `{OURS}` on hostile sources of four sizes, the least of {options.runs} runs, start-up "
-        "included; in brackets the most memory in KiB:"
-    )
+    title = (f"Milliseconds of `{OURS}` on hostile sources of four sizes, the least of {options.runs} runs, start-up "
+             "included; in brackets the most memory in KiB:")
     return title, ["Source", "status", *(f"{size:,}" for size in inputs.DEPTHS)], rows
 
 
@@ -433,10 +421,8 @@ def table_of_trees(kind, _options):
         "the Rust crate, which fills in place": inputs.DOCUMENTS[kind][2],
         "the whole run: reading the variables and the tree, filling it in and dropping it": whole,
     }
-    title = (
-        f"{kind.upper()}: a document of {len(made.source) / 1e6:.1f} MB, of which {made.source.count(b'${'):,} strings "
-        "hold one of 300 variables:"
-    )
+    title = (f"{kind.upper()}: a document of {len(made.source) / 1e6:.1f} MB, of which {made.source.count(b'${'):,} "
+             "strings hold one of 300 variables:")
     return title, ["", "Instructions"], [[what, f"{count / 1e6:.0f}M"] for what, count in counts.items()]
 
 
