@@ -27,10 +27,10 @@ NO_SCRIPTS = ('.rt', '.antt', '.md', '.svg', '.tsv', '.txt', 'args', 'stdin', 's
 OPTION_FILES, FAULT_FILES = 9, 6
 # The page whose blocks of code are quoted from the source.
 QUOTING = 'docs/CALLING.md'
-# What tries the blocks of pages, by their language, that are neither quoted nor commands that tools/pages.py runs; it
-# names the page.
-TRIED = (('README.md', ['rust'], 'tools/doc-examples.py'), ('docs/C.md', ['c', 'python'], 'tools/c-library.sh'),
-         ('docs/MEMORY.md', ['text'], 'tools/refuse-memory.py'), ('docs/decisions/*.md', ['rust'], 'tools/forms.py'))
+# What tries the blocks of pages, by their language, that are neither quoted nor commands that tests/test_pages.py runs;
+# it names the page.
+TRIED = (('README.md', ['rust'], 'tests/test_other_repository.py'), ('docs/C.md', ['c', 'python'], 'tests/test_pages.py'),
+         ('docs/MEMORY.md', ['text'], 'tests/test_memory.py'), ('docs/decisions/*.md', ['rust'], 'tests/test_forms.py'))
 # Blocks that nothing tries: a grammar, a drawing, and parts of programs.
 UNTRIED = (('docs/DEFINITIONS.md', 'ebnf'), ('docs/DESIGN.md', ''), ('docs/decisions/26-c-no-handles.md', 'c'),
            ('docs/decisions/02-errors-by-hand.md', 'rust'), ('docs/decisions/29-out-of-memory-with-cause.md', 'rust'))
@@ -402,7 +402,7 @@ class House(unittest.TestCase):
 
     @gives_nothing
     def test_blocks_of_pages_are_tried(self):
-        """Each is quoted, run by tools/pages.py, tried by a script that names its page, or meant not to be."""
+        """Each is quoted, run by tests/test_pages.py, tried by a script that names its page, or meant not to be."""
         for path in pages():
             name = path.removeprefix('docs/decisions/').removesuffix('.md')
             tried = ['console', *(language for page, language in UNTRIED if page == path)]

@@ -1,6 +1,8 @@
 """Paths of the repository, and proving and building its programs."""
 import functools
 import pathlib
+import re
+import shutil
 import subprocess
 import sys
 
@@ -50,3 +52,11 @@ def build(crate):
     if ran.returncode != 0:
         sys.stdout.write(ran.stdout.decode(errors='replace'))
     return ran.returncode == 0
+
+
+def copy_library(folder):
+    """Copies the library's crates into a repository, without what `rt` keeps, and returns their lines of crates.txt."""
+    lines = re.search(r'^subst_error:.*^subst:.*?\n', (TOP / 'crates.txt').read_text(encoding='utf-8'), re.M | re.S)[0]
+    for crate in re.findall(r'^\w+', lines, re.MULTILINE):
+        shutil.copytree(CRATES / crate, folder / 'crates' / crate, ignore=shutil.ignore_patterns('out'))
+    return lines
