@@ -12,6 +12,8 @@ PROGRAM = 'subst_cli'
 # A user that owns no file.
 NOBODY = 65534
 NO_NAME = missing_name()
+# The fault of a name whose value can't be read, before the name.
+UNREADABLE = "The value of this variable in the environment isn't UTF-8: $"
 
 
 def subst(words=(), source=b'', **options):

@@ -111,7 +111,7 @@ def with_entries(crate, arguments, entries):
     return {'preexec_fn': lambda: libc.execve(path, strings(arguments), strings(entries))}
 
 
-# Pipes
+# Pipes and files
 
 
 @contextlib.contextmanager
@@ -150,6 +150,15 @@ def left_in(reader):
     """Returns the bytes that are in a pipe, of which it holds less than a MiB."""
     os.set_blocking(reader, False)
     return os.read(reader, MIB)
+
+
+@contextlib.contextmanager
+def file_of(data):
+    """Opens a new file with this data."""
+    with tempfile.TemporaryFile() as file:
+        file.write(data)
+        file.seek(0)
+        yield file
 
 
 # Sizes and texts

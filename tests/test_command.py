@@ -135,8 +135,7 @@ class Arguments(Subst):
         for word in ('--wrong', '-x'):
             more = f"  tip: to pass '{word}' as a value, use '-- {word}'\n\n"
             self.assert_wrong([word], f"unexpected argument '{word}' found", more=more)
-        text = "the argument '--output <FILE>' cannot be used multiple times"
-        self.assert_wrong(['-o', 'a', '-o', 'b'], text)
+        self.assert_wrong(['-o', 'a', '-o', 'b'], "the argument '--output <FILE>' cannot be used multiple times")
         self.assert_ends(subst([b'\xff']), 2, errors=b"subst: a word of the command line isn't UTF-8\n")
         self.assert_wrong(['-i'], '--in-place needs a file')
         self.assert_wrong(['-i', 'a', '-'], "--in-place can't be of standard input")

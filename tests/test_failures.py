@@ -14,8 +14,8 @@ from typing import NamedTuple
 
 from faults import missing_name
 from tests.subst import NO_NAME, Subst, failed, subst, told, write
-from tests.support import (Built, End, GIB, KIB, MIB, SECONDS, in_memory, left_in, limited, path_of, pipe, preloading,
-                           run, shown, some_size, unread_pipe, without)
+from tests.support import (GIB, KIB, MIB, SECONDS, Built, End, file_of, in_memory, left_in, limited, path_of, pipe,
+                           preloading, run, shown, some_size, unread_pipe, without)
 
 FILTER, COMMAND = 'subst_filter', 'subst_cli'
 # Bytes that are their own output: all of them, also outside UTF-8, and a text.
@@ -97,15 +97,6 @@ def waits(process):
 def long_text():
     """Returns a text that is its own output, and more than a pipe holds."""
     return TEXT * some_size(3000, 300000)
-
-
-@contextlib.contextmanager
-def file_of(data):
-    """Opens a new file with this data."""
-    with open('source', 'w+b') as file:
-        file.write(data)
-        file.seek(0)
-        yield file
 
 
 class Reads(Built):
@@ -281,12 +272,11 @@ class Memory(Subst):
         os.truncate('sparse', 256 * MIB)
         write('growing', b'$A' * 10000)
         write('small', b'$A')
-        words = [f'-sA={"a" * 10000}']
         for file, size in (('sparse', 256 * MIB), ('growing', 20000)):
             for more in ([], ['-o', 'old'], ['-o', 'new'], ['--check'], ['-i']):
                 write('old', b'old')
                 named = 'subst' if file == 'growing' and more[:1] in ([], ['-o']) else file
-                self.assert_out_of_memory([*words, *more, file], f'{named}: out of memory\n'.encode())
+                self.assert_out_of_memory([f'-sA={"a" * 10000}', *more, file], f'{named}: out of memory\n'.encode())
                 self.assert_file('old', b'old')
                 self.assertEqual(os.path.getsize(file), size)
                 self.assert_files('growing', 'old', 'small', 'sparse')
@@ -301,10 +291,9 @@ class Memory(Subst):
         self.assert_ends(subst(words, **in_memory(64 * MIB)), 4, errors=errors)
 
     def test_memory_that_runs_out_at_each_request(self):
-        for way in WAYS:
-            if way.is_filter:
-                with self.subTest(way):
-                    self.refuse_in_turn(way, b'Hello ${who:$name}!', b'Hello world!')
+        for way in filter(lambda way: way.is_filter, WAYS):
+            with self.subTest(way):
+                self.refuse_in_turn(way, b'Hello ${who:$name}!', b'Hello world!')
 
     def refuse_in_turn(self, way, source, output):
         """Runs the program again and again, each time with another of its requests for memory refused, until in a run

@@ -8,6 +8,7 @@ import resource
 import shutil
 import subprocess
 import time
+import unittest
 
 from tests.subst import (NOBODY, NO_NAME, PROGRAM, Subst, by_another_user, drawn, failed, missing, mode_of,
                          not_replaced, read, told, write)
@@ -152,9 +153,8 @@ class Output(Subst):
         self.assert_files('file', folder='folder')
         self.assert_file('folder/file', b'$A')
 
+    @unittest.skipUnless(os.getuid() == 0, 'only root can give files away')
     def test_group_stays_where_the_owner_cannot(self):
-        if os.getuid() != 0:
-            self.skipTest('only root can give files away')
         # The groups that the other user has, and the mode before and after: one in the group keeps it.
         rows = ((1234, 0o660, 1234, 0o660), (1234, 0o6664, 1234, 0o664), (4321, 0o664, NOBODY, 0o644),
                 (4321, 0o6676, NOBODY, 0o666), (4321, 0o674, NOBODY, 0o644))
@@ -338,9 +338,8 @@ class InPlace(Subst):
             os.remove(name)
         self.assert_files()
 
+    @unittest.skipUnless(os.getuid() == 0, 'only root can give files away')
     def test_owner_stays(self):
-        if os.getuid() != 0:
-            self.skipTest('only root can give files away')
         for words in (['-i', 'file'], ['-o', 'file']):
             write('file', b'a')
             os.chown('file', 1, 2)

@@ -9,8 +9,8 @@ import resource
 import shutil
 
 from faults import invalid_escape, missing_brace, missing_name, no_such_variable, unexpected
-from tests.support import (Built, KIB, MIB, builds_of, fill, in_memory, left_in, limited, path_of, pipe, run, some_size,
-                           with_entries)
+from tests.support import (KIB, MIB, Built, builds_of, file_of, fill, in_memory, left_in, limited, path_of, pipe, run,
+                           some_size, with_entries)
 
 PROGRAM = 'subst_filter'
 NOT_UTF8 = b'subst: input is not UTF-8\n'
@@ -292,8 +292,6 @@ class Large(Built):
         source = count * ''.join(f'\\$ {{}} $name_{number}-${{name_{number}:$none}}${{no:<$name_{number}>}}${{no?}}\n'
                                  for number in range(len(values)))
         output = count * ''.join(f'$ {{}} {value}-{value}<{value}>\n' for value in values)
-        with open('source', 'w+b') as file:
-            file.write(source.encode())
-            file.seek(0)
+        with file_of(source.encode()) as file:
             self.assert_ends(fill_in(words, stdin=file), 0, output.encode())
         self.assert_ends(fill_in(words, source.encode() + b'$'), 1, errors=refused(missing_name()))

@@ -4,7 +4,7 @@ import json
 import os
 import subprocess
 
-from tests.subst import PROGRAM, Subst, failed, missing, subst, told, told_without_line, write
+from tests.subst import PROGRAM, UNREADABLE, Subst, failed, missing, subst, told, told_without_line, write
 from tests.support import MIB, some_size, with_entries
 
 READ_ONCE = "standard input is read once: '--values -' needs a FILE"
@@ -69,8 +69,7 @@ class Variables(Subst):
             self.assert_ends(subst([word]), 2, errors=(text + "For more information, try '--help'.\n").encode())
 
     def test_set_is_shown_without_control_characters(self):
-        text = "no template can spell the name 'a\\u{1b}' of --set"
-        self.assert_wrong(['--set', 'a\x1b=1'], text)
+        self.assert_wrong(['--set', 'a\x1b=1'], "no template can spell the name 'a\\u{1b}' of --set")
 
     def test_values(self):
         write('values', VALUES)
@@ -125,7 +124,7 @@ class Variables(Subst):
         self.assert_refused([], b'$A', missing('A', '<stdin>:1:2', '$A', ' ^'), env=env)
 
     def test_env_that_is_not_utf8(self):
-        env, what = {b'BAD': b'\xff'}, "The value of this variable in the environment isn't UTF-8: $BAD"
+        env, what = {b'BAD': b'\xff'}, f'{UNREADABLE}BAD'
         self.assert_done(['-e', '-sBAD=1'], b'$BAD', b'1', env=env)
         self.assert_refused(['-e'], b'$A ${BAD?} $B', missing('A', '<stdin>:1:2', '$A ${BAD?} $B', ' ^'),
                             told('<stdin>:1:6', what, '$A ${BAD?} $B', '     ^^^'),
@@ -137,11 +136,10 @@ class Variables(Subst):
         self.assert_done(['-e', '--names'], b'$BAD', b'BAD\t<stdin>:1:2\trequired\n', env=env)
 
     def test_entries_of_one_name(self):
-        what = "The value of this variable in the environment isn't UTF-8: $A"
         for entries in ([b'A=1', b'A=2'], [b'A=1', b'A=\xff'], [b'A=1', b'A=\xff', b'A=2']):
             self.assert_done([], b'$A', b'1', **with_entries(PROGRAM, [b'subst', b'-e'], entries))
         for entries in ([b'A=\xff', b'A=1'], [b'A=\xff', b'A=\xff', b'A=1']):
-            self.assert_refused([], b'$A', told('<stdin>:1:2', what, '$A', ' ^'),
+            self.assert_refused([], b'$A', told('<stdin>:1:2', f'{UNREADABLE}A', '$A', ' ^'),
                                 **with_entries(PROGRAM, [b'subst', b'-e'], entries))
 
     def test_many_values_that_are_not_utf8(self):

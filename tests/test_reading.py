@@ -3,7 +3,7 @@ import json
 import tomllib
 
 from faults import missing_brace, unexpected
-from tests.subst import Subst, in_each_form, missing, subst, told, toml_of
+from tests.subst import UNREADABLE, Subst, in_each_form, missing, subst, told, toml_of
 
 # Sources that aren't UTF-8, with the position of the first byte that isn't, and its line.
 NOT_UTF8 = (
@@ -129,8 +129,7 @@ class Forms(Subst):
         self.assert_done(['--only=', '--only=A', *variables], ALL, taken)
         self.assert_done(['--only=1', '-s1=x'], b'$1 ${1} $12', b'x x $12')
         for name in ('a-b', '$', '${}', '${A', '$A}', '{A}', '\u00e4', '$$A'):
-            text = f"no template can spell the name '{name}' of --only"
-            self.assert_wrong(['--only', f'A,{name}'], text)
+            self.assert_wrong(['--only', f'A,{name}'], f"no template can spell the name '{name}' of --only")
 
     def test_envsubst(self):
         taken = b'1 1 \\1 \\. 2 2 ${A:x} ${A?} 3 $1 $$ ${ $(A) $'
@@ -161,8 +160,8 @@ class ChosenNames(Subst):
         self.assert_done(['--known', '--no-empty', '-sEMPTY='], b'$EMPTY', b'$EMPTY')
         self.assert_done(['--known', '--json', '-sA="'], b'["$A $B", {"k": "${A}"}]', b'["\\" $B", {"k": "\\""}]')
         self.assert_done(['--known', '--bytes', '-sA=1'], b'\xff$A$B', b'\xff1$B')
-        what = "The value of this variable in the environment isn't UTF-8: $A"
-        self.assert_refused(['--known', '-e'], b'$A $B', told('<stdin>:1:2', what, '$A $B', ' ^'), env={b'A': b'\xff'})
+        self.assert_refused(['--known', '-e'], b'$A $B', told('<stdin>:1:2', f'{UNREADABLE}A', '$A $B', ' ^'),
+                            env={b'A': b'\xff'})
 
     def test_optional(self):
         for words in (['--envsubst', '--optional'], ['--only=A,B,a1', '--optional']):
@@ -172,9 +171,8 @@ class ChosenNames(Subst):
             self.assert_done([*words, '--json'], b'["$A", "$A $B"]', b'["", " "]')
             self.assert_done([*words, '--check'], b'$A')
             self.assert_done([*words, '--names'], b'\n\\ ${A}', b'A\t<stdin>:2:5\toptional\n')
-        what = "The value of this variable in the environment isn't UTF-8: $A"
         self.assert_refused(['--envsubst', '--optional', '-e'], b'\\ $B $A',
-                            told('<stdin>:1:7', what, '\\ $B $A', '      ^'), env={b'A': b'\xff'})
+                            told('<stdin>:1:7', f'{UNREADABLE}A', '\\ $B $A', '      ^'), env={b'A': b'\xff'})
         for words in ([], ['--json']):
             self.assert_wrong(['--optional', *words], '--optional needs --envsubst or --only')
 
@@ -216,11 +214,10 @@ class Unchanged(Subst):
             self.assert_done(words, source, source.replace(b'${HOME?}${HOME:d}', b'd'), env={'HOME': 'secret'})
 
     def test_value_that_is_not_utf8_is_never_left_out(self):
-        what = "The value of this variable in the environment isn't UTF-8: $BAD"
         for text in ('${BAD?}', '${BAD:d}', '${BAD:}', '${A:${BAD:d}}'):
             for words, source in in_each_form(text):
                 end = subst([*words, '-e'], source, env={b'BAD': b'\xff'})
-                self.assertTrue((end.status, end.output) == (1, b'') and what.encode() in end.errors,
+                self.assertTrue((end.status, end.output) == (1, b'') and f'{UNREADABLE}BAD'.encode() in end.errors,
                                 f'{words} {text}')
 
     def test_names_that_are_not_listed_stay(self):

@@ -12,7 +12,7 @@ import time
 from typing import Callable, NamedTuple
 
 from tests import installed
-from tests.support import KIB, MIB, Built, run
+from tests.support import KIB, MIB, Built, file_of, run
 
 # How often each work is done at a time, how often at most, how many times as much is done, how many times as long that
 # may take, and the seconds that it may take at any rate.
@@ -29,9 +29,7 @@ class Run(NamedTuple):
 
     def seconds(self, _):
         """The processor time of the run, which fails the test if it ended early: then it is fast."""
-        with open('source', 'w+b') as source:
-            source.write(self.source)
-            source.seek(0)
+        with file_of(self.source) as source:
             before = resource.getrusage(resource.RUSAGE_CHILDREN)
             ended = run(self.program, self.words, stdin=source)
             after = resource.getrusage(resource.RUSAGE_CHILDREN)

@@ -4,7 +4,7 @@ import re
 import shutil
 
 from faults import invalid_escape, no_such_variable
-from tests.subst import NO_NAME, Subst, missing, subst, told
+from tests.subst import NO_NAME, UNREADABLE, Subst, missing, subst, told
 from tests.support import TOP, needs, ran
 
 TEMPLATES = TOP / 'tests/data/templates'
@@ -143,9 +143,8 @@ class Shell(Subst):
                   missing('D', '<stdin>:2:34', line, ' ' * 33 + '^'),
                   missing('E', '<stdin>:2:43', line, ' ' * 42 + '^'))
         self.assert_refused(['--shell', '-sE='], b'$A\n' + line.encode(), *faults)
-        what = "The value of this variable in the environment isn't UTF-8: $A"
-        self.assert_refused(['--shell', '-e'], b'$$ ${A:-x}', told('<stdin>:1:6', what, '$$ ${A:-x}', '     ^'),
-                            env={b'A': b'\xff'})
+        self.assert_refused(['--shell', '-e'], b'$$ ${A:-x}',
+                            told('<stdin>:1:6', f'{UNREADABLE}A', '$$ ${A:-x}', '     ^'), env={b'A': b'\xff'})
         self.assert_refused(['--shell', '--json'], b'["\\u0024{A:?}"]',
                             missing('A', '<stdin>:1:10: /0', '["\\u0024{A:?}"]', ' ' * 9 + '^'))
         self.assert_done(['--shell', '--names'], b'$$A ${B:-$C} ${D:?x $y}$E', b'B\t<stdin>:1:7\tdefault\n'
