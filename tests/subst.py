@@ -3,10 +3,11 @@ import json
 import os
 import random
 import shutil
+import stat
 
 from faults import missing_name, no_such_variable
-from tests.support import Built, KIB, path_of, run, shown
-import stat
+from tests.support import KIB, Built, path_of, run, shown
+from tests.vectors import read_document
 
 PROGRAM = 'subst_cli'
 # A user that owns no file.
@@ -145,10 +146,10 @@ class Subst(Built):
         """Fails the test unless a run has these messages about files and devices that fail."""
         self.assert_ends(subst(words, **options), 3, errors=b''.join(messages))
 
-    def assert_tree(self, end, reads, wanted):
+    def assert_tree(self, end, kind, wanted):
         """Fails the test unless the program gave a document that is read so."""
         try:
-            tree = reads(end.output.decode())
+            tree = read_document(kind, end.output.decode())
         except ValueError:
             tree = None
         self.assertTrue(end.status == 0 and tree == wanted, f"{end.status}, and {shown(end.output)} isn't as wanted")

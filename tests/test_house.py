@@ -29,8 +29,9 @@ OPTION_FILES, FAULT_FILES = 9, 6
 QUOTING = 'docs/CALLING.md'
 # What tries the blocks of pages, by their language, that are neither quoted nor commands that tests/test_pages.py runs;
 # it names the page.
-TRIED = (('README.md', ['rust'], 'tests/test_other_repository.py'), ('docs/C.md', ['c', 'python'], 'tests/test_pages.py'),
-         ('docs/MEMORY.md', ['text'], 'tests/test_memory.py'), ('docs/decisions/*.md', ['rust'], 'tests/test_forms.py'))
+TRIED = (('README.md', ['rust'], 'tests/test_other_repository.py'),
+         ('docs/C.md', ['c', 'python'], 'tests/test_pages.py'), ('docs/MEMORY.md', ['text'], 'tests/test_memory.py'),
+         ('docs/decisions/*.md', ['rust'], 'tests/test_forms.py'))
 # Blocks that nothing tries: a grammar, a drawing, and parts of programs.
 UNTRIED = (('docs/DEFINITIONS.md', 'ebnf'), ('docs/DESIGN.md', ''), ('docs/decisions/26-c-no-handles.md', 'c'),
            ('docs/decisions/02-errors-by-hand.md', 'rust'), ('docs/decisions/29-out-of-memory-with-cause.md', 'rust'))

@@ -1,6 +1,5 @@
 """Sources, values and lists past the size of each buffer."""
 import json
-import tomllib
 
 from faults import no_such_variable
 from tests.subst import Subst, drawn, missing, subst, told, toml_of, write
@@ -34,10 +33,10 @@ class Sources(Subst):
         filled = {key: [f'{item[0].replace("$A", "$B")}', {**item[1], 'x': '$B"'}] for key, item in members.items()}
         words = ['-sA=$B"', *(f'-sA{number}=$B{number}' for number in range(7))]
         source = json.dumps(members)
-        self.assert_tree(subst(['--json', *words], source.encode()), json.loads, filled)
+        self.assert_tree(subst(['--json', *words], source.encode()), 'json', filled)
         few = list(members)[:some_size(5000, 30000)]
         source = toml_of({key: members[key] for key in few})
-        self.assert_tree(subst(['--toml', *words], source.encode()), tomllib.loads, {key: filled[key] for key in few})
+        self.assert_tree(subst(['--toml', *words], source.encode()), 'toml', {key: filled[key] for key in few})
 
     def test_several_large_files(self):
         first, second = drawn(some_size(MIB)), drawn(some_size(64 * KIB, 4 * MIB))
