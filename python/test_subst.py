@@ -209,6 +209,7 @@ class Choices(Case):
             self.assertEqual(subst.fill_in(text, {'HOST': 'h\\$', 'PORT': '1'}, only=names),
                              text.replace('$HOST ${PORT}', 'h\\$ 1'))
         self.assertEqual(subst.fill_in(text, only=[]), text)
+        self.assertEqual(subst.fill_in('$name $5', {'5': 'v'}, only=['5']), '$name v')
         self.assertEqual(subst.fill_in(text.encode(), {b'PORT': b'1'}, only=[b'PORT']),
                          text.replace('${PORT}', '1').encode())
         template = Template('\\é$a $b', only=['b', 'a'])
@@ -258,7 +259,7 @@ class Choices(Case):
                 ('$5 \\n ${name}$b ${1}$', None, '\\$5 \\\\n ${name}$b \\${1}\\$', '\\$5 \\\\n ${name?}${b?} \\${1}\\$'),
                 ('$name ${name} $names \\$5', ['name'], '$name ${name} \\$names \\\\\\$5',
                  '${name?} ${name?} \\$names \\\\\\$5'),
-                ('$name $5', ['5'], '\\$name $5', '\\$name ${5?}'), ('\\', None, '\\\\', '\\\\')):
+                ('\\', None, '\\\\', '\\\\')):
             self.assertEqual(subst.from_envsubst(text, only=only), required)
             self.assertEqual(subst.from_envsubst(text, only=only, optional=True), optional)
 

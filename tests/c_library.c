@@ -83,6 +83,7 @@ static void test_documents_and_faults(void)
 /* Any number but 0 makes variables optional. No form has the largest number. */
 static void test_other_tools(void)
 {
+    struct subst_pair five = {"5", 1, NULL, 0};
     size_t needed = ROOM, position;
     uint32_t form;
     char buffer[ROOM];
@@ -90,6 +91,9 @@ static void test_other_tools(void)
     EXPECT(subst_from_envsubst("$a", 2, 2, buffer, ROOM, &needed) == SUBST_DONE && needed == 5
            && memcmp(buffer, "${a?}", 5) == 0);
     EXPECT(subst_with_only("$", 1, NULL, 0, 0, NULL, 0, &needed) == SUBST_ROOM_TOO_SMALL && needed == 2);
+    EXPECT(subst_with_only("$a $5", 5, &five, 1, 2, buffer, ROOM, &needed) == SUBST_DONE && needed == 9
+           && memcmp(buffer, "\\$a ${5?}", 9) == 0);
+    needed = ROOM;
     EXPECT(is_empty(subst_from_shell(NULL, 0, NULL, 0, &needed, &form, &position), &needed));
     EXPECT(is_empty(subst_shell_form_text(UINT32_MAX, NULL, 0, &needed), &needed));
 }
