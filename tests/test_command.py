@@ -77,13 +77,13 @@ class Help(Subst):
         with open('/dev/full', 'wb') as full:
             self.assert_failed(['--help'], failed('<stdout>', errno.ENOSPC), stdout=full)
 
+
 # Pairs of options that can't be given together, as arguments and as they are reported.
 CONFLICTS = (
     ('--bytes', '--json'), ('--bytes', '--toml'), ('--json', '--toml'), ('--only <NAMES>', '--envsubst'),
     ('--output <FILE>', '--in-place'), ('--output <FILE>', '--check'), ('--output <FILE>', '--names'),
     ('--in-place', '--check'), ('--in-place', '--names'), ('--check', '--names'),
 )
-
 
 
 class Arguments(Subst):

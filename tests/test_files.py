@@ -354,8 +354,8 @@ def with_failing_call(call, number, words, *more, when='1'):
     """Runs the program where the first of such system calls, or those of other numbers, fail, and returns how it
     ended."""
     tracing = ['-qq', '-o', '/dev/null', *more, '-e', f'inject={call}:error={errno.errorcode[number]}:when={when}']
-    return run(PROGRAM, [*tracing, path_of(PROGRAM), *words], b'$A\n', name='strace',
-               executable=shutil.which('strace'))
+    return run(PROGRAM, [*tracing, path_of(PROGRAM), *words], b'$A\n', name='strace', executable=shutil.which('strace'))
+
 
 # How often a run is killed.
 KILLS = 200
@@ -381,6 +381,7 @@ def usual_time(words, source):
             times.append(time.monotonic() - begin)
     return sorted(times)[2]
 
+
 # Makes a file one that is mounted by itself, fills it in, and writes through it.
 ON_A_BOUND_FILE = """
 mount --bind old file || exit 99
@@ -390,7 +391,6 @@ ls -A >listing
 "$1" -sA=1 template >file
 exit $status
 """
-
 # Fills a small file system, whose folder and file it then copies to where they are seen.
 ON_A_SMALL_DISK = """
 mount -t tmpfs -o size=64k none disk && cp old disk/file || exit 99

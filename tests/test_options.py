@@ -22,7 +22,6 @@ SETS = (
     (['-s0_a=\n \u00e4'], '$0_a', '\n \u00e4'),
     ([], '${A:d}${A?}', 'd'),
 )
-
 VALUES = (b'\xef\xbb\xbfA=1\r\n'
           b'\n'
           b'  # B=none\n'
@@ -32,7 +31,6 @@ VALUES = (b'\xef\xbb\xbfA=1\r\n'
           b'#D=none\r\n'
           b"D='a=b'=\r\r\n"
           b'A=\xc3\xa4')
-
 # Values files that are refused, with their message.
 WRONG_VALUES = (
     (b'A=1\nB\nC', told_without_line('values:2:1', "missing '='")),

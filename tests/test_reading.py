@@ -10,33 +10,26 @@ NOT_UTF8 = (
     (b'$\nab\xe2\x82', '2:3', 'ab\ufffd', '  ^'),
     (b'\xc3\xa4\xed\xa0\x80.', '1:2', '\u00e4\ufffd\ufffd\ufffd.', ' ^'),
 )
-
 # A JSON document, and what it gives where A is a quote, a line feed and a backslash.
 JSON = (b'{ "$A" : "$A",\r\n\t"b":[1.50, -0, 1E30,"\\u0024A",null ],"b": "\\/\\u0041", "c":{"a":["${A}\\n"]}}\r\n')
-
 FILLED_JSON = (b'{ "$A" : "\\"\\n\\\\",\r\n\t"b":[1.50, -0, 1E30,"\\"\\n\\\\",null ],"b": "\\/\\u0041", '
                b'"c":{"a":["\\"\\n\\\\\\n"]}}\r\n')
-
 # Texts that are no documents, with their fault.
 NO_JSON = (
     (b'{"a": "$x",}', told('<stdin>:1:12', 'invalid JSON', '{"a": "$x",}', ' ' * 11 + '^')),
     (b'{"a": 1,\n "b" 2}', told('<stdin>:2:6', 'invalid JSON', ' "b" 2}', ' ' * 5 + '^')),
     (b'', told('<stdin>:1:1', 'EOF while parsing', '', '^')),
 )
-
 NO_TOML = (
     (b'a = "$x"\na = 2\n', told('<stdin>:2:1', 'duplicate key', 'a = 2', '^^^^^')),
     (b'\n$a = 1', told('<stdin>:2:1', 'invalid key, expected letters, numbers, `-`, `_` or a quoted key', '$a = 1',
                        '^')),
 )
-
 # A TOML document, and what it gives where A is 1.
 TOML = (b'# "$A"\r\nb   =\t\'$A\' # $A\r\n"$A" = +1_000\n[t]\nd = 1979-05-27\nn = ["${A}", 1.50,\n  """\n$A""",]\n'
         b'\'a\' = """\nb\\\n  c"""\n')
-
 FILLED_TOML = (b'# "$A"\r\nb   =\t"1" # $A\r\n"$A" = +1_000\n[t]\nd = 1979-05-27\nn = ["1", 1.50,\n  "1",]\n'
                b'\'a\' = """\nb\\\n  c"""\n')
-
 ALL = b'$A ${A} \\$A \\. $B ${B} ${A:x} ${A?} $AB $1 $$ ${ $(A) $'
 
 

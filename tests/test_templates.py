@@ -68,6 +68,7 @@ class Templates(Subst):
                             told('worker@.service:11:22', NO_NAME,
                                  'Environment="PRICE=US$$ 5" "ROOT=/srv/${APP_NAME}"', ' ' * 21 + '^'), cwd=TEMPLATES)
 
+
 # Texts, and what Docker Compose makes of them where A is 1, E is empty and nothing else has a value.
 SHELL = (
     ('$A ${A} $E ${E} $B ${B}.', '1 1    .'),
@@ -79,7 +80,6 @@ SHELL = (
     ('\\$A \\ {} } { : ? # % \u00e4', '\\1 \\ {} } { : ? # % \u00e4'),
     ('$A_1 ${A_1:-_} $_ ${_}', ' _  '),
 )
-
 # Texts that are refused, with the column, what it is, and how many columns are told.
 NO_SHELL = (
     ('a ${B-x}', 3, '`-` of a shell\'s variable can\'t be given here'),
