@@ -2,11 +2,11 @@
 """run.py [--runs N] [--only WORD] [--write] [TABLE ..]   Times the programs and counts the instructions of the library.
 
 Prints these tables of RESULTS.md, or all, as Markdown: times, process, programs, texts, letters, growth, hostile, json,
-toml and, as SVG, chart. README.md says what is in them. With --only, of the inputs in inputs.py only those with this word in their titles
-or as their name, and the empty one; with --write, the tables are put into RESULTS.md and the chart into chart.svg.
+toml and, as SVG, chart. README.md says what is in them. With --only, of the inputs in inputs.py only those with this
+word in their titles or as their name, and the empty one; with --write, the tables are put into RESULTS.md and the chart
+into chart.svg.
 """
 import argparse
-import atexit
 import contextlib
 import functools
 import math
@@ -25,7 +25,7 @@ sys.dont_write_bytecode = True
 sys.path.insert(0, str(Path(__file__).resolve().parent.parent / "tools"))
 import inputs
 from inputs import MIB
-from running import CRATES, build, path_of
+from building import build, copy_library, path_of
 
 HERE = Path(__file__).resolve().parent
 RESULTS, CHART = HERE / "RESULTS.md", HERE / "chart.svg"
@@ -37,6 +37,9 @@ SIMPLE = ("envsubst", "perl", "string.Template")
 WORKS = ("parse", "expand", "both")
 # The system takes arguments of a quarter of the stack that a program may have: enough for those of 100,000 variables.
 STACK = 16 * MIB
+# What is made for the runs.
+SCRATCH = tempfile.TemporaryDirectory()
+FOLDER = Path(SCRATCH.name)
 
 PERL = r"s/\$(?:\{(\w+)\}|(\w+))/$ENV{$1 \/\/ $2}/gea"
 PERL_WITH_DEFAULTS = r"s/\$(?:\{(\w+)(?::([^{}]*))?\}|(\w+))/$ENV{$1 \/\/ $3} \/\/ $2/gea"
@@ -110,24 +113,15 @@ IN_PROCESS = (
 TEXTS, LETTERS = ("variables", "plain", "cyrillic", "chinese"), ("configuration", "letter4k")
 
 
-def growing(title, name, sizes, **more):
-    """Workloads that grow, each with its size."""
-    return [(size, Workload(title.format(size), name.format(size), **more)) for size in sizes]
-
-
-def lengthening(name):
-    return [(size, Workload(f"{name}, {size} MiB", name, length=size * MIB)) for size in (1, 4, 16, 64)]
-
-
+# Workloads that grow, each with its size.
 FAMILIES = (
-    growing("nested defaults, {:,} deep", "depth{}", inputs.DEPTHS),
-    growing("variables, 1 MiB, {:,} arguments", "names{}", (10, 1_000, 100_000)),
-    growing("variables, 1 MiB, {:,} pairs of the environment", "names{}", (10, 1_000), word="env"),
-    lengthening("plain"),
-    lengthening("escapes"),
+    [(depth, Workload(f"nested defaults, {depth:,} deep", f"depth{depth}")) for depth in inputs.DEPTHS],
+    [(count, Workload(f"variables, 1 MiB, {count:,} arguments", f"names{count}")) for count in (10, 1_000, 100_000)],
+    [(count, Workload(f"variables, 1 MiB, {count:,} pairs of the environment", f"names{count}", word="env"))
+     for count in (10, 1_000)],
+    *([(size, Workload(f"{name}, {size} MiB", name, length=size * MIB)) for size in (1, 4, 16, 64)]
+      for name in ("plain", "escapes")),
 )
-
-
 # The longest bar of the chart, and the colours of ours and of others.
 LONGEST, FIRST, OTHER = 380, "#2c7a4b", "#9aa5ad"
 
@@ -143,14 +137,6 @@ class Run(NamedTuple):
 
 
 @functools.lru_cache(None)
-def folder():
-    """A folder that is gone at the end."""
-    made = Path(tempfile.mkdtemp())
-    atexit.register(shutil.rmtree, made)
-    return made
-
-
-@functools.lru_cache(None)
 def program(crate):
     """The path of a program of ours, proved and built where its sources have changed."""
     with contextlib.redirect_stdout(sys.stderr):
@@ -161,13 +147,10 @@ def program(crate):
 def bench_program():
     """The path of the program that works in process, proved and built in a repository of its own beside copies of the
     library's crates, from which `rt` takes what it keeps of those here."""
-    library = re.search(r"^subst_error:.*^subst:.*?\n", (HERE.parent / "crates.txt").read_text(), re.M | re.S)[0]
-    for crate in re.findall(r"^\w+", library, re.M):
-        shutil.copytree(CRATES / crate, folder() / "crates" / crate, ignore=shutil.ignore_patterns("out"))
-    crate = folder() / "crates" / BENCH
+    library, crate = copy_library(FOLDER), FOLDER / "crates" / BENCH
     (crate / "src").mkdir(parents=True)
     shutil.copy(HERE / f"{BENCH}.rt.in", crate / "src/main.rt")
-    (folder() / "crates.txt").write_text(f"{library}{BENCH}: subst serde_json toml\n")
+    (FOLDER / "crates.txt").write_text(f"{library}{BENCH}: subst serde_json toml\n")
     subprocess.run(["rt", "run", "--", "parse", "0"], cwd=crate, check=True, stdin=subprocess.DEVNULL, stdout=sys.stderr)
     return str(crate / "out" / BENCH)
 
@@ -175,15 +158,14 @@ def bench_program():
 @functools.lru_cache(None)
 def measure_program():
     """The path of the program that measures one run."""
-    path = folder() / "measure"
-    compiler = os.environ.get("CC") or "cc"
-    subprocess.run([compiler, "-O2", "-Wall", "-Wextra", "-Werror", "-o", path, HERE / "measure.c"], check=True)
-    return path
+    command = [os.environ.get("CC") or "cc", "-O2", "-Wall", "-Wextra", "-Werror", "-o", FOLDER / "measure"]
+    subprocess.run([*command, HERE / "measure.c"], check=True)
+    return FOLDER / "measure"
 
 
 def run_on(source, *command, **variables):
     """A run on these bytes, which stay in a file until the next ones."""
-    path = folder() / "source"
+    path = FOLDER / "source"
     path.write_bytes(source)
     return Run(list(command), {"PATH": os.environ["PATH"], "LC_ALL": "C", **variables}, path)
 
@@ -315,10 +297,8 @@ def table_of_times(options):
         others = [f"{least[name]:.2f} ({least[name] / least[OURS]:.2f})" if name in least else "" for name in OTHERS]
         rows.append([workload.title, f"{least[OURS]:.2f}", *others])
     load = " ".join(f"{average:.1f}" for average in os.getloadavg())
-    title = (
-        f"Milliseconds on {os.cpu_count()} processors with load averages of {load}, the least of {options.runs} runs, "
-        "start-up included; in brackets how many times ours:"
-    )
+    title = (f"Milliseconds on {os.cpu_count()} processors with load averages of {load}, the least of {options.runs} "
+             "runs, start-up included; in brackets how many times ours:")
     return title, ["Input", OURS, *OTHERS], rows
 
 
@@ -330,12 +310,10 @@ def table_in_process(options):
         cells = [amount(counts.get(work)) for counts in (ours, rust) for work in WORKS]
         cells += [ratio(ours.get(work), rust.get(work)) for work in WORKS]
         rows.append([workload.title, *cells, amount(rust.get("limit")), ratio(ours.get("both"), rust.get("limit"))])
-    title = (
-        "Instructions in process: of `ByteTemplate::from_slice`, of `expand`, and of `substitute_bytes`, which does "
-        "both. Beside them those of the Rust crate, subst 0.3.8, on the same bytes, counted by callgrind once (rustc "
-        "1.95, memchr 2.5 with AVX2), and the limit, those of a search for each special byte and one copy of the "
-        "output:"
-    )
+    title = ("Instructions in process: of `ByteTemplate::from_slice`, of `expand`, and of `substitute_bytes`, which "
+             "does both. Beside them those of the Rust crate, subst 0.3.8, on the same bytes, counted by callgrind "
+             "once (rustc 1.95, memchr 2.5 with AVX2), and the limit, those of a search for each special byte and one "
+             "copy of the output:")
     columns = [before + work for before in ("", "Rust: ", "ours to Rust: ") for work in WORKS]
     return title, ["Input", *columns, "limit", "both to limit"], rows
 
@@ -359,10 +337,8 @@ def table_of_texts(options):
         kinds = [counted(workload, work) for work in ("expand", "text")]
         runs = [instructions_of(workload._replace(word=word), OURS) for word in ("bytes", "text")]
         rows.append([workload.title, *two(*kinds), *two(*runs)])
-    title = (
-        "Instructions in process of `expand` of the same input as bytes, by a `ByteTemplate`, and as a text, by a "
-        f"`Template`; and those of `{OURS}` with the arguments `bytes` and `text`, start-up included:"
-    )
+    title = ("Instructions in process of `expand` of the same input as bytes, by a `ByteTemplate`, and as a text, by a "
+             f"`Template`; and those of `{OURS}` with the arguments `bytes` and `text`, start-up included:")
     columns = ["expand: bytes", "text", "text to bytes", f"{OURS}: bytes", "text", "text to bytes"]
     return title, ["Input", *columns], rows
 
@@ -375,11 +351,9 @@ def table_of_letters(options):
         made = [requests(workload, work) for work in ("expand", "into")]
         ratios = [ratio(count, rust) for count in counts]
         rows.append([workload.title, *two(*counts), amount(rust), *ratios, *map(amount, made)])
-    title = (
-        "Instructions in process of `expand`, and of `expand_into` with one buffer, which has room from the start and "
-        "is cleared before each round; beside them those of the Rust crate's `expand` on the same bytes; and the "
-        "requests for memory of 1,000 rounds, without the parse and that room:"
-    )
+    title = ("Instructions in process of `expand`, and of `expand_into` with one buffer, which has room from the "
+             "start and is cleared before each round; beside them those of the Rust crate's `expand` on the same "
+             "bytes; and the requests for memory of 1,000 rounds, without the parse and that room:")
     columns = ["expand", "into one buffer", "into to expand", "Rust: expand", "expand to Rust", "into to Rust"]
     return title, ["Input", *columns, "requests: expand", "into"], rows
 
@@ -411,11 +385,9 @@ def rows_of_growth(family, options):
 
 def table_of_growth(options):
     families = [[(size, it) for size, it in family if chosen(options, [it])] for family in FAMILIES]
-    title = (
-        f"Growth: milliseconds of `{OURS}`, its instructions, and those of `substitute_bytes`, and of the Rust crate "
-        "where they are known. A slope is the exponent of the growth from the row before, without start-up: 1 is "
-        "linear, 2 quadratic:"
-    )
+    title = (f"Growth: milliseconds of `{OURS}`, its instructions, and those of `substitute_bytes`, and of the Rust "
+             "crate where they are known. A slope is the exponent of the growth from the row before, without "
+             "start-up: 1 is linear, 2 quadratic:")
     columns = ["Input", "ms", "slope", "program", "slope", "in process", "slope", "Rust: both"]
     return title, columns, [row for family in families for row in rows_of_growth(family, options)]
 
@@ -429,10 +401,8 @@ def table_of_hostile_sources(options):
             ended, memory = zip(*(measured(run, status) for _ in range(options.runs)))
             cells.append(f"{min(ended):.2f} ({max(memory):,})")
         rows.append([name, str(status), *cells])
-    title = (
-        f"Milliseconds of `{OURS}` on hostile sources of four sizes, the least of {options.runs} runs, start-up "
-        "included; in brackets the most memory in KiB:"
-    )
+    title = (f"Milliseconds of `{OURS}` on hostile sources of four sizes, the least of {options.runs} runs, start-up "
+             "included; in brackets the most memory in KiB:")
     return title, ["Source", "status", *(f"{size:,}" for size in inputs.DEPTHS)], rows
 
 
@@ -451,10 +421,8 @@ def table_of_trees(kind, _options):
         "the Rust crate, which fills in place": inputs.DOCUMENTS[kind][2],
         "the whole run: reading the variables and the tree, filling it in and dropping it": whole,
     }
-    title = (
-        f"{kind.upper()}: a document of {len(made.source) / 1e6:.1f} MB, of which {made.source.count(b'${'):,} strings "
-        "hold one of 300 variables:"
-    )
+    title = (f"{kind.upper()}: a document of {len(made.source) / 1e6:.1f} MB, of which {made.source.count(b'${'):,} "
+             "strings hold one of 300 variables:")
     return title, ["", "Instructions"], [[what, f"{count / 1e6:.0f}M"] for what, count in counts.items()]
 
 

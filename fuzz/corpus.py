@@ -1,5 +1,6 @@
 #!/usr/bin/env python3
-"""corpus.py FOLDER   Makes the first inputs of fuzz/subst.c: the sources of the stored answers with their variables.
+"""corpus.py FOLDER   Makes the first inputs of fuzz/subst.c: the sources of the stored answers with their variables,
+and texts of each kind.
 
 Some long sources are added. Each is a file in the folder, and comes once. The last line says how many there are.
 """
@@ -8,8 +9,8 @@ import pathlib
 import sys
 
 sys.dont_write_bytecode = True
-sys.path.insert(0, str(pathlib.Path(__file__).resolve().parent.parent / 'tools'))
-from vectors import DATA, rows
+sys.path.insert(0, str(pathlib.Path(__file__).resolve().parent.parent))
+from tests.vectors import DATA, rows
 
 # As fuzz/subst.c has them.
 MOST_PAIRS, LONGEST_WORD = 24, 255
@@ -19,6 +20,19 @@ MORE_WORDS += [b'\xc3', b'value']
 MORE_SOURCE = b'$z0${z19}${z5?}' * 6
 # Sources of a size at which a call that gives up at a limit of its own would be found out.
 LONG = (50000 * b'$z0', b'$' + 100000 * b'n', 100000 * b'\n' + b'$', 50000 * b'${n:', 20000 * b'${a:' + 20000 * b'}')
+# Templates, documents and texts of other tools, and each fault of these.
+TEXTS = (
+    b'', b'Hello $name!', b'${a?}${b:<${name}>}\\$', b'$name ${a:$b$name}', b'$name ${a:$name', b'$name\\x',
+    b'{ "$name" : "${name}\\u0041","b":[1.50, -0,"\\u0041"],\r\n"c":"$quote"}\n', b'[null , 1E2]', b'"\xc3"',
+    b'{"b": ["\\u0041 \\u0024none"], "a": "$x"}', b'"a\\\\x"', b'["$none",\n]',
+    b'# $name\r\n"$name" = \'\'\'${name}\'\'\' # $name\r\nb = [ 1_0, "\\u0041" ]\r\nc = "$quote"',
+    b'[t]\nb = [\'\', """\n\\u0041 \\u0024none"""]\na = \'$x\'', b"a = 'b\\x'", b"a = '$none'\nb = ]",
+    b'$5 \\n ${name}$b ${1} ${a:b} $', b'$name ${name} $names \\$5', b'\\',
+    b'$a:${b}:${c:-<$a>}:${d:?m} $$ \\ {}', b'$a $(b)', b'${a}${1}', b'<${a:+b}', b'${a:-{}}', b'$a${b:-$c')
+WORDS = [b'name', b'world', b'quote', b'a"b', b'5', b'']
+# Two values of each name, of which the first one of the first name is empty.
+INDEXED = [word for at in range(MOST_PAIRS) for word in (b'%d' % (at // 2), b'vw'[at % 2:at % 2 + 1] if at else b'')]
+PLACEHOLDERS = b''.join(b'$%d' % (at // 2) for at in range(MOST_PAIRS))
 
 
 def records():
@@ -41,13 +55,20 @@ def written(source, words):
     return bytes([8, len(words) // 2, *map(len, words)]) + b''.join(words) + source
 
 
-def main():
-    folder = pathlib.Path(sys.argv[1])
-    inputs = {data for source, words in records()
-              for data in (written(source, twice(words)), written(source + MORE_SOURCE, words + MORE_WORDS))}
+def few():
+    """The inputs that are tried again for each request for memory."""
+    inputs = [written(text, WORDS) for text in TEXTS] + [written(b'[]', [b'name', b'\xc3'])]
+    return inputs + [written(source, INDEXED) for source in (PLACEHOLDERS, PLACEHOLDERS + b'$n')]
+
+
+def make(folder):
+    """Writes all inputs into a folder, and returns how many there are."""
+    inputs = {*few(), *(data for source, words in records() for data in
+                        (written(source, twice(words)), written(source + MORE_SOURCE, words + MORE_WORDS)))}
     for data in inputs:
         folder.joinpath(hashlib.sha1(data).hexdigest()).write_bytes(data)
-    print(f'{len(inputs)} inputs')
+    return len(inputs)
 
 
-main()
+if __name__ == '__main__':
+    print(f'{make(pathlib.Path(sys.argv[1]))} inputs')

@@ -2,15 +2,18 @@
  *
  * An input is a length of a buffer, a number of pairs, for each pair the lengths of its name and its value, these words,
  * and then the source. What a call writes has guards around it, since sanitizers don't see the library's own writes.
- * With -DSTANDALONE a main is added, for other compilers, that tries each file that is named. In texts.h, which
- * tools/faults.py prints, are the beginnings of the texts of faults, by their kinds.
+ * A call that is out of memory has written nothing, and is made again. With -DSTANDALONE a main is added, for other
+ * compilers, that tries each file that is named, and counts these calls. In texts.h, which tools/faults.py prints, are
+ * the beginnings of the texts of faults, by their kinds.
  */
 #include "subst.h"
 #include "texts.h"
 
+#include <fcntl.h>
 #include <stdio.h>
 #include <stdlib.h>
 #include <string.h>
+#include <unistd.h>
 
 /* More than 16 pairs are looked up in another way than fewer. */
 enum { MOST_PAIRS = 24, MOST_WORDS = 2 * MOST_PAIRS + 1, ROOMS = 5, GUARD = 32, UNTOUCHED = 0xA5, UNTOLD = 77 };
@@ -70,12 +73,20 @@ static void fail(const char *fact, const char *where, int line)
 
 /* Memory */
 
+/* Resizes a block, or takes a new one for NULL. A request may be refused once. */
+static void *resized(void *block, size_t size)
+{
+    void *made = realloc(block, size > 0 ? size : 1);
+    if (made == NULL)
+        made = realloc(block, size > 0 ? size : 1);
+    if (made == NULL)
+        exit(EXIT_FAILURE);
+    return made;
+}
+
 static void *taken(size_t size)
 {
-    void *block = malloc(size > 0 ? size : 1);
-    if (block == NULL)
-        exit(EXIT_FAILURE);
-    return block;
+    return resized(NULL, size);
 }
 
 static uint8_t *copy_of(const void *bytes, size_t length)
@@ -236,6 +247,22 @@ CALL(with_only, uint8_t, 0, SOURCE, PAIRS, SUBST_REQUIRED, buffer, buffer_len, &
 CALL(from_shell, uint8_t, 0, SOURCE, buffer, buffer_len, &told->needed, &told->fault.kind, &told->fault.position)
 CALL(shell_form_text, uint8_t, 0, (uint32_t)input->buffer_len, buffer, buffer_len, &told->needed)
 
+/* How many calls were out of memory. */
+static unsigned long times_out_of_memory;
+
+/* Whether a call was out of memory, which has to have written nothing, and is to be made again. */
+static int is_out_of_memory(const struct input *input, const struct answer *told, size_t size)
+{
+    if (told->result != SUBST_OUT_OF_MEMORY)
+        return 0;
+    times_out_of_memory += 1;
+    EXPECT(is_untouched(told->block, 0, size) && told->needed == UNTOLD && told->row == UNTOLD);
+    EXPECT(IS_SAME(&told->fault, &NOTHING.fault));
+    EXPECT(input->ends == NULL
+           || is_untouched((const uint8_t *)input->ends - GUARD, 0, input->ends_len * sizeof input->ends[0]));
+    return 1;
+}
+
 /* Makes a call in a buffer of this length, and holds it to what it writes with which result. One that writes straight into
  * the buffer leaves it as it was where the source is no template or no text. */
 static struct answer asked(const struct call *call, const struct input *input, size_t buffer_len)
@@ -245,7 +272,9 @@ static struct answer asked(const struct call *call, const struct input *input, s
     told.needed = UNTOLD;
     told.block = guarded(size);
     told.items = told.block + GUARD;
-    told.result = call->make(input, told.items, buffer_len, &told);
+    do
+        told.result = call->make(input, told.items, buffer_len, &told);
+    while (is_out_of_memory(input, &told, size));
     EXPECT(told.result == SUBST_REFUSED || (IS_SAME(&told.fault, &NOTHING.fault) && told.row == UNTOLD));
     if (told.result == SUBST_DONE)
         written = told.needed * call->item;
@@ -333,11 +362,22 @@ static void try_filling(const struct input *input, const struct answer *answer)
         EXPECT(is_utf8(answer->items, answer->needed));
 }
 
+/* What subst_check returns, once it has memory. */
+static uint32_t checked(const uint8_t *source, size_t source_len, struct subst_fault *fault)
+{
+    uint32_t result = subst_check(source, source_len, fault);
+    if (result != SUBST_OUT_OF_MEMORY)
+        return result;
+    times_out_of_memory += 1;
+    EXPECT(IS_SAME(fault, &NOTHING.fault));
+    return checked(source, source_len, fault);
+}
+
 /* A source is a template unless it is refused for another fault than a missing variable. */
 static void try_check(const struct input *input, const struct answer *answer)
 {
     struct subst_fault fault = NOTHING.fault;
-    uint32_t result = subst_check(SOURCE, &fault);
+    uint32_t result = checked(SOURCE, &fault);
     EXPECT(result == (is_template(answer) ? SUBST_DONE : SUBST_REFUSED));
     EXPECT(IS_SAME(&fault, is_template(answer) ? &NOTHING.fault : &answer->fault));
 }
@@ -388,7 +428,7 @@ static void try_shell(const struct input *input)
         EXPECT(fault.position < input->source_len);
         EXPECT(input->source[fault.position] == (fault.kind == SUBST_FORM_BRACE ? '{' : '$'));
     } else {
-        EXPECT(answer.result == SUBST_DONE && subst_check(answer.items, answer.needed, &fault) == SUBST_DONE);
+        EXPECT(answer.result == SUBST_DONE && checked(answer.items, answer.needed, &fault) == SUBST_DONE);
     }
     expect_in_buffers(&call_from_shell, input, &answer);
     EXPECT(said.result == SUBST_DONE && is_utf8(said.items, said.needed));
@@ -439,9 +479,7 @@ static struct answer answer_of_rows(const struct input *input, const struct answ
         all.result = one.result;
         all.fault = one.fault;
         all.row = one.result == SUBST_REFUSED ? i : UNTOLD;
-        all.items = all.block = realloc(all.block, all.needed + one.needed + 1);
-        if (all.block == NULL)
-            exit(EXIT_FAILURE);
+        all.items = all.block = resized(all.block, all.needed + one.needed);
         memcpy(all.items + all.needed, one.items, one.needed);
         ends[i] = all.needed += one.needed;
         free(one.block);
@@ -754,15 +792,14 @@ int LLVMFuzzerTestOneInput(const uint8_t *data, size_t size)
 static void try_file(const char *name)
 {
     static uint8_t data[1 << 20];
-    FILE *file = fopen(name, "rb");
-    size_t size;
-    if (file == NULL) {
+    int file = open(name, O_RDONLY);
+    ssize_t size = read(file, data, sizeof data);
+    if (size < 0) {
         perror(name);
         exit(EXIT_FAILURE);
     }
-    size = fread(data, 1, sizeof data, file);
-    fclose(file);
-    LLVMFuzzerTestOneInput(data, size);
+    close(file);
+    LLVMFuzzerTestOneInput(data, (size_t)size);
 }
 
 int main(int argc, char **argv)
@@ -770,7 +807,7 @@ int main(int argc, char **argv)
     int i;
     for (i = 1; i < argc; i++)
         try_file(argv[i]);
-    printf("%d inputs\n", argc - 1);
+    printf("%d inputs, %lu times out of memory\n", argc - 1, times_out_of_memory);
     return EXIT_SUCCESS;
 }
 #endif

@@ -1,5 +1,5 @@
 """Tests of the package subst, over the library that it finds. What it returns for each stored row, every text of a fault
-with it, is compared by tools/replay.py.
+with it, is compared by tests/test_vectors.py.
 """
 import collections.abc
 import concurrent.futures
@@ -68,6 +68,7 @@ class Results(Case):
                 (r'\$ä ${a}${b?} ${c:<$d>}', {'é': 'x', 'a': r'→$c', 'd': ''}, '$ä →$c <>'),
                 ('\0$a\0', {'a': '\0\0', '\0': 'x'}, '\0\0\0\0'),
                 ('$a0 $a1999', {f'a{number}': str(number) for number in range(2000)}, '0 1999'),
+                (''.join(f'${{{at}:x}}' for at in range(64)), {f'{at}': 'v' for at in range(32)}, 32 * 'v' + 32 * 'x'),
                 ('$a' * 1024, {'a': 'é' * 512}, 'é' * (MIB // 2)),
                 ('$a' * 8, {'a': 'x' * MIB}, 'x' * 8 * MIB),
                 ('ä$a' * 40000, {'a': 'ö', 'b': 'x'}, 'äö' * 40000),
@@ -208,6 +209,7 @@ class Choices(Case):
             self.assertEqual(subst.fill_in(text, {'HOST': 'h\\$', 'PORT': '1'}, only=names),
                              text.replace('$HOST ${PORT}', 'h\\$ 1'))
         self.assertEqual(subst.fill_in(text, only=[]), text)
+        self.assertEqual(subst.fill_in('$name $5', {'5': 'v'}, only=['5']), '$name v')
         self.assertEqual(subst.fill_in(text.encode(), {b'PORT': b'1'}, only=[b'PORT']),
                          text.replace('${PORT}', '1').encode())
         template = Template('\\é$a $b', only=['b', 'a'])
@@ -253,6 +255,13 @@ class Choices(Case):
         self.assertEqual(subst.fill_in(template, a='1', b_1='2'), text.replace('$a', '1').replace('${b_1}', '2'))
         self.assertEqual(subst.from_envsubst(text.encode(), only=[b'a', b'5'], optional=True),
                          template.replace('$a ${b_1}', '${a?} \\${b_1}').encode())
+        for text, only, required, optional in (
+                ('$5 \\n ${name}$b ${1}$', None, '\\$5 \\\\n ${name}$b \\${1}\\$', '\\$5 \\\\n ${name?}${b?} \\${1}\\$'),
+                ('$name ${name} $names \\$5', ['name'], '$name ${name} \\$names \\\\\\$5',
+                 '${name?} ${name?} \\$names \\\\\\$5'),
+                ('\\', None, '\\\\', '\\\\')):
+            self.assertEqual(subst.from_envsubst(text, only=only), required)
+            self.assertEqual(subst.from_envsubst(text, only=only, optional=True), optional)
 
     def test_from_shell(self):
         text = '$a:${b}:${c:-é$a}:${d:?no d} $$ \\ {}'
@@ -267,7 +276,12 @@ class Choices(Case):
     def test_forms_of_a_shell(self):
         texts = ('$1', '${}', '${a-b}', '${a?b}', '${a=b}', '${a+b}', '${a:=b}', '${a:+b}', '${a:1}', '${a#b}',
                  '${a%b}', '${a/b/c}', '${a!}', '${a:?{}}', '${a:-{}}', '${a:-$b')
-        for form, text in zip(ShellForm, texts):
+        said = {'$1': "a dollar that begins no variable can't be given here",
+                '${}': "`${` without a name can't be given here",
+                '${a:+b}': "`:+` of a shell's variable can't be given here",
+                '${a:-{}}': "an opening brace in a default can't be given here",
+                '${a:-$b': "a variable without its closing brace can't be given here"}
+        for form, text in (*zip(ShellForm, texts), (ShellForm.DOLLAR, '$(b)'), (ShellForm.NO_NAME, '${1}')):
             at = text.index('{}') if form is ShellForm.BRACE else 0
             for before, place in (('é\né ', (2, 3 + at)), (b'\xff ', (None, None))):
                 source = before + (text if isinstance(before, str) else text.encode())
@@ -276,6 +290,7 @@ class Choices(Case):
                 error = caught.exception
                 self.assertEqual((error.form, error.position, error.length), (form, len(before) + at, 1), text)
                 self.assertEqual((error.line, error.column), place)
+                self.assertEqual(error.message, said.get(text, error.message))
                 self.assertRegex(str(error), f"^{re.escape(error.message)} [(]{'line' if place[0] else 'byte'} ")
                 self.assertEqual(vars(pickle.loads(pickle.dumps(error))), vars(error))
         self.assertEqual(len(texts), len(ShellForm))
@@ -423,25 +438,33 @@ class Documents(Case):
     """JSON and TOML, whose strings are filled in where they are."""
 
     def test_filled_in(self):
-        variables = {'a': 'x"\\é', 'b': '$a'}
+        variables = {'a': 'x"\\é', 'b': '$a', 'name': 'world', 'quote': 'a"b'}
         for call, text, wanted in (
                 (subst.fill_in_json, '{ "$a":1.50,"é": "${b} \\u0041", "c":["\\u0041"] }\r\n',
                  '{ "$a":1.50,"é": "$a A", "c":["\\u0041"] }\r\n'),
                 (subst.fill_in_json, '"$a"', '"x\\"\\\\é"'),
-                (subst.fill_in_json, '[null, -0, 1E2]', '[null, -0, 1E2]'),
+                (subst.fill_in_json, '[null , -0, 1E2]', '[null , -0, 1E2]'),
+                (subst.fill_in_json, '{ "$name" : "${name}\\u0041","b":[1.50, -0,"\\u0041"],\r\n"c":"$quote"}\n',
+                 '{ "$name" : "worldA","b":[1.50, -0,"\\u0041"],\r\n"c":"a\\"b"}\n'),
                 (subst.fill_in_json, f'["$a"{" " * MIB}]', f'["x\\"\\\\é"{" " * MIB}]'),
                 (subst.fill_in_toml, '# $a\r\n"é".x = "$b"  # é\r\nc = 1_0', '# $a\r\n"é".x = "$a"  # é\r\nc = 1_0'),
+                (subst.fill_in_toml,
+                 '# $name\r\n"$name" = \'\'\'${name}\'\'\' # $name\r\nb = [ 1_0, "\\u0041" ]\r\nc = "$quote"',
+                 '# $name\r\n"$name" = "world" # $name\r\nb = [ 1_0, "\\u0041" ]\r\nc = \'a"b\''),
                 (subst.fill_in_toml, '', '')):
             self.assertEqual(call(text, variables), wanted)
 
     def test_refused(self):
         for call, text, said, start in (
                 (subst.fill_in_json, '{"é":\n "\\u0041é $none", "a": "$"}', '/é: ', 'none'),
+                (subst.fill_in_json, '{"b": ["\\u0041 \\u0024none"], "a": "$x"}', '/b/0: ', 'none'),
                 (subst.fill_in_json, '"é\\\\é"', '', '\\\\é'),
+                (subst.fill_in_toml, "a = 'b\\x'", 'a: ', '\\x'),
+                (subst.fill_in_toml, '[t]\nb = [\'\', """\n\\u0041 \\u0024none"""]\na = \'$x\'', 't.b[1]: ', 'none'),
                 (subst.fill_in_toml, 'b = "é"\nc = """\nä\\u0024none"""\na = "$"', 'c: ', 'none'),
                 (subst.fill_in_toml, "[t]\na = ['$none']", 't.a[0]: ', 'none')):
             error = self.refused(call, text, {})
-            alone = self.refused(subst.fill_in, '$none' if start == 'none' else '\\é', {})
+            alone = self.refused(subst.fill_in, '$none' if start == 'none' else start[-2:], {})
             self.assertEqual((error.message, error.kind, error.name), (said + alone.message, alone.kind, alone.name))
             self.assertEqual((error.position, error.length), (text.index(start), len(start)))
             lines = text[:error.position].split('\n')
@@ -451,8 +474,9 @@ class Documents(Case):
     def test_no_document(self):
         for call, text, position, line, column in (
                 (subst.fill_in_json, '', 0, 1, 1), (subst.fill_in_json, '["é",\n é]', 7, 2, 2),
-                (subst.fill_in_json, '{"a": "$none", "a"}', 18, 1, 19),
-                (subst.fill_in_toml, 'a = "é"\nb = $none', 12, 2, 5)):
+                (subst.fill_in_json, '{"a": "$none", "a"}', 18, 1, 19), (subst.fill_in_json, '["$none",\n]', 10, 2, 1),
+                (subst.fill_in_toml, 'a = "é"\nb = $none', 12, 2, 5),
+                (subst.fill_in_toml, "a = '$none'\nb = ]", 16, 2, 5)):
             with self.assertRaises(DocumentError) as caught:
                 call(text, {})
             error = caught.exception

@@ -7,7 +7,7 @@ import sys
 from typing import NamedTuple
 
 sys.dont_write_bytecode = True
-from running import CRATES
+from building import CRATES
 
 SOURCE = CRATES / 'subst_cli/src/options.rt'
 # A row of the table there, and its value.

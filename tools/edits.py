@@ -26,8 +26,8 @@ import sys
 import tempfile
 
 sys.dont_write_bytecode = True
-from prove import LANES, PARTS, copy_of, crates, prove_all, rt, with_those_below
-from running import CRATES, TOP, Wrong, end
+from building import CRATES, TOP
+from prove import LANES, PARTS, Wrong, copy_of, crates, end, prove_all, rt, with_those_below
 
 REFUSED = TOP / 'tests/data/edits-refused.tsv'
 # How many edits share a check at most, in each round.

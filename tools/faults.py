@@ -10,7 +10,7 @@ import re
 import sys
 
 sys.dont_write_bytecode = True
-from running import CRATES
+from building import CRATES
 
 
 @functools.lru_cache(None)

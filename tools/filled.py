@@ -8,7 +8,7 @@ import sys
 
 sys.dont_write_bytecode = True
 import faults
-from running import version
+from building import version
 
 # What pages write for these characters.
 ROFF = {'\\': r'\e', "'": r'\(aq', '^': r'\(ha', '-': r'\-'}

@@ -15,11 +15,21 @@ import sys
 import tempfile
 
 sys.dont_write_bytecode = True
-from running import CRATES, TOP, Wrong, build, end
+from building import CRATES, TOP, build
 
 PARTS = ('src', 'specs', 'proofs')
-INSTALLED = ('subst_c', 'subst_filter', 'subst_program')
+INSTALLED = ('subst_c', 'subst_filter', 'subst_cli')
 LANES = int(os.environ.get('RT_JOBS') or len(os.sched_getaffinity(0)))
+
+
+class Wrong(Exception):
+    """What has to be proved isn't, or what has to be refused."""
+
+
+def end(results):
+    """Prints how many of the words 'passed', 'failed' and 'skipped' there are, and ends."""
+    print('{} passed, {} failed, {} skipped'.format(*map(results.count, ('passed', 'failed', 'skipped'))))
+    sys.exit(1 if 'failed' in results else 0)
 
 
 def crates():

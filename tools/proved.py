@@ -1,7 +1,7 @@
 #!/usr/bin/env python3
 """proved.py   Prints what is proved of what callers can reach, file by file: public functions, and traits and
 implementations that state something, each with the first paragraph of its comment and its clauses, as they are in the
-source. tools/house.py asks for what isn't printed and should be, and for names of clauses.
+source. tests/test_house.py asks for what isn't printed and should be, and for names of clauses.
 """
 import functools
 import re
@@ -11,7 +11,7 @@ from typing import NamedTuple
 
 sys.dont_write_bytecode = True
 from prove import crates, with_those_below
-from running import CRATES
+from building import CRATES
 
 # The crates that callers depend on.
 DOORS = ('subst', 'subst_filter_lib', 'subst_cli', 'subst_c')

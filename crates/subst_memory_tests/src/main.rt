@@ -1,4 +1,4 @@
-//! Makes each call of `docs/MEMORY.md`, for `tools/refuse-memory.py`, which refuses each of their requests
+//! Makes each call of `docs/MEMORY.md`, for `tests/test_memory.py`, which refuses each of their requests
 //! for memory in turn. Nothing is judged here.
 #![tactic(auto)]
 

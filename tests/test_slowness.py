@@ -1,23 +1,18 @@
-#!/usr/bin/env python3
-"""slowness.py   Compares what the built programs, and calls of the library from Python, take for n of something with
-what they take for eight times as many.
+"""What the built programs, and calls of the library from Python, take for n of something, and for eight times as many.
 
 Each work takes less than 24 times as much processor time for 8n as for n: where the time grows with the square of n,
 it is 64 times as much. Contracts bound the reads and the turns of a loop, and nothing else here. Of some runs the least
 time counts, and where it is too much, of more runs. Less than 10 ms for 8n is never too much, since the square of 8n,
-which is 32,000 or more, is more steps than that. The last line is 'N passed, M failed, K skipped'.
+which is 32,000 or more, is more steps than that.
 """
-import functools
 import operator
 import re
 import resource
-import sys
 import time
 from typing import Callable, NamedTuple
 
-sys.dont_write_bytecode = True
-import installed
-from running import KIB, MIB, expect_that, run, run_tests
+from tests import installed
+from tests.support import KIB, MIB, Built, file_of, run
 
 # How often each work is done at a time, how often at most, how many times as much is done, how many times as long that
 # may take, and the seconds that it may take at any rate.
@@ -34,15 +29,13 @@ class Run(NamedTuple):
 
     def seconds(self, _):
         """The processor time of the run, which fails the test if it ended early: then it is fast."""
-        with open('source', 'w+b') as source:
-            source.write(self.source)
-            source.seek(0)
+        with file_of(self.source) as source:
             before = resource.getrusage(resource.RUSAGE_CHILDREN)
             ended = run(self.program, self.words, stdin=source)
             after = resource.getrusage(resource.RUSAGE_CHILDREN)
         faults = len(re.findall(rb'^<stdin>:', ended.errors, re.MULTILINE)) if self.faults > 1 else bool(ended.errors)
-        expect_that((ended.status, ended.output, faults) == (self.faults > 0, self.output, self.faults),
-                    f'{ended.status}, {len(ended.output)} bytes and {faults} faults')
+        assert (ended.status, ended.output, faults) == (self.faults > 0, self.output, self.faults), \
+            f'{ended.status}, {len(ended.output)} bytes and {faults} faults'
         return after.ru_utime + after.ru_stime - before.ru_utime - before.ru_stime
 
 
@@ -58,7 +51,7 @@ class Call(NamedTuple):
         except module.SubstError as refused:
             came = refused.position
         spent = time.process_time() - before
-        expect_that(came == self.wanted, 'it returns something else')
+        assert came == self.wanted, 'it returns something else'
         return spent
 
 
@@ -67,7 +60,7 @@ def call(name, *arguments, wanted):
 
 
 def check(source, *words, faults=1):
-    return Run('subst_program', words, source, faults=faults)
+    return Run('subst_cli', words, source, faults=faults)
 
 
 def names(count):
@@ -98,7 +91,7 @@ def names_in(source):
 
 def print_names(source, *words):
     lines = (f'{name}\t<stdin>:1:{at + 1}\trequired\n' for _, name, at in names_in(source))
-    return Run('subst_program', ['--names', *words], source.encode(), ''.join(lines).encode())
+    return Run('subst_cli', ['--names', *words], source.encode(), ''.join(lines).encode())
 
 
 def numbered(count, document, member):
@@ -122,17 +115,17 @@ WORKS = {
     'braces in a default': (2 * MIB, lambda n: Run('subst_filter', ['bytes'], b'${a:' + n * b'{' + n * b'}' + b'}',
                                                           n * b'{' + n * b'}')),
     'unclosed defaults': (512 * KIB, lambda n: Run('subst_filter', ['bytes'], n * b'${a:\\x', faults=1)),
-    'sets': (5000, lambda n: fill_in_names(n, 'subst_program', *settings(n, '-s'))),
-    'chosen names': (5000, lambda n: fill_in_names(n, 'subst_program', *(f'--only={name}' for name in names(n)),
+    'sets': (5000, lambda n: fill_in_names(n, 'subst_cli', *settings(n, '-s'))),
+    'chosen names': (5000, lambda n: fill_in_names(n, 'subst_cli', *(f'--only={name}' for name in names(n)),
                                                    *settings(n, '-s'))),
-    'known names': (5000, lambda n: fill_in_names(n, 'subst_program', '--known', *settings(n, '-s'))),
-    'texts of a shell': (64 * KIB, lambda n: Run('subst_program', ['--shell'], n * b'${a:-' + n * b'}')),
+    'known names': (5000, lambda n: fill_in_names(n, 'subst_cli', '--known', *settings(n, '-s'))),
+    'texts of a shell': (64 * KIB, lambda n: Run('subst_cli', ['--shell'], n * b'${a:-' + n * b'}')),
     'missing in texts of a shell': (4000, lambda n: check(n * b'$$ ${a:?}\n', '--shell', faults=n)),
-    'escaped values': (5000, lambda n: Run('subst_program', ['--escape=sh', *settings(n, '-s')],
+    'escaped values': (5000, lambda n: Run('subst_cli', ['--escape=sh', *settings(n, '-s')],
                                            source_of(n).encode(), n * b"'1'")),
-    'lines of values': (5000, lambda n: Run('subst_program', ['-f', '-', '/dev/null'], source_of(n, '{}=\n').encode())),
-    'lines of one name': (5000, lambda n: Run('subst_program', ['-f', '-', '/dev/null'], n * b'name=1\n')),
-    'files': (5000, lambda n: Run('subst_program', n * ['/dev/null'], b'')),
+    'lines of values': (5000, lambda n: Run('subst_cli', ['-f', '-', '/dev/null'], source_of(n, '{}=\n').encode())),
+    'lines of one name': (5000, lambda n: Run('subst_cli', ['-f', '-', '/dev/null'], n * b'name=1\n')),
+    'files': (5000, lambda n: Run('subst_cli', n * ['/dev/null'], b'')),
     'missing in lines': (4000, lambda n: check(n * b'$a ${a}\n', faults=2 * n)),
     'missing in bytes': (4000, lambda n: check(n * b'$a ${a}\n', '--bytes', faults=2 * n)),
     'missing in texts of envsubst': (4000, lambda n: check(n * b'$a ${a}\n', '--envsubst', faults=2 * n)),
@@ -143,7 +136,7 @@ WORKS = {
                                                            '--json', '-sa=1')),
     'faults of json': (20000, lambda n: check(b'[' + n * b'"$",' + b'1]', '--json', faults=n)),
     'missing in json': (4000, lambda n: check(b'[' + n * b'"$a $a",' + b'1]', '--json', faults=2 * n)),
-    'listed names of json': (4000, lambda n: Run('subst_program', ['--json', '--names'], b'[' + n * b'"$a $a",' + b'1]',
+    'listed names of json': (4000, lambda n: Run('subst_cli', ['--json', '--names'], b'[' + n * b'"$a $a",' + b'1]',
                                                  b'a\t<stdin>:1:4\trequired\n')),
     'fault after escapes of json': (256 * KIB, lambda n: check(b'"' + n * b'\\u0061' + b'$"', '--json')),
     'fault after pairs of toml': (5000, lambda n: check(numbered(n, b'%bb = "$"', b'a%d = "$a"\n'), '--toml', '-sa=1')),
@@ -171,21 +164,17 @@ def time_of(it, module):
     return min(it.seconds(module) for _ in range(RUNS))
 
 
-def grows_little(work, count, module):
-    """Fails the test where more of it takes too long."""
-    few, many = time_of(work(count), module), time_of(work(MORE * count), module)
-    for _ in range(RUNS, MOST_RUNS, RUNS):
-        if many < max(MOST * few, LEAST):
-            return
-        few, many = min(few, time_of(work(count), module)), min(many, time_of(work(MORE * count), module))
-    expect_that(many < max(MOST * few, LEAST), f'{few:.3f} s for {count} and {many:.3f} s for {MORE * count}')
+class Slowness(Built):
+    """Works that take at most so many times as long for more."""
+    programs = 'subst_filter', 'subst_cli'
 
-
-def main():
-    with installed.installed() as prefix:
-        module = installed.module(prefix)
-        tests = [(name, functools.partial(grows_little, work, count, module)) for name, (count, work) in WORKS.items()]
-        run_tests(tests, ['subst_filter', 'subst_program'])
-
-
-main()
+    def test_works_grow_little(self):
+        module = installed.module()
+        for name, (count, work) in WORKS.items():
+            with self.subTest(name):
+                few, many = time_of(work(count), module), time_of(work(MORE * count), module)
+                for _ in range(RUNS, MOST_RUNS, RUNS):
+                    if many < max(MOST * few, LEAST):
+                        break
+                    few, many = min(few, time_of(work(count), module)), min(many, time_of(work(MORE * count), module))
+                self.assertLess(many, max(MOST * few, LEAST), f'seconds for {MORE} times {count}, in {few:.3f} s')

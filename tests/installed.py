@@ -1,43 +1,52 @@
-"""The library and its package for Python, as tools/install puts them below a prefix, and what they return, in columns of
-the rows of crates/subst_vectors/data. Sources and variables are bytes or texts.
+"""What tools/install puts below a prefix, and what the library and its package for Python return, in columns of the rows
+of crates/subst_vectors/data. Sources and variables are bytes or texts.
 """
-import contextlib
+import functools
 import importlib
 import os
 import pathlib
 import re
-import subprocess
 import sys
 import tempfile
 
 import faults
-from running import TOP, end
-from vectors import character_column, encode
+from tests.support import SCRATCH, TOP, Case, ran
+from tests.vectors import character_column, encode
+
+CC = os.environ.get('CC') or 'cc'
 
 
-
-def packages(prefix):
-    """The folder below a prefix to which tools/install puts the package for Python."""
-    return next(prefix.glob('lib/python3*/*-packages'))
-
-
-@contextlib.contextmanager
-def installed(given=None):
-    """A prefix that has both: the given one, or else a new one, to which they are installed, which takes long where the
-    library has to be proved first."""
-    with tempfile.TemporaryDirectory() as folder:
-        prefix = pathlib.Path(given or folder).resolve()
-        for option in () if given else ('--library', '--python'):
-            if subprocess.run([TOP / 'tools/install', option, prefix], stdin=subprocess.DEVNULL).returncode != 0:
-                end(['failed'])
-        yield prefix
+@functools.lru_cache(None)
+def prefix(*options):
+    """Installs what these options of tools/install name, or else the library and its package, below a new prefix, and
+    returns this. What is installed is proved first if its sources have changed."""
+    folder = pathlib.Path(tempfile.mkdtemp(dir=SCRATCH.name)).resolve()
+    for option in options or ('--library', '--python'):
+        ran([TOP / 'tools/install', *option.split(), folder], timeout=None)
+    return folder
 
 
-def module(prefix):
-    """The installed package, over the library of its prefix."""
+def packages(below):
+    """Returns the folder below a prefix to which tools/install puts the package for Python."""
+    return next(below.glob('lib/python3*/*-packages'))
+
+
+@functools.lru_cache(None)
+def module():
+    """Imports the installed package, over the library of its prefix."""
     os.environ.pop('SUBST_LIBRARY', None)
-    sys.path.insert(0, str(packages(prefix)))
+    sys.path.insert(0, str(packages(prefix())))
     return importlib.import_module('subst')
+
+
+class Compiling(Case):
+    """Tests that compile."""
+
+    def need_to_compile(self, compiler, *options, source='int main(void) { return 0; }'):
+        """Skips the test unless a compiler makes a program with these options, which runs here."""
+        pathlib.Path('probe.c').write_text(f'{source}\n', encoding='utf-8')
+        self.need_to_run(compiler, *options, 'probe.c', '-o', 'probe')
+        self.need_to_run('./probe', '-runs=1')
 
 
 def to_bytes(text):

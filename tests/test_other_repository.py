@@ -1,6 +1,5 @@
-#!/usr/bin/env python3
-"""doc-examples.py program | map | loader | output   Prints a program of the library's examples, the modules of it that
-are the map and the loader of docs/CALLING.md, or what the program prints, for tools/other-repository.sh.
+"""The library in a repository of its own, as README.md says, with a program of the examples of README.md, of the map
+and the loader of docs/CALLING.md, and of the examples in the library's comments, which is run unproved.
 
 An example is a block of Rust in a comment `///` of a crate of the library. What it computes is its `output`, of a
 document that is filled in where it stands an `Option`, and its last line is a comment with the text of that. The first
@@ -8,14 +7,17 @@ examples are the functions of README.md, the environment as README.md reads it, 
 docs/CALLING.md.
 """
 import json
+import pathlib
 import re
-import sys
+import subprocess
 
-sys.dont_write_bytecode = True
 import faults
+from building import TOP, copy_library
 from prove import crates, with_those_below
-from running import TOP
+from tests.support import Case, ended
 
+# How long `rt try` may take, which does so for half a minute on a machine that does nothing else.
+SECONDS = 600
 HEAD = '''//! The examples of the library, one after the other.
 #![tactic(auto)]
 
@@ -59,6 +61,20 @@ fn from_loader(alloc: Global, source: &str, environment: &Env) -> Result<String,
         Loaded::Configuration(server) => format!(in alloc; "{}:{}", server.host, server.port),
         Loaded::Report(report) => Ok(report),
     }
+}
+'''
+# A program that lends a template, takes its owner apart, and then uses what was borrowed.
+USE_AFTER_TAKING_APART = '''//! Uses a borrowed template after its owner was taken apart.
+#![tactic(auto)]
+
+use subst::TemplateBuf;
+
+fn main(rt: HostRuntime) -> anyhow::Result<()> {
+    let owner = TemplateBuf::from_string(String::from_str(rt.alloc(), "borrowed")?).map_err(subst::Error::from)?;
+    let borrowed = owner.as_template();
+    let source = owner.into_source();
+    println!(rt; "{} {}", source, borrowed.source())?;
+    Ok(())
 }
 '''
 READ = '''    let server = read_server(alloc, r#"{"host": "${HOST_OF_DB:db}", "port": 80}"#, &variables)?;
@@ -131,7 +147,26 @@ def output():
     return ''.join(f'{line}\n' for line in [*first, *(printed for _, _, printed in examples())])
 
 
-PRINTED = {'program': program, 'map': own_map, 'loader': loader, 'output': output}
-if len(sys.argv) != 2 or sys.argv[1] not in PRINTED:
-    sys.exit(f'usage: tools/doc-examples.py {" | ".join(PRINTED)}')
-sys.stdout.write(PRINTED[sys.argv[1]]())
+class OtherRepository(Case):
+    """A program of another repository."""
+
+    def write(self, **modules):
+        """Writes a program of these modules over the library, and returns the options that run something in its
+        folder."""
+        crate = pathlib.Path('crates/greeting')
+        (crate / 'src').mkdir(parents=True)
+        lines = copy_library(pathlib.Path('.'))
+        pathlib.Path('crates.txt').write_text(f'{lines}greeting: subst anyhow serde\n', encoding='utf-8')
+        for name, text in modules.items():
+            (crate / f'src/{name}.rt').write_text(text, encoding='utf-8')
+        return {'cwd': crate, 'timeout': SECONDS}
+
+    def test_the_examples_of_the_library_print_what_is_written(self):
+        options = self.write(main=program(), guest=own_map(), loader=loader())
+        end = ended(['rt', 'try'], stderr=subprocess.PIPE, **options)
+        self.assertEqual(end.stdout, output(), end.stderr)
+
+    def test_a_borrowed_template_is_not_used_after_its_owner_was_taken_apart(self):
+        end = ended(['rt', 'try'], **self.write(main=USE_AFTER_TAKING_APART))
+        self.assertNotEqual(end.returncode, 0)
+        self.assertIn('cannot move out of `owner` because it is borrowed', end.stdout)

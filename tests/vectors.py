@@ -4,11 +4,12 @@ of the language say of them. Documents are read by Python's readers.
 import json
 import math
 import re
+import unittest
 import urllib.parse
 from typing import NamedTuple
 
-import rules
-from running import CRATES, Skipped
+from tests import rules
+from tests.support import CRATES
 
 try:
     import tomllib
@@ -114,7 +115,7 @@ def read_document(kind, text):
     if kind == 'json':
         return json.loads(text)
     if tomllib is None:
-        raise Skipped('Python has no tomllib')
+        raise unittest.SkipTest('Python has no tomllib')
     return tomllib.loads(text.lstrip('\ufeff'), parse_float=finite)
 
 

@@ -1,23 +1,19 @@
-#!/usr/bin/env python3
-"""instructions.py [--write]   Compares the instructions that works of the built programs take with those stored in
-tests/data/instructions.tsv.
+"""The instructions that works of the built programs take, beside those stored in tests/data/instructions.tsv.
 
 Contracts bound the reads and the turns of a loop, and don't say what each takes: work that is done twice is seen here.
 Callgrind counts, start-up included. A work fails where it takes more than a tenth above what is stored; where it takes
-a tenth less, that is said, and --write stores all anew. The last line is 'N passed, M failed, K skipped'.
+a tenth less, that is said, and `python3 -m tests.test_instructions --write` stores all anew.
 """
-import functools
 import sys
 
-sys.dont_write_bytecode = True
-from running import MIB, TOP, expect_that, need, run_tests
+from tests.support import MIB, TOP, Built, needs
 
-sys.path.insert(0, str(TOP / 'benches'))
+sys.path.insert(1, str(TOP / 'benches'))
 import inputs
 import run as benches
 
 TABLE = TOP / 'tests/data/instructions.tsv'
-HEAD = '# Written by tools/instructions.py --write alone: the instructions of each work.\n'
+HEAD = '# Written by tests/test_instructions.py --write alone: the instructions of each work.\n'
 # How many times as many instructions as are stored are too many, and how many are so few that they are stored anew.
 MOST, FEW = 1.1, 0.9
 # Without the copies by `rep movsb`, which count once for each byte from a length on that depends on the machine.
@@ -35,7 +31,7 @@ def filled(word, text, size=MIB):
 
 
 def command(source, *words):
-    return benches.run_on(source, benches.program('subst_program'), *words, **COPIES)
+    return benches.run_on(source, benches.program('subst_cli'), *words, **COPIES)
 
 
 def filled_document(kind):
@@ -62,22 +58,20 @@ def stored():
     return {name: int(count) for name, count in (line.split('\t') for line in lines)}
 
 
-def compare(name):
-    """Fails the test where a work takes more than is stored."""
-    need('valgrind')
-    count, known = benches.instructions(WORKS[name]()), stored().get(name, 0)
-    expect_that(count <= MOST * known, f'{count:,} instructions, and {known:,} are stored')
-    if count < FEW * known:
-        print(f'{name}: {count:,} instructions alone, and {known:,} are stored: --write stores them anew')
+@needs('valgrind')
+class Instructions(Built):
+    """Works that take no more than is stored."""
+    programs = 'subst_filter', 'subst_cli'
+
+    def test_works_take_what_is_stored(self):
+        for name, make in WORKS.items():
+            with self.subTest(name):
+                count, known = benches.instructions(make()), stored().get(name, 0)
+                self.assertLessEqual(count, MOST * known, f'instructions, and {known:,} are stored')
+                if count < FEW * known:
+                    print(f'{name}: {count:,} instructions alone, and {known:,} are stored: --write stores them anew')
 
 
-def main():
-    if sys.argv[1:] == ['--write']:
-        lines = [f'{name}\t{benches.instructions(make())}\n' for name, make in WORKS.items()]
-        TABLE.write_text(HEAD + ''.join(lines), encoding='utf-8')
-    else:
-        run_tests([(name, functools.partial(compare, name)) for name in WORKS], ['subst_filter', 'subst_program'],
-                  ['valgrind'])
-
-
-main()
+if __name__ == '__main__' and sys.argv[1:] == ['--write']:
+    TABLE.write_text(HEAD + ''.join(f'{name}\t{benches.instructions(make())}\n' for name, make in WORKS.items()),
+                     encoding='utf-8')

@@ -1,30 +1,28 @@
-#!/usr/bin/env python3
-"""random-documents.py [--seed SEED] [--count COUNT]   Runs `subst` on random documents: 100,000.
+"""Random documents, over which `subst` runs: 100,000, unless COUNT gives another number.
 
 Half of the documents are JSON, and half TOML, small ones but for a few that are deep or wide, with strings spelled in
 all ways, comments and white space, equal keys, and numbers and dates in all forms. Their strings are templates. What
-`subst` gives has the same bytes round the strings and in those that stay, and each other string is what tools/rules.py
-says; as a whole it is read by Python's readers as the document with its strings filled in. The program `subst_vectors`
+`subst` gives has the same bytes round the strings and in those that stay, and each other string is what the rules say;
+as a whole it is read by Python's readers as the document with its strings filled in. The program `subst_vectors`
 fills in each document by its tree and where it stands. Then a fault is put at one place in each, and `subst --check`
 reports that one alone, at its line and column. The seed is fixed, unless SEED gives another; a failure names it with the
-document. Each test prints a line, and the last line is 'N passed, M failed, K skipped'.
+document.
 """
-import argparse
 import functools
 import itertools
 import os
 import random
 import re
-import sys
 import unicodedata
 from concurrent.futures import ProcessPoolExecutor
 
-sys.dont_write_bytecode = True
 import faults
-import rules
-from running import Wrong, expect, expect_that, run, run_tests
-from vectors import encode, pairs_column, read_document, text_of_tree
+from tests import rules
+from tests.support import Built, assert_ends, run
+from tests.vectors import encode, pairs_column, read_document, text_of_tree
 
+SEED = os.environ.get('SEED', '1')
+COUNT = int(os.environ.get('COUNT', 100000))
 # How many documents one run of the program has.
 CHUNK = 1000
 # How many spellings of strings there are to make documents from.
@@ -371,7 +369,7 @@ def write_files(folder, texts):
 
 def subst(folder, kind, words):
     """Runs the program on files of a folder."""
-    return run('subst_program', [f'--{kind}', '-s', f'a={VALUE}', *words], name='subst', cwd=folder)
+    return run('subst_cli', [f'--{kind}', '-s', f'a={VALUE}', *words], name='subst', cwd=folder)
 
 
 def outputs_of(folder, kind, texts):
@@ -381,9 +379,9 @@ def outputs_of(folder, kind, texts):
     with open(os.path.join(folder, 'end'), 'w', encoding='utf-8') as file:
         file.write(end_of_document)
     end = subst(folder, kind, [file for number in range(len(texts)) for file in (str(number), 'end')])
-    expect(end._replace(output=b''), 0)
+    assert_ends(end._replace(output=b''), 0)
     outputs = end.output.decode().split(end_of_document)[:-1]
-    expect_that(len(outputs) == len(texts), f'{len(texts)} documents have {len(outputs)} outputs')
+    assert len(outputs) == len(texts), f'{len(texts)} documents have {len(outputs)} outputs'
     return outputs
 
 
@@ -406,12 +404,12 @@ def spliced(kind, text, output):
         string = string_of(kind, known) if number % 2 else ''
         if filled(string) != string:
             token = STRING.match(output, at)
-            expect_that(token and string_of(kind, token[0]) == filled(string), f'{wanted!r} gives {output[at:at + 99]!r}')
+            assert token and string_of(kind, token[0]) == filled(string), f'{wanted!r} gives {output[at:at + 99]!r}'
             wanted = known = token[0]
-        expect_that(output.startswith(wanted, at), f'in the place of {wanted!r} is {output[at:at + 99]!r}')
+        assert output.startswith(wanted, at), f'in the place of {wanted!r} is {output[at:at + 99]!r}'
         at += len(wanted)
         readable.append(known)
-    expect_that(at == len(output), f'after the end is {output[at:at + 99]!r}')
+    assert at == len(output), f'after the end is {output[at:at + 99]!r}'
     return ''.join(readable)
 
 
@@ -421,10 +419,9 @@ def check_output(kind, text, output):
         output = spliced(kind, text, output)
         wanted = filled(read_document(kind, without_marks(for_python(text))))
         is_wanted = text_of_tree(read_document(kind, output)) == text_of_tree(wanted)
-    except (ValueError, Wrong) as error:
-        raise Wrong(f'{without_marks(text)!r} gives {output!r}: {error}') from error
-    if not is_wanted:
-        raise Wrong(f'{without_marks(text)!r} gives {output!r} and not {wanted!r}')
+    except (ValueError, AssertionError) as error:
+        raise AssertionError(f'{without_marks(text)!r} gives {output!r}: {error}') from error
+    assert is_wanted, f'{without_marks(text)!r} gives {output!r} and not {wanted!r}'
 
 
 def check_in_every_way(file, kind, texts, outputs):
@@ -436,25 +433,25 @@ def check_in_every_way(file, kind, texts, outputs):
             rows.write('\t'.join((f'{kind}_text', encode(source.encode()), pairs, 'ok', encode(output.encode()))) + '\n')
     end = run('subst_vectors', [file])
     os.remove(file)
-    expect(end, 0, f'{file}: {len(texts)} rows hold\n'.encode())
+    assert_ends(end, 0, f'{file}: {len(texts)} rows hold\n'.encode())
 
 
 def check_faults(folder, kind, documents):
     """Checks the positions that are reported of the faults of documents."""
     write_files(folder, [text for text, _, _ in documents])
     end = subst(folder, kind, ['--check', *map(str, range(len(documents)))])
-    expect(end._replace(errors=b''), 1)
+    assert_ends(end._replace(errors=b''), 1)
     messages = [line for line in end.errors.decode().split('\n') if line and not line.startswith('  ')]
     for number, (text, at, what) in enumerate(documents):
         message = messages[number] if number < len(messages) else 'nothing'
-        if not (message.startswith(f'{number}:{at}: ') and message.endswith(what)):
-            raise Wrong(f'{text!r} has a fault at {at}, {what}, and what is reported is {message}')
-    expect_that(len(messages) == len(documents), f'{len(documents)} faults are reported as {len(messages)}')
+        assert message.startswith(f'{number}:{at}: ') and message.endswith(what), \
+            f'{text!r} has a fault at {at}, {what}, and what is reported is {message}'
+    assert len(messages) == len(documents), f'{len(documents)} faults are reported as {len(messages)}'
 
 
-def check_chunk(seed, kind, number):
+def check_chunk(kind, number):
     """Checks the documents of one run."""
-    rng, folder = random.Random(f'{seed} {kind} {number}'), f'{kind}_{number}'
+    rng, folder = random.Random(f'{SEED} {kind} {number}'), f'{kind}_{number}'
     texts = list(KINDS[kind][0](rng, CHUNK))
     os.mkdir(folder)
     try:
@@ -463,26 +460,22 @@ def check_chunk(seed, kind, number):
             check_output(kind, text, output)
         check_in_every_way(f'{folder}.tsv', kind, texts, outputs)
         check_faults(folder, kind, list(filter(None, (with_fault(rng, text) for text in texts))))
-    except Wrong as wrong:
-        raise Wrong(f'seed {seed}, {folder}: {wrong}') from wrong
+    except AssertionError as wrong:
+        raise AssertionError(f'{folder}: {wrong}') from wrong
 
 
-def check(seed, kind, chunks):
-    """Checks the documents of so many runs."""
-    with ProcessPoolExecutor() as pool:
-        list(pool.map(functools.partial(check_chunk, seed, kind), range(chunks)))
+class Documents(Built):
+    """Documents of each kind."""
+    programs = 'subst_cli', 'subst_vectors'
+    seed = SEED
 
+    def check(self, kind):
+        """Checks the documents of a kind, of which there are so many runs."""
+        with ProcessPoolExecutor() as pool:
+            list(pool.map(functools.partial(check_chunk, kind), range(max(1, round(COUNT / CHUNK / len(KINDS))))))
 
-def main():
-    parser = argparse.ArgumentParser(description=__doc__.partition('   ')[2].partition('\n')[0])
-    parser.add_argument('--seed', default='1')
-    parser.add_argument('--count', type=int, default=100000)
-    given = parser.parse_args()
-    print(f'seed {given.seed}')
-    chunks = max(1, round(given.count / CHUNK / len(KINDS)))
-    run_tests([(f'{chunks * CHUNK}_documents_of_{kind}', functools.partial(check, given.seed, kind, chunks))
-               for kind in KINDS], ['subst_program', 'subst_vectors'])
+    def test_documents_of_json(self):
+        self.check('json')
 
-
-if __name__ == '__main__':
-    main()
+    def test_documents_of_toml(self):
+        self.check('toml')

@@ -1,8 +1,5 @@
-#!/usr/bin/env python3
-"""house.py   Checks what this repository asks of its own files, without running any of them: widths and sizes, names,
-blocks and numbers of pages, what README.md says is proved, facts in few files, and that each lemma is cited.
-
-Each test gives what is wrong, mostly with its file and line, and the last line is 'N passed, M failed, K skipped'.
+"""What this repository asks of its own files, none of which is run: widths and sizes, names, blocks and numbers of
+pages, what README.md says is proved, facts in few files, and that each lemma is cited.
 """
 import collections
 import fnmatch
@@ -10,12 +7,11 @@ import functools
 import os
 import re
 import subprocess
-import sys
+import unittest
 
-sys.dont_write_bytecode = True
 import faults
 import proved
-from running import TOP, Wrong, run_tests, version
+from building import TOP, version
 
 # The columns of a line of code or of a definition, of a line of a clause, and of a line of a page.
 CODE, CLAUSE, PROSE = 116, 100, 120
@@ -23,17 +19,19 @@ CODE, CLAUSE, PROSE = 116, 100, 120
 LINES = {'README.md': 172, 'docs/DESIGN.md': 160, 'docs/DEFINITIONS.md': 200, 'docs/CALLING.md': 225,
          'docs/CONTRIBUTING.md': 200, 'docs/decisions/[0-9]*.md': 40}
 # The words of README.md and of the pages that are no decisions, the lines of code, of definitions and proofs, and of
-# scripts, and the crates, at most; and the ends of files beside scripts that are none.
-SIZES = {'words of pages': 14000, '.rt': 30310, '.antt': 33060, 'scripts': 12940, 'crates': 24}
+# scripts, and the crates, at most; what the scripts are, and the ends of files beside them that are none.
+SIZES = {'words of pages': 14000, '.rt': 30310, '.antt': 33060, 'scripts': 12000, 'crates': 20}
+SCRIPTS = ('tools/*', 'tests/[!d]*', 'fuzz/*', 'python/*', 'benches/*')
 NO_SCRIPTS = ('.rt', '.antt', '.md', '.svg', '.tsv', '.txt', 'args', 'stdin', 'stdout')
 # The files that have an option of subst, at most, and those that have the text of a fault.
 OPTION_FILES, FAULT_FILES = 9, 6
 # The page whose blocks of code are quoted from the source.
 QUOTING = 'docs/CALLING.md'
-# What tries the blocks of pages, by their language, that are neither quoted nor commands that tools/pages.py runs; it
-# names the page.
-TRIED = (('README.md', ['rust'], 'tools/doc-examples.py'), ('docs/C.md', ['c', 'python'], 'tools/c-library.sh'),
-         ('docs/MEMORY.md', ['text'], 'tools/refuse-memory.py'), ('docs/decisions/*.md', ['rust'], 'tools/forms.py'))
+# What tries the blocks of pages, by their language, that are neither quoted nor commands that tests/test_pages.py runs;
+# it names the page.
+TRIED = (('README.md', ['rust'], 'tests/test_other_repository.py'),
+         ('docs/C.md', ['c', 'python'], 'tests/test_pages.py'), ('docs/MEMORY.md', ['text'], 'tests/test_memory.py'),
+         ('docs/decisions/*.md', ['rust'], 'tests/test_forms.py'))
 # Blocks that nothing tries: a grammar, a drawing, and parts of programs.
 UNTRIED = (('docs/DEFINITIONS.md', 'ebnf'), ('docs/DESIGN.md', ''), ('docs/decisions/26-c-no-handles.md', 'c'),
            ('docs/decisions/02-errors-by-hand.md', 'rust'), ('docs/decisions/29-out-of-memory-with-cause.md', 'rust'))
@@ -117,40 +115,7 @@ def wider(paths, columns, are_meant):
                 yield f'{path}:{number}: {len(line)} columns, and not {columns}: {line.strip()[:60]}..'
 
 
-def test_lines_are_not_too_wide():
-    sources = matching('crates/*/src/*.rt')
-    proofs = matching('crates/*/tests/*.rt', 'crates/*/specs/*.antt', 'crates/*/proofs/*.antt')
-    yield from wider(sources + proofs, CODE, can_be_broken)
-    yield from wider(sources, CLAUSE, in_clauses)
-    yield from wider(pages(), PROSE, in_prose)
-
-
-def test_no_macro_writes_an_impl():
-    """`rt ci` refuses the crate of such a macro, once all below it is proved."""
-    for path in matching('crates/*/src/*.rt'):
-        for macro in re.finditer(r'^( *)macro_rules! (\w+) .*?^\1\}', read(path), re.MULTILINE | re.DOTALL):
-            if re.search(r'^\s*(?:unsafe )?impl\b', macro[0], re.MULTILINE):
-                yield f'{path}:{line_at(read(path), macro.start())}: the macro {macro[2]} writes an impl'
-
-
 # Sizes
-
-
-def test_pages_are_not_too_long():
-    for pattern, most in LINES.items():
-        for path in matching(pattern):
-            count = len(read(path).splitlines())
-            if count > most:
-                yield f'{path}:{count}: {count} lines, and not {most}'
-
-
-def test_tree_is_not_too_large():
-    scripts = [path for path in matching('tools/*', 'fuzz/*', 'python/*', 'benches/*') if not path.endswith(NO_SCRIPTS)]
-    counts = {'crates': len({path.split('/')[1] for path in matching('crates/*')}),
-              'words of pages': sum(len(read(path).split()) for path in matching('README.md', 'docs/[!d]*.md'))}
-    for what, paths in (('.rt', matching('*.rt')), ('.antt', matching('*.antt')), ('scripts', scripts)):
-        counts[what] = sum(read(path).count('\n') for path in paths)
-    yield from (f'{what}: {counts[what]}, and not {most}' for what, most in SIZES.items() if counts[what] > most)
 
 
 # What pages name
@@ -176,15 +141,6 @@ def anchors(path):
     return [re.sub(r'[^\w\- ]', '', text).replace(' ', '-') for text in texts]
 
 
-def test_links_of_pages_lead_somewhere():
-    for path in pages():
-        text = prose(read(path))
-        for match in re.finditer(r'\]\((?!\w+:)([^)\s#]*)#?([^)\s]*)\)', text):
-            to = (TOP / path).parent / match[1] if match[1] else TOP / path
-            if not to.exists() or match[2] and match[2] not in anchors(str(to.resolve().relative_to(TOP))):
-                yield f'{path}:{line_at(text, match.start())}: it leads nowhere: {match[0]}'
-
-
 def names_a_file(span):
     """Whether something in backticks is the name of a file or a folder of the repository that isn't made."""
     segments = span.split('/')
@@ -204,7 +160,7 @@ def is_a_place(span):
 @functools.lru_cache(None)
 def known():
     """All words of the code, of its definitions and proofs, of the header, and of the scripts."""
-    paths = matching('crates/*.rt', 'crates/*.antt', 'crates.txt', 'include/*', 'tools/*', 'benches/*')
+    paths = matching('crates/*.rt', 'crates/*.antt', 'crates.txt', 'include/*', 'tools/*', 'tests/*', 'benches/*')
     return {word for path in paths for pattern in (r'[\w-]+', r'\w+') for word in re.findall(pattern, read(path))}
 
 
@@ -245,23 +201,6 @@ def unknown_options(span):
     return [word for word in command[2].split() if word.startswith('--') and word not in read(command[1])]
 
 
-def test_what_pages_name_exists():
-    for path in pages():
-        for line, span in spans(path):
-            is_missing = names_a_file(span) and not is_a_place(span) or is_no_lemma(span)
-            for wrong in [span] if is_missing else [*unknown_items(span), *unknown_options(span)]:
-                yield f'{path}:{line}: `{span}`: there is no {wrong}'
-
-
-def test_version_begins_the_change_log_and_stands_in_no_other_file():
-    first = re.search(r'^## ([^\s,]+)', read('CHANGELOG.md'), re.MULTILINE)[1]
-    if first != version():
-        yield f'CHANGELOG.md: it begins with {first}, and not {version()}'
-    for path in matching('README.md', 'docs/*', 'include/*', 'tools/*', 'python/*', 'crates/*.rt', 'crates/*/stdout'):
-        for match in re.finditer(rf'(?<![\d.]){re.escape(version())}(?!\d|\.\d)', read(path)):
-            yield f'{path}:{line_at(read(path), match.start())}: the version stands here too'
-
-
 # Blocks of pages
 
 
@@ -281,36 +220,6 @@ def is_quoted(lines, *patterns):
     return any(re.search(r'(?:\n.*)*?'.join(parts), source) for source in sources(*patterns))
 
 
-def test_quoted_code_is_that_of_the_source():
-    """Of antt each part of a block is found alone, since imports are between them."""
-    text = read(QUOTING)
-    for block in FENCE.finditer(text):
-        for part in {'rust': [block[2]], 'antt': block[2].split('\n\n')}.get(block[1], []):
-            if not is_quoted(part, 'crates/*.rt', 'crates/*.antt'):
-                yield f'{QUOTING}:{line_at(text, block.start())}: not in the source: {part.strip().splitlines()[0]} ..'
-
-
-def test_indented_lines_are_those_of_files():
-    path, patterns = INDENTED
-    for block in re.finditer(r'(?:^    +\S.*\n)+', prose(read(path)), re.MULTILINE):
-        if not is_quoted(block[0], *patterns):
-            first = block[0].splitlines()[0]
-            yield f'{path}:{line_at(read(path), block.start())}: not in {" or ".join(patterns)}: {first}'
-
-
-def test_blocks_of_pages_are_tried():
-    """Each is quoted, run by tools/pages.py, tried by a script that names its page, or meant not to be."""
-    for path in pages():
-        name = path.removeprefix('docs/decisions/').removesuffix('.md')
-        tried = ['console', *(language for page, language in UNTRIED if page == path)]
-        tried += ['rust', 'antt'] if path == QUOTING else []
-        for pattern, languages, script in TRIED:
-            tried += languages if path in matching(pattern) and name in read(script) else []
-        for block in FENCE.finditer(read(path)):
-            if block[1] not in tried:
-                yield f'{path}:{line_at(read(path), block.start())}: nothing tries this block'
-
-
 def numbers():
     """Numbers of pages that other files have: a page, an expression for them, and what they are."""
     names = re.findall(r'^(\w+)', read('crates.txt'), re.MULTILINE)
@@ -327,13 +236,6 @@ def numbers():
         [f'{float(number):.2f}' for number in measured.groups()]
 
 
-def test_numbers_that_pages_name_are_right():
-    for path, pattern, wanted in numbers():
-        found = re.search(pattern, read(path))
-        if found is None or list(found.groups()) != wanted:
-            yield f'{path}: it says {found and found[0]}, and it is {", ".join(wanted)}'
-
-
 # What is proved
 
 # A link to a function, and the names of its clauses; where there is no name, its clause has none.
@@ -344,42 +246,6 @@ def clauses(path, name):
     """The names of what the functions of a file that have this name ensure; that of a clause without one is empty."""
     heads = [it.head for item in proved.items_of(read(path)) for it in (item, *item.members) if it.name == name]
     return {found for head in heads for line in head for found in re.findall(r'^ *ensures (?:(\w+) )?\{', line)}
-
-
-def test_what_readme_says_is_proved_is_in_clauses():
-    text = read('README.md')
-    begin = text.index('\n## What is proved\n')
-    rows = list(re.finditer(r'^\|(?! What |---).*', text[begin:text.index('\n## ', begin + 1)], re.MULTILINE))
-    if not rows:
-        yield 'README.md: there is no table of what is proved'
-    for row in rows:
-        where, links = f'README.md:{line_at(text, begin + row.start())}', PROVED_BY.findall(row[0])
-        if not links:
-            yield f'{where}: it names no function whose clause says this'
-        for name, path, labels in links:
-            there = clauses(path, name) if path in files() else ()
-            for label in sorted(set(re.findall(r'\w+', labels) or ['']).difference(there)):
-                yield f"{where}: `{name}` of {path} has no clause {label or 'without a name'}"
-
-
-def test_readme_has_the_theorem():
-    path = 'crates/subst_template/src/lib.rt'
-    comment = re.search(r'((?:^///.*\n)+)pub fn substitute_bytes\b', read(path), re.MULTILINE)[1]
-    paragraphs = [' '.join(text.replace('///', '').split()) for text in comment.split('\n///\n')]
-    theorem = next((text for text in paragraphs if text.startswith('For every byte source')), None)
-    if theorem is None or theorem not in ' '.join(read('README.md').replace('\n> ', ' ').split()):
-        yield f'README.md: it has not the theorem of the comment of `substitute_bytes`, word for word: {theorem}'
-
-
-def test_readme_stands_on_the_logic_of_this_kit():
-    """On the sum of the logic; kits of several names may have the same."""
-    found, wanted = (re.search(r'rattle-kit-\w+ logic \w+', text)[0] for text in (read('README.md'), said_by_rt('version')))
-    if found.split()[-1] != wanted.split()[-1]:
-        yield f'README.md: it stands on {found}, and this is {wanted}'
-
-
-def test_all_that_is_public_is_printed_and_its_clauses_have_names():
-    yield from proved.wrongs()
 
 
 # Facts in few files
@@ -398,19 +264,6 @@ def has_option(path, option):
         return False
     word = re.compile(rf'(?<![\w-]){option}(?![\w-])')
     return any(word.search(line) and not OTHER_PROGRAM.search(line) for line in text.splitlines())
-
-
-def test_facts_are_in_few_files():
-    heads = '\n'.join(re.findall(r'^\.TP\n(\..*)', read('docs/subst.1.in').replace(r'\-', '-'), re.MULTILINE))
-    texts = {texts[0].partition(':')[0] for texts in faults.texts().values() if texts} - {'out of memory'}
-    found = [(option, OPTION_FILES, has_option) for option in re.findall(r'(?<![\w-])--[a-z][\w-]*', heads)]
-    found += [(text, FAULT_FILES, lambda path, text: text in read(path))
-              for text in sorted({*texts, faults.expected_after_name()})]
-    for fact, most, has in found:
-        # The modules of a script are one.
-        paths = sorted({re.sub(r'(?<=tools/command)_\w+', '', path) for path in files() if has(path, fact)})
-        if len(paths) > most:
-            yield f'{fact!r} is in {len(paths)} files, and not {most}: {" ".join(paths)}'
 
 
 # Lemmas
@@ -457,26 +310,176 @@ def definitions(path):
     return found
 
 
-def test_each_lemma_is_cited():
-    """Not answers to goals, which are found by their names, and no worked examples."""
-    for path in matching('crates/*/proofs/*.antt'):
-        if re.search(r'/(Answers|Invariants|Proof|Lib)\.antt$|WorkedExamples', path):
-            continue
-        words = [set(re.findall(r'[\w-]+', '\n'.join(lines))) for _, lines in definitions(path).values()]
-        counts = collections.Counter(word for of_one in words for word in of_one)
-        for name, (number, lines) in definitions(path).items():
-            is_definition = DEFINITION.match(lines[0].strip())
-            if is_definition and counts[name] < 2 and (module_of(path), name) not in imported():
-                yield f'{path}:{number}: nothing cites {name}'
+def gives_nothing(test):
+    """Makes a test of a method that yields what is wrong, which fails with all that it yields."""
+    @functools.wraps(test)
+    def run(self):
+        wrong = list(test(self))
+        if wrong:
+            self.fail('\n'.join(['', *wrong]))
+    return run
 
 
-def expect_none(found):
-    """Fails the test with what it gives, if there is anything."""
-    wrong = list(found())
-    if wrong:
-        raise Wrong('\n'.join(['', *wrong]))
+class House(unittest.TestCase):
+    """Each test yields what is wrong, mostly with its file and line."""
 
+    @gives_nothing
+    def test_lines_are_not_too_wide(self):
+        sources = matching('crates/*/src/*.rt')
+        proofs = matching('crates/*/tests/*.rt', 'crates/*/specs/*.antt', 'crates/*/proofs/*.antt')
+        yield from wider(sources + proofs, CODE, can_be_broken)
+        yield from wider(sources, CLAUSE, in_clauses)
+        yield from wider(pages(), PROSE, in_prose)
 
-if __name__ == '__main__':
-    run_tests([(name.removeprefix('test_'), functools.partial(expect_none, test))
-               for name, test in list(globals().items()) if name.startswith('test_')], [])
+    @gives_nothing
+    def test_no_macro_writes_an_impl(self):
+        """`rt ci` refuses the crate of such a macro, once all below it is proved."""
+        for path in matching('crates/*/src/*.rt'):
+            for macro in re.finditer(r'^( *)macro_rules! (\w+) .*?^\1\}', read(path), re.MULTILINE | re.DOTALL):
+                if re.search(r'^\s*(?:unsafe )?impl\b', macro[0], re.MULTILINE):
+                    yield f'{path}:{line_at(read(path), macro.start())}: the macro {macro[2]} writes an impl'
+
+    @gives_nothing
+    def test_pages_are_not_too_long(self):
+        for pattern, most in LINES.items():
+            for path in matching(pattern):
+                count = len(read(path).splitlines())
+                if count > most:
+                    yield f'{path}:{count}: {count} lines, and not {most}'
+
+    @gives_nothing
+    def test_tree_is_not_too_large(self):
+        scripts = [path for path in matching(*SCRIPTS) if not path.endswith(NO_SCRIPTS)]
+        counts = {'crates': len({path.split('/')[1] for path in matching('crates/*')}),
+                  'words of pages': sum(len(read(path).split()) for path in matching('README.md', 'docs/[!d]*.md'))}
+        for what, paths in (('.rt', matching('*.rt')), ('.antt', matching('*.antt')), ('scripts', scripts)):
+            counts[what] = sum(read(path).count('\n') for path in paths)
+        yield from (f'{what}: {counts[what]}, and not {most}' for what, most in SIZES.items() if counts[what] > most)
+
+    @gives_nothing
+    def test_links_of_pages_lead_somewhere(self):
+        for path in pages():
+            text = prose(read(path))
+            for match in re.finditer(r'\]\((?!\w+:)([^)\s#]*)#?([^)\s]*)\)', text):
+                to = (TOP / path).parent / match[1] if match[1] else TOP / path
+                if not to.exists() or match[2] and match[2] not in anchors(str(to.resolve().relative_to(TOP))):
+                    yield f'{path}:{line_at(text, match.start())}: it leads nowhere: {match[0]}'
+
+    @gives_nothing
+    def test_what_pages_name_exists(self):
+        for path in pages():
+            for line, span in spans(path):
+                is_missing = names_a_file(span) and not is_a_place(span) or is_no_lemma(span)
+                for wrong in [span] if is_missing else [*unknown_items(span), *unknown_options(span)]:
+                    yield f'{path}:{line}: `{span}`: there is no {wrong}'
+
+    @gives_nothing
+    def test_version_begins_the_change_log_and_stands_in_no_other_file(self):
+        first = re.search(r'^## ([^\s,]+)', read('CHANGELOG.md'), re.MULTILINE)[1]
+        if first != version():
+            yield f'CHANGELOG.md: it begins with {first}, and not {version()}'
+        for path in matching('README.md', 'docs/*', 'include/*', 'tools/*', 'tests/*.py', 'python/*', 'crates/*.rt',
+                             'crates/*/stdout'):
+            for match in re.finditer(rf'(?<![\d.]){re.escape(version())}(?!\d|\.\d)', read(path)):
+                yield f'{path}:{line_at(read(path), match.start())}: the version stands here too'
+
+    @gives_nothing
+    def test_quoted_code_is_that_of_the_source(self):
+        """Of antt each part of a block is found alone, since imports are between them."""
+        text = read(QUOTING)
+        for block in FENCE.finditer(text):
+            for part in {'rust': [block[2]], 'antt': block[2].split('\n\n')}.get(block[1], []):
+                if not is_quoted(part, 'crates/*.rt', 'crates/*.antt'):
+                    first = part.strip().splitlines()[0]
+                    yield f'{QUOTING}:{line_at(text, block.start())}: not in the source: {first} ..'
+
+    @gives_nothing
+    def test_indented_lines_are_those_of_files(self):
+        path, patterns = INDENTED
+        for block in re.finditer(r'(?:^    +\S.*\n)+', prose(read(path)), re.MULTILINE):
+            if not is_quoted(block[0], *patterns):
+                first = block[0].splitlines()[0]
+                yield f'{path}:{line_at(read(path), block.start())}: not in {" or ".join(patterns)}: {first}'
+
+    @gives_nothing
+    def test_blocks_of_pages_are_tried(self):
+        """Each is quoted, run by tests/test_pages.py, tried by a script that names its page, or meant not to be."""
+        for path in pages():
+            name = path.removeprefix('docs/decisions/').removesuffix('.md')
+            tried = ['console', *(language for page, language in UNTRIED if page == path)]
+            tried += ['rust', 'antt'] if path == QUOTING else []
+            for pattern, languages, script in TRIED:
+                tried += languages if path in matching(pattern) and name in read(script) else []
+            for block in FENCE.finditer(read(path)):
+                if block[1] not in tried:
+                    yield f'{path}:{line_at(read(path), block.start())}: nothing tries this block'
+
+    @gives_nothing
+    def test_numbers_that_pages_name_are_right(self):
+        for path, pattern, wanted in numbers():
+            found = re.search(pattern, read(path))
+            if found is None or list(found.groups()) != wanted:
+                yield f'{path}: it says {found and found[0]}, and it is {", ".join(wanted)}'
+
+    @gives_nothing
+    def test_what_readme_says_is_proved_is_in_clauses(self):
+        text = read('README.md')
+        begin = text.index('\n## What is proved\n')
+        rows = list(re.finditer(r'^\|(?! What |---).*', text[begin:text.index('\n## ', begin + 1)], re.MULTILINE))
+        if not rows:
+            yield 'README.md: there is no table of what is proved'
+        for row in rows:
+            where, links = f'README.md:{line_at(text, begin + row.start())}', PROVED_BY.findall(row[0])
+            if not links:
+                yield f'{where}: it names no function whose clause says this'
+            for name, path, labels in links:
+                there = clauses(path, name) if path in files() else ()
+                for label in sorted(set(re.findall(r'\w+', labels) or ['']).difference(there)):
+                    yield f"{where}: `{name}` of {path} has no clause {label or 'without a name'}"
+
+    @gives_nothing
+    def test_readme_has_the_theorem(self):
+        path = 'crates/subst_template/src/lib.rt'
+        comment = re.search(r'((?:^///.*\n)+)pub fn substitute_bytes\b', read(path), re.MULTILINE)[1]
+        paragraphs = [' '.join(text.replace('///', '').split()) for text in comment.split('\n///\n')]
+        theorem = next((text for text in paragraphs if text.startswith('For every byte source')), None)
+        if theorem is None or theorem not in ' '.join(read('README.md').replace('\n> ', ' ').split()):
+            yield f'README.md: it has not the theorem of the comment of `substitute_bytes`, word for word: {theorem}'
+
+    @gives_nothing
+    def test_readme_stands_on_the_logic_of_this_kit(self):
+        """On the sum of the logic; kits of several names may have the same."""
+        texts = read('README.md'), said_by_rt('version')
+        found, wanted = (re.search(r'rattle-kit-\w+ logic \w+', text)[0] for text in texts)
+        if found.split()[-1] != wanted.split()[-1]:
+            yield f'README.md: it stands on {found}, and this is {wanted}'
+
+    @gives_nothing
+    def test_all_that_is_public_is_printed_and_its_clauses_have_names(self):
+        yield from proved.wrongs()
+
+    @gives_nothing
+    def test_facts_are_in_few_files(self):
+        heads = '\n'.join(re.findall(r'^\.TP\n(\..*)', read('docs/subst.1.in').replace(r'\-', '-'), re.MULTILINE))
+        texts = {texts[0].partition(':')[0] for texts in faults.texts().values() if texts} - {'out of memory'}
+        found = [(option, OPTION_FILES, has_option) for option in re.findall(r'(?<![\w-])--[a-z][\w-]*', heads)]
+        found += [(text, FAULT_FILES, lambda path, text: text in read(path))
+                  for text in sorted({*texts, faults.expected_after_name()})]
+        for fact, most, has in found:
+            # The tests are one.
+            paths = sorted({re.sub(r'^tests/\w+\.py$', 'tests', path) for path in files() if has(path, fact)})
+            if len(paths) > most:
+                yield f'{fact!r} is in {len(paths)} files, and not {most}: {" ".join(paths)}'
+
+    @gives_nothing
+    def test_each_lemma_is_cited(self):
+        """Not answers to goals, which are found by their names, and no worked examples."""
+        for path in matching('crates/*/proofs/*.antt'):
+            if re.search(r'/(Answers|Invariants|Proof|Lib)\.antt$|WorkedExamples', path):
+                continue
+            words = [set(re.findall(r'[\w-]+', '\n'.join(lines))) for _, lines in definitions(path).values()]
+            counts = collections.Counter(word for of_one in words for word in of_one)
+            for name, (number, lines) in definitions(path).items():
+                is_definition = DEFINITION.match(lines[0].strip())
+                if is_definition and counts[name] < 2 and (module_of(path), name) not in imported():
+                    yield f'{path}:{number}: nothing cites {name}'

@@ -1,0 +1,7 @@
+"""The tests: at the top of a clone, `python3 -m unittest tests.test_files` runs those of one file."""
+import pathlib
+import sys
+
+sys.dont_write_bytecode = True
+# What builds and installs is imported by its name alone, as `import building`.
+sys.path.insert(1, str(pathlib.Path(__file__).resolve().parent.parent / 'tools'))

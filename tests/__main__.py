@@ -1,0 +1,133 @@
+"""Runs the tests, of which the last line is 'N passed, M failed', with ', K skipped' where some were.
+
+Without --proved these are the tests that need no proof. With it they are the gate: `rt ci`; one more proof, over which
+all that follows is built, as `rt ci` keeps nothing; the must-fail edits of crates that have changed since all of theirs
+were refused, or all; and the tests of what is built. After names, as test_files, test_files.Output or
+test_files.Output.test_output, these alone run. The processor seconds of each part are said at the end.
+"""
+import argparse
+import collections
+import os
+import re
+import resource
+import signal
+import subprocess
+import sys
+import unittest
+
+from tests.support import SEED, TOP, Built, Tried
+
+COUNTS = re.compile(r'(\d+) passed, (\d+) failed(?:, (\d+) skipped)?$')
+
+
+class Result(unittest.TextTestResult):
+    """The outcomes of tests, which are counted as a whole, also where parts of them failed."""
+    passed = 0
+
+    def addSuccess(self, test):
+        super().addSuccess(test)
+        self.passed += 1
+
+    def failed(self):
+        """Returns the names of the tests that failed."""
+        wrong = [test for test, _ in self.failures + self.errors] + self.unexpectedSuccesses
+        return list(dict.fromkeys(getattr(test, 'test_case', test).id() for test in wrong))
+
+
+class Totals:
+    """The counts of all parts, the names of what failed, and the processor seconds of each part."""
+
+    def __init__(self):
+        self.counts, self.failed, self.parts = collections.Counter(), [], []
+
+    def run(self, name, part, *arguments):
+        """Runs a part, a function that returns how many passed, what failed, and how many were skipped."""
+        before = processor_seconds()
+        print(f'\n{name}', flush=True)
+        passed, failed, skipped = part(*arguments)
+        self.counts.update(passed=passed, failed=len(failed), skipped=skipped)
+        self.failed += failed
+        self.parts.append(f'{processor_seconds() - before:6.0f}  {name}')
+
+    def end(self):
+        """Prints all, and ends."""
+        print('\nprocessor seconds:', *self.parts, sep='\n')
+        for name in self.failed:
+            print(f'failed: {name}')
+        skipped = f', {self.counts["skipped"]} skipped' if self.counts['skipped'] else ''
+        print(f'{self.counts["passed"]} passed, {self.counts["failed"]} failed{skipped}')
+        sys.exit(1 if self.failed else 0)
+
+
+def processor_seconds():
+    """Returns the seconds that this process took and all that it has waited for."""
+    used = [resource.getrusage(whose) for whose in (resource.RUSAGE_SELF, resource.RUSAGE_CHILDREN)]
+    return sum(it.ru_utime + it.ru_stime for it in used)
+
+
+def command(*words):
+    """Runs a command whose last line has its counts."""
+    counts = None
+    with subprocess.Popen(words, cwd=TOP, stdin=subprocess.DEVNULL, stdout=subprocess.PIPE, stderr=subprocess.STDOUT,
+                          encoding='utf-8', errors='replace') as ran:
+        for line in ran.stdout:
+            print(line, end='', flush=True)
+            counts = COUNTS.match(line) or counts
+    passed, failed, skipped = (int(count or 0) for count in counts.groups()) if counts else (0, 0, 0)
+    is_failed = failed > 0 or counts is None or ran.returncode != 0
+    return passed, max(failed, 1) * [' '.join(words)] if is_failed else [], skipped
+
+
+def cases(suite):
+    """Runs cases of unittest."""
+    result = unittest.TextTestRunner(sys.stdout, resultclass=Result).run(suite)
+    return result.passed, result.failed(), len(result.skipped)
+
+
+def suite_of(name, left_out=()):
+    """Returns the tests of a file, a class or a method, without those of the classes that are left out."""
+    def flattened(suite):
+        for test in suite:
+            yield from flattened(test) if isinstance(test, unittest.TestSuite) else [test]
+
+    suite = unittest.defaultTestLoader.loadTestsFromName(f'tests.{name.removeprefix("tests.")}')
+    return unittest.TestSuite(test for test in flattened(suite) if not isinstance(test, left_out))
+
+
+def lanes():
+    """Returns how many checks run side by side: one a processor, with 4 GB of memory each. A check by one process takes
+    half the processor time of one that four share."""
+    with open('/proc/meminfo', encoding='ascii') as memory:
+        available = next(int(line.split()[1]) for line in memory if line.startswith('MemAvailable:'))
+    return max(1, min(os.cpu_count(), available // 4000000))
+
+
+def main():
+    parser = argparse.ArgumentParser('tools/test', description=__doc__.partition('\n')[0])
+    parser.add_argument('--proved', action='store_true', help='the gate: all proofs, edits, and tests of what is built')
+    parser.add_argument('--all', action='store_true', help='tries all must-fail edits, as before a release')
+    parser.add_argument('names', nargs='*', metavar='NAME', help='runs the tests of this name alone')
+    options = parser.parse_args()
+    totals, left_out = Totals(), Tried if options.proved else Built
+    os.environ.setdefault('RT_JOBS', str(lanes()))
+    print(f'SEED={SEED}')
+    if options.proved and not options.names:
+        totals.run('rt ci', command, 'rt', 'ci')
+        totals.run('tools/prove.py', command, sys.executable, 'tools/prove.py')
+        totals.run('tools/edits.py', command, sys.executable, 'tools/edits.py', *['--all'] * options.all)
+    for name in options.names or sorted(path.stem for path in (TOP / 'tests').glob('test_*.py')):
+        suite = suite_of(name, () if options.names else left_out)
+        if suite.countTestCases():
+            totals.run(f'tests.{name.removeprefix("tests.")}', cases, suite)
+    if not options.names and not options.proved:
+        print('\nleft out: all that is proved, and the tests of what is built, which `bash tools/test --proved` runs')
+    totals.end()
+
+
+if __name__ == '__main__':
+    for number in (signal.SIGHUP, signal.SIGTERM):
+        signal.signal(number, signal.default_int_handler)
+    try:
+        main()
+    except KeyboardInterrupt:
+        sys.exit('interrupted')

@@ -1,0 +1,138 @@
+/* Tests what only C and C++ can: the functions of subst.h, with NULL beside a length of 0, and its version. All else
+ * that the header says is tried by fuzz/subst.c. A test that fails prints a line, and the last line is 'N passed, M
+ * failed'.
+ *
+ * With the arguments CALL SOURCE [NAME VALUE].. nothing is tested: this call is made, and its result is the status.
+ */
+#include "subst.h"
+
+#include <stdio.h>
+#include <stdlib.h>
+#include <string.h>
+
+enum { ROOM = 128, MOST_PAIRS = 64 };
+
+static int passed, failed;
+/* The call that is tested. */
+static const char *tested = "";
+
+#define EXPECT(fact) ((fact) ? (void)(passed += 1) : fail(#fact))
+
+static void fail(const char *fact)
+{
+    failed += 1;
+    printf("%s FAILED: %s\n", tested, fact);
+}
+
+/* Whether a call is done that needs nothing. What it needs is then something again. */
+static int is_empty(uint32_t result, size_t *needed)
+{
+    int is_right = result == SUBST_DONE && *needed == 0;
+    *needed = ROOM;
+    return is_right;
+}
+
+typedef uint32_t filling(const void *source, size_t source_len, const struct subst_pair *pairs, size_t pairs_len,
+                         void *buffer, size_t buffer_len, size_t *needed, struct subst_fault *fault);
+
+/* The buffer that is too small is none. */
+static void test_filling(const char *name, filling *call)
+{
+    struct subst_pair empty = {"a", 1, NULL, 0}, nameless = {NULL, 0, "1", 1};
+    struct subst_fault fault = {0, 0, 0};
+    size_t needed = ROOM;
+    char buffer[ROOM];
+    tested = name;
+    EXPECT(is_empty(call(NULL, 0, NULL, 0, NULL, 0, &needed, &fault), &needed));
+    EXPECT(call("${a:bc}", 7, NULL, 0, NULL, 0, &needed, &fault) == SUBST_ROOM_TOO_SMALL && needed == 2);
+    EXPECT(call("<${a:bc}>", 9, &empty, 1, buffer, 2, &needed, &fault) == SUBST_DONE && needed == 2
+           && memcmp(buffer, "<>", 2) == 0);
+    EXPECT(call("$a", 2, &nameless, 1, NULL, 0, &needed, &fault) == SUBST_REFUSED
+           && fault.kind == SUBST_NO_SUCH_VARIABLE);
+}
+
+static void test_rows_and_lists(void)
+{
+    struct subst_row row = {NULL, 0};
+    struct subst_fault fault;
+    size_t needed = ROOM, end = ROOM, index;
+    char buffer[1];
+    EXPECT(is_empty(subst_bytes_each(NULL, 0, NULL, 0, NULL, 0, NULL, 0, &needed, &index, &fault), &needed));
+    EXPECT(subst_bytes_each("a", 1, &row, 1, buffer, 1, &end, 1, &needed, &index, &fault) == SUBST_DONE
+           && needed == 1 && end == 1 && buffer[0] == 'a');
+    EXPECT(subst_check(NULL, 0, &fault) == SUBST_DONE);
+    EXPECT(is_empty(subst_variables(NULL, 0, NULL, 0, &needed, &fault), &needed));
+    EXPECT(is_empty(subst_missing(NULL, 0, NULL, 0, NULL, 0, &needed, &fault), &needed));
+    EXPECT(subst_missing("$a", 2, NULL, 0, NULL, 0, &needed, &fault) == SUBST_ROOM_TOO_SMALL && needed == 1);
+}
+
+static void test_documents_and_faults(void)
+{
+    struct subst_fault fault;
+    size_t needed = ROOM, line = 0, column = 0;
+    EXPECT(subst_json(NULL, 0, NULL, 0, NULL, 0, &needed, &fault) == SUBST_REFUSED
+           && fault.kind == SUBST_INVALID_DOCUMENT);
+    EXPECT(is_empty(subst_toml(NULL, 0, NULL, 0, NULL, 0, &needed, &fault), &needed));
+    EXPECT(is_empty(subst_json_fault_text("1", 1, NULL, 0, NULL, 0, &needed), &needed));
+    EXPECT(is_empty(subst_toml_fault_text(NULL, 0, NULL, 0, NULL, 0, &needed), &needed));
+    EXPECT(is_empty(subst_fault_text(NULL, 0, NULL, 0, NULL, 0, &needed), &needed));
+    EXPECT(is_empty(subst_fault_highlighting(NULL, 0, NULL, 0, NULL, 0, &needed), &needed));
+    EXPECT(subst_place(NULL, 0, 0, &line, &column) == SUBST_DONE && line == 1 && column == 1);
+}
+
+/* Any number but 0 makes variables optional. No form has the largest number. */
+static void test_other_tools(void)
+{
+    struct subst_pair five = {"5", 1, NULL, 0};
+    size_t needed = ROOM, position;
+    uint32_t form;
+    char buffer[ROOM];
+    EXPECT(is_empty(subst_from_envsubst(NULL, 0, 0, NULL, 0, &needed), &needed));
+    EXPECT(subst_from_envsubst("$a", 2, 2, buffer, ROOM, &needed) == SUBST_DONE && needed == 5
+           && memcmp(buffer, "${a?}", 5) == 0);
+    EXPECT(subst_with_only("$", 1, NULL, 0, 0, NULL, 0, &needed) == SUBST_ROOM_TOO_SMALL && needed == 2);
+    EXPECT(subst_with_only("$a $5", 5, &five, 1, 2, buffer, ROOM, &needed) == SUBST_DONE && needed == 9
+           && memcmp(buffer, "\\$a ${5?}", 9) == 0);
+    needed = ROOM;
+    EXPECT(is_empty(subst_from_shell(NULL, 0, NULL, 0, &needed, &form, &position), &needed));
+    EXPECT(is_empty(subst_shell_form_text(UINT32_MAX, NULL, 0, &needed), &needed));
+}
+
+/* Makes the call of this name, or fails. */
+static uint32_t call_of(const char *name, const char *source, const struct subst_pair *pairs, size_t pairs_len)
+{
+    struct subst_fault fault;
+    char buffer[ROOM];
+    size_t needed;
+    if (strcmp(name, "subst_check") == 0)
+        return subst_check(source, strlen(source), &fault);
+    if (strcmp(name, "subst_bytes") == 0)
+        return subst_bytes(source, strlen(source), pairs, pairs_len, buffer, ROOM, &needed, &fault);
+    if (strcmp(name, "subst_bytes_into") == 0)
+        return subst_bytes_into(source, strlen(source), pairs, pairs_len, buffer, ROOM, &needed, &fault);
+    return UINT32_MAX;
+}
+
+int main(int argc, char **argv)
+{
+    struct subst_pair pairs[MOST_PAIRS];
+    size_t pairs_len = 0;
+    int i;
+    for (i = 3; i + 1 < argc && pairs_len < MOST_PAIRS; i += 2) {
+        struct subst_pair pair = {argv[i], strlen(argv[i]), argv[i + 1], strlen(argv[i + 1])};
+        pairs[pairs_len++] = pair;
+    }
+    if (argc > 2)
+        return (int)call_of(argv[1], argv[2], pairs, pairs_len);
+    test_filling("subst_bytes", subst_bytes);
+    test_filling("subst_text", subst_text);
+    test_filling("subst_bytes_into", subst_bytes_into);
+    test_filling("subst_text_into", subst_text_into);
+    tested = "";
+    test_rows_and_lists();
+    test_documents_and_faults();
+    test_other_tools();
+    EXPECT(subst_version() == SUBST_VERSION && SUBST_VERSION_MINOR < 100 && SUBST_VERSION_PATCH < 100);
+    printf("%d passed, %d failed\n", passed, failed);
+    return failed == 0 ? EXIT_SUCCESS : EXIT_FAILURE;
+}

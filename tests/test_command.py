@@ -1,0 +1,279 @@
+"""The command line of `subst`: help, files and arguments, what --check and --names print, and hints."""
+import errno
+import re
+
+from faults import invalid_escape
+from tests.subst import NO_NAME, PROGRAM, Subst, failed, missing, subst, told, write
+from tests.support import MIB, in_memory, run_with_hints, shown, some_size, version
+
+HELP = b"""\
+Fills in $name, ${name}, ${name:default} and ${name?} in files.
+
+Usage: subst [OPTIONS] [FILE]...
+
+Arguments:
+  [FILE]...  The files to fill in; standard input if there are none, and for '-'
+
+Options:
+  -h, --help     Print help
+  -V, --version  Print version
+
+Variables:
+  -s, --set <NAME=VALUE>      Gives a variable; of one given twice, the last counts
+      --set-file <NAME=FILE>  Gives a variable all that is in a file
+  -f, --values <FILE>         Reads NAME=VALUE lines, or of a folder the file of each name
+  -e, --env                   Takes variables from the environment
+      --default <NAME=VALUE>  Gives a variable that nothing above gives
+      --defaults <FILE>       Reads such variables, as --values does
+      --no-empty              Passes over variables whose value is empty
+      --escape <FOR>          Escapes values: json, between quotes, or sh, as a word
+
+Reading:
+      --bytes         Takes any bytes, where otherwise text is in UTF-8
+      --json          Fills in the strings of a JSON document
+      --toml          Fills in the strings of a TOML document
+      --only <NAMES>  Takes $NAME and ${NAME} of these names, and all else as text
+      --envsubst      Takes what envsubst would fill in, and all else as text
+      --known         Takes names that have a value, and all else as text
+      --shell         Takes ${NAME:-default} and ${NAME:?}, as Docker Compose does
+      --optional      With --envsubst and --only, takes a missing value as empty
+
+Writing:
+  -o, --output <FILE>           Writes to a file, whole or not at all
+  -O, --output-folder <FOLDER>  Writes each file, and those of each folder, into a folder
+      --strip <SUFFIX>          Takes of folders such files, and the suffix off their names
+  -i, --in-place                Replaces each file by what it gives, whole or not at all
+
+Asking:
+      --check  Writes nothing, and reports the faults of every file
+      --names  Prints each name, where it is first used, and whether it is required
+
+A name has the value of the first of these that has it: --set, --set-file, the
+values files, the environment, --default, the defaults files. All names without
+a value are reported, but of a file with a fault of another kind that fault
+alone.
+
+Status: 0 done, 1 a file or value is refused, 2 wrong arguments, 3 a file or
+device failed, 4 out of memory. The page subst(1) says more.
+"""
+
+
+class Help(Subst):
+    """What --help and --version print."""
+
+    def test_help_and_version(self):
+        for word in ('--help', '-h'):
+            self.assert_done([word], output=HELP)
+        for word in ('--version', '-V'):
+            self.assert_done([word], output=f'subst {version()}\n'.encode())
+        self.assert_done(['-s', 'a=1', '--help', 'nothing'], output=HELP)
+
+    def test_help_fails_where_its_output_does(self):
+        for word in ('--help', '-h', '--version', '-V'):
+            with open('/dev/full', 'wb') as full:
+                self.assertTrue(subst([word], stdout=full).status == 3, f'the status of {word} is not 3')
+
+    def test_help_says_that_its_output_failed(self):
+        with open('/dev/full', 'wb') as full:
+            self.assert_failed(['--help'], failed('<stdout>', errno.ENOSPC), stdout=full)
+
+
+# Pairs of options that can't be given together, as arguments and as they are reported.
+CONFLICTS = (
+    ('--bytes', '--json'), ('--bytes', '--toml'), ('--json', '--toml'), ('--only <NAMES>', '--envsubst'),
+    ('--output <FILE>', '--in-place'), ('--output <FILE>', '--check'), ('--output <FILE>', '--names'),
+    ('--in-place', '--check'), ('--in-place', '--names'), ('--check', '--names'),
+)
+
+
+class Arguments(Subst):
+    """Files and options, and arguments that are wrong."""
+
+    def test_files_and_standard_input(self):
+        write('a', b'a$A')
+        write('b', b'b$A\n')
+        write('-c', b'c$A')
+        self.assert_done(['-sA=1', 'a', 'b', 'a'], output=b'a1b1\na1')
+        self.assert_done(['a', '-sA=1', '-', 'b'], b'$A.', b'a11.b1\n')
+        self.assert_done(['-sA=1'], b'$A.', b'1.')
+        self.assert_done(['-sA=1', '-', '-'], b'$A.', b'1.')
+        self.assert_done(['-sA=1', '--', '-c', 'a'], output=b'c1a1')
+        self.assert_done(['-sA=1', './-c'], output=b'c1')
+        # All files are read before one is filled in.
+        self.assert_failed(['a', '--', '-sA=1'], failed('-sA=1', errno.ENOENT) + missing('A', 'a:1:3', 'a$A', '  ^'))
+        self.assert_done(['-sA=1'], b'')
+
+    def test_nothing_is_written_where_one_file_is_refused(self):
+        write('a', b'a$A')
+        write('b', b'$\n$B')
+        write('c', b'$B $A')
+        refused = told('b:1:1', NO_NAME, '$', '^') + missing('B', 'c:1:2', '$B $A', ' ^')
+        for words in ([], ['--check'], ['-o', 'new']):
+            self.assert_refused(['-sA=1', 'a', 'b', 'c', *words], b'', refused)
+            self.assert_files('a', 'b', 'c')
+
+    def test_status_is_the_highest(self):
+        write('bad', b'$')
+        refused, absent = told('bad:1:1', NO_NAME, '$', '^'), failed('nothing', errno.ENOENT)
+        for words in (['bad', 'nothing'], ['nothing', 'bad'], ['nothing', 'bad', '-i']):
+            self.assert_failed(words, absent + refused)
+        for word in ('--names', '--check', '-i'):
+            self.assert_failed(['bad', 'nothing', word], refused + absent)
+
+    def test_options_that_exclude_each_other(self):
+        for one, other in CONFLICTS:
+            for first, second in ((one, other), (other, one)):
+                words = [re.sub(' <.*', '=A', option) for option in (first, second)]
+                self.assert_wrong(words, f"the argument '{first}' cannot be used with '{second}'", usage=first)
+
+    def test_wrong_words(self):
+        rows = (('--sett', '--set', '--set <NAME=VALUE>'), ('--in-plac', '--in-place', '--in-place'),
+                ('--outputs', '--output', '--output <FILE>'), ('--jsn', '--json', '--json'))
+        for word, option, usage in rows:
+            more = f"  tip: a similar argument exists: '{option}'\n\n"
+            self.assert_wrong([word], f"unexpected argument '{word}' found", usage, more)
+        for word in ('--wrong', '-x'):
+            more = f"  tip: to pass '{word}' as a value, use '-- {word}'\n\n"
+            self.assert_wrong([word], f"unexpected argument '{word}' found", more=more)
+        self.assert_wrong(['-o', 'a', '-o', 'b'], "the argument '--output <FILE>' cannot be used multiple times")
+        self.assert_ends(subst([b'\xff']), 2, errors=b"subst: a word of the command line isn't UTF-8\n")
+        self.assert_wrong(['-i'], '--in-place needs a file')
+        self.assert_wrong(['-i', 'a', '-'], "--in-place can't be of standard input")
+
+    def test_flags_that_are_repeated(self):
+        env = {'A': '1'}
+        for words in (['-e', '-e'], ['-ee'], ['--env', '-e', '--env']):
+            self.assert_done(words, b'$A', b'1', env=env)
+        for flag, source, output in (('--bytes', b'\xff$A', b'\xff1'), ('--json', b'["$A"]', b'["1"]'),
+                                     ('--toml', b'a="$A"', b'a="1"'), ('--envsubst', b'$A$1', b'1$1'),
+                                     ('--check', b'$A', b''), ('--names', b'$A', b'A\t<stdin>:1:2\trequired\n')):
+            self.assert_done([flag, '-sA=1', flag, flag], source, output)
+        write('a', b'$A')
+        self.assert_done(['-i', '-sA=1', '-ii', 'a', '--in-place'])
+        self.assert_file('a', b'1')
+        text = "the argument '--json' cannot be used with '--toml'"
+        self.assert_wrong(['--json', '--json', '--toml', '--toml'], text, usage='--json')
+
+
+class Questions(Subst):
+    """Options that report or list, and write nothing else."""
+
+    def test_check_keeps_no_output(self):
+        for name in range(40):
+            write(f'{name}', b'${A}' + b'a' * some_size(3 * MIB, 6 * MIB))
+        self.assert_done(['--check', '-sA=1', *map(str, range(40))], **in_memory(64 * MIB))
+
+    def test_check(self):
+        write('good', b'${A}\n')
+        write('bad', b'$B\n$C')
+        write('worse', b'$A\n${')
+        refused = (missing('B', 'bad:1:2', '$B', ' ^'), missing('C', 'bad:2:2', '$C', ' ^'),
+                   told('worse:2:1', NO_NAME, '${', '^^'))
+        self.assert_done(['--check', '-sA=1', 'good'])
+        self.assert_done(['--check', '-sA=1'], b'$A')
+        self.assert_done(['--check', '-sA=1', 'good', 'good', '--envsubst'])
+        self.assert_refused(['--check', '-sA=1', 'bad', 'good', 'worse'], b'', *refused)
+        self.assert_failed(['--check', 'nothing', '-sA=1', 'worse'], failed('nothing', errno.ENOENT) + refused[2])
+        self.assert_files('good', 'bad', 'worse')
+
+    def test_names(self):
+        write('a', b'\n${b:$c} ${d?} \\$no ${e:x}')
+        write('b', b'$a ${b} ${d:x} ${c:} ${e?} $a')
+        self.assert_done(['--names', 'a', 'b'], output=b'b\ta:2:3\trequired\nc\ta:2:6\trequired\nd\ta:2:11\toptional\n'
+                         b'e\ta:2:22\tdefault\na\tb:1:2\trequired\n')
+        self.assert_done(['--names', 'b', '-sa=1', '-e', '--bytes'], output=b'a\tb:1:2\trequired\nb\tb:1:6\trequired\n'
+                         b'd\tb:1:11\tdefault\nc\tb:1:18\tdefault\ne\tb:1:24\toptional\n')
+        self.assert_done(['--names'], b'a\n')
+        self.assert_done(['--names', '--only=a,x'], b'\\$b ${a:x} $a', b'a\t<stdin>:1:13\trequired\n')
+
+    def test_names_of_files_that_are_refused(self):
+        write('a', b'$a')
+        write('bad', b'$b $')
+        write('c', b'$c')
+        output = b'a\ta:1:2\trequired\nc\tc:1:2\trequired\n'
+        refused = told('bad:1:4', NO_NAME, '$b $', '   ^')
+        self.assert_ends(subst(['--names', 'a', 'bad', 'c']), 1, output, refused)
+        self.assert_ends(subst(['--names', 'a', 'nothing', 'c', 'bad']), 3, output, failed('nothing', errno.ENOENT)
+                         + refused)
+
+    def test_names_of_documents(self):
+        self.assert_done(['--json', '--names'], b'{"$k": ["\\u0041$a", "${b?}"], "z": "${a:1}$c"}',
+                         b'a\t<stdin>:1:17\trequired\nb\t<stdin>:1:24\toptional\nc\t<stdin>:1:44\trequired\n')
+        self.assert_done(['--toml', '--names'], b'a = "${x:1}"\n[t]\nb = ["$y"]\n',
+                         b'x\t<stdin>:1:8\tdefault\ny\t<stdin>:3:8\trequired\n')
+        message = told('<stdin>:1:9', f'/1: {NO_NAME}', '["$a", "$"]', '        ^')
+        self.assert_refused(['--json', '--names'], b'["$a", "$"]', message)
+
+    def test_places_of_many_faults(self):
+        count = some_size(10000, 100000)
+        for option, start, between, end in (('--json', b'["', b' ', b'"]'), ('--json', b'["', b'","', b'"]'),
+                                            ('--toml', b'a = """\n', b'\\\n ', b'"""\n'),
+                                            ('--toml', b'a = ["', b'",\n"', b'"]\n')):
+            source = start + between.join([b'$' + b'n' * 24] * count) + end
+            came = subst([option], source)
+            heads = [line for line in came.errors.splitlines() if line.startswith(b'<stdin>:')]
+            last = source.rindex(b'$') + 1
+            place = b'<stdin>:%d:%d: ' % (source.count(b'\n', 0, last) + 1, last - source.rfind(b'\n', 0, last))
+            self.assertTrue(came.status == 1 and len(heads) == count, f'{option}: {came.status}, {len(heads)} faults')
+            self.assertTrue(heads[-1].startswith(place), f'{option}: {shown(heads[-1])}')
+
+    def test_names_of_large_documents(self):
+        source = b'["$x", "' + b'a' * some_size(MIB, 32 * MIB) + b'", "$y $x"]'
+        self.assert_done(['--json', '--names'], source,
+                         f'x\t<stdin>:1:4\trequired\ny\t<stdin>:1:{source.index(b"$y") + 2}\trequired\n'.encode())
+        count = some_size(10000, 99999)
+        members = b','.join(b'\n"k%05d": "$n%05d"' % (at, at) for at in range(count, 0, -1))
+        wanted = b''.join(b'n%05d\t<stdin>:%d:13\trequired\n' % (at, count + 2 - at) for at in range(count, 0, -1))
+        self.assert_done(['--json', '--names'], b'{' + members + b'}', wanted)
+
+
+def hinted(words, source=b''):
+    return run_with_hints(PROGRAM, words, source, name='subst')
+
+
+def default_of_a_shell(place, what, sign):
+    return f"{place}: {what} begins with '{sign}': for a shell's default see --shell\n".encode()
+
+
+class Hints(Subst):
+    """What may have been meant, beside a message."""
+
+    def test_hint_of_a_default_of_a_shell(self):
+        for sign in '-=?+':
+            source = f'$A ${{A:d}}\n${{A_1:{sign}x}}${{B:-y}}'.encode()
+            hint = default_of_a_shell('<stdin>:2:7', 'this default', sign)
+            self.assert_ends(hinted(['-sA=1'], source), 0, f'1 1\n{sign}x-y'.encode(), hint)
+            self.assert_ends(hinted(['-sA=1', '--check'], source), 0, errors=hint)
+            self.assert_ends(hinted(['-sA=1', '--envsubst'], source), 0, source.replace(b'$A ', b'1 '),
+                             default_of_a_shell('<stdin>:2:7', 'this text', sign))
+            self.assert_ends(hinted(['-sA=1', '--only=A'], source), 0, source.replace(b'$A ', b'1 '))
+        write('a', b'${A:-x}')
+        write('b', b'$B ${A:-x}')
+        self.assert_faults(hinted(['a', 'b']), default_of_a_shell('a:1:5', 'this default', '-'),
+                          missing('B', 'b:1:2', '$B ${A:-x}', ' ^'))
+        for source in (b'${A:x-}', b'{A:-x}', b'$A:-x', b'${A:', b'${:-x}'):
+            self.assertTrue(b'--shell\n' not in hinted(['-sA=1', '--only=B'], source).errors, f'{source}')
+
+    def test_hint_of_a_file_that_is_no_file(self):
+        hint = b'subst: hint: variables are given by --set, as --set A=..\n'
+        self.assert_ends(hinted(['A=hunter2']), 3, errors=failed('A=hunter2', errno.ENOENT) + hint)
+        hint = b'subst: hint: names are chosen by an option, as for envsubst by its argument\n'
+        self.assert_ends(hinted(['$A $B']), 3, errors=failed('$A $B', errno.ENOENT) + hint)
+        self.assert_ends(hinted(['-f', 'A=1']), 3, errors=failed('A=1', errno.ENOENT))
+
+    def test_hint_of_faults(self):
+        none = b'subst: hint: no variables are given: see --set, --values and --env\n'
+        other = b"subst: hint: of another tool's file see --only, --envsubst and --shell\n"
+        fault = missing('A', '<stdin>:1:2', '$A', ' ^')
+        write('empty', b'')
+        for words in ([], ['--envsubst'], ['--no-empty'], ['--check']):
+            self.assert_faults(hinted(words, b'$A'), fault, none)
+        for words in (['-e'], ['-sB=1'], ['-fempty'], ['--default=B=1'], ['--defaults=empty'], ['--set-file=B=empty']):
+            self.assert_faults(hinted(words, b'$A'), fault)
+        for source, message in ((b'\\d', told('<stdin>:1:1', invalid_escape('d'), '\\d', '^^')),
+                                (b'5 $ $A', told('<stdin>:1:3', NO_NAME, '5 $ $A', '  ^'))):
+            self.assert_faults(hinted([], source), message, other)
+            self.assertTrue(b'hint' not in hinted(['--only=B'], source).errors, f'{source}')
+        write('a', b'$A')
+        self.assert_faults(hinted(['a', 'a']), missing('A', 'a:1:2', '$A', ' ^'), none,
+                          missing('A', 'a:1:2', '$A', ' ^'))
