@@ -9,6 +9,7 @@ use subst::error::{
 use subst_filter_lib::device::standard::{FromReader, ToWriter};
 use subst_filter_lib::program::run_program;
 use subst_testing::fakes::{Drip, Fault, Trickle};
+use subst_testing::variables::owned_pairs;
 
 fn words(alloc: Global, texts: &[&str]) -> Result<Vec<String>, AllocError> {
     let mut words = Vec::new(alloc);
@@ -16,15 +17,6 @@ fn words(alloc: Global, texts: &[&str]) -> Result<Vec<String>, AllocError> {
         words.push(String::from_str(alloc, text)?)?;
     }
     Ok(words)
-}
-
-fn pairs(alloc: Global, texts: &[(&str, &str)]) -> Result<Vec<(String, String)>, AllocError> {
-    let mut pairs = Vec::new(alloc);
-    for &(name, value) in texts {
-        let name = String::from_str(alloc, name)?;
-        pairs.push((name, String::from_str(alloc, value)?))?;
-    }
-    Ok(pairs)
 }
 
 /// The arguments of a command line, over a source, and when a read and a write fail.
@@ -72,7 +64,7 @@ impl<'a> Program<'a> {
         errors: &mut Vec<u8>,
     ) -> Result<u8, AllocError> {
         let words = words(alloc, self.line)?;
-        let pairs = pairs(alloc, &[("A", "1"), ("A", "2"), ("B", "")])?;
+        let pairs = owned_pairs(alloc, &[("A", "1"), ("A", "2"), ("B", "")])?;
         let (left, fault) = (self.source, self.read);
         let mut input = FromReader::new(Trickle { left, fault });
         let mut output = ToWriter::new(output);

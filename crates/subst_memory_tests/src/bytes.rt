@@ -1,7 +1,6 @@
 //! Calls over bytes and their templates.
 
-use crate::calls::{Shown, again, clone, say_bytes, say_end, tell};
-use crate::marks::{begin, end, say_out_of_memory};
+use crate::calls::{Shown, again, clone, say_bytes};
 use std::alloc::{AllocError, Global};
 use std::mem;
 use subst::error::{ExpandError, ParseError};

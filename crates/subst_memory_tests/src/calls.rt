@@ -1,6 +1,5 @@
 //! Calls between marks, and what is shown of them.
 
-use crate::marks::{begin, end, say_out_of_memory};
 use std::alloc::AllocError;
 use subst::Error;
 use subst::error::{ExpandError, NoSuchVariable, ParseError};
@@ -12,24 +11,38 @@ use subst_testing::answers::told_fault;
 macro_rules! again {
     ($rt:ident, $name:expr, [$($borrowed:ident),*], $out_of_memory:pat => $call:expr) => {
         $($borrowed.show($rt, "borrowed");)*
-        begin($rt, $name);
+        $crate::marks::begin($rt, $name);
         let mut came = $call;
-        end($rt);
+        $crate::marks::end($rt);
         if let $out_of_memory = came {
-            say_out_of_memory($rt);
+            $crate::marks::say_out_of_memory($rt);
             $($borrowed.show($rt, "borrowed");)*
             came = $call;
         }
-        tell($rt, came);
+        $crate::calls::tell($rt, came);
         $($borrowed.show($rt, "borrowed");)*
-        say_end($rt);
+        $crate::calls::say_end($rt);
     };
 }
 
+/// Makes a call that takes no memory, by the name that it has in `docs/MEMORY.md`, and returns what it gives.
+macro_rules! once {
+    ($rt:expr, $name:expr => $call:expr) => {{
+        $crate::marks::begin($rt, $name);
+        let came = $call;
+        $crate::marks::end($rt);
+        came
+    }};
+}
+
 pub(crate) use again;
+pub(crate) use once;
 
 /// What is printed of calls.
 pub trait Shown {
+    /// What is printed of an empty list of them.
+    const NONE: &'static str = "none";
+
     /// Prints this value, in lines that begin with a word.
     fn show(&self, rt: &HostRuntime, word: &str);
 }
@@ -94,6 +107,18 @@ impl Shown for Vec<u8> {
     }
 }
 
+/// A list is printed value by value.
+impl<T: Shown> Shown for Vec<T> {
+    fn show(&self, rt: &HostRuntime, word: &str) {
+        if self.is_empty() {
+            say(rt, word, T::NONE);
+        }
+        for it in self {
+            it.show(rt, word);
+        }
+    }
+}
+
 impl Shown for AllocError {
     fn show(&self, rt: &HostRuntime, word: &str) {
         say(rt, word, "for want of memory");
@@ -125,6 +150,8 @@ impl Shown for ExpandError {
 }
 
 impl Shown for NoSuchVariable {
+    const NONE: &'static str = "all there";
+
     fn show(&self, rt: &HostRuntime, word: &str) {
         let (position, name) = (self.position, &self.name);
         let _ = rt.println(format_args!("{word} {position}: NoSuchVariable {name}"));

@@ -1,7 +1,6 @@
 //! Calls over JSON and TOML.
 
-use crate::calls::{Shown, again, say, say_end, tell};
-use crate::marks::{begin, end, say_out_of_memory};
+use crate::calls::{Shown, again, say};
 use std::alloc::{AllocError, Global};
 use subst::{Error, json, toml as filled};
 use subst_testing::variables::texts;
@@ -131,21 +130,15 @@ fn read_toml_of_bytes(rt: &HostRuntime) -> Result<(), AllocError> {
 
 pub fn json_calls(rt: &HostRuntime) -> Result<(), AllocError> {
     let array = "[\"$a\",\"${b:x}\"]";
-    fill_in_json(
-        rt,
-        "json::substitute_string_values of [\"$a\",\"${b:x}\"]",
-        array,
-    )?;
+    let name = "json::substitute_string_values of [\"$a\",\"${b:x}\"]";
+    fill_in_json(rt, name, array)?;
     let name = "json::substitute_string_values of a missing variable";
     fill_in_json(rt, name, MISSING_IN_JSON)?;
     fill_in_json(rt, "json::substitute_string_values of each kind", JSON)?;
     read_json_of_bytes(rt)?;
     read_json(rt, "json::value_from_str of [\"$a\"]", "[\"$a\"]")?;
-    read_json(
-        rt,
-        "json::value_from_str of a missing variable",
-        MISSING_IN_JSON,
-    )?;
+    let name = "json::value_from_str of a missing variable";
+    read_json(rt, name, MISSING_IN_JSON)?;
     read_json(rt, "json::value_from_str of each kind", JSON)
 }
 
@@ -154,17 +147,11 @@ pub fn toml_calls(rt: &HostRuntime) -> Result<(), AllocError> {
     fill_in_toml(rt, name, MISSING_IN_TOML)?;
     fill_in_toml(rt, "toml::substitute_string_values of each kind", TOML)?;
     let array = "k = ['$a', '${b:x}']";
-    fill_in_toml(
-        rt,
-        "toml::substitute_string_values of k = ['$a', '${b:x}']",
-        array,
-    )?;
+    let name = "toml::substitute_string_values of k = ['$a', '${b:x}']";
+    fill_in_toml(rt, name, array)?;
     read_toml_of_bytes(rt)?;
-    read_toml(
-        rt,
-        "toml::value_from_str of a missing variable",
-        MISSING_IN_TOML,
-    )?;
+    let name = "toml::value_from_str of a missing variable";
+    read_toml(rt, name, MISSING_IN_TOML)?;
     read_toml(rt, "toml::value_from_str of each kind", TOML)?;
     read_toml(rt, "toml::value_from_str of k = '$a'", "k = '$a'")
 }

@@ -4,8 +4,7 @@ ghost use Rattle.std.specs.Prelude.{◌≡◌, Some};
 ghost use Rattle.subst.specs.ErrorFault.{error_fault};
 ghost use Rattle.subst.specs.Fault as fault;
 
-use crate::calls::{Shown, again, clone, say_end, tell};
-use crate::marks::{begin, end, say_out_of_memory};
+use crate::calls::{Shown, again, clone};
 use std::alloc::{AllocError, Global};
 use subst::Error;
 use subst::error::{ExpandError, MissingVariableName, NoSuchVariable, underline};
@@ -36,17 +35,10 @@ fn underlined(alloc: Global) -> Result<String, AllocError> {
 pub fn calls(rt: &HostRuntime) -> Result<(), AllocError> {
     let alloc = rt.alloc();
     clone(rt, "NoSuchVariable::clone", absent(alloc)?);
-    let absent_in_expansion = ExpandError::from(absent(alloc)?);
-    clone(
-        rt,
-        "ExpandError::clone of a missing variable",
-        absent_in_expansion,
-    );
-    clone(
-        rt,
-        "Error::clone of a missing variable",
-        Error::from(absent(alloc)?),
-    );
+    let fault = ExpandError::from(absent(alloc)?);
+    clone(rt, "ExpandError::clone of a missing variable", fault);
+    let fault = Error::from(absent(alloc)?);
+    clone(rt, "Error::clone of a missing variable", fault);
     let fault = no_name();
     again!(rt, "Error::source_highlighting", [fault], Err(_) => underlined(alloc));
     again!(rt, "underline", [SOURCE], Err(_) => underline(alloc, SOURCE, 4..6));

@@ -1,7 +1,6 @@
 //! Calls that make templates for texts of other tools.
 
-use crate::calls::{Shown, again, say_end, tell};
-use crate::marks::{begin, end, say_out_of_memory};
+use crate::calls::{Shown, again};
 use subst::foreign::{ShellError, ShellNames};
 use subst::{NoSubstitution, foreign};
 

@@ -1,6 +1,6 @@
 //! Calls of the library that take no memory.
 
-use crate::calls::{say, say_bytes};
+use crate::calls::{once, say, say_bytes, say_end};
 use crate::marks::{begin, end};
 use indexmap::IndexMap;
 use std::alloc::{AllocError, Global};
@@ -10,82 +10,51 @@ use subst::{
     ByteTemplate, ByteTemplateBuf, Env, Error, Layered, NoEmpty, NoSubstitution, Template,
     TemplateBuf, VariableMap, escape, laws, substitute_bytes_owned, substitute_owned,
 };
+use subst_testing::variables::owned_pairs;
 
 /// Looks `name` and `absent` up.
 fn get<'a, M: VariableMap<'a>>(rt: &HostRuntime, call: &str, variables: &'a M)
 where
     M::Value: Drop,
 {
-    begin(rt, call);
-    let has_name = variables.get("name").is_some();
-    let has_absent = variables.get("absent").is_some();
-    end(rt);
+    let (has_name, has_absent) = once!(rt, call =>
+        (variables.get("name").is_some(), variables.get("absent").is_some()));
     say(rt, "name:", if has_name { "a value" } else { "no value" });
-    say(
-        rt,
-        "absent:",
-        if has_absent { "a value" } else { "no value" },
-    );
-    let _ = rt.println("");
+    let told = if has_absent { "a value" } else { "no value" };
+    say(rt, "absent:", told);
+    say_end(rt);
+}
+
+/// Looks up in a map of this kind in which `name` is `world`.
+macro_rules! get_of {
+    ($rt:ident, $call:expr, $map:ident, $key:expr) => {
+        let mut map = $map::new($rt.alloc());
+        map.insert($key, "world")?;
+        get($rt, $call, &map);
+    };
 }
 
 fn key(alloc: Global) -> Result<String, AllocError> {
     String::from_str(alloc, "name")
 }
 
-fn get_of_tree_with_own_keys(rt: &HostRuntime) -> Result<(), AllocError> {
-    let mut map = BTreeMap::new(rt.alloc());
-    map.insert(key(rt.alloc())?, "world")?;
-    get(rt, "get of BTreeMap<String>", &map);
+fn get_of_maps_with_own_keys(rt: &HostRuntime) -> Result<(), AllocError> {
+    get_of!(rt, "get of BTreeMap<String>", BTreeMap, key(rt.alloc())?);
+    get_of!(rt, "get of HashMap<String>", HashMap, key(rt.alloc())?);
+    get_of!(rt, "get of IndexMap<String>", IndexMap, key(rt.alloc())?);
     Ok(())
 }
 
-fn get_of_hash_map_with_own_keys(rt: &HostRuntime) -> Result<(), AllocError> {
-    let mut map = HashMap::new(rt.alloc());
-    map.insert(key(rt.alloc())?, "world")?;
-    get(rt, "get of HashMap<String>", &map);
+fn get_of_maps_with_borrowed_keys(rt: &HostRuntime) -> Result<(), AllocError> {
+    get_of!(rt, "get of BTreeMap<&str>", BTreeMap, "name");
+    get_of!(rt, "get of HashMap<&str>", HashMap, "name");
+    get_of!(rt, "get of IndexMap<&str>", IndexMap, "name");
     Ok(())
-}
-
-fn get_of_index_map_with_own_keys(rt: &HostRuntime) -> Result<(), AllocError> {
-    let mut map = IndexMap::new(rt.alloc());
-    map.insert(key(rt.alloc())?, "world")?;
-    get(rt, "get of IndexMap<String>", &map);
-    Ok(())
-}
-
-fn get_of_tree_with_borrowed_keys(rt: &HostRuntime) -> Result<(), AllocError> {
-    let mut map = BTreeMap::new(rt.alloc());
-    map.insert("name", "world")?;
-    get(rt, "get of BTreeMap<&str>", &map);
-    Ok(())
-}
-
-fn get_of_hash_map_with_borrowed_keys(rt: &HostRuntime) -> Result<(), AllocError> {
-    let mut map = HashMap::new(rt.alloc());
-    map.insert("name", "world")?;
-    get(rt, "get of HashMap<&str>", &map);
-    Ok(())
-}
-
-fn get_of_index_map_with_borrowed_keys(rt: &HostRuntime) -> Result<(), AllocError> {
-    let mut map = IndexMap::new(rt.alloc());
-    map.insert("name", "world")?;
-    get(rt, "get of IndexMap<&str>", &map);
-    Ok(())
-}
-
-fn env_of(rt: &HostRuntime, pairs: Vec<(String, String)>) -> Env {
-    begin(rt, "Env::from_pairs");
-    let env = Env::from_pairs(pairs);
-    end(rt);
-    env
 }
 
 fn get_of_env(rt: &HostRuntime) -> Result<(), AllocError> {
-    let mut pairs = Vec::new(rt.alloc());
-    pairs.push((key(rt.alloc())?, String::from_str(rt.alloc(), "world")?))?;
-    let env = env_of(rt, pairs);
+    let pairs = owned_pairs(rt.alloc(), &[("name", "world")])?;
+    let env = once!(rt, "Env::from_pairs" => Env::from_pairs(pairs));
     get(rt, "get of Env", &env);
     let layers = Layered {
         first: &NoSubstitution,
@@ -132,12 +101,12 @@ fn templates(rt: &HostRuntime) -> Result<(), Error> {
         rt,
         TemplateBuf::from_string(String::from_str(rt.alloc(), source)?)?,
     );
-    let _ = rt.println("");
+    say_end(rt);
     take_bytes_apart(
         rt,
         ByteTemplateBuf::from_vec(Vec::from_slice(rt.alloc(), source.as_bytes())?)?,
     );
-    let _ = rt.println("");
+    say_end(rt);
     Ok(())
 }
 
@@ -146,28 +115,19 @@ fn plain_sources(rt: &HostRuntime) -> Result<(), Error> {
     let alloc = rt.alloc();
     let text = String::from_str(alloc, "{a: b}")?;
     let bytes = Vec::from_slice(alloc, b"{a: b}")?;
-    begin(rt, "escape::is_plain");
-    let is_plain = escape::is_plain(&bytes);
-    end(rt);
+    let is_plain = once!(rt, "escape::is_plain" => escape::is_plain(&bytes));
     say(rt, "plain:", if is_plain { "yes" } else { "no" });
-    begin(rt, "substitute_owned of a plain source");
-    let text = substitute_owned(alloc, text, &NoSubstitution);
-    end(rt);
+    let text = once!(rt, "substitute_owned of a plain source" =>
+        substitute_owned(alloc, text, &NoSubstitution));
     say(rt, "text:", text?.as_str());
-    begin(rt, "substitute_bytes_owned of a plain source");
-    let bytes = substitute_bytes_owned(alloc, bytes, &NoSubstitution);
-    end(rt);
+    let bytes = once!(rt, "substitute_bytes_owned of a plain source" =>
+        substitute_bytes_owned(alloc, bytes, &NoSubstitution));
     say_bytes(rt, "bytes:", bytes?.as_slice());
-    let _ = rt.println("");
+    say_end(rt);
     Ok(())
 }
 
-fn steps_and_laws(rt: &HostRuntime) {
-    begin(rt, "Reads::new and Turns::new");
-    let _reads = Reads::new();
-    let _turns = Turns::new();
-    end(rt);
-    begin(rt, "the laws");
+fn call_laws() {
     laws::law_1();
     laws::law_2();
     laws::law_3();
@@ -185,17 +145,17 @@ fn steps_and_laws(rt: &HostRuntime) {
     laws::writes_are_bounded();
     laws::trees_have_one_outcome();
     laws::toml_trees_have_one_outcome();
-    end(rt);
-    let _ = rt.println("");
+}
+
+fn steps_and_laws(rt: &HostRuntime) {
+    let _ = once!(rt, "Reads::new and Turns::new" => (Reads::new(), Turns::new()));
+    once!(rt, "the laws" => call_laws());
+    say_end(rt);
 }
 
 pub fn calls(rt: &HostRuntime) -> Result<(), Error> {
-    get_of_tree_with_own_keys(rt)?;
-    get_of_hash_map_with_own_keys(rt)?;
-    get_of_index_map_with_own_keys(rt)?;
-    get_of_tree_with_borrowed_keys(rt)?;
-    get_of_hash_map_with_borrowed_keys(rt)?;
-    get_of_index_map_with_borrowed_keys(rt)?;
+    get_of_maps_with_own_keys(rt)?;
+    get_of_maps_with_borrowed_keys(rt)?;
     get_of_env(rt)?;
     get(rt, "get of NoSubstitution", &NoSubstitution);
     templates(rt)?;

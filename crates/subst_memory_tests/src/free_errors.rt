@@ -1,8 +1,7 @@
 //! Calls on errors that take no memory.
 
-use crate::calls::{Shown, say};
+use crate::calls::{Shown, once, say};
 use crate::errors::{absent, no_name};
-use crate::marks::{begin, end};
 use crate::runs::{new_drip, new_trickle, status_of_run, words_of};
 use std::alloc::AllocError;
 use std::fmt::{Display, Write};
@@ -42,15 +41,10 @@ fn unexpected() -> UnexpectedCharacter {
 pub fn display<D: Display>(rt: &HostRuntime, call: &str, value: &D) -> Result<(), AllocError> {
     let text = value.to_string(rt.alloc())?;
     let mut capacity = String::with_capacity(rt.alloc(), 128)?;
-    begin(rt, call);
-    let is_written = write!(capacity, "{value}").is_ok();
-    end(rt);
+    let is_written = once!(rt, call => write!(capacity, "{value}").is_ok());
     let is_whole = is_written && capacity == text;
-    say(
-        rt,
-        "gives",
-        if is_whole { "its text" } else { "another text" },
-    );
+    let told = if is_whole { "its text" } else { "another text" };
+    say(rt, "gives", told);
     Ok(())
 }
 
@@ -64,11 +58,8 @@ fn display_faults(rt: &HostRuntime) -> Result<(), AllocError> {
 
 fn display_errors(rt: &HostRuntime) -> Result<(), AllocError> {
     display(rt, "Display of ParseError", &ParseError::from(ESCAPE))?;
-    display(
-        rt,
-        "Display of ExpandError",
-        &ExpandError::from(absent(rt.alloc())?),
-    )?;
+    let missing = ExpandError::from(absent(rt.alloc())?);
+    display(rt, "Display of ExpandError", &missing)?;
     display(rt, "Display of Error", &Error::from(unexpected()))?;
     let missing = NoSuchVariableRef {
         position: 3,
@@ -85,78 +76,55 @@ fn display_errors(rt: &HostRuntime) -> Result<(), AllocError> {
 
 fn characters(rt: &HostRuntime) -> Result<(), AllocError> {
     let character = CharOrByte::Byte(0x81);
-    begin(rt, "calls of CharOrByte");
-    let quoted = character.quoted_printable();
-    let len = character.source_len();
-    end(rt);
+    let (quoted, len) = once!(rt, "calls of CharOrByte" =>
+        (character.quoted_printable(), character.source_len()));
     let _ = rt.println(format_args!("{len} byte"));
     display(rt, "Display of CharOrByte", &character)?;
     display(rt, "Display of QuotedPrintable", &quoted)?;
-    begin(rt, "calls of ExpectedCharacter");
-    let expected = ExpectedCharacter::new("a brace");
-    say(rt, "gives", expected.message());
-    end(rt);
+    once!(rt, "calls of ExpectedCharacter" =>
+        say(rt, "gives", ExpectedCharacter::new("a brace").message()));
     Ok(())
 }
 
 /// Whether an error that is made of other ones is the same by each way.
 fn convert(rt: &HostRuntime) -> Result<(), AllocError> {
     let (first, second) = (absent(rt.alloc())?, absent(rt.alloc())?);
-    begin(rt, "From of errors, and ==");
-    let is_kept = Error::from(ParseError::from(ESCAPE)) == Error::from(ESCAPE)
-        && Error::from(ParseError::from(NAME)) == Error::from(NAME)
-        && Error::from(ParseError::from(unexpected())) == Error::from(unexpected())
-        && Error::from(ParseError::from(BRACE)) == Error::from(BRACE)
-        && Error::from(ParseError::from(AllocError)) == Error::from(AllocError)
-        && Error::from(ExpandError::from(first)) == Error::from(second)
-        && Error::from(ExpandError::from(AllocError)) == Error::from(AllocError);
-    end(rt);
+    let is_kept = once!(rt, "From of errors, and ==" =>
+        Error::from(ParseError::from(ESCAPE)) == Error::from(ESCAPE)
+            && Error::from(ParseError::from(NAME)) == Error::from(NAME)
+            && Error::from(ParseError::from(unexpected())) == Error::from(unexpected())
+            && Error::from(ParseError::from(BRACE)) == Error::from(BRACE)
+            && Error::from(ParseError::from(AllocError)) == Error::from(AllocError)
+            && Error::from(ExpandError::from(first)) == Error::from(second)
+            && Error::from(ExpandError::from(AllocError)) == Error::from(AllocError));
     let _ = rt.println(format_args!("the same error: {is_kept}"));
     Ok(())
 }
 
 fn clone(rt: &HostRuntime) -> Result<(), AllocError> {
     let error = ParseError::from(unexpected());
-    begin(rt, "clones of errors without a name");
-    let copy = error.clone()?;
-    let (escape, name) = (ESCAPE.clone()?, NAME.clone()?);
-    let (character, brace) = (unexpected().clone()?, BRACE.clone()?);
-    end(rt);
-    let is_equal = copy == error
-        && (escape, name, character, brace) == (ESCAPE, NAME, unexpected(), BRACE);
+    let copies = once!(rt, "clones of errors without a name" =>
+        (error.clone()?, ESCAPE.clone()?, NAME.clone()?, unexpected().clone()?, BRACE.clone()?));
+    let is_equal = copies == (error, ESCAPE, NAME, unexpected(), BRACE);
     let _ = rt.println(format_args!("equal: {is_equal}"));
     Ok(())
 }
 
-fn convert_to_json(rt: &HostRuntime, reading: serde_json::Error) {
-    begin(rt, "From into json::Error");
-    let reading = json::Error::from(reading);
-    let refusal = json::Error::from(Error::from(BRACE));
-    let memory = json::Error::from(AllocError);
-    end(rt);
-    let are_kept = matches!(reading, json::Error::Json(_))
-        && matches!(refusal, json::Error::Subst(_))
-        && matches!(memory, json::Error::OutOfMemory(_));
-    let _ = rt.println(format_args!("of their cases: {are_kept}"));
-}
-
-fn convert_to_toml(rt: &HostRuntime, reading: toml::de::Error) {
-    begin(rt, "From into toml::Error");
-    let reading = filled::Error::from(reading);
-    let refusal = filled::Error::from(Error::from(BRACE));
-    let memory = filled::Error::from(AllocError);
-    end(rt);
-    let are_kept = matches!(reading, filled::Error::Toml(_))
-        && matches!(refusal, filled::Error::Subst(_))
-        && matches!(memory, filled::Error::OutOfMemory(_));
-    let _ = rt.println(format_args!("of their cases: {are_kept}"));
+/// Makes the error of a format from that of its reader, from a refusal, and from a failed allocation.
+macro_rules! convert_into {
+    ($rt:ident, $format:ident, $case:ident, $name:literal => $reading:ident) => {
+        let (reading, refusal, memory) = once!($rt, $name => ($format::Error::from($reading),
+            $format::Error::from(Error::from(BRACE)), $format::Error::from(AllocError)));
+        let are_kept = matches!(reading, $format::Error::$case(_))
+            && matches!(refusal, $format::Error::Subst(_))
+            && matches!(memory, $format::Error::OutOfMemory(_));
+        let _ = $rt.println(format_args!("of their cases: {are_kept}"));
+    };
 }
 
 fn convert_what_is_no_text(rt: &HostRuntime) {
     if let Err(e) = str::from_utf8(b"\xFF") {
-        begin(rt, "From of Utf8Error into toml::Error");
-        let error = filled::Error::from(e);
-        end(rt);
+        let error = once!(rt, "From of Utf8Error into toml::Error" => filled::Error::from(e));
         let is_kept = matches!(error, filled::Error::InvalidUtf8(_));
         let _ = rt.println(format_args!("of its case: {is_kept}"));
     }
@@ -164,10 +132,10 @@ fn convert_what_is_no_text(rt: &HostRuntime) {
 
 fn convert_of_readers(rt: &HostRuntime) {
     if let Err(reading) = serde_json::Value::from_str(rt.alloc(), "[") {
-        convert_to_json(rt, reading);
+        convert_into!(rt, json, Json, "From into json::Error" => reading);
     }
     if let Err(reading) = toml::table_from_str(rt.alloc(), "=") {
-        convert_to_toml(rt, reading);
+        convert_into!(rt, filled, Toml, "From into toml::Error" => reading);
     }
     convert_what_is_no_text(rt);
 }
@@ -177,19 +145,13 @@ fn report(rt: &HostRuntime) -> Result<(), AllocError> {
     let mut capacity = String::with_capacity(rt.alloc(), 128)?;
     let e = no_name();
     let source = "one\nHi $!";
-    begin(rt, "where an error is");
-    let start = e.source_range().start;
-    let line = e.source_line(source);
-    let position = e.source_position(source);
-    end(rt);
+    let (start, line, position) = once!(rt, "where an error is" =>
+        (e.source_range().start, e.source_line(source), e.source_position(source)));
     let _ = rt.println(format_args!("{start} {line:?} {position:?}"));
-    begin(rt, "line_and_column");
-    let place = line_and_column(source, 7);
-    end(rt);
+    let place = once!(rt, "line_and_column" => line_and_column(source, 7));
     let _ = rt.println(format_args!("{place:?}"));
-    begin(rt, "write_source_highlighting");
-    let is_written = e.write_source_highlighting(&mut capacity, source).is_ok();
-    end(rt);
+    let is_written = once!(rt, "write_source_highlighting" =>
+        e.write_source_highlighting(&mut capacity, source).is_ok());
     let _ = rt.println(format_args!("{is_written} {capacity:?}"));
     Ok(())
 }
@@ -207,9 +169,7 @@ fn end_with_refusal(rt: &HostRuntime) -> Result<(), AllocError> {
     let refusal = refusal(rt)?;
     let text = format!(in rt.alloc(); "subst: {refusal}\n  $\n  ^\n")?;
     let mut drip = new_drip(rt.alloc())?;
-    begin(rt, "end_with");
-    let status = end_with(&refusal, &mut ToWriter::new(&mut drip));
-    end(rt);
+    let status = once!(rt, "end_with" => end_with(&refusal, &mut ToWriter::new(&mut drip)));
     let is_whole = drip.taken.as_slice() == text.as_bytes() && drip.flushed == text.len();
     let _ = rt.println(format_args!("status {status}, all of its text: {is_whole}"));
     Ok(())
@@ -218,15 +178,9 @@ fn end_with_refusal(rt: &HostRuntime) -> Result<(), AllocError> {
 fn run_wrongly(rt: &HostRuntime) -> Result<(), AllocError> {
     let words = words_of(rt.alloc(), "bytes name")?;
     let (mut output, mut errors) = (new_drip(rt.alloc())?, new_drip(rt.alloc())?);
-    begin(rt, "run_program after wrong words");
-    let status = status_of_run(
-        rt.alloc(),
-        &words,
-        Vec::new(rt.alloc()),
-        &mut output,
-        &mut errors,
-    );
-    end(rt);
+    let pairs = Vec::new(rt.alloc());
+    let status = once!(rt, "run_program after wrong words" =>
+        status_of_run(rt.alloc(), &words, pairs, &mut output, &mut errors));
     let _ = rt.println(format_args!("status {status}"));
     output.show(rt, "gives");
     errors.show(rt, "gives");
@@ -234,11 +188,8 @@ fn run_wrongly(rt: &HostRuntime) -> Result<(), AllocError> {
 }
 
 fn make_devices(rt: &HostRuntime, drip: &mut Drip) {
-    begin(rt, "calls of FromReader and ToWriter");
-    let input = FromReader::new(new_trickle(b""));
-    let output = ToWriter::new(drip);
-    let have_failed = input.failed() || output.failed();
-    end(rt);
+    let have_failed = once!(rt, "calls of FromReader and ToWriter" =>
+        FromReader::new(new_trickle(b"")).failed() || ToWriter::new(drip).failed());
     let _ = rt.println(format_args!("failed: {have_failed}"));
 }
 

@@ -1,38 +1,20 @@
 //! Calls that list the variables of templates, and those that a map has nothing for.
 
-use crate::calls::{Shown, again, say, say_end, tell};
-use crate::marks::{begin, end, say_out_of_memory};
+use crate::calls::{Shown, again};
 use crate::{bytes, texts};
 use std::alloc::AllocError;
-use subst::error::NoSuchVariable;
 use subst::{ByteTemplate, ByteTemplateBuf, Error, Template, TemplateBuf, Variable};
 use subst_testing::variables::{byte_values, texts as text_values};
 
 /// Names that are missing: one twice, and two in a default.
 const LACKING: &str = "Hé $a, ${b:$c and ${d:$e}}, ${f?} and $a!";
 
-/// Variables are printed one a line.
-impl Shown for Vec<Variable<'_>> {
-    fn show(&self, rt: &HostRuntime, word: &str) {
-        if self.is_empty() {
-            say(rt, word, "no variable");
-        }
-        for variable in self {
-            let (position, name, kind) = (variable.position, variable.name, variable.kind);
-            let _ = rt.println(format_args!("{word} {position}: {name} {kind:?}"));
-        }
-    }
-}
+impl Shown for Variable<'_> {
+    const NONE: &'static str = "no variable";
 
-/// Missing variables are printed one a line.
-impl Shown for Vec<NoSuchVariable> {
     fn show(&self, rt: &HostRuntime, word: &str) {
-        if self.is_empty() {
-            say(rt, word, "all there");
-        }
-        for fault in self {
-            fault.show(rt, word);
-        }
+        let (position, name, kind) = (self.position, self.name, self.kind);
+        let _ = rt.println(format_args!("{word} {position}: {name} {kind:?}"));
     }
 }
 

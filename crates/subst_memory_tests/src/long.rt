@@ -1,8 +1,7 @@
 //! Calls with room over sources of 10 KiB, which ask for no more than over short ones. Of an output the length
 //! is shown.
 
-use crate::calls::{Shown, again, say_end, tell};
-use crate::marks::{begin, end, say_out_of_memory};
+use crate::calls::{Shown, again, say_end};
 use crate::{bytes, texts};
 use std::alloc::Global;
 use subst::error::{ExpandIntoError, ParseError, SubstituteIntoError};

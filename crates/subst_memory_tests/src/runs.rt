@@ -1,7 +1,7 @@
 //! Runs of the filter, whose input is read one byte per call.
 
-use crate::calls::{Shown, again, say, say_end, tell};
-use crate::marks::{begin, end, say_out_of_memory};
+use crate::calls::{Shown, again, once, say_end, tell};
+use crate::marks::say_out_of_memory;
 use std::alloc::{AllocError, Global};
 use subst_filter_lib::device::standard::{FromReader, ToWriter};
 use subst_filter_lib::engine::{run_bytes, run_text};
@@ -10,7 +10,7 @@ use subst_filter_lib::run_error::RunError;
 use subst_filter_lib::status::OUT_OF_MEMORY;
 use subst_filter_lib::values::{Values, values_of_pairs, values_of_words};
 use subst_testing::fakes::{Drip, Fault, Trickle};
-use subst_testing::variables::{ByteValues, Texts, byte_values, texts};
+use subst_testing::variables::{ByteValues, Texts, byte_values, owned_pairs, texts};
 
 /// A sentence that needs a variable which isn't there.
 const MISSING: &[u8] = b"Hi ${hi:$name and ${who:$absent}}!";
@@ -146,7 +146,7 @@ fn ended(
 ) -> Result<Status, AllocError> {
     let pairs = match pairs.take() {
         Some(pairs) => pairs,
-        None => pairs_of_name(alloc)?,
+        None => owned_pairs(alloc, &[("name", "world")])?,
     };
     let status = status_of_run(
         alloc,
@@ -163,13 +163,6 @@ fn ended(
     Ok(Status(status))
 }
 
-fn pairs_of_name(alloc: Global) -> Result<Vec<(String, String)>, AllocError> {
-    let mut pairs = Vec::new(alloc);
-    let name = String::from_str(alloc, "name")?;
-    pairs.push((name, String::from_str(alloc, "world")?))?;
-    Ok(pairs)
-}
-
 /// The arguments in a line.
 pub fn words_of(alloc: Global, line: &str) -> Result<Vec<String>, AllocError> {
     let mut words = Vec::new(alloc);
@@ -179,19 +172,9 @@ pub fn words_of(alloc: Global, line: &str) -> Result<Vec<String>, AllocError> {
     Ok(words)
 }
 
-impl Shown for Vec<String> {
+impl Shown for (String, String) {
     fn show(&self, rt: &HostRuntime, word: &str) {
-        for text in self {
-            say(rt, word, text.as_str());
-        }
-    }
-}
-
-impl Shown for Vec<(String, String)> {
-    fn show(&self, rt: &HostRuntime, word: &str) {
-        for (name, value) in self {
-            let _ = rt.println(format_args!("{word} {name}={value}"));
-        }
+        let _ = rt.println(format_args!("{word} {}={}", self.0, self.1));
     }
 }
 
@@ -206,44 +189,35 @@ impl Shown for Values<'_> {
 fn run_after(rt: &HostRuntime, name: &str, line: &str) -> Result<(), AllocError> {
     let alloc = rt.alloc();
     let words = words_of(alloc, line)?;
-    let mut pairs = Some(pairs_of_name(alloc)?);
+    let mut pairs = Some(owned_pairs(alloc, &[("name", "world")])?);
     let mut written = Written::new(alloc)?;
     again!(rt, name, [words, written], Err(_) => ended(alloc, &words, &mut pairs, &mut written));
     Ok(())
 }
 
-fn make_values_of_words(rt: &HostRuntime, words: &Vec<String>) {
-    words.show(rt, "borrowed");
-    begin(rt, "values_of_words");
-    let came = values_of_words(rt.alloc(), words);
-    end(rt);
-    match came {
-        Ok(values) => values.show(rt, "gives"),
-        Err(_) => {
-            say_out_of_memory(rt);
-            words.show(rt, "borrowed");
-            tell(rt, values_of_words(rt.alloc(), words));
+/// Makes a call as `again!` does, whose result borrows from its argument.
+macro_rules! make_values {
+    ($rt:ident, $call:ident, $name:literal => $borrowed:ident) => {
+        $borrowed.show($rt, "borrowed");
+        match once!($rt, $name => $call($rt.alloc(), $borrowed)) {
+            Ok(values) => values.show($rt, "gives"),
+            Err(_) => {
+                say_out_of_memory($rt);
+                $borrowed.show($rt, "borrowed");
+                tell($rt, $call($rt.alloc(), $borrowed));
+            }
         }
-    }
-    words.show(rt, "borrowed");
-    say_end(rt);
+        $borrowed.show($rt, "borrowed");
+        say_end($rt);
+    };
+}
+
+fn make_values_of_words(rt: &HostRuntime, words: &Vec<String>) {
+    make_values!(rt, values_of_words, "values_of_words" => words);
 }
 
 fn make_values_of_pairs(rt: &HostRuntime, pairs: &Vec<(String, String)>) {
-    pairs.show(rt, "borrowed");
-    begin(rt, "values_of_pairs");
-    let came = values_of_pairs(rt.alloc(), pairs);
-    end(rt);
-    match came {
-        Ok(values) => values.show(rt, "gives"),
-        Err(_) => {
-            say_out_of_memory(rt);
-            pairs.show(rt, "borrowed");
-            tell(rt, values_of_pairs(rt.alloc(), pairs));
-        }
-    }
-    pairs.show(rt, "borrowed");
-    say_end(rt);
+    make_values!(rt, values_of_pairs, "values_of_pairs" => pairs);
 }
 
 pub fn calls(rt: &HostRuntime) -> Result<(), AllocError> {
@@ -264,6 +238,6 @@ pub fn calls(rt: &HostRuntime) -> Result<(), AllocError> {
     run_after(rt, "run_program after text name=world", "text name=world")?;
     run_after(rt, "run_program after env", "env")?;
     make_values_of_words(rt, &words_of(rt.alloc(), "name=world")?);
-    make_values_of_pairs(rt, &pairs_of_name(rt.alloc())?);
+    make_values_of_pairs(rt, &owned_pairs(rt.alloc(), &[("name", "world")])?);
     Ok(())
 }

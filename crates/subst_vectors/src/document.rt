@@ -1,24 +1,78 @@
-//! What the ways to the answers of JSON and TOML documents share.
+//! The ways in which documents are filled in.
 
 use crate::answer::Answer;
+use crate::format::Format;
+use crate::row::Texts;
+use crate::ways::Ways;
 use std::alloc::{AllocError, Global};
+use std::str::from_utf8;
 use subst::Error;
 
-/// Returns the answer of a tree with these texts before and after it was filled in.
-pub fn in_place(
-    before: &str,
-    after: String,
-    filled: Result<(), Error>,
+/// Adds all ways in which documents are filled in.
+pub fn ask<F: Format>(source: &[u8], values: &Texts, ways: &mut Ways) -> Result<(), AllocError> {
+    ways.module = F::MODULE;
+    let alloc = ways.alloc;
+    let read = F::from_slice(alloc, source, values);
+    ways.add("value_from_slice", answer::<F>(alloc, read)?)?;
+    match from_utf8(source) {
+        Ok(text) => ask_text::<F>(text, values, ways),
+        Err(_) => Ok(()),
+    }
+}
+
+fn ask_text<F: Format>(text: &str, values: &Texts, ways: &mut Ways) -> Result<(), AllocError> {
+    let alloc = ways.alloc;
+    let read = answer::<F>(alloc, F::from_str(alloc, text, values))?;
+    let filled = read_again::<F>(alloc, F::fill_in(alloc, text, values), &read)?;
+    ways.add("value_from_str", read)?;
+    ways.add("fill_in", filled)?;
+    match F::tree(alloc, text) {
+        Ok(mut tree) => ask_tree::<F>(text, &mut tree, values, ways),
+        Err(e) => ways.add("its reader", F::refusal(e)?),
+    }
+}
+
+fn ask_tree<F: Format>(
+    text: &str,
+    tree: &mut F::Tree,
+    values: &Texts,
+    ways: &mut Ways,
+) -> Result<(), AllocError> {
+    let alloc = ways.alloc;
+    let first = F::first(alloc, tree, values)?;
+    let all = F::all(alloc, tree, values)?;
+    let are_listed = match F::listed_count(alloc, text, values) {
+        Some(listed) if F::HAS_EQUAL_KEYS => all.len() <= listed,
+        listed => listed == Some(all.len()),
+    };
+    if !are_listed {
+        ways.add("refusals_in", Answer::Breaks("it lists other strings"))?;
+    }
+    let all = all.into_iter().next();
+    let filled = in_place::<F>(alloc, tree, values)?;
+    ways.add("first_refusal", after_refusals(alloc, first, &filled)?)?;
+    ways.add("all_refusals", after_refusals(alloc, all, &filled)?)?;
+    ways.add("substitute_string_values", filled)
+}
+
+/// Returns the answer of a tree that is filled in.
+fn in_place<F: Format>(
+    alloc: Global,
+    tree: &mut F::Tree,
+    values: &Texts,
 ) -> Result<Answer, AllocError> {
+    let before = F::text_of(alloc, tree)?;
+    let filled = F::fill_tree(alloc, tree, values);
+    let after = F::text_of(alloc, tree)?;
     match filled {
-        Err(_) if before != after.as_str() => Ok(Answer::Breaks("the tree isn't as it was")),
+        Err(_) if before != after => Ok(Answer::Breaks("the tree isn't as it was")),
         Err(fault) => Answer::of(Err(fault)),
         Ok(()) => Ok(Answer::Gives(after.into_bytes())),
     }
 }
 
 /// Returns the answer that the first refusal in a tree states; where there is none, the tree is `filled`.
-pub fn after_refusals(
+fn after_refusals(
     alloc: Global,
     first: Option<Error>,
     filled: &Answer,
@@ -27,5 +81,54 @@ pub fn after_refusals(
         (Some(fault), _) => Answer::of(Err(fault)),
         (None, Answer::Gives(text)) => Ok(Answer::Gives(Vec::from_slice(alloc, text)?)),
         (None, _) => Ok(Answer::Breaks("no string is refused")),
+    }
+}
+
+fn answer<F: Format>(alloc: Global, read: Result<F::Tree, F::Error>) -> Result<Answer, AllocError> {
+    match read {
+        Ok(tree) => Ok(Answer::Gives(F::text_of(alloc, &tree)?.into_bytes())),
+        Err(e) => F::refusal(e),
+    }
+}
+
+/// Returns the answer of a text that was filled in where its strings stand, as that of its tree. Where members
+/// have equal keys, another of its strings may be the first that is refused.
+fn read_again<F: Format>(
+    alloc: Global,
+    filled: Result<Option<String>, F::Error>,
+    of_tree: &Answer,
+) -> Result<Answer, AllocError> {
+    if let Ok(Some(text)) = filled {
+        return answer::<F>(alloc, F::tree(alloc, &text));
+    }
+    match (text_answer::<F>(filled)?, of_tree) {
+        (Answer::Refuses(_), Answer::Refuses(fault)) if F::HAS_EQUAL_KEYS => {
+            Ok(Answer::Refuses(fault.clone()?))
+        }
+        (answer, _) => Ok(answer),
+    }
+}
+
+/// Adds all ways in which texts are filled in where their strings stand.
+pub fn ask_in_place<F: Format>(
+    source: &[u8],
+    values: &Texts,
+    ways: &mut Ways,
+) -> Result<(), AllocError> {
+    ways.module = F::MODULE;
+    let filled = F::fill_in_slice(ways.alloc, source, values);
+    ways.add("fill_in_slice", text_answer::<F>(filled)?)?;
+    if let Ok(text) = from_utf8(source) {
+        let filled = F::fill_in(ways.alloc, text, values);
+        ways.add("fill_in", text_answer::<F>(filled)?)?;
+    }
+    Ok(())
+}
+
+fn text_answer<F: Format>(filled: Result<Option<String>, F::Error>) -> Result<Answer, AllocError> {
+    match filled {
+        Ok(Some(text)) => Ok(Answer::Gives(text.into_bytes())),
+        Ok(None) => Ok(Answer::Breaks("the text isn't confirmed")),
+        Err(e) => F::refusal(e),
     }
 }

@@ -3,98 +3,73 @@
 use crate::answer::Answer;
 use crate::row::Values;
 use crate::ways::Ways;
-use std::alloc::{AllocError, Global};
+use std::alloc::AllocError;
 use std::fmt::Write;
 use std::str::from_utf8;
-use subst::error::{NoSuchVariable, ParseError};
+use subst::error::NoSuchVariable;
 use subst::{
     ByteTemplate, ByteTemplateBuf, Error, Template, TemplateBuf, Variable, VariableKind,
     substitute_bytes,
 };
 
 /// Adds all ways in which variables are listed.
-pub fn ask(
-    alloc: Global,
-    source: &[u8],
-    values: &Values,
-    ways: &mut Ways,
-) -> Result<(), AllocError> {
-    by_byte_template(alloc, source, values, ways)?;
-    by_byte_owner(alloc, source, values, ways)?;
+pub fn ask(source: &[u8], values: &Values, ways: &mut Ways) -> Result<(), AllocError> {
+    by_byte_template(source, values, ways)?;
+    by_byte_owner(source, values, ways)?;
     if let Ok(text) = from_utf8(source) {
-        by_template(alloc, text, values, ways)?;
-        by_owner(alloc, text, values, ways)?;
+        by_template(text, values, ways)?;
+        by_owner(text, values, ways)?;
     }
     Ok(())
 }
 
-fn by_byte_template(
-    alloc: Global,
-    source: &[u8],
-    values: &Values,
-    ways: &mut Ways,
-) -> Result<(), AllocError> {
+fn by_byte_template(source: &[u8], values: &Values, ways: &mut Ways) -> Result<(), AllocError> {
     let name = "ByteTemplate::variables, missing";
-    match ByteTemplate::from_slice(alloc, source) {
+    match ByteTemplate::from_slice(ways.alloc, source) {
         Ok(template) => {
-            let missing = template.missing(alloc, values)?;
-            if !is_as_refused(&missing, &substitute_bytes(alloc, source, values)) {
+            let missing = template.missing(ways.alloc, values)?;
+            if !is_as_refused(&missing, &substitute_bytes(ways.alloc, source, values)) {
                 ways.add(
                     name,
                     Answer::Breaks("what is missing isn't what is refused"),
                 )?;
             }
-            add(alloc, name, &template.variables(alloc)?, &missing, ways)
+            add(name, &template.variables(ways.alloc)?, &missing, ways)
         }
-        Err(e) => ways.bytes(name, Err(Error::from(e))),
+        Err(e) => ways.bytes(name, Err(e)),
     }
 }
 
-fn by_byte_owner(
-    alloc: Global,
-    source: &[u8],
-    values: &Values,
-    ways: &mut Ways,
-) -> Result<(), AllocError> {
+fn by_byte_owner(source: &[u8], values: &Values, ways: &mut Ways) -> Result<(), AllocError> {
     let name = "ByteTemplateBuf::variables, missing";
-    match ByteTemplateBuf::from_vec(Vec::from_slice(alloc, source)?) {
+    match ByteTemplateBuf::from_vec(Vec::from_slice(ways.alloc, source)?) {
         Ok(template) => {
-            let missing = template.missing(alloc, values)?;
-            add(alloc, name, &template.variables(alloc)?, &missing, ways)
+            let missing = template.missing(ways.alloc, values)?;
+            add(name, &template.variables(ways.alloc)?, &missing, ways)
         }
-        Err(e) => ways.bytes(name, Err(Error::from(e))),
+        Err(e) => ways.bytes(name, Err(e)),
     }
 }
 
-fn by_template(
-    alloc: Global,
-    source: &str,
-    values: &Values,
-    ways: &mut Ways,
-) -> Result<(), AllocError> {
+fn by_template(source: &str, values: &Values, ways: &mut Ways) -> Result<(), AllocError> {
     let name = "Template::variables, missing";
-    match Template::from_str(alloc, source) {
+    match Template::from_str(ways.alloc, source) {
         Ok(template) => {
-            let missing = template.missing(alloc, values)?;
-            add(alloc, name, &template.variables(alloc)?, &missing, ways)
+            let missing = template.missing(ways.alloc, values)?;
+            add(name, &template.variables(ways.alloc)?, &missing, ways)
         }
-        Err(e) => ways.bytes(name, Err(Error::from(e))),
+        Err(e) => ways.bytes(name, Err(e)),
     }
 }
 
-fn by_owner(
-    alloc: Global,
-    source: &str,
-    values: &Values,
-    ways: &mut Ways,
-) -> Result<(), AllocError> {
+fn by_owner(source: &str, values: &Values, ways: &mut Ways) -> Result<(), AllocError> {
     let name = "TemplateBuf::variables, missing";
-    match TemplateBuf::from_string(String::from_str(alloc, source)?) {
+    match TemplateBuf::from_string(String::from_str(ways.alloc, source)?) {
         Ok(template) => {
-            let missing = template.missing(alloc, values)?;
-            add(alloc, name, &template.variables(alloc)?, &missing, ways)
+            let missing = template.missing(ways.alloc, values)?;
+            add(name, &template.variables(ways.alloc)?, &missing, ways)
         }
-        Err(e) => ways.bytes(name, Err(Error::from(e))),
+        Err(e) => ways.bytes(name, Err(e)),
     }
 }
 
@@ -110,13 +85,12 @@ pub fn is_as_refused(missing: &[NoSuchVariable], filled: &Result<Vec<u8>, Error>
 
 /// Adds the columns of two lists.
 fn add(
-    alloc: Global,
     name: &'static str,
     variables: &[Variable<'_>],
     missing: &[NoSuchVariable],
     ways: &mut Ways,
 ) -> Result<(), AllocError> {
-    let mut columns = String::new(alloc);
+    let mut columns = String::new(ways.alloc);
     write_variables(&mut columns, variables)?;
     columns.push('\t')?;
     write_missing(&mut columns, missing)?;

@@ -7,6 +7,7 @@ use std::collections::BTreeMap;
 use std::fmt::Display;
 use subst::error::{MissingVariableName, NoSuchVariable};
 use subst::{Env, NoSubstitution, toml as filled};
+use subst_testing::variables::owned_pairs;
 use subst_uses::config::Loaded;
 use subst_uses::{config, settings};
 use toml::{Value, table_to_string};
@@ -21,10 +22,7 @@ fn named(alloc: Global, name: &str, value: &str) -> Result<Texts, AllocError> {
 }
 
 fn one_pair(alloc: Global, name: &str, value: &str) -> Result<Env, AllocError> {
-    let mut pairs = Vec::new(alloc);
-    let name = String::from_str(alloc, name)?;
-    pairs.push((name, String::from_str(alloc, value)?))?;
-    Ok(Env::from_pairs(pairs))
+    Ok(Env::from_pairs(owned_pairs(alloc, &[(name, value)])?))
 }
 
 /// A report of a fault at this position, which is shown so.

@@ -32,9 +32,9 @@ mod expect;
 mod fault;
 #[cfg(test)]
 mod foreign;
+mod format;
 #[cfg(test)]
 mod in_place;
-mod json_document;
 #[cfg(test)]
 mod large;
 mod lists;
@@ -49,7 +49,6 @@ mod run;
 #[cfg(test)]
 mod templates;
 mod text;
-mod toml_document;
 mod toml_tree;
 #[cfg(test)]
 mod typed;

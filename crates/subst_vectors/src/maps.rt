@@ -6,11 +6,9 @@ use std::alloc::{AllocError, Global};
 use std::collections::{BTreeMap, HashMap};
 use std::convert::{AsSlice, AsStr};
 use std::test::Fail;
-use subst::{
-    Env, Error, Layered, NoEmpty, NoSubstitution, VariableMap, substitute, substitute_bytes,
-};
+use subst::{Env, Layered, NoEmpty, NoSubstitution, VariableMap, substitute, substitute_bytes};
 use subst_testing::answers::{told_bytes, told_text};
-use subst_uses::filled::by_strings;
+use subst_testing::variables::owned_pairs;
 use subst_uses::maps::{bytes, texts};
 
 /// A source has this answer, as a text and as bytes.
@@ -46,23 +44,26 @@ where
     }
 }
 
-/// The callers of `subst_uses` for a kind of map give this of the first source.
-fn expect_callers(
-    rt: &impl Testing,
-    text: Result<String, Error>,
-    bytes: Result<Vec<u8>, Error>,
-    want: &str,
-) {
-    expect(rt, "a text", text, want);
-    expect_bytes(rt, "bytes", bytes, want);
-}
-
 fn key(alloc: Global) -> Result<String, AllocError> {
     String::from_str(alloc, "name")
 }
 
+/// A map in which `name` is `world` gives that of each source, and its callers in `subst_uses` of the first.
+macro_rules! expect_map {
+    ($rt:ident, $map:ident, $key:expr, $caller:ident) => {
+        let mut variables = $map::new($rt.alloc());
+        variables.insert($key, "world")?;
+        expect_world(&$rt, &variables);
+        let text = texts::$caller($rt.alloc(), SOURCES[0], &variables);
+        expect(&$rt, "a text", text, "Hello world!");
+        let bytes = bytes::$caller($rt.alloc(), SOURCES[0].as_bytes(), &variables);
+        expect_bytes(&$rt, "bytes", bytes, "Hello world!");
+    };
+}
+
 #[test]
-fn btree_map_that_owns_its_keys(rt: HostRuntime) -> Result<(), Fail> {
+fn btree_maps(rt: HostRuntime) -> Result<(), Fail> {
+    expect_map!(rt, BTreeMap, "name", btree_map_of_borrowed);
     let mut variables = BTreeMap::new(rt.alloc());
     variables.insert(key(rt.alloc())?, "world")?;
     expect_world(&rt, &variables);
@@ -72,94 +73,21 @@ fn btree_map_that_owns_its_keys(rt: HostRuntime) -> Result<(), Fail> {
 }
 
 #[test]
-fn btree_map_whose_keys_are_borrowed(rt: HostRuntime) -> Result<(), Fail> {
-    let mut variables = BTreeMap::new(rt.alloc());
-    variables.insert("name", "world")?;
-    expect_world(&rt, &variables);
-    let text = texts::btree_map_of_borrowed(rt.alloc(), SOURCES[0], &variables);
-    let bytes = bytes::btree_map_of_borrowed(rt.alloc(), SOURCES[0].as_bytes(), &variables);
-    expect_callers(&rt, text, bytes, "Hello world!");
+fn hash_maps(rt: HostRuntime) -> Result<(), Fail> {
+    expect_map!(rt, HashMap, key(rt.alloc())?, hash_map);
+    expect_map!(rt, HashMap, "name", hash_map_of_borrowed);
     Ok(())
 }
 
 #[test]
-fn hash_map_that_owns_its_keys(rt: HostRuntime) -> Result<(), Fail> {
-    let mut variables = HashMap::new(rt.alloc());
-    variables.insert(key(rt.alloc())?, "world")?;
-    expect_world(&rt, &variables);
-    let text = texts::hash_map(rt.alloc(), SOURCES[0], &variables);
-    let bytes = bytes::hash_map(rt.alloc(), SOURCES[0].as_bytes(), &variables);
-    expect_callers(&rt, text, bytes, "Hello world!");
+fn index_maps(rt: HostRuntime) -> Result<(), Fail> {
+    expect_map!(rt, IndexMap, key(rt.alloc())?, index_map);
+    expect_map!(rt, IndexMap, "name", index_map_of_borrowed);
     Ok(())
 }
 
-#[test]
-fn hash_map_whose_keys_are_borrowed(rt: HostRuntime) -> Result<(), Fail> {
-    let mut variables = HashMap::new(rt.alloc());
-    variables.insert("name", "world")?;
-    expect_world(&rt, &variables);
-    let text = texts::hash_map_of_borrowed(rt.alloc(), SOURCES[0], &variables);
-    let bytes = bytes::hash_map_of_borrowed(rt.alloc(), SOURCES[0].as_bytes(), &variables);
-    expect_callers(&rt, text, bytes, "Hello world!");
-    Ok(())
-}
-
-#[test]
-fn index_map_that_owns_its_keys(rt: HostRuntime) -> Result<(), Fail> {
-    let mut variables = IndexMap::new(rt.alloc());
-    variables.insert(key(rt.alloc())?, "world")?;
-    expect_world(&rt, &variables);
-    let text = texts::index_map(rt.alloc(), SOURCES[0], &variables);
-    let bytes = bytes::index_map(rt.alloc(), SOURCES[0].as_bytes(), &variables);
-    expect_callers(&rt, text, bytes, "Hello world!");
-    Ok(())
-}
-
-#[test]
-fn index_map_whose_keys_are_borrowed(rt: HostRuntime) -> Result<(), Fail> {
-    let mut variables = IndexMap::new(rt.alloc());
-    variables.insert("name", "world")?;
-    expect_world(&rt, &variables);
-    let text = texts::index_map_of_borrowed(rt.alloc(), SOURCES[0], &variables);
-    let bytes = bytes::index_map_of_borrowed(rt.alloc(), SOURCES[0].as_bytes(), &variables);
-    expect_callers(&rt, text, bytes, "Hello world!");
-    Ok(())
-}
-
-fn told_by_texts(alloc: Global) -> Result<String, AllocError> {
-    let mut variables = BTreeMap::new(alloc);
-    variables.insert("name", String::from_str(alloc, "world")?)?;
-    told_text(alloc, substitute(alloc, "❤$name", &variables))
-}
-
-fn told_by_bytes(alloc: Global) -> Result<String, AllocError> {
-    let mut variables = BTreeMap::new(alloc);
-    variables.insert("name", Vec::from_slice(alloc, b"world")?)?;
-    told_bytes(alloc, substitute_bytes(alloc, b"<$name>", &variables))
-}
-
-#[test]
-fn values_that_the_map_owns(rt: HostRuntime) {
-    expect(&rt, "❤$name", told_by_texts(rt.alloc()), "gives ❤world");
-    expect(&rt, "<$name>", told_by_bytes(rt.alloc()), "gives <world>");
-}
-
-/// An environment of these pairs.
-fn env_of(alloc: Global, pairs: &[(&str, &str)]) -> Result<Env, AllocError> {
-    let mut owned = Vec::new(alloc);
-    for (name, value) in pairs {
-        let value = String::from_str(alloc, value)?;
-        owned.push((String::from_str(alloc, name)?, value))?;
-    }
-    Ok(Env::from_pairs(owned))
-}
-
-#[test]
-fn an_environment_of_a_path(rt: HostRuntime) -> Result<(), Fail> {
-    let env = env_of(rt.alloc(), &[("XDG_CONFIG_HOME", "/home/user/.config")])?;
-    let want = "gives /home/user/.config/my-app/config.toml";
-    expect_answer(&rt, "$XDG_CONFIG_HOME/my-app/config.toml", &env, want);
-    Ok(())
+fn env_of(alloc: Global, texts: &[(&str, &str)]) -> Result<Env, AllocError> {
+    Ok(Env::from_pairs(owned_pairs(alloc, texts)?))
 }
 
 #[test]
@@ -167,78 +95,65 @@ fn the_first_pair_of_a_name_counts_in_an_environment(rt: HostRuntime) -> Result<
     let env = env_of(rt.alloc(), &[("A", "1"), ("A", "2")])?;
     expect_answer(&rt, "$A", &env, "gives 1");
     expect_debug(&rt, &env, r#"Env { pairs: [("A", "1"), ("A", "2")] }"#);
-    let env = env_of(rt.alloc(), &[("B", ""), ("A", "1"), ("A", "2")])?;
-    expect_answer(&rt, "$A-$B-${C:3}", &env, "gives 1--3");
-    Ok(())
-}
-
-#[test]
-fn names_in_an_environment_differ_in_case(rt: HostRuntime) -> Result<(), Fail> {
-    let env = env_of(rt.alloc(), &[("A", "1")])?;
-    assert_eq!(rt; env.get("a"), None);
-    assert_eq!(rt; env.get("A"), Some("1"));
+    expect(&rt, "a text", texts::env(rt.alloc(), "$A", &env), "1");
+    expect_bytes(&rt, "bytes", bytes::env(rt.alloc(), b"$A", &env), "1");
     Ok(())
 }
 
 #[test]
 fn no_substitution_has_no_value(rt: HostRuntime) {
-    expect_answer(&rt, "", &NoSubstitution, "gives ");
     expect_answer(&rt, "${a:x}", &NoSubstitution, "gives x");
-    expect_answer(&rt, "$a", &NoSubstitution, "1..2: NoSuchVariable a");
     expect_debug(&rt, &NoSubstitution, "NoSubstitution");
-    expect_debug(&rt, &NoSubstitution.get("a"), "None");
-}
-
-fn defaults(alloc: Global) -> Result<BTreeMap<String, &'static str>, AllocError> {
-    let mut defaults = BTreeMap::new(alloc);
-    defaults.insert(key(alloc)?, "nobody")?;
-    defaults.insert(String::from_str(alloc, "greeting")?, "Hello")?;
-    Ok(defaults)
+    expect(
+        &rt,
+        "a text",
+        texts::no_substitution(rt.alloc(), "${a:x}"),
+        "x",
+    );
+    expect_bytes(
+        &rt,
+        "bytes",
+        bytes::no_substitution(rt.alloc(), b"${a:x}"),
+        "x",
+    );
 }
 
 #[test]
 fn the_first_of_two_maps_counts(rt: HostRuntime) -> Result<(), Fail> {
-    let pairs = env_of(rt.alloc(), &[("name", "world")])?;
-    let defaults = defaults(rt.alloc())?;
+    let (source, want) = ("$greeting $name!", "Hello world!");
+    let first = env_of(rt.alloc(), &[("name", "world")])?;
+    let mut second = BTreeMap::new(rt.alloc());
+    second.insert(String::from_str(rt.alloc(), "greeting")?, "Hello")?;
     let layers = Layered {
-        first: &pairs,
-        second: &defaults,
+        first: &first,
+        second: &second,
     };
-    expect_answer(&rt, "$greeting $name!", &layers, "gives Hello world!");
-    expect_answer(
-        &rt,
-        "$greeting $other!",
-        &layers,
-        "11..16: NoSuchVariable other",
-    );
+    expect_answer(&rt, source, &layers, "gives Hello world!");
     expect_debug(&rt, &layers.get("name"), r#"Some(First("world"))"#);
-    let text = texts::layered(rt.alloc(), "$greeting $name!", &pairs, &defaults);
-    let bytes = bytes::layered(rt.alloc(), b"$greeting $name!", &pairs, &defaults);
-    expect_callers(&rt, text, bytes, "Hello world!");
+    expect(
+        &rt,
+        "a text",
+        texts::layered(rt.alloc(), source, &first, &second),
+        want,
+    );
+    let bytes = bytes::layered(rt.alloc(), source.as_bytes(), &first, &second);
+    expect_bytes(&rt, "bytes", bytes, want);
     Ok(())
 }
 
 #[test]
 fn an_empty_value_counts_as_none(rt: HostRuntime) -> Result<(), Fail> {
-    let env = env_of(rt.alloc(), &[("name", ""), ("other", "world")])?;
-    let filled = NoEmpty { map: &env };
-    expect_answer(&rt, "${name:$other}", &filled, "gives world");
-    expect_answer(&rt, "$name", &filled, "1..5: NoSuchVariable name");
-    let text = texts::no_empty(rt.alloc(), "Hello ${name:$other}!", &env);
-    let bytes = bytes::no_empty(rt.alloc(), b"Hello ${name:$other}!", &env);
-    expect_callers(&rt, text, bytes, "Hello world!");
-    Ok(())
-}
-
-#[test]
-fn an_empty_value_of_the_first_of_two_maps_counts_as_none(rt: HostRuntime) -> Result<(), Fail> {
     let env = env_of(rt.alloc(), &[("name", "")])?;
-    let defaults = defaults(rt.alloc())?;
-    let layers = Layered {
-        first: &NoEmpty { map: &env },
-        second: &defaults,
-    };
-    expect_answer(&rt, "$greeting $name!", &layers, "gives Hello nobody!");
+    let source = "Hello ${name:world}!";
+    expect_answer(&rt, source, &NoEmpty { map: &env }, "gives Hello world!");
+    expect(
+        &rt,
+        "a text",
+        texts::no_empty(rt.alloc(), source, &env),
+        "Hello world!",
+    );
+    let bytes = bytes::no_empty(rt.alloc(), source.as_bytes(), &env);
+    expect_bytes(&rt, "bytes", bytes, "Hello world!");
     Ok(())
 }
 

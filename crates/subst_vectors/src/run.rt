@@ -1,8 +1,9 @@
 //! The run over the rows of a file.
 
+use crate::format::{Json, Toml};
 use crate::row::{Kind, Row, read_row, texts};
 use crate::ways::Ways;
-use crate::{bytes, json_document, lists, text, toml_document};
+use crate::{bytes, document, lists, text};
 use std::alloc::{AllocError, Global};
 use std::str::from_utf8;
 use std::{fs, io};
@@ -47,7 +48,7 @@ fn after_name(alloc: Global) -> Result<String, AllocError> {
 fn difference(alloc: Global, line: &str, after_name: &str) -> Result<String, AllocError> {
     let mut ways = Ways::new(alloc);
     match read_row(alloc, line)? {
-        Some(row) if ask(alloc, &row, &mut ways)? => {
+        Some(row) if ask(&row, &mut ways)? => {
             let wanted = row.wanted.replace(alloc, AFTER_NAME, after_name)?;
             ways.difference(shown(&row), &wanted)
         }
@@ -64,21 +65,20 @@ fn shown<'r>(row: &'r Row<'_>) -> Option<&'r str> {
 }
 
 /// Adds the ways to the answer of a row, and returns whether there is one: a document has texts for values.
-fn ask(alloc: Global, row: &Row<'_>, ways: &mut Ways) -> Result<bool, AllocError> {
+fn ask(row: &Row<'_>, ways: &mut Ways) -> Result<bool, AllocError> {
     let source = row.source.as_slice();
-    match (row.kind, texts(alloc, &row.values)?) {
-        (Kind::Bytes, Some(texts)) => {
-            bytes::ask(alloc, source, &row.values, ways)?;
-            if let Ok(source) = from_utf8(source) {
-                text::ask(alloc, source, &texts, ways)?;
+    match (row.kind, texts(ways.alloc, &row.values)?) {
+        (Kind::Bytes, texts) => {
+            bytes::ask(source, &row.values, ways)?;
+            if let (Ok(source), Some(texts)) = (from_utf8(source), texts) {
+                text::ask(source, &texts, ways)?;
             }
         }
-        (Kind::Bytes, None) => bytes::ask(alloc, source, &row.values, ways)?,
-        (Kind::Lists, _) => lists::ask(alloc, source, &row.values, ways)?,
-        (Kind::Json, Some(texts)) => json_document::ask(alloc, source, &texts, ways)?,
-        (Kind::Toml, Some(texts)) => toml_document::ask(alloc, source, &texts, ways)?,
-        (Kind::JsonText, Some(texts)) => json_document::ask_in_place(alloc, source, &texts, ways)?,
-        (Kind::TomlText, Some(texts)) => toml_document::ask_in_place(alloc, source, &texts, ways)?,
+        (Kind::Lists, _) => lists::ask(source, &row.values, ways)?,
+        (Kind::Json, Some(texts)) => document::ask::<Json>(source, &texts, ways)?,
+        (Kind::Toml, Some(texts)) => document::ask::<Toml>(source, &texts, ways)?,
+        (Kind::JsonText, Some(texts)) => document::ask_in_place::<Json>(source, &texts, ways)?,
+        (Kind::TomlText, Some(texts)) => document::ask_in_place::<Toml>(source, &texts, ways)?,
         (_, None) => return Ok(false),
     }
     Ok(true)

@@ -17,7 +17,9 @@ pub struct Way {
 /// The ways to the answer of a row.
 #[derive(Drop)]
 pub struct Ways {
-    alloc: Global,
+    pub alloc: Global,
+    /// The module of `subst` that the calls are in, or nothing.
+    pub module: &'static str,
     all: Vec<Way>,
 }
 
@@ -29,6 +31,7 @@ impl Ways {
     pub fn new(alloc: Global) -> Ways {
         Ways {
             alloc,
+            module: "",
             all: Vec::new(alloc),
         }
     }
@@ -37,6 +40,7 @@ impl Ways {
     /// give what is wanted.
     pub fn difference(&self, source: Option<&str>, wanted: &str) -> Result<String, AllocError> {
         let mut text = String::new(self.alloc);
+        let module = self.module;
         let (mut last, mut is_right) = (None, true);
         for Way { name, answer } in self.all.as_slice() {
             if last != Some(answer) {
@@ -44,10 +48,10 @@ impl Ways {
                 let columns = answer.columns(self.alloc, source)?;
                 is_right = is_wanted(columns.as_str(), wanted);
                 if !is_right {
-                    write!(text, "\n  came     {columns} by {name}")?;
+                    write!(text, "\n  came     {columns} by {module}{name}")?;
                 }
             } else if !is_right {
-                write!(text, ", {name}")?;
+                write!(text, ", {module}{name}")?;
             }
         }
         if text.is_empty() {
@@ -63,20 +67,26 @@ impl Ways {
     }
 
     /// Adds a way that gives bytes.
-    pub fn bytes(
+    pub fn bytes<E: Drop>(
         &mut self,
         name: &'static str,
-        filled: Result<Vec<u8>, Error>,
-    ) -> Result<(), AllocError> {
-        self.add(name, Answer::of(filled)?)
+        filled: Result<Vec<u8>, E>,
+    ) -> Result<(), AllocError>
+    where
+        Error: From<E>,
+    {
+        self.add(name, Answer::of(filled.map_err(Error::from))?)
     }
 
     /// Adds a way that gives a text.
-    pub fn text(
+    pub fn text<E: Drop>(
         &mut self,
         name: &'static str,
-        filled: Result<String, Error>,
-    ) -> Result<(), AllocError> {
+        filled: Result<String, E>,
+    ) -> Result<(), AllocError>
+    where
+        Error: From<E>,
+    {
         self.bytes(name, filled.map(|text| text.into_bytes()))
     }
 
@@ -91,7 +101,7 @@ impl Ways {
         match (added, filled) {
             (Some(added), Ok(())) => {
                 let added = Vec::from_slice(self.alloc, added)?;
-                self.bytes(name, Ok(added))
+                self.add(name, Answer::Gives(added))
             }
             (Some([]), Err(fault)) => self.bytes(name, Err(fault)),
             _ => self.add(name, Answer::Breaks("the output isn't as it was")),
