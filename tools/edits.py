@@ -137,14 +137,13 @@ def name_of(block):
 def check(edits, is_alone, uses):
     """What `rt check` says of a crate with these edits, and whether it is proved. It is asked for the functions that
     edits change alone, unless it knows one by another name, and for all with a twin or an edit that is tried alone."""
-    names = sorted({name for edit in edits for name in edit.functions})
-    words = [f'--only={name}' for name in names if not is_alone and not edits[0].is_twin]
+    names = [] if is_alone or edits[0].is_twin else sorted({name for edit in edits for name in edit.functions})
     with tempfile.TemporaryDirectory() as folder:
         crate = copy_of(edits[0].crate, pathlib.Path(folder), uses)
         for file, text in changed_by(edits).items():
             (crate / file).write_text(text, encoding='utf-8')
-        ran = rt(crate, 'check', *words)
-        if words and ran.returncode == 2:
+        ran = rt(crate, 'check', *(f'--only={name}' for name in names))
+        if names and ran.returncode == 2:
             ran = rt(crate, 'check')
     return ran.stdout, ran.returncode == 0
 
