@@ -79,7 +79,7 @@ class Edit:
         self.functions = {name for file, old, _ in self.pairs for name in self.functions_at(file, old)}
 
     def functions_at(self, file, old):
-        """The function that a text of a file is in, if it is in one, by the end of its name."""
+        """The function that a text of a file is in, if it is in one, by its name, or the end of that."""
         path = self.path.parent.parent / file
         text = path.read_text(encoding='utf-8') if path.is_file() else ''
         at = text.find(old)
@@ -87,7 +87,10 @@ class Edit:
         if function is None:
             return []
         block = block_around(IMPL, text, function.start(), 0)
-        return [function[2] if block is None else f'{name_of(block)}::{function[2]}']
+        modules = [it for it in pathlib.PurePath(file).with_suffix('').parts[1:] if it not in ('lib', 'main', 'mod')]
+        # A method of no trait is named after the module of its type, which may be another one.
+        modules = modules if block is None or block[2] else []
+        return ['::'.join([*modules, *([] if block is None else [name_of(block)]), function[2]])]
 
 
 def changed_by(edits):
@@ -127,7 +130,9 @@ def block_around(head, text, at, length):
 def name_of(block):
     """What an `impl` block adds to the names of its functions: its type, its trait and what these are given."""
     parameters = re.findall(r'[<,]\s*([A-Z]\w*)', block[1] or '')
-    words = [word for of in (block[3], block[2] or '') for word in re.findall(r"&|(?<!['\w])(?:\w+::)*(\w+)", of)]
+    # What these are given is written after the module that it is of.
+    given = (re.sub(r'(?<=[<, ])(?:\w+::)*(\w+)::(\w+)', r'\1\2', of) for of in (block[3], block[2] or ''))
+    words = [word for of in given for word in re.findall(r"&|(?<!['\w])(?:\w+::)*(\w+)", of)]
     return ''.join(word[0].upper() + word[1:] if word else 'Ref' for word in words if word not in parameters)
 
 
