@@ -7,12 +7,17 @@ in tests/data/edits-refused.tsv: that of its files and its line in crates.txt, o
 --all these are tried too. A crate gets into that list, which nothing else writes, once all its edits are refused, and
 out of it with one that isn't.
 
-The crates are proved first, over kept work; nothing else may run over the tree meanwhile. Then edits of different
-functions are put into one copy of their crate, which is checked once. An edit is refused if the check refuses a
-function that it changes, by name, at something that it owes by its contract. An edit that isn't judged so, since its
-function waits for the proof of another one for example, is tried again, and at last alone, where any function may be
-the one that is refused. An edit that is proved fails the run. The last line is 'N passed, M failed, K skipped':
-skipped are the edits of the crates in the list.
+An edit may have a twin, a right program of the same shape, which has to be proved. Twins are tried with --all, or if
+their edit or crate is named.
+
+An edit or twin whose old text isn't in its file once fails the run at once. Then the crates are proved, over kept work;
+nothing else may run over the tree meanwhile. Edits of different functions are put into one copy of their crate, which
+is checked once. An edit is refused if the check refuses a function that it changes, by name, at something that it owes
+by its contract. An edit whose function calls a refused one isn't judged so, and is tried again without those that are
+judged. Once none of a crate is judged they are tried alone, where any function may be the one that is refused. Twins
+share a check in the same way, which has to prove the whole crate; otherwise each is tried alone. An edit that is
+proved fails the run, and so does a twin that isn't. The last line is 'N passed, M failed, K skipped': skipped are the
+edits of the crates in the list.
 """
 import argparse
 import collections
@@ -30,8 +35,8 @@ from building import CRATES, TOP
 from prove import LANES, PARTS, Wrong, copy_of, crates, end, prove_all, rt, with_those_below
 
 REFUSED = TOP / 'tests/data/edits-refused.tsv'
-# How many edits share a check at most, in each round.
-ROUNDS = (32, 32, 1)
+# How many edits share a check at most.
+TOGETHER = 32
 HEAD = '# Written by tools/edits.py alone: the crates whose edits were all refused, each with its sum.\n'
 
 FUNCTION = re.compile(r'^( *)(?:pub(?:\(\w+\))? )?(?:unsafe )?(?:extern "C" )?fn (\w+)', re.MULTILINE)
@@ -56,23 +61,25 @@ OWED = re.compile('returns|loop|clause|invariant|requires')
 
 
 class Edit:
-    """An edit, with the functions that it changes."""
+    """An edit, by the lines `new`, or its twin, by the lines `twin`, with the functions that it changes."""
 
-    def __init__(self, path):
-        self.path, self.crate = path, path.parent.parent.name
-        self.name = f'{self.crate}/{path.name}'
+    def __init__(self, path, word='new'):
+        self.path, self.crate, self.is_twin = path, path.parent.parent.name, word == 'twin'
+        # Edits of one kind may share a check.
+        self.kind = self.crate, self.is_twin
+        self.name = f'{self.crate}/{path.name}{", twin" * self.is_twin}'
         self.pairs, file, old = [], None, None
-        for word, text in re.findall('^(file|old|new): ?(.*)$', path.read_text(encoding='utf-8'), re.MULTILINE):
-            if word == 'file':
+        for head, text in re.findall('^(file|old|new|twin): ?(.*)$', path.read_text(encoding='utf-8'), re.MULTILINE):
+            if head == 'file':
                 file = text
-            elif word == 'old':
+            elif head == 'old':
                 old = text
-            else:
+            elif head == word:
                 self.pairs.append((file, old, text))
         self.functions = {name for file, old, _ in self.pairs for name in self.functions_at(file, old)}
 
     def functions_at(self, file, old):
-        """The function that a text of a file is in, if it is in one, by the end of its name."""
+        """The function that a text of a file is in, if it is in one, by its name, or the end of that."""
         path = self.path.parent.parent / file
         text = path.read_text(encoding='utf-8') if path.is_file() else ''
         at = text.find(old)
@@ -80,16 +87,35 @@ class Edit:
         if function is None:
             return []
         block = block_around(IMPL, text, function.start(), 0)
-        return [function[2] if block is None else f'{name_of(block)}::{function[2]}']
+        modules = [it for it in pathlib.PurePath(file).with_suffix('').parts[1:] if it not in ('lib', 'main', 'mod')]
+        # A method of no trait is named after the module of its type, which may be another one.
+        modules = modules if block is None or block[2] else []
+        return ['::'.join([*modules, *([] if block is None else [name_of(block)]), function[2]])]
 
-    def apply(self, crate):
-        """Changes the files of a copy of the crate."""
-        for file, old, new in self.pairs:
-            path = crate / file
-            text = path.read_text(encoding='utf-8')
+
+def changed_by(edits):
+    """The files that edits of one crate change, with all that these change."""
+    texts = {}
+    for edit in edits:
+        for file, old, new in edit.pairs:
+            path = CRATES / edit.crate / file
+            text = texts.get(file) or (path.read_text(encoding='utf-8') if path.is_file() else '')
             if text.count(old) != 1:
-                raise Wrong(f'{self.name}: {file} has this text {text.count(old)} times, not once: {old}')
-            path.write_text(text.replace(old, new), encoding='utf-8')
+                raise Wrong(f'{edit.name}: {file} has this text {text.count(old)} times, not once: {old}')
+            texts[file] = text.replace(old, new)
+    return texts
+
+
+def are_current(edits):
+    """Fails unless each edit can be applied."""
+    stale = []
+    for edit in edits:
+        try:
+            changed_by([edit])
+        except Wrong as wrong:
+            stale.append(str(wrong))
+    if stale:
+        raise Wrong('\n'.join(stale))
 
 
 def block_around(head, text, at, length):
@@ -104,21 +130,23 @@ def block_around(head, text, at, length):
 def name_of(block):
     """What an `impl` block adds to the names of its functions: its type, its trait and what these are given."""
     parameters = re.findall(r'[<,]\s*([A-Z]\w*)', block[1] or '')
-    words = [word for of in (block[3], block[2] or '') for word in re.findall(r"&|(?<!['\w])(?:\w+::)*(\w+)", of)]
+    # What these are given is written after the module that it is of.
+    given = (re.sub(r'(?<=[<, ])(?:\w+::)*(\w+)::(\w+)', r'\1\2', of) for of in (block[3], block[2] or ''))
+    words = [word for of in given for word in re.findall(r"&|(?<!['\w])(?:\w+::)*(\w+)", of)]
     return ''.join(word[0].upper() + word[1:] if word else 'Ref' for word in words if word not in parameters)
 
 
 # Checks of edits
 
 
-def check(edits, uses):
-    """What `rt check` says of a crate with these edits, and whether it is proved. Of several edits it is asked for the
-    functions that they change alone, unless it knows one by another name."""
-    names = sorted({name for edit in edits for name in edit.functions}) if len(edits) > 1 else []
+def check(edits, is_alone, uses):
+    """What `rt check` says of a crate with these edits, and whether it is proved. It is asked for the functions that
+    edits change alone, unless it knows one by another name, and for all with a twin or an edit that is tried alone."""
+    names = [] if is_alone or edits[0].is_twin else sorted({name for edit in edits for name in edit.functions})
     with tempfile.TemporaryDirectory() as folder:
         crate = copy_of(edits[0].crate, pathlib.Path(folder), uses)
-        for edit in edits:
-            edit.apply(crate)
+        for file, text in changed_by(edits).items():
+            (crate / file).write_text(text, encoding='utf-8')
         ran = rt(crate, 'check', *(f'--only={name}' for name in names))
         if names and ran.returncode == 2:
             ran = rt(crate, 'check')
@@ -135,36 +163,44 @@ def goals_of(said):
     return {function: goal for function, goal in goals.items() if OWED.search(goal)}
 
 
-def verdicts(edits, uses):
-    """Of edits in one check: whether each is refused, and why; None for one that isn't judged."""
+def verdicts(edits, is_alone, uses):
+    """Of edits in one check: whether each is as it has to be, and why; None for one that isn't judged."""
+    said, is_proved = check(edits, is_alone, uses)
+    if is_alone:
+        return [verdict_alone(edits[0], said, is_proved)]
+    if edits[0].is_twin:
+        return [(True, 'proved') if is_proved else None for _ in edits]
+    goals = goals_of(said) if ENDED.search(said) else {}
+    own = [[f'{function}: {goal}' for function, goal in goals.items()
+            if any(f'::{function}'.endswith(f'::{name}') for name in edit.functions)] for edit in edits]
+    return [(True, f'refused: {it[0]}') if it else None for it in own]
+
+
+def verdict_alone(edit, said, is_proved):
+    if edit.is_twin:
+        return is_proved, 'proved' if is_proved else f'NOT PROVED:\n{said[-3000:]}'
+    if is_proved or not ENDED.search(said):
+        return False, 'PROVED' if is_proved else f'NO VERDICT:\n{said[-3000:]}'
+    # Goals of functions that call one another are those of all of them.
+    told = [f'{function}: {goal}' for function, goal in goals_of(said).items()]
+    told += [line[:160] for line in TOLD.findall(said) if not ONLY_NAMES.search(line)]
+    return (True, f'refused: {told[0]}') if told else (False, f'REFUSED, but not for what it does:\n{said[-3000:]}')
+
+
+def go_together(edits):
+    """Whether edits change functions of different names, and can be applied one after the other."""
+    names = [name for edit in edits for name in edit.functions]
     try:
-        said, is_proved = check(edits, uses)
-    except Wrong as wrong:
-        return [(False, str(wrong))] if len(edits) == 1 else [None for _ in edits]
-    if is_proved:
-        return [(False, 'PROVED')] if len(edits) == 1 else [None for _ in edits]
-    if not ENDED.search(said):
-        return [(False, f'no verdict:\n{said[-3000:]}')] if len(edits) == 1 else [None for _ in edits]
-    goals = goals_of(said)
-    found = []
-    for edit in edits:
-        own = [(function, goal) for function, goal in goals.items()
-               if len(edits) == 1 or any(f'::{function}'.endswith(f'::{name}') for name in edit.functions)]
-        found.append((True, '{}: {}'.format(*own[0])) if own else None)
-    if found == [None] and len(edits) == 1:
-        # Goals of functions that call one another are those of all of them.
-        told = next((line for line in TOLD.findall(said) if not ONLY_NAMES.search(line)), None)
-        return [(True, told[:160]) if told else (False, f'refused, but not for what it does:\n{said[-3000:]}')]
-    return found
+        return len(set(names)) == len(names) and all(it.functions for it in edits) and changed_by(edits) is not None
+    except Wrong:
+        return False
 
 
 def batches(edits, size):
-    """Edits of one crate in groups, in each of which no two change functions of one name."""
+    """Edits of one crate in groups of at most this size."""
     made = []
     for edit in edits:
-        fits = (it for it in made if len(it) < size
-                and edit.functions and not any(edit.functions & other.functions or not other.functions for other in it))
-        group = next(fits, None)
+        group = next((it for it in made if len(it) < size and go_together([*it, edit])), None)
         if group is None:
             made.append(group := [])
         group.append(edit)
@@ -172,20 +208,23 @@ def batches(edits, size):
 
 
 def try_all(edits, uses):
-    """Tries edits in rounds, and gives each its verdict."""
-    found, left = {}, edits
+    """Tries edits until each is judged, and gives each its verdict."""
+    found, left, alone = {}, edits, set()
     with concurrent.futures.ThreadPoolExecutor(LANES) as lanes:
-        for size in ROUNDS:
-            by_crate = collections.defaultdict(list)
+        while left:
+            kinds = collections.defaultdict(list)
             for edit in left:
-                by_crate[edit.crate].append(edit)
-            groups = [it for of_crate in by_crate.values() for it in batches(of_crate, size)]
+                kinds[edit.kind].append(edit)
+            groups = [it for kind in kinds for it in batches(kinds[kind], 1 if kind in alone else TOGETHER)]
             groups.sort(key=len, reverse=True)
-            for group, verdict in zip(groups, lanes.map(functools.partial(verdicts, uses=uses), groups)):
-                for edit, it in zip(group, verdict):
-                    if it is not None:
-                        found[edit] = it
-                        print(f'{edit.name}: {"refused" if it[0] else "FAILED"}: {it[1]}', flush=True)
+            are_alone = [edit.kind in alone or not rest and (edit.is_twin or not edit.functions)
+                         for edit, *rest in groups]
+            tried = lanes.map(functools.partial(verdicts, uses=uses), groups, are_alone)
+            for edit, it in (pair for group, verdict in zip(groups, tried) for pair in zip(group, verdict)):
+                if it is not None:
+                    found[edit] = it
+                    print(f'{edit.name}: {it[1]}', flush=True)
+            alone |= {kind for kind, of_kind in kinds.items() if found.keys().isdisjoint(of_kind)}
             left = [edit for edit in left if edit not in found]
     return found
 
@@ -194,13 +233,13 @@ def try_all(edits, uses):
 
 
 def sum_of(name, uses, kit):
-    """The sum of what the edits of a crate go by."""
+    """The sum of what the edits of a crate go by, without their twins."""
     lines, made = (TOP / 'crates.txt').read_text(encoding='utf-8'), hashlib.sha256(kit)
     for crate in with_those_below([name], uses):
         made.update(re.search(rf'^{crate}\b[^#\n]*', lines, re.MULTILINE)[0].encode())
         folders = [CRATES / crate / part for part in (*PARTS, *['must-fail'] * (crate == name))]
         for file in (it for folder in folders for it in sorted(folder.rglob('*')) if it.is_file()):
-            made.update(f'\n{file.relative_to(TOP)}\n'.encode() + file.read_bytes())
+            made.update(f'\n{file.relative_to(TOP)}\n'.encode() + re.sub(rb'(?m)^twin: .*\n', b'', file.read_bytes()))
     return made.hexdigest()
 
 
@@ -226,21 +265,26 @@ def run(options):
     """Tries the edits that are asked for, keeps the list, and returns the words that they are counted under."""
     uses, before = crates(), read_list()
     kit = subprocess.run(['rt', 'version'], check=True, stdout=subprocess.PIPE).stdout
-    files = {name: sorted((CRATES / name / 'must-fail').glob('*.edit.md')) for name in uses}
+    every = {name: sorted((CRATES / name / 'must-fail').glob('*.edit*')) for name in uses}
+    files = {name: [it for it in paths if it.suffix == '.md'] for name, paths in every.items()}
     sums = {name: sum_of(name, uses, kit) for name in uses if files[name]}
     named = [file_of(word) for word in options.words if word not in uses]
     asked = [name for name in sums if name in options.words or not options.words]
     whole = [name for name in asked if options.all or options.words or before.get(name) != sums[name]]
     edits = [Edit(path) for path in dict.fromkeys([*named, *(it for name in whole for it in files[name])])]
-    prove_all(dict.fromkeys(edit.crate for edit in edits), uses)
-    found = try_all(edits, uses)
-    failed = {edit.crate for edit in edits if not found[edit][0]}
+    with_twins = [*named, *(it for name in whole for it in every[name] if options.all or options.words)]
+    twins = [it for path in dict.fromkeys(with_twins) if (it := Edit(path, 'twin')).pairs]
+    paths = dict.fromkeys([*named, *(it for name in asked for it in every[name])])
+    are_current(Edit(path, word) for path in paths for word in ('new', 'twin'))
+    prove_all(dict.fromkeys(edit.crate for edit in [*edits, *twins]), uses)
+    found = try_all([*edits, *twins], uses)
+    failed = {edit.crate for edit, (is_right, _) in found.items() if not is_right}
     after = {**before, **{name: sums[name] for name in whole}}
     after = {name: it for name, it in after.items() if name in sums and name not in failed}
     if after != before:
         write_list(after)
     skipped = sum(len(files[name]) for name in asked if name not in whole)
-    return ['passed' if refused else 'failed' for refused, _ in found.values()] + ['skipped'] * skipped
+    return ['passed' if is_right else 'failed' for is_right, _ in found.values()] + ['skipped'] * skipped
 
 
 def main():
