@@ -7,15 +7,15 @@ in tests/data/edits-refused.tsv: that of its files and its line in crates.txt, o
 --all these are tried too. A crate gets into that list, which nothing else writes, once all its edits are refused, and
 out of it with one that isn't.
 
-An edit may have a twin, a right program of the same shape, which has to be proved. Twins are tried with --all, or if
-their edit or crate is named.
+An edit may have a twin, a right program of the same shape, which has to be proved: a line `twin` after one that begins
+with `new` stands in its place, and pairs without one are left out. It is tried with --all, or if it is named.
 
 An edit or twin whose old text isn't in its file once fails the run at once. Then the crates are proved, over kept work;
 nothing else may run over the tree meanwhile. Edits of different functions are put into one copy of their crate, which
 is checked once. An edit is refused if the check refuses a function that it changes, by name, at something that it owes
-by its contract. An edit whose function calls a refused one isn't judged so, and is tried again without those that are
-judged. Once none of a crate is judged they are tried alone, where any function may be the one that is refused. Twins
-share a check in the same way, which has to prove the whole crate; otherwise each is tried alone. An edit that is
+by its contract. One that isn't judged so, since its function waits for the proof of another one for example, is tried
+again without those that are. Once none of a crate is judged they are tried alone, where any function may be the one
+that is refused. Twins share a check that has to prove the whole crate; otherwise each is tried alone. An edit that is
 proved fails the run, and so does a twin that isn't. The last line is 'N passed, M failed, K skipped': skipped are the
 edits of the crates in the list.
 """
