@@ -12,8 +12,7 @@ use Rattle.subst_walk.specs.declared.changes.Change.TheOpen.{Change-F}
 
 pub slots-append : (xs ys : List Change) → slots (xs ++ ys) ≡ slots xs ++ slots ys
 slots-append [] ys = refl
-slots-append (x ∷ xs) ys =
-    ap (λ cs. slots_of x ++ cs) (slots-append xs ys) ∙ sym (append_assoc (slots_of x) (slots xs) (slots ys))
+slots-append (x ∷ xs) ys = search (rules, slots_of, append_assoc, slots-append xs ys)
 
 -- a change that isn't one of values that stay is alone
 pub alone : (change : Change) → ((n : ℕ) → change ≡ Kept n → ⊥) → slots (change ∷ []) ≡ one change ∷ []
@@ -23,9 +22,7 @@ alone (Inside' shape all) h = refl
 
 -- values that stay, as one change
 pub run : (n : ℕ) → 0 < n → slots (Kept (n - 1) ∷ []) ≡ replicate n (Kept 0)
-run n h =
-    let same : suc (n - 1) ≡ n = omega arith in
-    append-nil (replicate (suc (n - 1)) (Kept 0)) ∙ ap (λ m. replicate m (Kept 0)) same
+run n h = search (rules, append-nil, replicate)
 
 pub slots-empty : (changes : List Change) → length changes ≡ 0 → slots changes ≡ []
 slots-empty [] h = refl
@@ -58,11 +55,7 @@ depth-run : (n : ℕ) (changes : List Change)
     → changes_depth (replicate n (Kept 0) ++ changes) ≡ changes_depth changes
 depth-run zero changes = refl
 depth-run (suc n) changes =
-    let first = depth-Kept 0 in
-    let rest = depth-run n changes in
-    let all : changes_depth (replicate (suc n) (Kept 0) ++ changes)
-    ≡ max (change_depth (Kept 0)) (changes_depth (replicate n (Kept 0) ++ changes)) = refl in
-    omega arith
+    search (rules, depth-Kept, changes_depth, replicate, max, change_depth, depth-run n changes)
 
 pub depth-slots : (changes : List Change) → changes_depth (slots changes) ≤ changes_depth changes
 depth-slots [] = omega arith
@@ -72,16 +65,9 @@ depth-slots (Kept n ∷ changes) =
     let all : changes_depth (slots (Kept n ∷ changes))
     ≡ changes_depth (replicate (suc n) (Kept 0) ++ slots changes) = refl in
     omega arith
-depth-slots (Text x ∷ changes) =
-    let rest = depth-slots changes in
-    let all : changes_depth (slots (Text x ∷ changes))
-    ≡ max (change_depth (Text x)) (changes_depth (slots changes)) = refl in
-    omega arith
+depth-slots (Text x ∷ changes) = search (rules, changes_depth, slots, max, change_depth, depth-slots changes)
 depth-slots (Inside' shape all ∷ changes) =
-    let rest = depth-slots changes in
-    let all : changes_depth (slots (Inside' shape all ∷ changes))
-    ≡ max (change_depth (Inside' shape all)) (changes_depth (slots changes)) = refl in
-    omega arith
+    search (rules, changes_depth, slots, max, change_depth, depth-slots changes)
 
 pub depth-rest : (changes : List Change) → changes_depth (rest_of changes) ≤ changes_depth changes
 depth-rest [] = omega arith

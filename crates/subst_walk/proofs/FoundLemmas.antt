@@ -1,5 +1,5 @@
 -- What a walk has found of strings that come one after the other.
-use Rattle.std.proofs.Common.{◌≡◌, ℕ, List, [], ◌∷◌, ◌++◌, map, reverse, Option, Some, None, MatchOption, IsSomeAnd, inl, inr, refl, sym, ap, ◌∙◌, subst, append_assoc}
+use Rattle.std.proofs.Common.{rules, ◌≡◌, ℕ, List, [], ◌∷◌, ◌++◌, map, reverse, Option, Some, None, MatchOption, IsSomeAnd, inl, inr, refl, sym, ap, ◌∙◌, subst, append_assoc}
 use Rattle.std.proofs.lemmas.List.{map-append, reverse-append}
 use Rattle.std.specs.List.{AllByRecursion}
 use Rattle.subst_error.specs.ErrorFault.{error_fault}
@@ -160,8 +160,7 @@ each_below step P Q (it ∷ found) more h = (more it h.0, each_below step P Q fo
 -- one step more, before those that are kept with the last one first
 pub pushed_step : (kept : List steps.PathStep) (step : steps.PathStep)
     → reverse (map step_of (kept ++ step ∷ [])) ≡ step_of step ∷ reverse (map step_of kept)
-pushed_step kept step =
-    ap reverse (map-append step_of kept (step ∷ [])) ∙ reverse-append (map step_of kept) (step_of step ∷ [])
+pushed_step kept step = search (rules, map-append, step_of, reverse-append)
 
 -- one refusal more of a part
 pub one_more_below : (step : PathStep) (before : List Refusal) (found done : List Refused) (v w : Refused)
@@ -170,15 +169,7 @@ pub one_more_below : (step : PathStep) (before : List Refusal) (found done : Lis
     → map refusal_of (found ++ w ∷ [])
     ≡ before ++ map (refusal_below step) (map refusal_of (done ++ v ∷ []))
 one_more_below step before found done v w is h =
-    let B = refusal_below step in
-    let last : refusal_of w ∷ [] ≡ B (refusal_of v) ∷ [] = ap (λ it. it ∷ []) is in
-    let front = map-append refusal_of found (w ∷ []) in
-    let middle = append_assoc before (map B (map refusal_of done)) (B (refusal_of v) ∷ []) in
-    let inner = map-append B (map refusal_of done) (refusal_of v ∷ []) in
-    let back = ap (map B) (map-append refusal_of done (v ∷ [])) in
-    front ∙ ap (λ xs. xs ++ (refusal_of w ∷ [])) h
-    ∙ ap (λ ys. (before ++ map B (map refusal_of done)) ++ ys) last ∙ middle
-    ∙ ap (λ ys. before ++ ys) (sym inner ∙ sym back)
+    search (rules, refusal_below, refusal_of, map-append, append_assoc)
 
 -- what holds of each refusal before, and of each of the part
 pub each_of_part : (step : PathStep) (P Q : Refusal → Type 0) (before part found : List Refusal)

@@ -1,5 +1,5 @@
 -- Each one that was found is returned with its path.
-use Rattle.std.proofs.Common.{◌≡◌, [], ◌∷◌, ◌++◌, length, map, sym, ap, ◌∙◌, append_assoc, rules, arith}
+use Rattle.std.proofs.Common.{◌≡◌, [], ◌∷◌, ◌++◌, map, sym, ap, ◌∙◌, append_assoc, rules, arith}
 use Rattle.std.proofs.lemmas.List.{map-append}
 use Rattle.std.specs.Vec.Iter.{into_iter_items}
 use Rattle.subst_walk.specs.Refused.{refusal_of, refusal_with}
@@ -16,9 +16,6 @@ loop-refused-preserved g c =
     let f = refusal_with g.P.TreePath.path_steps in (
       done ++ v ∷ [],
       l.invariant.1 ∙ ap (λ vs. done ++ vs) steps ∙ sym (append_assoc done (v ∷ []) left),
-      let was = l.invariant.2 in
-          let gone = c.in-Some.ensures.steps.1 in
-          let short = ap length steps in
           omega arith,
       ap (map f) c.in_ok-push.ensures.items ∙ map-append f l.all.items (c.with_path.result ∷ [])
           ∙ ap (λ xs. xs ++ f c.with_path.result ∷ []) l.invariant.3
@@ -27,8 +24,4 @@ loop-refused-preserved g c =
     )
 
 pub returns : goal.returns
-returns g c =
-    let l = c.loop-refused in
-    let done = l.invariant.0 in
-    let whole = l.invariant.1 ∙ ended done (into_iter_items l.refused-iterator) (search rules) in
-    l.invariant.3 ∙ ap (map refusal_of) (sym whole)
+returns g c = search (rules, ended, into_iter_items, refusal_of)

@@ -13,16 +13,7 @@ span at to = record { start = at.place; end = to.place }
 pieces_next : (P : Position → Position → Type 0) (from at to : Position) (range : Range ℕ)
     (ranges rest : List (Range ℕ)) → at.offset ≡ range.start → to.offset ≡ range.end → P from at → P at to
     → ArePiecesFrom P to ranges rest → ArePiecesFrom P from (range ∷ ranges) (span at to ∷ rest)
-pieces_next P from at to range ranges rest start end one two more =
-    let at_is : at ≡ position at.place range.start = ap (position at.place) start in
-    let to_is : to ≡ position to.place range.end = ap (position to.place) end in (
-      span at to,
-      rest,
-      refl,
-      subst (P from) at_is one,
-      subst (λ p. P p (position to.place range.end)) at_is (subst (P at) to_is two),
-      subst (λ p. ArePiecesFrom P p ranges rest) to_is more,
-    )
+pieces_next P from at to range ranges rest start end one two more = search (rules, position, span)
 
 pub loop-range-preserved : goal.loop-range-preserved
 loop-range-preserved g c rest h =

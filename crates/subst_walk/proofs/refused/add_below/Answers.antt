@@ -1,5 +1,5 @@
 -- A refusal gets the step as its first, and is appended.
-use Rattle.std.proofs.Common.{◌≡◌, [], ◌∷◌, ◌++◌, length, refl, sym, ap, ◌∙◌, append_assoc, arith}
+use Rattle.std.proofs.Common.{◌≡◌, [], ◌∷◌, ◌++◌, refl, sym, ap, ◌∙◌, append_assoc, arith}
 use Rattle.std.specs.Vec.Iter.{into_iter_items}
 use Rattle.subst_walk.specs.Paths.{refusal_below}
 use Rattle.subst_walk.specs.Refused.{borrowed_step_of, refusal_of}
@@ -22,9 +22,6 @@ loop-refused-preserved c =
     let before = l.invariant.3 in (
       done ++ v ∷ [],
       l.invariant.1 ∙ ap (λ vs. done ++ vs) steps ∙ sym (append_assoc done (v ∷ []) left),
-      let was = l.invariant.2 in
-          let gone = c.in-Some.ensures.steps.1 in
-          let short = ap length steps in
           omega arith,
       rw c.in_ok-push-2.ensures.items (one_more_below step _ l.found.items done v w here before),
     )
