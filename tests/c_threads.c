@@ -1,6 +1,4 @@
-/* Tests calls of the library from several threads at once, over a source and pairs that all of them share. Each thread
- * prints a line, and the last line is 'N passed, M failed'.
- */
+/* Tests calls of the library from several threads at once, over a source and pairs that all of them share. */
 #include "subst.h"
 
 #include <pthread.h>
@@ -52,15 +50,13 @@ static void *run_thread(void *right)
 int main(void)
 {
     pthread_t threads[THREADS];
-    int right[THREADS] = {0}, passed = 0, started = 0;
+    int right[THREADS] = {0}, passed = 0;
     make_source();
-    while (started < THREADS && pthread_create(&threads[started], NULL, run_thread, &right[started]) == 0)
-        started += 1;
-    for (int at = 0; at < started; at++) {
-        const int is_joined = pthread_join(threads[at], NULL) == 0;
-        passed += is_joined && right[at] == TURNS;
-        printf("thread %d: %d of %d turns\n", at, right[at], TURNS);
-    }
-    printf("%d passed, %d failed\n", passed, THREADS - passed);
+    for (int at = 0; at < THREADS; at++)
+        if (pthread_create(&threads[at], NULL, run_thread, &right[at]) != 0)
+            return 1;
+    for (int at = 0; at < THREADS; at++)
+        passed += pthread_join(threads[at], NULL) == 0 && right[at] == TURNS;
+    printf("%d of %d threads passed\n", passed, THREADS);
     return passed == THREADS ? 0 : 1;
 }
