@@ -154,7 +154,7 @@ class Writes(Built):
         for way in WRITERS:
             for count in (1, some_size(KIB)):
                 with self.subTest(way), open('/dev/full', 'wb') as full:
-                    source = b'a${a:}' * count
+                    source = b'a' * count + b'${a:}'
                     self.assert_ends(way.run(source, stdout=full), 3, errors=way.failed('stdout', errno.ENOSPC))
                     self.assert_ends(way.run(source, **without(1)), 3, errors=way.failed('stdout', errno.EBADF))
 
