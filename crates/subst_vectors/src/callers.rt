@@ -184,7 +184,9 @@ fn is_early(alloc: Global) -> bool {
 #[test]
 fn other_callers(rt: HostRuntime) {
     let alloc = rt.alloc();
-    let told = reported(alloc).map(|text| text.starts_with("web.conf:1:9: "));
+    let told = reported(alloc).map(|text| {
+        text.starts_with("web.conf:1:9: ") && text.ends_with("\n  host = $host\n          ^^^^\n")
+    });
     assert_eq!(rt; told, Ok(true));
     expect_bytes(&rt, "the last word", last_word(alloc), "to world");
     let told = around_word(alloc);
