@@ -1,6 +1,7 @@
 -- Lemmas on the faults of a part, and on names whose values can't be read.
-use Rattle.std.proofs.Common.{◌≡◌, ◌≢◌, ◌<◌, ◌==◌, ℕ, zero, suc, Bool, false, true≢false, Option, Some, None, Result, Err, Ok, Vec, Bor, IfErr, IfOk, IfSome, OnOk, IsSomeAnd, List, [], ◌∷◌, ◌++◌, length, map, get_or, inl, inr, refl, sym, ap, subst, ◌∙◌, arith, ◌⊎◌, All, Any, Contains, IsPermutation}
-use Rattle.std.proofs.lemmas.List.{get_or-map, length-map}
+use Rattle.std.proofs.Common.{◌≡◌, ◌≢◌, ◌<◌, ◌==◌, ℕ, zero, suc, Bool, false, true, true≢false, Option, Some, None, Result, Err, Ok, Vec, Bor, IfErr, IfOk, IfSome, OnOk, IsSomeAnd, List, [], ◌∷◌, ◌++◌, length, map, get_or, inl, inr, refl, sym, ap, subst, ◌∙◌, arith, ◌⊎◌, All, Any, Contains, IsPermutation}
+use Rattle.std.proofs.lemmas.Bool.{eqb-true}
+use Rattle.std.proofs.lemmas.List.{get_or-map, length-map, nil_from_length}
 use Rattle.std.proofs.lemmas.List.Elements.{All-contains, All-map, Contains-append_left, Contains-append_right, Contains-push}
 use Rattle.std.proofs.lemmas.Simd.{map-map}
 use Rattle.std.specs.Global.{Global}
@@ -57,6 +58,10 @@ pub any_contained : {X : Type 0} (xs : List X) (count : ℕ) → count ≡ lengt
     → Any (Contains xs) xs
 any_contained [] count is some = absurd (true≢false (sym (ap (λ n. n == 0) is) ∙ some))
 any_contained (x ∷ xs) count is some = (0, x, omega arith, refl, (0, omega arith, refl))
+
+-- none are there, where none is counted
+pub none_counted : {X : Type 0} (xs : List X) (count : ℕ) → count ≡ length xs → (count == 0) ≡ true → xs ≡ []
+none_counted xs count is none = nil_from_length xs (omega (arith, is, eqb-true count 0 none))
 
 -- what holds of an element holds of what is made of one
 pub any_made : {X Y : Type 0} (f : X → Y) (P : X → Type 0) (xs : List X) → Any P xs

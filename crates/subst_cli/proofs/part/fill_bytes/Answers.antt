@@ -14,15 +14,19 @@ returns-in-Own c = rw c.in-Own.is (record {
       (c.fill_template.ensures.refused entries are);
 })
 
-pub returns-in-Chosen : goal.returns-in-Chosen
-returns-in-Chosen c = rw c.in-Chosen.is (record {
-  gives = λ entries are. weaker_outcome c.fill_template-in-Chosen.result _ _
-      (λ output is. (c.in_ok-made.made.items, c.in_ok-made.ensures entries are, is))
-      (c.fill_template-in-Chosen.ensures.gives entries are);
-  refused = λ entries are. weaker_faults c.fill_template-in-Chosen.result _ _ (λ faults. any_weaker _ _
-      (λ it (x, from, is). inr (c.in_ok-made.made.items, c.in_ok-made.ensures entries are, x, from, is))
-      faults.items) (c.fill_template-in-Chosen.ensures.refused entries are);
-})
+pub returns-in_ok-made-in-Chosen : goal.returns-in_ok-made-in-Chosen
+returns-in_ok-made-in-Chosen c =
+    let made = c.in_ok-made-in-Chosen.made.items in
+    let stands = c.in_ok-made-in-Chosen.ensures in
+    rw c.in-Chosen.is (record {
+      gives = λ entries are. weaker_outcome c.fill_template-in-Chosen.result _ _
+          (λ output is. (made, stands entries are, is))
+          (rw c.deref-in-Chosen.ensures.value at (c.fill_template-in-Chosen.ensures.gives entries are));
+      refused = λ entries are. weaker_faults c.fill_template-in-Chosen.result _ _ (λ faults. any_weaker _ _
+          (λ it (x, from, is). inr (made, stands entries are, x, from, made_moved _ _ c.deref-2.result made
+          c.deref-2.ensures.value x it is)) faults.items)
+          (rw c.deref-in-Chosen.ensures.value at (c.fill_template-in-Chosen.ensures.refused entries are));
+    })
 
 pub returns-in-Shell : goal.returns-in-Shell
 returns-in-Shell c = rw c.in-Shell.is c.fill_shell.ensures

@@ -16,7 +16,7 @@ pub returns-in-Ok-2-clause-gives : goal.returns-in-Ok-2-clause-gives
 returns-in-Ok-2-clause-gives c = λ entries are. (
   c.in-Ok.template.items,
   c.in-Ok.ensures.template,
-  rw c.in-Ok-2.is at (c.in_ok-output.ensures.gives entries are),
+  rw (c.in-Ok-2.is, c.deref.ensures.value) at (c.in_ok-output.ensures.gives entries are),
 )
 
 pub returns-clause-refused : goal.returns-clause-refused
@@ -27,4 +27,4 @@ returns-clause-refused c = λ entries are. any_weaker _ _ (λ other (it, (x, fro
   from,
   cause ∙ ap cause_of is,
 )) _ (caused _ c.in-Err-2.faults.items _ c.in_ok-in_shell-in-Err-2.ensures
-    (rw c.in-Err-2.is at (c.in_ok-output.ensures.refused entries are)))
+    (rw (c.in-Err-2.is, c.deref.ensures.value) at (c.in_ok-output.ensures.refused entries are)))

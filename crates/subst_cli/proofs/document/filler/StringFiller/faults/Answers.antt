@@ -34,7 +34,7 @@ returns c = rw c.unwrap_or.ensures (elim c.match-self.branch [
   | in-Some+in_ok-fill_bytes-in-Some w ↦
       rw (w.faults-is, w.err-faults.ensures.value) (faults_or_none c.args.self.now c.args.text.now
       w.in-Some.variables w.in_ok-fill_bytes-in-Some.field-0 c.new.result w.in-Some.is
-      (rw c.as_bytes.ensures.value at w.in_ok-fill_bytes-in-Some.ensures.gives)
-      (rw c.as_bytes.ensures.value at w.in_ok-fill_bytes-in-Some.ensures.refused) c.new.ensures.items)
+      (rw c.as_bytes-source.ensures.value at w.in_ok-fill_bytes-in-Some.ensures.gives)
+      (rw c.as_bytes-source.ensures.value at w.in_ok-fill_bytes-in-Some.ensures.refused) c.new.ensures.items)
   | in-None+in_ok-uses_in_bytes-in-None w ↦ inr (λ entries from. absurd (rw w.in-None.is at from))
 ])
