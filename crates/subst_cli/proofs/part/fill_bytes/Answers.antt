@@ -21,11 +21,11 @@ returns-in_ok-made-in-Chosen c =
     rw c.in-Chosen.is (record {
       gives = λ entries are. weaker_outcome c.fill_template-in-Chosen.result _ _
           (λ output is. (made, stands entries are, is))
-          (rw c.deref-in-Chosen.ensures.value at (c.fill_template-in-Chosen.ensures.gives entries are));
+          (rw c.deref.ensures.value at (c.fill_template-in-Chosen.ensures.gives entries are));
       refused = λ entries are. weaker_faults c.fill_template-in-Chosen.result _ _ (λ faults. any_weaker _ _
-          (λ it (x, from, is). inr (made, stands entries are, x, from, made_moved _ _ c.deref-2.result made
-          c.deref-2.ensures.value x it is)) faults.items)
-          (rw c.deref-in-Chosen.ensures.value at (c.fill_template-in-Chosen.ensures.refused entries are));
+          (λ it (x, from, is). inr (made, stands entries are, x, from, made_moved c.in-Chosen.choice
+          c.in-Chosen.missing c.deref-in-Chosen.result made c.deref-in-Chosen.ensures.value x it is)) faults.items)
+          (rw c.deref.ensures.value at (c.fill_template-in-Chosen.ensures.refused entries are));
     })
 
 pub returns-in-Shell : goal.returns-in-Shell
