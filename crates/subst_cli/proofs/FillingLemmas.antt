@@ -17,6 +17,7 @@ use Rattle.subst_cli.specs.Faults.{IsNoText}
 use Rattle.subst_cli.specs.Fill.{AreOutputs, GivesFor, IsDocumentOutput, IsOutput}
 use Rattle.subst_cli.specs.Layers.{Entry}
 use Rattle.subst_cli.specs.Run.{bytes_of, IsFaultIn, IsRefusalOf}
+use Rattle.subst_cli.specs.declared.document.format.Format.{Format}
 use Rattle.subst_cli.specs.declared.document.format.Format.TheVariants.{Json, Toml}
 use Rattle.subst_cli.specs.declared.fault.Fault.{Fault}
 use Rattle.subst_cli.specs.declared.options.InputFormat.{InputFormat}
@@ -139,8 +140,9 @@ no_text Bytes placeholders entries s it other is = absurd (other refl)
 no_text Text placeholders entries s it other is = inl is
 no_text (Document format) placeholders entries s it other is = inl is
 
--- what is said of texts and of bytes
-pub text_or_bytes : (form : InputFormat) (P : InputFormat → Type 0) → (form ≡ Text) ⊎ (form ≡ Bytes)
-    → P Text → P Bytes → P form
-text_or_bytes form P (inl is) text bytes = subst P (sym is) text
-text_or_bytes form P (inr is) text bytes = subst P (sym is) bytes
+-- what is neither bytes nor a document is a text
+pub of_text : (form : InputFormat) (P : InputFormat → Type 0) → ¬ (form ≡ Bytes)
+    → ((format : Format) → ¬ (form ≡ Document format)) → P Text → P form
+of_text Text P bytes document text = text
+of_text Bytes P bytes document text = absurd (bytes refl)
+of_text (Document format) P bytes document text = absurd (document format refl)

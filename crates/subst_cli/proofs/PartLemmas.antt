@@ -1,6 +1,7 @@
 -- Lemmas on the faults of a part, and on names whose values can't be read.
-use Rattle.std.proofs.Common.{◌≡◌, ◌≢◌, ◌<◌, ◌==◌, ℕ, zero, suc, Bool, false, true≢false, Option, Some, None, Result, Err, Ok, Vec, Bor, IfErr, IfOk, IfSome, OnOk, IsSomeAnd, List, [], ◌∷◌, ◌++◌, length, map, get_or, inl, inr, refl, sym, ap, subst, ◌∙◌, arith, ◌⊎◌, All, Any, Contains, IsPermutation}
-use Rattle.std.proofs.lemmas.List.{get_or-map, length-map}
+use Rattle.std.proofs.Common.{◌≡◌, ◌≢◌, ◌<◌, ◌==◌, ℕ, zero, suc, Bool, false, true, true≢false, Option, Some, None, Result, Err, Ok, Vec, Bor, IfOk, IfSome, OnOk, IsSomeAnd, List, [], ◌∷◌, ◌++◌, length, map, get_or, inl, inr, refl, sym, ap, subst, ◌∙◌, arith, ◌⊎◌, All, Any, Contains, IsPermutation}
+use Rattle.std.proofs.lemmas.Bool.{eqb-true}
+use Rattle.std.proofs.lemmas.List.{get_or-map, length-map, nil_from_length}
 use Rattle.std.proofs.lemmas.List.Elements.{All-contains, All-map, Contains-append_left, Contains-append_right, Contains-push}
 use Rattle.std.proofs.lemmas.Simd.{map-map}
 use Rattle.std.specs.Global.{Global}
@@ -11,7 +12,6 @@ use Rattle.subst_language.specs.Language.BadItem.{HasFault}
 use Rattle.subst_language.specs.Language.NamesIn.{names_in}
 use Rattle.subst.specs.Fault as faults
 use Rattle.subst.specs.Range.{range_of}
-use Rattle.subst.specs.Shell.{IsShellTemplateFor}
 use Rattle.subst.specs.Language.Answer.{Answers, Gives, Refuses}
 use Rattle.subst.specs.Language.LookUp.{LookUp}
 use Rattle.subst_filter_lib.specs.Words.{value_under}
@@ -22,19 +22,16 @@ use Rattle.subst_language.specs.Calls.Variables.{variable_of}
 use Rattle.subst_language.specs.Language.Sentence.{IsSentence}
 use Rattle.subst_language.specs.Language.Variables.{name_of}
 use Rattle.subst_language.specs.declared.variable.Variable.{Variable}
-use Rattle.subst_cli.proofs.FaultLemmas.{any_weaker}
-use Rattle.subst_cli.specs.Faults.{cause_of, moved, IsFaultOf, IsMovedTo, IsRefusedAt, IsToldOf, IsUnreadableAmong, IsUnreadableIn}
-use Rattle.subst_cli.specs.Fill.{look_with, missing_in, origin_in, Agrees, AreReadable, GivesFor, StandsFor}
-use Rattle.subst_cli.specs.Layers.{has_unreadable, is_unreadable, AreVariablesOf, Entry, IsUnreadable}
+use Rattle.subst_cli.specs.Faults.{cause_of, moved, IsFaultBy, IsFirstOf, IsMovedTo, IsUnreadableAmong, IsUnreadableIn}
+use Rattle.subst_cli.specs.Fill.{look_with, origin_in, AreReadable, GivesBy}
+use Rattle.subst_cli.specs.Layers.{has_unreadable, is_unreadable, look_up_in, AreVariablesOf, Entry, IsUnreadable}
 use Rattle.subst_cli.specs.declared.fault.Fault.{Fault}
 use Rattle.subst_cli.specs.declared.fill.Refusal.{Refusal}
 use Rattle.subst_cli.specs.declared.layers.Variables.{Variables}
 use Rattle.subst_cli.specs.declared.options.Choice.{Choice}
 use Rattle.subst_cli.specs.declared.options.Missing.{Missing}
 use Rattle.subst_cli.specs.declared.options.Missing.TheVariants as options
-use Rattle.subst_cli.specs.declared.options.Missing.TheVariants.{FaultIfEmpty}
-use Rattle.subst_cli.specs.declared.options.Placeholders.{Placeholders}
-use Rattle.subst_cli.specs.declared.options.Placeholders.TheVariants.{Chosen, Shell}
+use Rattle.subst_cli.specs.declared.options.Placeholders.TheVariants.{Chosen}
 
 -- what holds of an element holds of one in another order
 pub any_permuted : {X : Type 0} (P : X → Type 0) (xs ys : List X) → IsPermutation xs ys → Any P xs → Any P ys
@@ -60,6 +57,10 @@ pub any_contained : {X : Type 0} (xs : List X) (count : ℕ) → count ≡ lengt
     → Any (Contains xs) xs
 any_contained [] count is some = absurd (true≢false (sym (ap (λ n. n == 0) is) ∙ some))
 any_contained (x ∷ xs) count is some = (0, x, omega arith, refl, (0, omega arith, refl))
+
+-- none are there, where none is counted
+pub none_counted : {X : Type 0} (xs : List X) (count : ℕ) → count ≡ length xs → (count == 0) ≡ true → xs ≡ []
+none_counted xs count is none = nil_from_length xs (omega (arith, is, eqb-true count 0 none))
 
 -- what holds of an element holds of what is made of one
 pub any_made : {X Y : Type 0} (f : X → Y) (P : X → Type 0) (xs : List X) → Any P xs
@@ -91,9 +92,8 @@ module _ (variables : Variables) (entries : List Entry) (are : AreVariablesOf va
   readable_all none s t spells k d below = readable_name _ (none _)
 
   -- what a template gives by the variables, it gives by each look-up that agrees with the entries
-  given_under : (missing : Missing) (s x : List ℕ) → AreReadable entries s
-      → Answers s (look_with missing (value_under variables.values)) (Gives x)
-      → (look : LookUp) → Agrees entries look → Answers s (look_with missing look) (Gives x)
+  pub given_under : (missing : Missing) (s x : List ℕ) → AreReadable entries s
+      → Answers s (look_with missing (value_under variables.values)) (Gives x) → GivesBy missing entries s x
   given_under missing s x readable (t, spells, gives) look agrees = (
     t,
     spells,
@@ -150,71 +150,16 @@ pub made_moved : (choice : Choice) (missing : Missing) (template : Bor (List ℕ
     → IsMovedTo (Chosen choice missing) s x it
 made_moved choice missing template s same x it is = rw (← same) is
 
--- a fault that is told of a template is that of its refusal, or an unreadable variable of it
-stated : {T : Type 0} (entries : List Entry) (template : List ℕ) (look by : LookUp) (filled : Result T Refusal)
-    (unreadable : List Fault) (x : Fault) → look ≡ by
-    → IfErr filled (λ refusal. IsSomeAnd (error_fault refusal.first)
-    (λ f. Answers template look (Refuses f)))
-    → All (IsUnreadableIn entries template) unreadable → IsToldOf filled unreadable x
-    → IsRefusedAt by template x.cause x.range.start ⊎ IsUnreadableIn entries template x
-stated entries template look by filled unreadable x same refused each (inl (refusal, was, (cause, start))) =
-    inl (rw cause (refused_at (error_fault refusal.first) _ x.range.start
-    (rw (was, same) at refused) start))
-stated entries template look by filled unreadable x same refused each (inr told) =
-    inr (All-contains (IsUnreadableIn entries template) unreadable x each told)
-
--- What a part gives is what its source gives, for which the template stands, or one of its faults is stated
--- of its source.
-pub part_stated : {T E : Type 0} (bytes_of : T → List ℕ) (variables : Variables) (placeholders : Placeholders)
-    (s template given looked : List ℕ) (IsTold : Fault → Fault → Type 0) (filled : Result T Refusal)
-    (unreadable : List Fault) (result : Result (Result T (Vec Fault Global)) E)
-    → ((entries : List Entry) → AreVariablesOf variables entries → StandsFor placeholders entries s template)
-    → given ≡ template → looked ≡ template
-    → ((x it : Fault) → IsTold x it → IsMovedTo placeholders template x it)
-    → record {
-      gives : IfOk filled (λ output. Answers given (look_with (missing_in placeholders)
-          (value_under variables.values)) (Gives (bytes_of output)));
-      refuses : IfErr filled (λ refusal. IsSomeAnd (error_fault refusal.first) (λ f. Answers given
-          (look_with (missing_in placeholders) (value_under variables.values)) (Refuses f)));
-    } → record {
-      all : (entries : List Entry) → AreVariablesOf variables entries → unreadable ≡ []
-          → AreReadable entries looked;
-      each : (entries : List Entry) → AreVariablesOf variables entries
-          → All (IsUnreadableIn entries looked) unreadable;
-    } → record {
-      gives : IfOk result (λ outcome. IfOk outcome (λ output. (filled ≡ Ok output) × (unreadable ≡ [])));
-      refused : IfOk result (λ outcome. IfErr outcome (λ faults. Any
-          (λ it. (x : Fault) × IsToldOf filled unreadable x × IsTold x it) faults.items));
-    } → record {
-      gives : (entries : List Entry) → AreVariablesOf variables entries → IfOk result (λ outcome.
-          IfOk outcome (λ output. GivesFor placeholders entries s (bytes_of output)));
-      refused : (entries : List Entry) → AreVariablesOf variables entries → IfOk result (λ outcome.
-          IfErr outcome (λ faults. Any (IsFaultOf placeholders entries s) faults.items));
-    }
-part_stated bytes_of variables placeholders s template given looked IsTold filled unreadable (Ok (Ok output))
-    stands same too moves does told done = record {
-      gives = λ entries are. (
-        template,
-        stands entries are,
-        given_under variables entries are (missing_in placeholders) template (bytes_of output)
-            (rw too at told.all entries are done.gives.1) (rw (done.gives.0, same) at does.gives),
-      );
-      refused = λ entries are. tt;
-    }
-part_stated bytes_of variables placeholders s template given looked IsTold filled unreadable (Ok (Err faults))
-    stands same too moves does told done = record {
-      gives = λ entries are. tt;
-      refused = λ entries are. any_weaker _ _ (λ it (x, from, is). inr (
-        template,
-        stands entries are,
-        x,
-        stated entries template _ _ filled unreadable x (ap (look_with (missing_in placeholders)) are.values)
-            (rw same at does.refuses) (rw too at told.each entries are) from,
-        moves x it is,
-      )) faults.items done.refused;
-    }
-part_stated bytes_of variables placeholders s template given looked IsTold filled unreadable (Err e)
-    stands same too moves does told done = record { gives = λ entries are. tt; refused = λ entries are. tt }
+-- the first error of a refusal, and a fault of a name that can't be read, are faults of the template
+pub told_stated : (missing : Missing) (entries : List Entry) (template : List ℕ) (look : LookUp) (refusal : Refusal)
+    (unreadable : List Fault) (it : Fault) → look ≡ look_up_in entries
+    → IsSomeAnd (error_fault refusal.first) (λ f. Answers template (look_with missing look) (Refuses f))
+    → All (IsUnreadableIn entries template) unreadable → IsFirstOf refusal it ⊎ Contains unreadable it
+    → IsFaultBy missing entries template it
+told_stated missing entries template look refusal unreadable it same refused each (inl (cause, start)) =
+    inl (rw cause (refused_at (error_fault refusal.first) _ it.range.start (rw same at refused) start))
+told_stated missing entries template look refusal unreadable it same refused each (inr told) =
+    inr (All-contains (IsUnreadableIn entries template) unreadable it each told)
 
 -- what holds of some faults holds of the causes of others that have the same
 pub caused : (P : Fault → Type 0) (faults others : List Fault) → map cause_of others ≡ map cause_of faults
@@ -228,23 +173,3 @@ caused P (y ∷ faults) (it ∷ others) same (suc k, x, below, is, holds) =
     let rest : map cause_of others ≡ map cause_of faults = cc in
     let (j, z, within, at, held) = caused P faults others rest (k, x, omega (arith, below), is, holds) in
     (suc j, z, omega (arith, within), at, held)
-
--- The faults of a template for a text of a shell are so of that, where their places are others.
-pub shell_stated : {T : Type 0} (entries : List Entry) (variables : Variables) (s template given looked : List ℕ)
-    (filled : Result T Refusal) (unreadable faults others : List Fault) → AreVariablesOf variables entries
-    → IsShellTemplateFor s template → given ≡ template → looked ≡ template
-    → IfErr filled (λ refusal. IsSomeAnd (error_fault refusal.first)
-    (λ f. Answers given (look_with FaultIfEmpty (value_under variables.values)) (Refuses f)))
-    → All (IsUnreadableIn entries looked) unreadable
-    → Any (λ it. (x : Fault) × IsToldOf filled unreadable x × (it ≡ moved (origin_in None) x)) faults
-    → map cause_of others ≡ map cause_of faults → Any (IsFaultOf Shell entries s) others
-shell_stated entries variables s template given looked filled unreadable faults others are stands same too refuses
-    each told causes =
-    any_weaker _ (IsFaultOf Shell entries s) (λ other (it, (x, from, is), cause). inr (
-      template,
-      stands,
-      x,
-      stated entries template _ _ filled unreadable x (ap (look_with FaultIfEmpty) are.values)
-          (rw same at refuses) (rw too at each) from,
-      cause ∙ ap cause_of is,
-    )) others (caused _ faults others causes told)

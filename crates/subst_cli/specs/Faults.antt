@@ -1,5 +1,5 @@
 -- What is said of a text or byte string that gives nothing.
-use Rattle.std.specs.Prelude.{◌≡◌, ◌⊎◌, ℕ, Bool, false, List, Some, IsSomeAnd, IsUtf8, Result, Err, string_bytes}
+use Rattle.std.specs.Prelude.{◌≡◌, ◌⊎◌, ℕ, Bool, false, List, Some, IsSomeAnd, IsUtf8, string_bytes}
 use Rattle.std.specs.List.{Contains}
 use Rattle.std.specs.Str.{IsValidUpTo}
 use Rattle.subst.specs.ErrorFault.{error_fault}
@@ -19,6 +19,7 @@ use Rattle.subst_cli.specs.declared.fault.Cause.TheVariants.{Refused, Unreadable
 use Rattle.subst_cli.specs.declared.fault.Fault.{Fault}
 use Rattle.subst_cli.specs.declared.fill.Refusal.{Refusal}
 use Rattle.subst_cli.specs.declared.layers.Variables.{Variables}
+use Rattle.subst_cli.specs.declared.options.Missing.{Missing}
 use Rattle.subst_cli.specs.declared.options.Placeholders.{Placeholders}
 use Rattle.subst_cli.specs.declared.options.Placeholders.TheVariants.{Shell}
 use Rattle.subst_foreign.specs.declared.shell_error.ShellError.TheVariants as errors
@@ -58,12 +59,16 @@ abbrev pub IsMovedTo : Placeholders → List ℕ → Fault → Fault → Type 0
 IsMovedTo Shell template x it = it.cause ≡ x.cause
 IsMovedTo placeholders template x it = it ≡ moved (origin_of placeholders template) x
 
--- It is so of a template that stands for a text or byte string: the library's error states the refusal of that,
--- or the value of a variable in it can't be read; and the fault is where that is in the source.
+-- it is so of a template: the library's error states its refusal, or the value of a variable in it can't be read
+abbrev pub IsFaultBy : Missing → List Entry → List ℕ → Fault → Type 0
+IsFaultBy missing entries template it =
+    IsRefusedAt (look_with missing (look_up_in entries)) template it.cause it.range.start
+    ⊎ IsUnreadableIn entries template it
+
+-- it is so of a template that stands for a text or byte string, and the fault is where that is in the source
 abbrev pub IsFaultByTemplate : Placeholders → List Entry → List ℕ → Fault → Type 0
 IsFaultByTemplate placeholders entries s it = (template : List ℕ) × StandsFor placeholders entries s template
-    × (x : Fault) × (IsRefusedAt (look_with (missing_in placeholders) (look_up_in entries)) template x.cause
-    x.range.start ⊎ IsUnreadableIn entries template x) × IsMovedTo placeholders template x it
+    × (x : Fault) × IsFaultBy (missing_in placeholders) entries template x × IsMovedTo placeholders template x it
 
 -- it is that a form of a shell can't be given, which begins where the fault does
 abbrev pub IsFormAt : List ℕ → Cause → ℕ → Type 0
@@ -92,11 +97,6 @@ IsFaulty placeholders entries s = (it : Fault) × IsFaultOf placeholders entries
 abbrev pub IsFirstOf : Refusal → Fault → Type 0
 IsFirstOf refusal it = (it.cause ≡ Refused refusal.first)
     × (it.range.start ≡ (range_of (error_fault refusal.first)).start)
-
--- it is one of these faults, or the first error of what was refused
-abbrev pub IsToldOf : {T : Type 0} → Result T Refusal → List Fault → Fault → Type 0
-IsToldOf filled unreadable it =
-    ((refusal : Refusal) × (filled ≡ Err refusal) × IsFirstOf refusal it) ⊎ Contains unreadable it
 
 -- it is that a variable is missing, whose value can't be read
 abbrev pub lacks_unreadable : Variables → Error → Bool

@@ -82,12 +82,15 @@ AreSplit template offset place = (offset ≤ length template) × ((at : ℕ) →
 abbrev pub Agrees : List Entry → LookUp → Type 0
 Agrees entries look = (name : List ℕ) → ¬ (IsUnreadable entries name) → look name ≡ look_up_in entries name
 
--- The source gives the output: a template that stands for it does, whatever the names have whose values can't
--- be read.
+-- the template gives the output, whatever the names have whose values can't be read
+abbrev pub GivesBy : Missing → List Entry → List ℕ → List ℕ → Type 0
+GivesBy missing entries template output =
+    (look : LookUp) → Agrees entries look → Answers template (look_with missing look) (Gives output)
+
+-- the source gives the output: a template that stands for it does
 abbrev pub GivesFor : Placeholders → List Entry → List ℕ → List ℕ → Type 0
 GivesFor placeholders entries s output = (template : List ℕ) × StandsFor placeholders entries s template
-    × ((look : LookUp) → Agrees entries look
-    → Answers template (look_with (missing_in placeholders) look) (Gives output))
+    × GivesBy (missing_in placeholders) entries template output
 
 -- each name in the template can be read
 abbrev pub AreReadable : List Entry → List ℕ → Type 0

@@ -112,3 +112,7 @@ IsKnownBy (Some variables) name =
 pub record AreVariablesOf (variables : Variables) (entries : List Entry) : Type 0 where
   pub values : value_under variables.values ≡ look_up_in entries
   pub unreadable : has_unreadable variables ≡ is_unreadable entries
+
+-- it is so of whatever entries give the variables
+abbrev pub ForEntries : Variables → (List Entry → Type 0) → Type 0
+ForEntries variables IsSo = (entries : List Entry) → AreVariablesOf variables entries → IsSo entries

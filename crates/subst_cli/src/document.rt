@@ -12,7 +12,7 @@ ghost use Rattle.subst_cli.specs.declared.fault.Cause.TheVariants as cause;
 ghost use Rattle.subst_cli.specs.declared.fault.Fault.{Fault as SpecFault};
 
 use crate::fault::{Cause, Fault, one_fault};
-use crate::part::{Occurrence, Outcome, uses_in_text};
+use crate::part::{Occurrence, Outcome, uses_in_bytes};
 pub(crate) use filler::StringFiller;
 pub use format::Format;
 use format::{Finder, RefusedAt, Unfilled};
@@ -68,7 +68,7 @@ pub(crate) fn uses(
     let mut finder = Finder::new(alloc, format);
     let mut all = Vec::new(alloc);
     for StringAt { text: string, span } in strings {
-        match uses_in_text(alloc, &string, filler.placeholders)? {
+        match uses_in_bytes(alloc, string.as_bytes(), filler.placeholders)? {
             Ok(uses) => add_uses(alloc, &mut finder, text, span, uses, &mut all)?,
             Err(_) => return Ok(Err(faults_in(alloc, format, text, filler)?)),
         }

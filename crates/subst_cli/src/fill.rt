@@ -1,6 +1,6 @@
-//! Filling in one text or byte string, or telling what is wrong with it.
+//! Filling in one byte string, or telling what is wrong with it.
 
-ghost use Rattle.std.specs.Prelude.{◌<◌, ◌^◌, ℕ, List, IfOk, IfErr, IsSomeAnd, string_bytes};
+ghost use Rattle.std.specs.Prelude.{◌<◌, ◌^◌, ℕ, List, IfOk, IfErr, IsSomeAnd};
 ghost use Rattle.subst.specs.ErrorFault.{error_fault};
 ghost use Rattle.subst.specs.Language.Answer.{Answers, Gives, Refuses};
 ghost use Rattle.subst.specs.Range.{range_of};
@@ -9,7 +9,7 @@ ghost use Rattle.subst_cli.specs.Fill.{seen};
 use crate::options::Missing;
 use std::alloc::{AllocError, Global};
 use subst::error::{NoSuchVariable, ParseError};
-use subst::{ByteTemplate, Error, VariableMap, substitute, substitute_bytes};
+use subst::{ByteTemplate, Error, VariableMap, substitute_bytes};
 use subst_filter_lib::values::Values;
 
 /// Values as a source sees them.
@@ -53,35 +53,7 @@ pub(crate) struct Refusal {
 }
 
 /// What a source gives, or why it gives nothing.
-pub(crate) type Filled<T> = Result<T, Refusal>;
-
-/// Returns a text with its variables filled in, or why it is refused.
-///
-/// # Errors
-///
-/// When allocation fails.
-pub(crate) fn text(
-    alloc: Global,
-    source: &str,
-    values: &Seen<'_, '_>,
-) -> Result<Filled<String>, AllocError>
-    ensures gives { IfOk result (λ filled. IfOk filled
-        (λ text. Answers source.now (seen values.now) (Gives (string_bytes text)))) }
-    ensures refuses { IfOk result (λ filled. IfErr filled
-        (λ refusal. IsSomeAnd (error_fault refusal.first)
-        (λ f. Answers source.now (seen values.now) (Refuses f)))) }
-{
-    match substitute(alloc, source, values) {
-        Ok(filled) => Ok(Ok(filled)),
-        Err(first) => {
-            if let Error::OutOfMemory(e) = first {
-                return Err(e);
-            }
-            let others = others_missing(alloc, source.as_bytes(), values)?;
-            Ok(Err(Refusal { first, others }))
-        }
-    }
-}
+pub(crate) type Filled = Result<Vec<u8>, Refusal>;
 
 /// Returns bytes with their variables filled in, or why they are refused.
 ///
@@ -92,7 +64,7 @@ pub(crate) fn bytes(
     alloc: Global,
     source: &[u8],
     values: &Seen<'_, '_>,
-) -> Result<Filled<Vec<u8>>, AllocError>
+) -> Result<Filled, AllocError>
     ensures gives { IfOk result (λ filled. IfOk filled
         (λ output. Answers source.now (seen values.now) (Gives output.items))) }
     ensures refuses { IfOk result (λ filled. IfErr filled

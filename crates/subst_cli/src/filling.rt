@@ -1,10 +1,10 @@
 //! Sources filled in: what each gives, or why it gives nothing. No file is read or written here.
 
 ghost use Rattle.std.specs.Prelude.{◌≡◌, ◌++◌, ◌∷◌, [], ◌⊎◌, ℕ, List, IfErr, IfOk, IsTrue, OnOk, filter, if◌then◌else◌, map, not, string_bytes, vec_items};
-ghost use Rattle.std.specs.List.{All, Any};
-ghost use Rattle.subst_cli.specs.Fill.{AreOutputs, IsFilled, IsOutput};
-ghost use Rattle.subst_cli.specs.Layers.{Entry as SpecEntry, AreVariablesOf, entries_of, environment_of, is_empty};
-ghost use Rattle.subst_cli.specs.Run.{bytes_of, entries_for, IsFaultIn, IsRefusalOf, StatesFault};
+ghost use Rattle.std.specs.List.{All};
+ghost use Rattle.subst_cli.specs.Fill.{AreOutputs, IsOutput};
+ghost use Rattle.subst_cli.specs.Layers.{Entry as SpecEntry, ForEntries, entries_of, environment_of, is_empty};
+ghost use Rattle.subst_cli.specs.Run.{bytes_of, entries_for, IsRefusalOf, StatesFault};
 ghost use Rattle.subst_cli.specs.Strings.{FillsFrom};
 ghost use Rattle.subst_cli.specs.declared.source.Refused.{Refused as SpecRefused};
 
@@ -12,7 +12,7 @@ use crate::document::StringFiller;
 use crate::entry::Entry;
 use crate::layers::{Layers, Variables, given, in_order, with_escaped_values, without_empty};
 use crate::options::{InputFormat, Options, Placeholders};
-use crate::part::{Occurrence, Outcome, fill_bytes, fill_text, uses_in_bytes, uses_in_text};
+use crate::part::{Occurrence, Outcome, fill_bytes, uses_in_bytes};
 use crate::placeholders::has_no_dollar;
 use crate::source::{Refused, Source};
 use crate::text::{is_text, not_utf8, split_source, text_of};
@@ -125,13 +125,13 @@ impl<'r, 'w, 'v> Filling<'r, 'w, 'v> {
     ///
     /// When allocation fails.
     pub fn fill_all(&self, alloc: Global, sources: Vec<Source>) -> Result<Outputs, AllocError>
-        ensures gives { (entries : List SpecEntry) → AreVariablesOf self.now.variables entries
-            → IfOk result (λ outputs. IfOk outputs (λ all. AreOutputs self.now.form
-            self.now.placeholders.now entries (map bytes_of sources.items) all.items)) }
-        ensures refused { (entries : List SpecEntry) → AreVariablesOf self.now.variables entries
-            → IfOk result (λ outputs. IfErr outputs (λ refused. (¬ (refused.items ≡ []))
+        ensures gives { ForEntries self.now.variables (λ entries. IfOk result (λ outputs.
+            IfOk outputs (λ all. AreOutputs self.now.form self.now.placeholders.now entries
+            (map bytes_of sources.items) all.items))) }
+        ensures refused { ForEntries self.now.variables (λ entries. IfOk result (λ outputs.
+            IfErr outputs (λ refused. (¬ (refused.items ≡ []))
             × All (IsRefusalOf self.now.form self.now.placeholders.now entries
-            (map bytes_of sources.items)) refused.items)) }
+            (map bytes_of sources.items)) refused.items))) }
     {
         let mut all = Vec::new(alloc);
         let mut refused = Vec::new(alloc);
@@ -153,12 +153,11 @@ impl<'r, 'w, 'v> Filling<'r, 'w, 'v> {
         all: &mut Vec<u8>,
         refused: &mut Vec<Refused>,
     ) -> Result<(), AllocError>
-        ensures { (entries : List SpecEntry) → AreVariablesOf self.now.variables entries
-            → OnOk result (((x : List ℕ)
+        ensures { ForEntries self.now.variables (λ entries. OnOk result (((x : List ℕ)
             × IsOutput self.now.form self.now.placeholders.now entries source.bytes.items x
             × (all.new.items ≡ all.old.items ++ x) × (refused.new.items ≡ refused.old.items))
             ⊎ ((it : SpecRefused) × IsRefusalOf self.now.form self.now.placeholders.now entries
-            (source.bytes.items ∷ []) it × (refused.new.items ≡ refused.old.items ++ it ∷ []))) }
+            (source.bytes.items ∷ []) it × (refused.new.items ≡ refused.old.items ++ it ∷ [])))) }
     {
         if self.is_its_own_output(&source.bytes) {
             return append(all, source.bytes);
@@ -191,12 +190,12 @@ impl<'r, 'w, 'v> Filling<'r, 'w, 'v> {
     ///
     /// When allocation fails.
     pub fn fill(&self, alloc: Global, source: &[u8]) -> Result<Outcome<Vec<u8>>, AllocError>
-        ensures gives { (entries : List SpecEntry) → AreVariablesOf self.now.variables entries
-            → IfOk result (λ outcome. IfOk outcome (λ output. IsOutput self.now.form
-            self.now.placeholders.now entries source.now output.items)) }
-        ensures refused { (entries : List SpecEntry) → AreVariablesOf self.now.variables entries
-            → IfOk result (λ outcome. IfErr outcome (λ faults. StatesFault self.now.form
-            self.now.placeholders.now entries source.now faults.items)) }
+        ensures gives { ForEntries self.now.variables (λ entries. IfOk result (λ outcome.
+            IfOk outcome (λ output. IsOutput self.now.form self.now.placeholders.now entries
+            source.now output.items))) }
+        ensures refused { ForEntries self.now.variables (λ entries. IfOk result (λ outcome.
+            IfErr outcome (λ faults. StatesFault self.now.form self.now.placeholders.now entries
+            source.now faults.items))) }
     {
         let (kept, filled) = split_source(self.form, source);
         if let InputFormat::Bytes = self.form {
@@ -205,34 +204,19 @@ impl<'r, 'w, 'v> Filling<'r, 'w, 'v> {
         let Some(text) = text_of(filled) else {
             return Ok(Err(not_utf8(alloc, filled)?));
         };
-        match self.fill_str(alloc, text)? {
+        let InputFormat::Document(format) = self.form else {
+            return fill_bytes(alloc, filled, self.placeholders, &self.variables);
+        };
+        match document::fill(alloc, format, text, &self.filler())? {
             Ok(output) => Ok(Ok(after(alloc, kept, output)?)),
             Err(faults) => Ok(Err(faults)),
-        }
-    }
-
-    /// Returns what a text gives that is filled in, or its faults.
-    fn fill_str(&self, alloc: Global, text: &str) -> Result<Outcome<String>, AllocError>
-        ensures gives { (entries : List SpecEntry) → AreVariablesOf self.now.variables entries
-            → IfOk result (λ outcome. IfOk outcome (λ output. IsFilled self.now.form
-            self.now.placeholders.now entries text.now (string_bytes output))) }
-        ensures refused { (entries : List SpecEntry) → AreVariablesOf self.now.variables entries
-            → IfOk result (λ outcome. IfErr outcome (λ faults. Any (IsFaultIn self.now.form
-            self.now.placeholders.now entries text.now) faults.items)) }
-    {
-        match self.form {
-            InputFormat::Document(format) => document::fill(alloc, format, text, &self.filler()),
-            InputFormat::Text | InputFormat::Bytes => {
-                fill_text(alloc, text, self.placeholders, &self.variables)
-            }
         }
     }
 
     /// Returns how strings of documents are filled in.
     fn filler(&self) -> StringFiller<'_, 'w, 'v>
         ensures placeholders { result.placeholders.now ≡ self.now.placeholders.now }
-        ensures variables { (entries : List SpecEntry) → AreVariablesOf self.now.variables entries
-            → FillsFrom result entries }
+        ensures variables { ForEntries self.now.variables (FillsFrom result) }
     {
         StringFiller {
             placeholders: self.placeholders,
@@ -253,7 +237,7 @@ fn append(all: &mut Vec<u8>, output: Vec<u8>) -> Result<(), AllocError>
     }
 }
 
-/// Returns what a text gives, after what comes before it.
+/// Returns what a document gives, after what comes before it.
 fn after(alloc: Global, kept: &[u8], output: String) -> Result<Vec<u8>, AllocError>
     ensures { IfOk result (λ bytes. bytes.items ≡ kept.now ++ string_bytes output) }
 {
@@ -279,12 +263,12 @@ pub(crate) fn uses(
     let Some(text) = text_of(filled) else {
         return Ok(Err(not_utf8(alloc, filled)?));
     };
+    let InputFormat::Document(format) = options.form else {
+        return uses_in_bytes(alloc, filled, placeholders);
+    };
     let filler = StringFiller {
         placeholders,
         variables: None,
     };
-    match options.form {
-        InputFormat::Document(format) => document::uses(alloc, format, text, &filler),
-        InputFormat::Text | InputFormat::Bytes => uses_in_text(alloc, text, placeholders),
-    }
+    document::uses(alloc, format, text, &filler)
 }

@@ -1,7 +1,7 @@
 //! The program `subst`: fills in the variables of files, or of its standard input.
 //!
 //! `subst [OPTIONS] [FILE]..`: its words are those of [`options`], and its statuses those of the filter. The
-//! stored run beside it fills in a greeting; the scripts run all else.
+//! stored run beside it fills in a greeting; the tests in `tests/` run all else.
 #![tactic(auto)]
 
 mod document;

@@ -1,23 +1,23 @@
 //! A text or byte string of a source: a source itself, or a string of a document.
 
-ghost use Rattle.std.specs.Prelude.{◌≡◌, ◌≢◌, ◌⊎◌, [], ℕ, List, None, Ok, IfErr, IfOk, map, string_bytes};
+ghost use Rattle.std.specs.Prelude.{◌≡◌, ◌≢◌, ◌⊎◌, [], ℕ, List, None, IfErr, IfOk, map};
 ghost use Rattle.std.specs.List.{All, Any, Contains};
 ghost use Rattle.subst.specs.Calls.Variables.{variable_of};
 ghost use Rattle.subst.specs.ErrorFault.{parse_fault};
 ghost use Rattle.subst.specs.Shell.{RefusesShell};
-ghost use Rattle.subst_cli.specs.Faults.{cause_of, lacks_unreadable, moved, IsFaultOf, IsFormIn, IsFirstOf, IsToldOf, IsUnreadableAmong, IsUnreadableAt, IsUnreadableIn};
-ghost use Rattle.subst_cli.specs.Fill.{origin_in, AreReadable, GivesFor};
-ghost use Rattle.subst_cli.specs.Layers.{Entry, AreVariablesOf, IsUnreadable};
+ghost use Rattle.subst_cli.specs.Faults.{cause_of, lacks_unreadable, moved, IsFaultBy, IsFaultOf, IsFormIn, IsFirstOf, IsUnreadableAmong, IsUnreadableAt, IsUnreadableIn};
+ghost use Rattle.subst_cli.specs.Fill.{origin_in, AreReadable, GivesBy, GivesFor};
+ghost use Rattle.subst_cli.specs.Layers.{ForEntries, IsUnreadable};
 ghost use Rattle.subst_cli.specs.declared.fault.Cause.TheVariants as causes;
 ghost use Rattle.subst_cli.specs.declared.fault.Fault.{Fault as SpecFault};
 ghost use Rattle.subst_cli.specs.declared.options.Placeholders.TheVariants as kinds;
 
 use crate::fault::{Cause, Fault, one_fault, range_of_name};
 use crate::fill;
-use crate::fill::{Filled, Refusal, Seen};
+use crate::fill::{Refusal, Seen};
 use crate::layers::Variables;
 use crate::options::{Choice, Missing, Placeholders};
-use crate::placeholders::{Origins, byte_template_of, template_of};
+use crate::placeholders::{Origins, byte_template_of};
 use crate::shell::{place_among, shell_places};
 use std::alloc::{AllocError, Global};
 use std::ops::Range;
@@ -27,101 +27,6 @@ use subst::{ByteTemplate, Error, Variable, VariableKind, foreign};
 
 /// What a part gives, or its faults in the order of their places.
 pub(crate) type Outcome<T> = Result<T, Vec<Fault>>;
-
-/// Returns a text with its variables filled in, or its faults.
-///
-/// # Errors
-///
-/// When allocation fails.
-pub(crate) fn fill_text(
-    alloc: Global,
-    text: &str,
-    placeholders: &Placeholders<'_>,
-    variables: &Variables<'_>,
-) -> Result<Outcome<String>, AllocError>
-    ensures gives { (entries : List Entry) → AreVariablesOf variables.now entries
-        → IfOk result (λ outcome. IfOk outcome
-        (λ output. GivesFor placeholders.now entries text.now (string_bytes output))) }
-    ensures refused { (entries : List Entry) → AreVariablesOf variables.now entries
-        → IfOk result (λ outcome. IfErr outcome
-        (λ faults. Any (IsFaultOf placeholders.now entries text.now) faults.items)) }
-{
-    match placeholders {
-        Placeholders::Own => fill_own_text(alloc, text, variables),
-        Placeholders::Chosen(choice, missing) => {
-            fill_chosen_text(alloc, text, choice, *missing, variables)
-        }
-        Placeholders::Shell => fill_shell_text(alloc, text, variables),
-    }
-}
-
-/// Returns a text with the language's own variables filled in, or its faults.
-fn fill_own_text(
-    alloc: Global,
-    text: &str,
-    variables: &Variables<'_>,
-) -> Result<Outcome<String>, AllocError>
-    ensures gives { (entries : List Entry) → AreVariablesOf variables.now entries
-        → IfOk result (λ outcome. IfOk outcome
-        (λ output. GivesFor kinds.Own entries text.now (string_bytes output))) }
-    ensures refused { (entries : List Entry) → AreVariablesOf variables.now entries
-        → IfOk result (λ outcome. IfErr outcome
-        (λ faults. Any (IsFaultOf kinds.Own entries text.now) faults.items)) }
-{
-    let filled = fill::text(alloc, text, &seen(variables, Missing::Fault))?;
-    let unreadable = unreadable_in(alloc, text.as_bytes(), variables)?;
-    outcome(alloc, filled, unreadable, variables, None)
-}
-
-/// Returns a text with the variables of chosen names filled in, or its faults.
-fn fill_chosen_text(
-    alloc: Global,
-    text: &str,
-    choice: &Choice<'_>,
-    missing: Missing,
-    variables: &Variables<'_>,
-) -> Result<Outcome<String>, AllocError>
-    ensures gives { (entries : List Entry) → AreVariablesOf variables.now entries
-        → IfOk result (λ outcome. IfOk outcome
-        (λ output. GivesFor (kinds.Chosen choice.now missing) entries text.now
-        (string_bytes output))) }
-    ensures refused { (entries : List Entry) → AreVariablesOf variables.now entries
-        → IfOk result (λ outcome. IfErr outcome
-        (λ faults. Any (IsFaultOf (kinds.Chosen choice.now missing) entries text.now)
-        faults.items)) }
-{
-    let template = template_of(alloc, text, choice, Some(variables))?;
-    let filled = fill::text(alloc, &template, &seen(variables, missing))?;
-    let made = template.as_bytes();
-    let unreadable = unreadable_in(alloc, made, variables)?;
-    outcome(alloc, filled, unreadable, variables, Some(made))
-}
-
-/// Returns a text with the variables of a shell filled in, or its faults.
-fn fill_shell_text(
-    alloc: Global,
-    text: &str,
-    variables: &Variables<'_>,
-) -> Result<Outcome<String>, AllocError>
-    ensures gives { (entries : List Entry) → AreVariablesOf variables.now entries
-        → IfOk result (λ outcome. IfOk outcome
-        (λ output. GivesFor kinds.Shell entries text.now (string_bytes output))) }
-    ensures refused { (entries : List Entry) → AreVariablesOf variables.now entries
-        → IfOk result (λ outcome. IfErr outcome
-        (λ faults. Any (IsFaultOf kinds.Shell entries text.now) faults.items)) }
-{
-    let template = match foreign::from_shell(alloc, text) {
-        Ok(template) => template,
-        Err(e) => return Ok(Err(refused_form(alloc, e)?)),
-    };
-    let filled = fill::text(alloc, &template, &seen(variables, Missing::FaultIfEmpty))?;
-    let made = template.as_bytes();
-    let unreadable = unreadable_in(alloc, made, variables)?;
-    match outcome(alloc, filled, unreadable, variables, None)? {
-        Ok(output) => Ok(Ok(output)),
-        Err(faults) => Ok(Err(in_shell(alloc, text.as_bytes(), made, faults)?)),
-    }
-}
 
 /// Returns bytes with their variables filled in, or their faults.
 ///
@@ -134,87 +39,65 @@ pub(crate) fn fill_bytes(
     placeholders: &Placeholders<'_>,
     variables: &Variables<'_>,
 ) -> Result<Outcome<Vec<u8>>, AllocError>
-    ensures gives { (entries : List Entry) → AreVariablesOf variables.now entries
-        → IfOk result (λ outcome. IfOk outcome
-        (λ output. GivesFor placeholders.now entries source.now output.items)) }
-    ensures refused { (entries : List Entry) → AreVariablesOf variables.now entries
-        → IfOk result (λ outcome. IfErr outcome
-        (λ faults. Any (IsFaultOf placeholders.now entries source.now) faults.items)) }
+    ensures gives { ForEntries variables.now (λ entries. IfOk result (λ outcome. IfOk outcome
+        (λ output. GivesFor placeholders.now entries source.now output.items))) }
+    ensures refused { ForEntries variables.now (λ entries. IfOk result (λ outcome. IfErr outcome
+        (λ faults. Any (IsFaultOf placeholders.now entries source.now) faults.items))) }
 {
     match placeholders {
-        Placeholders::Own => fill_own_bytes(alloc, source, variables),
+        Placeholders::Own => fill_template(alloc, source, None, Missing::Fault, variables),
         Placeholders::Chosen(choice, missing) => {
-            fill_chosen_bytes(alloc, source, choice, *missing, variables)
+            let made = byte_template_of(alloc, source, choice, Some(variables))?;
+            fill_template(alloc, &made, Some(&made), *missing, variables)
         }
-        Placeholders::Shell => fill_shell_bytes(alloc, source, variables),
+        Placeholders::Shell => fill_shell(alloc, source, variables),
     }
-}
-
-/// Returns bytes with the language's own variables filled in, or their faults.
-fn fill_own_bytes(
-    alloc: Global,
-    source: &[u8],
-    variables: &Variables<'_>,
-) -> Result<Outcome<Vec<u8>>, AllocError>
-    ensures gives { (entries : List Entry) → AreVariablesOf variables.now entries
-        → IfOk result (λ outcome. IfOk outcome
-        (λ output. GivesFor kinds.Own entries source.now output.items)) }
-    ensures refused { (entries : List Entry) → AreVariablesOf variables.now entries
-        → IfOk result (λ outcome. IfErr outcome
-        (λ faults. Any (IsFaultOf kinds.Own entries source.now) faults.items)) }
-{
-    let filled = fill::bytes(alloc, source, &seen(variables, Missing::Fault))?;
-    let unreadable = unreadable_in(alloc, source, variables)?;
-    outcome(alloc, filled, unreadable, variables, None)
-}
-
-/// Returns bytes with the variables of chosen names filled in, or their faults.
-fn fill_chosen_bytes(
-    alloc: Global,
-    source: &[u8],
-    choice: &Choice<'_>,
-    missing: Missing,
-    variables: &Variables<'_>,
-) -> Result<Outcome<Vec<u8>>, AllocError>
-    ensures gives { (entries : List Entry) → AreVariablesOf variables.now entries
-        → IfOk result (λ outcome. IfOk outcome
-        (λ output. GivesFor (kinds.Chosen choice.now missing) entries source.now output.items)) }
-    ensures refused { (entries : List Entry) → AreVariablesOf variables.now entries
-        → IfOk result (λ outcome. IfErr outcome
-        (λ faults. Any (IsFaultOf (kinds.Chosen choice.now missing) entries source.now)
-        faults.items)) }
-{
-    let template = byte_template_of(alloc, source, choice, Some(variables))?;
-    let filled = fill::bytes(alloc, &template, &seen(variables, missing))?;
-    let made = template.as_slice();
-    let unreadable = unreadable_in(alloc, made, variables)?;
-    outcome(alloc, filled, unreadable, variables, Some(made))
 }
 
 /// Returns bytes with the variables of a shell filled in, or their faults.
-fn fill_shell_bytes(
+fn fill_shell(
     alloc: Global,
     source: &[u8],
     variables: &Variables<'_>,
 ) -> Result<Outcome<Vec<u8>>, AllocError>
-    ensures gives { (entries : List Entry) → AreVariablesOf variables.now entries
-        → IfOk result (λ outcome. IfOk outcome
-        (λ output. GivesFor kinds.Shell entries source.now output.items)) }
-    ensures refused { (entries : List Entry) → AreVariablesOf variables.now entries
-        → IfOk result (λ outcome. IfErr outcome
-        (λ faults. Any (IsFaultOf kinds.Shell entries source.now) faults.items)) }
+    ensures gives { ForEntries variables.now (λ entries. IfOk result (λ outcome. IfOk outcome
+        (λ output. GivesFor kinds.Shell entries source.now output.items))) }
+    ensures refused { ForEntries variables.now (λ entries. IfOk result (λ outcome. IfErr outcome
+        (λ faults. Any (IsFaultOf kinds.Shell entries source.now) faults.items))) }
 {
-    let template = match foreign::bytes_from_shell(alloc, source) {
+    let made = match foreign::bytes_from_shell(alloc, source) {
         Ok(template) => template,
         Err(e) => return Ok(Err(refused_form(alloc, e)?)),
     };
-    let filled = fill::bytes(alloc, &template, &seen(variables, Missing::FaultIfEmpty))?;
-    let made = template.as_slice();
-    let unreadable = unreadable_in(alloc, made, variables)?;
-    match outcome(alloc, filled, unreadable, variables, None)? {
+    match fill_template(alloc, &made, None, Missing::FaultIfEmpty, variables)? {
         Ok(output) => Ok(Ok(output)),
-        Err(faults) => Ok(Err(in_shell(alloc, source, made, faults)?)),
+        Err(faults) => Ok(Err(in_shell(alloc, source, &made, faults)?)),
     }
+}
+
+/// Returns a template with its variables filled in, or its faults. If it was made for a text, it is `converted`
+/// too, and its faults are where they are in that text.
+fn fill_template(
+    alloc: Global,
+    template: &[u8],
+    converted: Option<&[u8]>,
+    missing: Missing,
+    variables: &Variables<'_>,
+) -> Result<Outcome<Vec<u8>>, AllocError>
+    ensures gives { ForEntries variables.now (λ entries. IfOk result (λ outcome. IfOk outcome
+        (λ output. GivesBy missing entries template.now output.items))) }
+    ensures refused { ForEntries variables.now (λ entries. IfOk result (λ outcome. IfErr outcome
+        (λ faults. Any (λ it. (x : SpecFault) × IsFaultBy missing entries template.now x
+        × (it ≡ moved (origin_in converted.entry) x)) faults.items))) }
+{
+    let filled = fill::bytes(alloc, template, &seen(variables, missing))?;
+    let unreadable = unreadable_in(alloc, template, variables)?;
+    let faults = match filled {
+        Ok(output) if unreadable.is_empty() => return Ok(Ok(output)),
+        Ok(_) => unreadable,
+        Err(refusal) => all_faults(alloc, refusal, unreadable, variables)?,
+    };
+    Ok(Err(at_origins(faults, converted)))
 }
 
 /// Returns the fault of a text with a form of a shell that can't be given.
@@ -285,10 +168,10 @@ fn unreadable_in(
     template: &[u8],
     variables: &Variables<'_>,
 ) -> Result<Vec<Fault>, AllocError>
-    ensures all { (entries : List Entry) → AreVariablesOf variables.now entries
-        → IfOk result (λ faults. faults.items ≡ [] → AreReadable entries template.now) }
-    ensures each { (entries : List Entry) → AreVariablesOf variables.now entries
-        → IfOk result (λ faults. All (IsUnreadableIn entries template.now) faults.items) }
+    ensures all { ForEntries variables.now (λ entries. IfOk result
+        (λ faults. faults.items ≡ [] → AreReadable entries template.now)) }
+    ensures each { ForEntries variables.now (λ entries. IfOk result
+        (λ faults. All (IsUnreadableIn entries template.now) faults.items)) }
 {
     if variables.are_readable() {
         return Ok(Vec::new(alloc));
@@ -325,12 +208,10 @@ fn unreadable_of(
     list: Vec<Variable<'_>>,
     variables: &Variables<'_>,
 ) -> Result<Vec<Fault>, AllocError>
-    ensures all { (entries : List Entry) → AreVariablesOf variables.now entries
-        → IfOk result (λ faults. faults.items ≡ []
-        → All (λ it. ¬ (IsUnreadable entries it.name.now)) list.entry.items) }
-    ensures each { (entries : List Entry) → AreVariablesOf variables.now entries
-        → IfOk result (λ faults. All (IsUnreadableAmong entries (map variable_of list.entry.items))
-        faults.items) }
+    ensures all { ForEntries variables.now (λ entries. IfOk result (λ faults. faults.items ≡ []
+        → All (λ it. ¬ (IsUnreadable entries it.name.now)) list.entry.items)) }
+    ensures each { ForEntries variables.now (λ entries. IfOk result (λ faults.
+        All (IsUnreadableAmong entries (map variable_of list.entry.items)) faults.items)) }
 {
     let mut faults = Vec::new(alloc);
     for variable in list {
@@ -350,32 +231,6 @@ fn unreadable(alloc: Global, position: usize, name: &str) -> Result<Fault, Alloc
         range: range_of_name(position, name),
         cause: Cause::Unreadable(String::from_str(alloc, name)?),
     })
-}
-
-/// Returns what a part gives, for which a template was made, or is itself one; or its faults.
-///
-/// # Errors
-///
-/// When allocation fails.
-fn outcome<T: Drop>(
-    alloc: Global,
-    filled: Filled<T>,
-    unreadable: Vec<Fault>,
-    variables: &Variables<'_>,
-    template: Option<&[u8]>,
-) -> Result<Outcome<T>, AllocError>
-    ensures gives { IfOk result (λ outcome. IfOk outcome
-        (λ output. (filled ≡ Ok output) × (unreadable.items ≡ []))) }
-    ensures refused { IfOk result (λ outcome. IfErr outcome (λ faults. Any
-        (λ it. (x : SpecFault) × IsToldOf filled unreadable.items x
-        × (it ≡ moved (origin_in template.entry) x)) faults.items)) }
-{
-    let faults = match filled {
-        Ok(output) if unreadable.is_empty() => return Ok(Ok(output)),
-        Ok(_) => unreadable,
-        Err(refusal) => all_faults(alloc, refusal, unreadable, variables)?,
-    };
-    Ok(Err(at_origins(faults, template)))
 }
 
 /// Returns these faults of a template where they are in the text that it was made for.
@@ -452,19 +307,6 @@ pub(crate) struct Occurrence {
     pub range: Range<usize>,
     /// What there is in its place where it has no value.
     pub kind: VariableKind,
-}
-
-/// Returns the variables of a text, or its fault.
-///
-/// # Errors
-///
-/// When allocation fails.
-pub(crate) fn uses_in_text(
-    alloc: Global,
-    text: &str,
-    placeholders: &Placeholders<'_>,
-) -> Result<Outcome<Vec<Occurrence>>, AllocError> {
-    uses_in_bytes(alloc, text.as_bytes(), placeholders)
 }
 
 /// Returns the variables of bytes, or their fault.

@@ -1,12 +1,12 @@
 //! Templates for texts in which other placeholders than the language's own are variables.
 
-ghost use Rattle.std.specs.Prelude.{◌≡◌, IfOk, IfSome, IsTrue, List, Some, string_bytes};
+ghost use Rattle.std.specs.Prelude.{◌≡◌, IfOk, IfSome, IsTrue, Some};
 ghost use Rattle.std.specs.List.{All};
 ghost use Rattle.std.specs.Option.{ForSome};
 ghost use Rattle.subst.specs.Language.Bytes.{dollar};
 ghost use Rattle.subst.specs.Foreign.{IsTemplateFor};
 ghost use Rattle.subst_cli.specs.Fill.{origin_in, AreSplit, IsChosen};
-ghost use Rattle.subst_cli.specs.Layers.{Entry, AreVariablesOf};
+ghost use Rattle.subst_cli.specs.Layers.{ForEntries};
 
 use crate::layers::Variables;
 use crate::options::Choice;
@@ -39,30 +39,8 @@ impl Names for KnownNames<'_, '_> {
     }
 }
 
-/// Returns a template for a text in which chosen names are variables. Which are known is asked of the
+/// Returns a template for bytes in which chosen names are variables. Which are known is asked of the
 /// variables.
-///
-/// # Errors
-///
-/// When allocation fails.
-pub(crate) fn template_of(
-    alloc: Global,
-    text: &str,
-    choice: &Choice<'_>,
-    variables: Option<&Variables<'_>>,
-) -> Result<String, AllocError>
-    ensures { IfSome variables.entry (λ variables. (entries : List Entry)
-        → AreVariablesOf variables.now entries → IfOk result (λ template.
-        IsTemplateFor (IsChosen choice.now entries) text.now (string_bytes template))) }
-{
-    match choice {
-        Choice::Envsubst => foreign::with_names(alloc, text, &ShellNames),
-        Choice::Only(names) => foreign::with_names(alloc, text, names),
-        Choice::Known => foreign::with_names(alloc, text, &KnownNames { variables }),
-    }
-}
-
-/// Returns a template for bytes, as [`template_of`].
 ///
 /// # Errors
 ///
@@ -73,9 +51,9 @@ pub(crate) fn byte_template_of(
     choice: &Choice<'_>,
     variables: Option<&Variables<'_>>,
 ) -> Result<Vec<u8>, AllocError>
-    ensures { IfSome variables.entry (λ variables. (entries : List Entry)
-        → AreVariablesOf variables.now entries → IfOk result (λ template.
-        IsTemplateFor (IsChosen choice.now entries) source.now template.items)) }
+    ensures { IfSome variables.entry (λ variables. ForEntries variables.now (λ entries.
+        IfOk result (λ template.
+        IsTemplateFor (IsChosen choice.now entries) source.now template.items))) }
 {
     match choice {
         Choice::Envsubst => foreign::bytes_with_names(alloc, source, &ShellNames),

@@ -39,7 +39,8 @@ pub(crate) fn split_source(form: InputFormat, source: &[u8]) -> (&[u8], &[u8])
 
 /// Returns the text that these bytes are, if they are UTF-8.
 pub(crate) fn text_of(bytes: &[u8]) -> Option<&str>
-    ensures { MatchOption result (¬ (IsUtf8 bytes.now)) (λ text. text.now ≡ bytes.now) }
+    ensures { MatchOption result (¬ (IsUtf8 bytes.now))
+        (λ text. (text.now ≡ bytes.now) × IsUtf8 bytes.now) }
 {
     simdutf8::basic::from_utf8(bytes).ok()
 }

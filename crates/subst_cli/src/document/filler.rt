@@ -1,6 +1,6 @@
 //! How the strings of a document are filled in.
 
-ghost use Rattle.std.specs.Prelude.{◌≡◌, IfOk, Some};
+ghost use Rattle.std.specs.Prelude.{◌≡◌, IfOk, Some, string_bytes};
 ghost use Rattle.subst.specs.ErrorFault.{error_fault};
 ghost use Rattle.subst.specs.Fault as faults;
 ghost use Rattle.subst_cli.specs.Faults.{IsFaultOf};
@@ -9,7 +9,7 @@ ghost use Rattle.subst_cli.specs.Strings.{AreFaults, GivesSome};
 use crate::fault::Fault;
 use crate::layers::Variables;
 use crate::options::Placeholders;
-use crate::part::{fill_text, uses_in_text};
+use crate::part::{fill_bytes, uses_in_bytes};
 use crate::placeholders::has_no_dollar;
 use std::alloc::{AllocError, Global};
 use subst::Error;
@@ -36,9 +36,10 @@ impl StringFiller<'_, '_, '_> {
         ensures { IfOk result (λ faults. AreFaults self.now (GivesSome self.now text.now)
             (λ entries. IsFaultOf self.now.placeholders.now entries text.now) faults.items) }
     {
+        let source = text.as_bytes();
         let faults = match self.variables {
-            Some(variables) => fill_text(alloc, text, self.placeholders, variables)?.err(),
-            None => uses_in_text(alloc, text, self.placeholders)?.err(),
+            Some(variables) => fill_bytes(alloc, source, self.placeholders, variables)?.err(),
+            None => uses_in_bytes(alloc, source, self.placeholders)?.err(),
         };
         Ok(faults.unwrap_or(Vec::new(alloc)))
     }
@@ -52,6 +53,13 @@ fn refused() -> Error
         position: 0,
         len: 0,
     })
+}
+
+/// Returns the output of a text. It is a text too, by `laws::texts_give_texts`, so no test of it fails.
+fn string_of(output: Vec<u8>) -> Result<String, AllocError>
+    ensures { IfOk result (λ text. string_bytes text ≡ output.items) }
+{
+    String::from_utf8(output).map_err(|_| AllocError)
 }
 
 impl Fill for StringFiller<'_, '_, '_> {
@@ -73,8 +81,8 @@ impl Fill for StringFiller<'_, '_, '_> {
         let Some(variables) = self.variables else {
             return Ok(String::from_str(alloc, source)?);
         };
-        match fill_text(alloc, source, self.placeholders, variables)? {
-            Ok(output) => Ok(output),
+        match fill_bytes(alloc, source.as_bytes(), self.placeholders, variables)? {
+            Ok(output) => Ok(string_of(output)?),
             Err(_) => Err(refused()),
         }
     }

@@ -1,9 +1,12 @@
--- A source gives what its text gives, after what is kept of it.
-use Rattle.std.proofs.Common.{refl, string_bytes}
+-- Bytes and a text give what is filled in, and a document so after what is kept of the source.
+use Rattle.std.proofs.Common.{◌≡◌, Any, IfOk, inr, refl, string_bytes}
+use Rattle.std.specs.Prelude.{IfErr}
 use Rattle.subst_cli.specs.Faults.{IsNoText}
+use Rattle.subst_cli.specs.Fill.{IsOutput}
+use Rattle.subst_cli.specs.Mark.{filled_of}
 use Rattle.subst_cli.specs.Run.{IsFaultIn}
 use Rattle.subst_cli.proofs.FaultLemmas.{any_weaker}
-use Rattle.subst_cli.proofs.FillingLemmas.{no_text, weaker_outcome}
+use Rattle.subst_cli.proofs.FillingLemmas.{no_text, of_text, weaker_faults, weaker_outcome}
 use Rattle.subst_cli.proofs.filling.Filling.fill.Goals as goal
 
 pub returns-in-Bytes-clause-gives : goal.returns-in-Bytes-clause-gives
@@ -23,15 +26,37 @@ returns-in_default-text_of-clause-refused c = λ entries are.
     c.in_ok-not_utf8.field-0.items
     (rw c.split_source.ensures.filled at (c.in_ok-not_utf8.ensures c.in_default-text_of.ensures))
 
+pub returns-in_default-form-clause-gives : goal.returns-in_default-form-clause-gives
+returns-in_default-form-clause-gives c = λ entries are.
+    let placeholders = c.args.self.now.placeholders.now in
+    let source = c.args.source.now in
+    of_text c.args.self.now.form (λ form. c.split_source.result.1.now ≡ filled_of form source → IfOk c.fill_bytes-in_default-form.result (λ outcome.
+    IfOk outcome (λ output. IsOutput form placeholders entries source output.items)))
+    c.in_default.not-Bytes c.in_default-form.not-Document (λ same. weaker_outcome c.fill_bytes-in_default-form.result _ _
+    (λ output is. (output.items, refl, (rw same at c.in-Some.ensures.1, is)))
+    (rw same at (c.fill_bytes-in_default-form.ensures.gives entries are))) c.split_source.ensures.filled
+
+pub returns-in_default-form-clause-refused : goal.returns-in_default-form-clause-refused
+returns-in_default-form-clause-refused c = λ entries are.
+    let placeholders = c.args.self.now.placeholders.now in
+    let source = c.args.source.now in
+    of_text c.args.self.now.form (λ form. c.split_source.result.1.now ≡ filled_of form source → IfOk c.fill_bytes-in_default-form.result (λ outcome.
+    IfErr outcome (λ faults. Any (IsFaultIn form placeholders entries (filled_of form source)) faults.items)))
+    c.in_default.not-Bytes c.in_default-form.not-Document (λ same. weaker_faults c.fill_bytes-in_default-form.result _ _
+    (λ faults. any_weaker _ _ (λ it. inr) faults.items)
+    (rw same at (c.fill_bytes-in_default-form.ensures.refused entries are))) c.split_source.ensures.filled
+
 pub returns-in_ok-after-in-Ok-clause-gives : goal.returns-in_ok-after-in-Ok-clause-gives
 returns-in_ok-after-in-Ok-clause-gives c = λ entries are. (
   string_bytes c.in-Ok.output,
   rw c.split_source.ensures.kept at c.in_ok-after-in-Ok.ensures,
-  rw (c.in-Ok.is, c.in-Some.ensures, c.split_source.ensures.filled) at
-      (c.in_ok-output.ensures.gives entries are),
+  rw c.in-Document.is (rw (c.in-Ok.is, c.in-Some.ensures.0, c.split_source.ensures.filled, c.in-Document.is,
+      c.filler.ensures.placeholders) at
+      (c.in_ok-output.ensures.gives entries (c.filler.ensures.variables entries are))),
 )
 
 pub returns-in-Err-clause-refused : goal.returns-in-Err-clause-refused
-returns-in-Err-clause-refused c = λ entries are.
-    rw (c.in-Err.is, c.in-Some.ensures, c.split_source.ensures.filled) at
-    (c.in_ok-output.ensures.refused entries are)
+returns-in-Err-clause-refused c = λ entries are. rw c.in-Document.is (any_weaker _ _ (λ it. inr) _
+    (rw (c.in-Err.is, c.in-Some.ensures.0, c.split_source.ensures.filled, c.in-Document.is,
+    c.filler.ensures.placeholders) at
+    (c.in_ok-output.ensures.refused entries (c.filler.ensures.variables entries are))))

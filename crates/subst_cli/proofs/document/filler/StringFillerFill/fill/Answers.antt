@@ -1,5 +1,5 @@
 -- A string gives what its variables give, or has a fault.
-use Rattle.std.proofs.Common.{string_bytes, subst, arith}
+use Rattle.std.proofs.Common.{subst, arith}
 use Rattle.subst_cli.specs.Faults.{IsFaulty}
 use Rattle.subst_cli.specs.Fill.{GivesFor}
 use Rattle.subst_cli.proofs.document.filler.StringFillerFill.fill.Goals as goal
@@ -8,8 +8,9 @@ pub returns-in-Ok-clause-answer : goal.returns-in-Ok-clause-answer
 returns-in-Ok-clause-answer c = (
   rw c.in-Some.is tt,
   λ entries from.
-      subst (λ text. GivesFor c.args.self.now.placeholders.now entries text (string_bytes c.in-Ok.output)) (cc)
-      (rw c.in-Ok.is at (c.in_ok-output.ensures.gives entries (rw c.in-Some.is at from))),
+      rw c.in_ok-string_of-in-Ok.ensures (
+      subst (λ text. GivesFor c.args.self.now.placeholders.now entries text c.in-Ok.output.items) (cc)
+      (rw c.in-Ok.is at (c.in_ok-output.ensures.gives entries (rw c.in-Some.is at from)))),
 )
 
 pub returns-clause-answer : goal.returns-clause-answer
