@@ -20,7 +20,7 @@
 //!
 //! Variables come from a `BTreeMap`, a `HashMap` or an `IndexMap` with keys `String` or `&str`, from pairs by
 //! an [`Env`], from [`NoSubstitution`], which has none, or from any other [`VariableMap`]. [`Layered`] is two
-//! maps as one, and [`NoEmpty`] a map without its empty values.
+//! maps as one, and [`NoEmpty`] a map without its empty values. [`is_name`] is the test of names.
 //!
 //! [`json`] and [`toml`] read a tree first and then fill in its strings, so no value can break out of its
 //! string.
@@ -31,9 +31,9 @@
 
 pub use subst_error as error;
 pub use subst_error::Error;
-pub use subst_language::{Variable, VariableKind};
 pub use subst_language::{
-    BytesMap, Env, Layered, NeverValue, NoEmpty, NoSubstitution, OneOf, VariableMap,
+    BytesMap, Env, Layered, NeverValue, NoEmpty, NoSubstitution, OneOf, Variable, VariableKind,
+    VariableMap, is_name, name_len,
 };
 pub use subst_template::{
     ByteTemplate, ByteTemplateBuf, Template, TemplateBuf, substitute, substitute_bytes,

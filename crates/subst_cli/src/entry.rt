@@ -6,7 +6,7 @@ ghost use Rattle.subst_cli.specs.Layers as layers;
 ghost use Rattle.subst_cli.specs.Layers.{entry_of};
 
 use std::alloc::{AllocError, Global};
-use subst_language::is_name;
+use subst::is_name;
 
 /// A name and what is given to it.
 #[derive(Drop)]

@@ -6,8 +6,7 @@ use crate::place::{Place, Places};
 use crate::source::Source;
 use memchr::memchr;
 use std::alloc::{AllocError, Global};
-use subst::Error;
-use subst_language::is_name;
+use subst::{Error, is_name};
 
 /// How many bytes of a source are looked at, so that a hint costs nothing in a large one.
 const LOOKED_AT: usize = 1 << 20;

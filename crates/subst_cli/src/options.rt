@@ -7,7 +7,7 @@ use clap::error::ErrorKind;
 use clap::{Arg, ArgAction, ArgMatches, Command, Error};
 use std::alloc::{AllocError, Global};
 use subst::foreign::OnlyNames;
-use subst_language::is_name;
+use subst::is_name;
 
 /// The file that stands for standard input.
 pub const STANDARD_INPUT: &str = "-";

@@ -18,7 +18,7 @@ use std::collections::HashSet;
 use std::io::ErrorKind;
 use std::path::Path;
 use std::{fs, io};
-use subst_language::is_name;
+use subst::is_name;
 
 /// Reads the values files and the environment, and does what the options ask for.
 pub(crate) fn run_options(

@@ -2,9 +2,8 @@
 
 use memchr::memchr;
 use std::alloc::{AllocError, Global};
-use subst::ByteTemplate;
 use subst::error::ParseError;
-use subst_language::name_len;
+use subst::{ByteTemplate, name_len};
 
 /// Returns the positions of the names of a template that was made for a text of a shell, each with that of the
 /// same name in the text: both have them in one order.

@@ -18,9 +18,8 @@ use crate::fault::Cause;
 use std::alloc::{AllocError, Global};
 use std::fmt;
 use std::ops::Range;
-use subst::json::{RangeFinder, ReaderStop};
+use subst::json::{RangeFinder, ReaderStop, RefusalAt, StringAt};
 use subst::{json, toml};
-use subst_walk::{RefusalAt, StringAt};
 
 /// A format of documents.
 #[derive(Clone, Copy, PartialEq, Eq)]

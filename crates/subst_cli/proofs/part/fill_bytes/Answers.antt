@@ -23,8 +23,14 @@ returns-in_ok-made-in-Chosen c =
           (λ output is. (made, stands entries are, is))
           (rw c.deref.ensures.value at (c.fill_template-in-Chosen.ensures.gives entries are));
       refused = λ entries are. weaker_faults c.fill_template-in-Chosen.result _ _ (λ faults. any_weaker _ _
-          (λ it (x, from, is). inr (made, stands entries are, x, from, made_moved c.in-Chosen.choice
-          c.in-Chosen.missing c.deref-in-Chosen.result made c.deref-in-Chosen.ensures.value x it is)) faults.items)
+          (λ it (x, from, is). inr (
+            made,
+            stands entries are,
+            x,
+            from,
+            made_moved c.in-Chosen.choice
+                c.in-Chosen.missing c.deref-in-Chosen.result made c.deref-in-Chosen.ensures.value x it is,
+          )) faults.items)
           (rw c.deref.ensures.value at (c.fill_template-in-Chosen.ensures.refused entries are));
     })
 

@@ -50,13 +50,23 @@ pub returns-in_ok-after-in-Ok-clause-gives : goal.returns-in_ok-after-in-Ok-clau
 returns-in_ok-after-in-Ok-clause-gives c = λ entries are. (
   string_bytes c.in-Ok.output,
   rw c.split_source.ensures.kept at c.in_ok-after-in-Ok.ensures,
-  rw c.in-Document.is (rw (c.in-Ok.is, c.in-Some.ensures.0, c.split_source.ensures.filled, c.in-Document.is,
-      c.filler.ensures.placeholders) at
+  rw c.in-Document.is (rw (
+    c.in-Ok.is,
+    c.in-Some.ensures.0,
+    c.split_source.ensures.filled,
+    c.in-Document.is,
+    c.filler.ensures.placeholders,
+  ) at
       (c.in_ok-output.ensures.gives entries (c.filler.ensures.variables entries are))),
 )
 
 pub returns-in-Err-clause-refused : goal.returns-in-Err-clause-refused
 returns-in-Err-clause-refused c = λ entries are. rw c.in-Document.is (any_weaker _ _ (λ it. inr) _
-    (rw (c.in-Err.is, c.in-Some.ensures.0, c.split_source.ensures.filled, c.in-Document.is,
-    c.filler.ensures.placeholders) at
+    (rw (
+      c.in-Err.is,
+      c.in-Some.ensures.0,
+      c.split_source.ensures.filled,
+      c.in-Document.is,
+      c.filler.ensures.placeholders,
+    ) at
     (c.in_ok-output.ensures.refused entries (c.filler.ensures.variables entries are))))
