@@ -115,9 +115,6 @@ def wider(paths, columns, are_meant):
                 yield f'{path}:{number}: {len(line)} columns, and not {columns}: {line.strip()[:60]}..'
 
 
-# Sizes
-
-
 # What pages name
 
 

@@ -1,23 +1,17 @@
 #!/usr/bin/env python3
 """edits.py [--all] [CRATE | EDIT]..   Tries must-fail edits, many of them with one check.
 
-An edit, crates/X/must-fail/Y.edit.md, is a wrong program that the prover has to refuse. Those that end in .edit are for
-`rt ci`, and tried here only if they are named. Without arguments all edits are tried, but those of a crate whose sum is
-in tests/data/edits-refused.tsv: that of its files and its line in crates.txt, of what it uses, and of the kit. With
---all these are tried too. A crate gets into that list, which nothing else writes, once all its edits are refused, and
-out of it with one that isn't.
+An edit, crates/X/must-fail/Y.edit.md, is a wrong program that the prover has to refuse; those that end in .edit are for
+`rt ci`. Without arguments all are tried, but those of a crate whose sum is in tests/data/edits-refused.tsv: that of its
+files and its line in crates.txt, of what it uses, and of the kit. A crate gets into that list once all its edits are
+refused. Twins, right programs of the same shape, have to be proved; they are tried with --all, or if their edit or
+crate is named.
 
-An edit may have a twin, a right program of the same shape, which has to be proved: a line `twin` after one that begins
-with `new` stands in its place, and pairs without one are left out. It is tried with --all, or if it is named.
-
-An edit or twin whose old text isn't in its file once fails the run at once. Then the crates are proved, over kept work;
-nothing else may run over the tree meanwhile. Edits of different functions are put into one copy of their crate, which
-is checked once. An edit is refused if the check refuses a function that it changes, by name, at something that it owes
-by its contract. One that isn't judged so, since its function waits for the proof of another one for example, is tried
-again without those that are. Once none of a crate is judged they are tried alone, where any function may be the one
-that is refused. Twins share a check that has to prove the whole crate; otherwise each is tried alone. An edit that is
-proved fails the run, and so does a twin that isn't. The last line is 'N passed, M failed, K skipped': skipped are the
-edits of the crates in the list.
+One whose old text isn't in its file once fails the run at once. Then the crates are proved; nothing else may run over
+the tree meanwhile. Edits of different functions are put into one copy of their crate, which is checked once. An edit is
+refused if the check refuses a function that it changes at something that it owes by its contract. One that isn't judged
+is tried again without those that are, and alone, where any function may be refused, once none is judged. The last line
+is 'N passed, M failed, K skipped': skipped are the edits of the crates in the list.
 """
 import argparse
 import collections

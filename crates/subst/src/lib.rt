@@ -23,7 +23,7 @@
 //! maps as one, and [`NoEmpty`] a map without its empty values. [`is_name`] is the test of names.
 //!
 //! [`json`] and [`toml`] read a tree first and then fill in its strings, so no value can break out of its
-//! string.
+//! string. [`Fill`], [`StringAt`] and [`RefusalAt`] are what both have.
 //!
 //! This crate re-exports public items of the crates below it under the names of the Rust crate `subst`, and
 //! has no code of its own.
@@ -39,6 +39,7 @@ pub use subst_template::{
     ByteTemplate, ByteTemplateBuf, Template, TemplateBuf, substitute, substitute_bytes,
     substitute_bytes_into, substitute_bytes_owned, substitute_into, substitute_owned,
 };
+pub use subst_walk::{Fill, RefusalAt, StringAt};
 
 pub mod escape;
 pub mod foreign;

@@ -18,7 +18,7 @@ pub use format::Format;
 use format::{Finder, RefusedAt, Unfilled};
 use std::alloc::{AllocError, Global};
 use std::ops::Range;
-use subst::json::StringAt;
+use subst::StringAt;
 
 mod filler;
 mod format;

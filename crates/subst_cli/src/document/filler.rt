@@ -12,10 +12,9 @@ use crate::options::Placeholders;
 use crate::part::{fill_bytes, uses_in_bytes};
 use crate::placeholders::has_no_dollar;
 use std::alloc::{AllocError, Global};
-use subst::Error;
 use subst::error::MissingVariableName;
 use subst::escape::is_plain;
-use subst::json::Fill;
+use subst::{Error, Fill};
 
 /// Fills in strings of documents, each as a source that is text.
 #[derive(Clone, Copy)]

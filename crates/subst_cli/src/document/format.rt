@@ -18,8 +18,8 @@ use crate::fault::Cause;
 use std::alloc::{AllocError, Global};
 use std::fmt;
 use std::ops::Range;
-use subst::json::{RangeFinder, ReaderStop, RefusalAt, StringAt};
-use subst::{json, toml};
+use subst::json::{RangeFinder, ReaderStop};
+use subst::{RefusalAt, StringAt, json, toml};
 
 /// A format of documents.
 #[derive(Clone, Copy, PartialEq, Eq)]

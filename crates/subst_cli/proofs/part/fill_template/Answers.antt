@@ -21,12 +21,14 @@ returns-clause-refused c = λ entries are.
     let IsSo = IsFaultBy c.args.missing entries c.args.template.now in
     let those : Any IsSo c.match-filled-3.faults.items =
     elim c.match-filled-3.branch [
-      | in-Ok-2 w ↦ rw w.faults-is (any_weaker _ IsSo (λ it told. inr (All-contains (IsUnreadableIn entries c.args.template.now) besides it each told)) besides
-          (any_contained besides _ c.in_ok-unreadable.unreadable.ok.0
+      | in-Ok-2 w ↦ rw w.faults-is (any_weaker _ IsSo
+          (λ it told. inr (All-contains (IsUnreadableIn entries c.args.template.now) besides it each told))
+          besides (any_contained besides _ c.in_ok-unreadable.unreadable.ok.0
           (sym w.is_empty.ensures ∙ w.if-is_empty.false)))
       | in-Err+in_ok-faults-in-Err w ↦ rw w.faults-is (any_weaker _ IsSo (λ it told.
           told_stated c.args.missing entries c.args.template.now _ w.in-Err.refusal besides it are.values
-          (rw (w.in-Err.is, c.seen.ensures.values, c.seen.ensures.missing) at c.in_ok-filled.ensures.refuses) each told) _
+          (rw (w.in-Err.is, c.seen.ensures.values, c.seen.ensures.missing)
+          at c.in_ok-filled.ensures.refuses) each told) _
           w.in_ok-faults-in-Err.ensures)
     ] in
     rw c.at_origins.ensures (any_made _ IsSo _ those)

@@ -30,9 +30,11 @@ pub returns-in_default-form-clause-gives : goal.returns-in_default-form-clause-g
 returns-in_default-form-clause-gives c = λ entries are.
     let placeholders = c.args.self.now.placeholders.now in
     let source = c.args.source.now in
-    of_text c.args.self.now.form (λ form. c.split_source.result.1.now ≡ filled_of form source → IfOk c.fill_bytes-in_default-form.result (λ outcome.
+    let filled = c.fill_bytes-in_default-form.result in
+    of_text c.args.self.now.form
+    (λ form. c.split_source.result.1.now ≡ filled_of form source → IfOk filled (λ outcome.
     IfOk outcome (λ output. IsOutput form placeholders entries source output.items)))
-    c.in_default.not-Bytes c.in_default-form.not-Document (λ same. weaker_outcome c.fill_bytes-in_default-form.result _ _
+    c.in_default.not-Bytes c.in_default-form.not-Document (λ same. weaker_outcome filled _ _
     (λ output is. (output.items, refl, (rw same at c.in-Some.ensures.1, is)))
     (rw same at (c.fill_bytes-in_default-form.ensures.gives entries are))) c.split_source.ensures.filled
 
@@ -40,9 +42,11 @@ pub returns-in_default-form-clause-refused : goal.returns-in_default-form-clause
 returns-in_default-form-clause-refused c = λ entries are.
     let placeholders = c.args.self.now.placeholders.now in
     let source = c.args.source.now in
-    of_text c.args.self.now.form (λ form. c.split_source.result.1.now ≡ filled_of form source → IfOk c.fill_bytes-in_default-form.result (λ outcome.
+    let filled = c.fill_bytes-in_default-form.result in
+    of_text c.args.self.now.form
+    (λ form. c.split_source.result.1.now ≡ filled_of form source → IfOk filled (λ outcome.
     IfErr outcome (λ faults. Any (IsFaultIn form placeholders entries (filled_of form source)) faults.items)))
-    c.in_default.not-Bytes c.in_default-form.not-Document (λ same. weaker_faults c.fill_bytes-in_default-form.result _ _
+    c.in_default.not-Bytes c.in_default-form.not-Document (λ same. weaker_faults filled _ _
     (λ faults. any_weaker _ _ (λ it. inr) faults.items)
     (rw same at (c.fill_bytes-in_default-form.ensures.refused entries are))) c.split_source.ensures.filled
 
