@@ -16,7 +16,7 @@ loop-refused-preserved g c =
     let f = refusal_with g.P.TreePath.path_steps in (
       done ++ v ∷ [],
       l.invariant.1 ∙ ap (λ vs. done ++ vs) steps ∙ sym (append_assoc done (v ∷ []) left),
-          omega arith,
+      omega arith,
       ap (map f) c.in_ok-push.ensures.items ∙ map-append f l.all.items (c.with_path.result ∷ [])
           ∙ ap (λ xs. xs ++ f c.with_path.result ∷ []) l.invariant.3
           ∙ ap (λ x. map refusal_of done ++ x ∷ []) c.with_path.ensures

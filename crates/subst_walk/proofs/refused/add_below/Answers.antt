@@ -22,6 +22,6 @@ loop-refused-preserved c =
     let before = l.invariant.3 in (
       done ++ v ∷ [],
       l.invariant.1 ∙ ap (λ vs. done ++ vs) steps ∙ sym (append_assoc done (v ∷ []) left),
-          omega arith,
+      omega arith,
       rw c.in_ok-push-2.ensures.items (one_more_below step _ l.found.items done v w here before),
     )
