@@ -6,7 +6,10 @@ use std::alloc::{AllocError, Global};
 use subst::error::{
     ExpandError, ExpandIntoError, NoSuchVariableRef, ParseError, SubstituteIntoError,
 };
-use subst::{ByteTemplate, Error, Template, escape, substitute_bytes_into, substitute_into};
+use subst::{
+    ByteTemplate, ByteTemplateBuf, Error, Template, TemplateBuf, escape, substitute_bytes_into,
+    substitute_into,
+};
 use subst_testing::variables;
 
 /// The capacity for what an output begins with, and no more.
@@ -65,10 +68,18 @@ fn expand_text(rt: &HostRuntime, name: &str, source: &str, capacity: usize) -> R
 }
 
 fn expand_text_owner(rt: &HostRuntime, name: &str, capacity: usize) -> Result<(), Error> {
-    let alloc = rt.alloc();
-    let owner = texts::owned(alloc, texts::SENTENCE)?;
-    let map = variables::texts(alloc, texts::NAME)?;
-    let mut output = text_output(alloc, capacity)?;
+    let owner = texts::owned(rt.alloc(), texts::SENTENCE)?;
+    Ok(expand_owned_text(rt, name, &owner, capacity)?)
+}
+
+fn expand_owned_text(
+    rt: &HostRuntime,
+    name: &str,
+    owner: &TemplateBuf,
+    capacity: usize,
+) -> Result<(), AllocError> {
+    let map = variables::texts(rt.alloc(), texts::NAME)?;
+    let mut output = text_output(rt.alloc(), capacity)?;
     again!(rt, name, [owner, map, output],
         Err(ExpandIntoError::OutOfMemory(_)) => owner.expand_into(&mut output, &map));
     Ok(())
@@ -85,10 +96,18 @@ fn expand_bytes(rt: &HostRuntime, name: &str, source: &[u8], capacity: usize) ->
 }
 
 fn expand_bytes_owner(rt: &HostRuntime, name: &str, capacity: usize) -> Result<(), Error> {
-    let alloc = rt.alloc();
-    let owner = bytes::owned(alloc, bytes::SENTENCE)?;
-    let map = variables::byte_values(alloc, bytes::NAME)?;
-    let mut output = byte_output(alloc, capacity)?;
+    let owner = bytes::owned(rt.alloc(), bytes::SENTENCE)?;
+    Ok(expand_owned_bytes(rt, name, &owner, capacity)?)
+}
+
+fn expand_owned_bytes(
+    rt: &HostRuntime,
+    name: &str,
+    owner: &ByteTemplateBuf,
+    capacity: usize,
+) -> Result<(), AllocError> {
+    let map = variables::byte_values(rt.alloc(), bytes::NAME)?;
+    let mut output = byte_output(rt.alloc(), capacity)?;
     again!(rt, name, [owner, map, output],
         Err(ExpandIntoError::OutOfMemory(_)) => owner.expand_into(&mut output, &map));
     Ok(())
