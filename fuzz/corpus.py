@@ -28,7 +28,9 @@ TEXTS = (
     b'# $name\r\n"$name" = \'\'\'${name}\'\'\' # $name\r\nb = [ 1_0, "\\u0041" ]\r\nc = "$quote"',
     b'[t]\nb = [\'\', """\n\\u0041 \\u0024none"""]\na = \'$x\'', b"a = 'b\\x'", b"a = '$none'\nb = ]",
     b'$5 \\n ${name}$b ${1} ${a:b} $', b'$name ${name} $names \\$5', b'\\',
-    b'$a:${b}:${c:-<$a>}:${d:?m} $$ \\ {}', b'$a $(b)', b'${a}${1}', b'<${a:+b}', b'${a:-{}}', b'$a${b:-$c')
+    b'$a:${b}:${c:-<$a>}:${d:?m} $$ \\ {}', b'$a $(b)', b'${a}${1}', b'<${a:+b}', b'${a:-{}}', b'$a${b:-$c',
+    b'${name-d}${none-<$name>}${name:+a}${none+b}${name?m}$$ \\', b'${none:?must {be} $set}', b'${name:$name}${none?}$none',
+    b'${none-{"k": "${name}"}}', b'${name^} ${name:-$1} ${1}', b'${name:{} ${name:$b')
 WORDS = [b'name', b'world', b'quote', b'a"b', b'5', b'']
 # Two values of each name, of which the first one of the first name is empty.
 INDEXED = [word for at in range(MOST_PAIRS) for word in (b'%d' % (at // 2), b'vw'[at % 2:at % 2 + 1] if at else b'')]

@@ -31,6 +31,7 @@ struct input {
     size_t rows_len;
     size_t *ends;
     size_t ends_len;
+    struct subst_style style;
     /* the length of a buffer to try beside those that the result gives */
     size_t buffer_len;
 };
@@ -247,6 +248,34 @@ CALL(with_only, uint8_t, 0, SOURCE, PAIRS, SUBST_REQUIRED, buffer, buffer_len, &
 CALL(from_shell, uint8_t, 0, SOURCE, buffer, buffer_len, &told->needed, &told->fault.kind, &told->fault.position)
 CALL(shell_form_text, uint8_t, 0, (uint32_t)input->buffer_len, buffer, buffer_len, &told->needed)
 
+/* What the last call by a style reported, and what one reports that isn't refused. */
+static struct subst_style_fault reported;
+static const struct subst_style_fault UNREPORTED = {UNTOLD, UNTOLD, UNTOLD, UNTOLD, UNTOLD, UNTOLD};
+
+/* The result of a call by a style, which reports only with SUBST_REFUSED. */
+static uint32_t result_of(uint32_t result, struct answer *told)
+{
+    if (result == SUBST_REFUSED) {
+        const struct subst_fault fault = {reported.kind, reported.position, reported.length};
+        told->fault = fault;
+    } else {
+        EXPECT(memcmp(&reported, &UNREPORTED, sizeof reported) == 0);
+    }
+    return result;
+}
+
+#define CALL_BY_STYLE(name)                                                                                    \
+    static uint32_t make_##name(const struct input *input, void *buffer, size_t buffer_len, struct answer *told)   \
+    {                                                                                                          \
+        reported = UNREPORTED;                                                                                 \
+        return result_of(subst_##name(SOURCE, &input->style, PAIRS, buffer, buffer_len, &told->needed, &reported), \
+                         told);                                                                                \
+    }                                                                                                          \
+    static const struct call call_##name = {make_##name, 1, 0};
+
+CALL_BY_STYLE(bytes_by_style)
+CALL_BY_STYLE(text_by_style)
+
 /* How many calls were out of memory. */
 static unsigned long times_out_of_memory;
 
@@ -436,6 +465,97 @@ static void try_shell(const struct input *input)
     free(none.block);
     free(answer.block);
     free(said.block);
+}
+
+/* A form begins with a dollar or a brace. A variable that is missing has a name, and no value, or no byte of one. Its message
+ * is between its question mark and a closing brace. */
+static void expect_style_fault(const struct input *input, const struct subst_style_fault *fault)
+{
+    const uint8_t *source = input->source;
+    const struct subst_pair *pair;
+    size_t end = fault->message_position + fault->message_length;
+    EXPECT(fault->position < input->source_len && fault->length <= input->source_len - fault->position);
+    if (fault->kind == SUBST_REFUSED_FORM) {
+        EXPECT(fault->form >= SUBST_FORM_DOLLAR && fault->form <= SUBST_FORM_UNCLOSED);
+        EXPECT(source[fault->position] == (fault->form == SUBST_FORM_BRACE ? '{' : '$') && fault->length == 1);
+        EXPECT(end == 0 && input->style.forms != SUBST_FORMS_ENVSUBST);
+        return;
+    }
+    pair = pair_of(input, fault->position, fault->length);
+    EXPECT(fault->kind == SUBST_NO_SUCH_VARIABLE && fault->form == 0);
+    EXPECT(is_name_at(input, fault->position, fault->length));
+    EXPECT(pair == NULL || (pair->value_len == 0 && input->style.forms >= SUBST_FORMS_SHELL));
+    if (fault->message_position > 0)
+        EXPECT(source[fault->message_position - 1] == '?' && end < input->source_len && source[end] == '}');
+    else
+        EXPECT(end == 0);
+}
+
+/* Filling in by a style is refused for the form that has no template, and gives what the template gives. */
+static void expect_as_template(const struct call *translate, const struct input *input, const struct answer *answer)
+{
+    struct answer none = asked(translate, input, 0), translated = asked(translate, input, none.needed), filled;
+    struct input of_template = *input;
+    if (translated.result == SUBST_REFUSED) {
+        EXPECT(answer->result == SUBST_REFUSED && reported.kind == SUBST_REFUSED_FORM);
+        EXPECT(reported.form == translated.fault.kind && reported.position == translated.fault.position);
+    } else {
+        of_template.source = translated.items;
+        of_template.source_len = translated.needed;
+        filled = answer_of(&call_bytes, &of_template);
+        EXPECT(filled.result == answer->result && filled.needed == answer->needed);
+        EXPECT(filled.needed == 0 || memcmp(filled.items, answer->items, filled.needed) == 0);
+        free(filled.block);
+    }
+    free(none.block);
+    free(translated.block);
+}
+
+/* Whether a pair has an empty value. */
+static int has_empty_value(const struct input *input)
+{
+    size_t i;
+    for (i = 0; i < input->pairs_len; i++)
+        if (input->pairs[i].value_len == 0)
+            return 1;
+    return 0;
+}
+
+static void try_style(const struct input *input)
+{
+    const uint32_t forms = input->style.forms, unset = input->style.unset;
+    struct answer none = asked(&call_bytes_by_style, input, 0), answer = asked(&call_bytes_by_style, input, none.needed);
+    EXPECT(answer.result == SUBST_DONE || answer.result == SUBST_REFUSED);
+    if (answer.result == SUBST_REFUSED)
+        expect_style_fault(input, &reported);
+    if (input->style.names == SUBST_NAMES_ALL && forms == SUBST_FORMS_ENVSUBST && unset == SUBST_UNSET_NOTHING)
+        expect_as_template(&call_from_envsubst, input, &answer);
+    if (input->style.names == SUBST_NAMES_ALL && forms == SUBST_FORMS_COMMON && !has_empty_value(input))
+        expect_as_template(&call_from_shell, input, &answer);
+    expect_in_buffers(&call_bytes_by_style, input, &answer);
+    expect_in_buffers(&call_text_by_style, input, are_texts(input) ? &answer : &NO_TEXT);
+    free(none.block);
+    free(answer.block);
+}
+
+/* All forms with all choices of names, by the first half of the pairs. A number that no style has is refused. */
+static void try_styles(const struct input *given)
+{
+    static const struct answer NO_STYLE = {SUBST_NO_SUCH_STYLE, 0, {UNTOLD, UNTOLD, UNTOLD}, UNTOLD, NULL, NULL};
+    struct input input = *given;
+    const struct subst_style first = {0, 0, 0, input.pairs, input.pairs_len / 2};
+    for (input.style = first; input.style.forms <= SUBST_FORMS_COMMON; input.style.forms++)
+        for (input.style.names = 0; input.style.names <= SUBST_NAMES_KNOWN; input.style.names++) {
+            input.style.unset = (input.style.forms + input.style.names + input.source_len) % 2;
+            try_style(&input);
+        }
+    expect(&call_bytes_by_style, &input, &NO_STYLE, input.buffer_len);
+    input.style = first;
+    input.style.names = SUBST_NAMES_KNOWN + 1;
+    expect(&call_bytes_by_style, &input, &NO_STYLE, input.buffer_len);
+    input.style = first;
+    input.style.unset = UINT32_MAX;
+    expect(&call_text_by_style, &input, are_texts(&input) ? &NO_STYLE : &NO_TEXT, input.buffer_len);
 }
 
 /* A document is filled in, or refused at a place in it, and what is said of it is empty unless it is refused. */
@@ -781,6 +901,7 @@ int LLVMFuzzerTestOneInput(const uint8_t *data, size_t size)
     try_translated(&call_from_envsubst, &input);
     try_translated(&call_with_only, &input);
     try_shell(&input);
+    try_styles(&input);
     try_document(&call_json, &call_json_fault_text, &input);
     try_document(&call_toml, &call_toml_fault_text, &input);
     free(answer.block);

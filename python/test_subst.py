@@ -19,8 +19,8 @@ import unittest
 from unittest import mock
 
 import subst
-from subst import (DocumentError, FaultKind, ShellError, ShellForm, SubstError, Template, Variable, VariableKind,
-                   _library, _source)
+from subst import (DocumentError, FaultKind, Forms, ShellError, ShellForm, SubstError, Template, Variable, VariableKind,
+                   _library, _source, _style)
 
 MIB = 1 << 20
 # Lengths of values around those of the memory that is kept.
@@ -295,6 +295,53 @@ class Choices(Case):
                 self.assertEqual(vars(pickle.loads(pickle.dumps(error))), vars(error))
         self.assertEqual(len(texts), len(ShellForm))
 
+    def test_styles(self):
+        text = '$a ${a} ${a?} ${a:x} ${b:-<${c-d}>} ${a+1} ${b:+2} $$ \\$1 {'
+        for forms, wanted in ((Forms.OWN, 'v v v v ${b:-<${c-d}>} ${a+1} ${b:+2} $$ \\$1 {'),
+                              (Forms.ENVSUBST, 'v v ${a?} ${a:x} ${b:-<${c-d}>} ${a+1} ${b:+2} $$ \\$1 {'),
+                              (Forms.SHELL, 'v v v ${a:x} <d> 1  $$ \\$1 {')):
+            self.assertEqual(subst.fill_in_by_style(text, {'a': 'v'}, forms=forms, only=['a', 'b', 'c']), wanted)
+            self.assertEqual(subst.fill_in_by_style(text.encode(), {b'a': b'v'}, forms=forms, only=[b'a', b'b', b'c']),
+                             wanted.encode())
+        for source, wanted in (('$a$b${c:-$a}', '1$b1'), ('${b?m}', None), ('$a^', '1^')):
+            if wanted:
+                self.assertEqual(subst.fill_in_by_style(source, {}, forms=Forms.SHELL, known=True, a='1'), wanted)
+            else:
+                self.refused(subst.fill_in_by_style, source, {}, forms=Forms.SHELL, known=True, a='1')
+        self.assertEqual(subst.fill_in_by_style('é$$${a:-{"k": 1}}$b', forms=2, optional=True), 'é${"k": 1}')
+        self.assertEqual(subst.fill_in_by_style('$a $b', {'a': '1', 'b': 5}, forms=Forms.OWN, only=['a']), '1 $b')
+        self.assertEqual(subst.fill_in_by_style('$a:${b:-c}', {'a': '', 'b': ''}, forms=Forms.COMMON), ':c')
+        self.assertEqual(subst.fill_in_by_style('$a' * MIB, {'a': 'v'}, forms=Forms.ENVSUBST), 'v' * MIB)
+
+    def test_style_refused(self):
+        said = self.refused(subst.fill_in, '$a').message
+        for text, variables, message, position in (
+                ('é\n$b ${a:?must be $b}', {'b': '1'}, f'{said}: must be 1', 7),
+                ('é\n$b ${a:?must be $b}', {'b': '1', 'a': ''}, '$a is empty: must be 1', 7),
+                ('${a?${b=}}', {}, f'{said}: ${{b=}}', 2), ('${a?$b${a?}}', {'b': ' '}, f'{said}: $b${{a?}}', 2),
+                ('${a?$b$b}', {'b': 'long ' * 9}, f'{said}: {"long " * 18}', 2),
+                ('${a?}', {}, said, 2), ('${b:-${c}$a}', {'c': ''}, said, 10), ('$a', {}, said, 1)):
+            error = self.refused(subst.fill_in_by_style, text, variables, forms=Forms.SHELL)
+            self.assertEqual((error.message, error.name, error.position, error.length), (message, 'a', position, 1))
+            self.assertEqual((error.kind, error.highlighting.splitlines()[1].strip()), (FaultKind.NO_SUCH_VARIABLE, '^'))
+        error = self.refused(subst.fill_in_by_style, b'\xff${a?\xff}', forms=Forms.SHELL)
+        self.assertEqual((error.message, error.position, error.line), (f'{said}: \ufffd', 3, None))
+        for text, forms, form, position in (('é ${a^}', Forms.SHELL, ShellForm.OTHER, 2),
+                                            ('é ${a:{}', Forms.OWN, ShellForm.BRACE, 6),
+                                            ('${b:-$a}$1', Forms.COMMON, ShellForm.DOLLAR, 8)):
+            with self.assertRaises(ShellError) as caught:
+                subst.fill_in_by_style(text, forms=forms)
+            self.assertEqual((caught.exception.form, caught.exception.position), (form, position))
+
+    def test_style_types(self):
+        self.assertRaises(ValueError, subst.fill_in_by_style, '', forms=4)
+        self.assertRaises(TypeError, subst.fill_in_by_style, '')
+        self.assertRaises(TypeError, subst.fill_in_by_style, '', forms=Forms.OWN, only=['a'], known=True)
+        with self.assertRaisesRegex(TypeError, 'only must be names, each str as the source is'):
+            subst.fill_in_by_style('', forms=Forms.OWN, only=[b'a'])
+        with self.assertRaisesRegex(TypeError, "the value of 'a' must be str as the source is, not int"):
+            subst.fill_in_by_style('$a', {'a': 1}, forms=Forms.OWN)
+
     def test_equal_templates(self):
         same = [Template('$a'), Template('$a', only=None), pickle.loads(pickle.dumps(Template('$a')))]
         self.assertEqual((len({*same}), same[0]), (1, same[1]))
@@ -556,11 +603,11 @@ class Outside(Case):
                   'subst_shell_form_text', 'subst_place', 'subst_version')
         names = [name for name in _library.ARGUMENTS if name not in others]
         library = mock.Mock(**{f'{name}.return_value': 4 for name in names})
-        with mock.patch.object(_source, '_library', library):
+        with mock.patch.object(_source, '_library', library), mock.patch.object(_style, '_library', library):
             for call in (lambda: subst.fill_in('x' * MIB, {}), lambda: subst.check(''), lambda: subst.variables('no'),
                          lambda: template.missing({}), lambda: template.fill_in_each([]),
                          lambda: subst.fill_in_json('', {}), lambda: subst.fill_in_toml('', {}),
-                         lambda: subst.from_shell('')):
+                         lambda: subst.from_shell(''), lambda: subst.fill_in_by_style('', forms=Forms.OWN)):
                 self.assertRaises(MemoryError, call)
         self.assertEqual(sorted(name for name in names if getattr(library, name).called), sorted(names))
 
@@ -685,7 +732,7 @@ class Outside(Case):
 TYPED = """
 import os
 from typing import List
-from subst import Template, Variable, fill_in, fill_in_tree, from_envsubst, from_shell, missing, variables
+from subst import Forms, Template, Variable, fill_in, fill_in_by_style, fill_in_tree, from_envsubst, from_shell, missing, variables
 
 text: str = fill_in('$a', {'a': '1'}, b='2', only=['a'], optional=True)
 data: bytes = fill_in(b'$a', {b'a': bytearray(b'1')})
@@ -699,6 +746,7 @@ name: str = variables('$a')[0].name
 listed: List[Variable[bytes]] = missing(b'$a', {})
 envsubst: str = from_envsubst('$a')
 shell: bytes = from_shell(bytearray(b'$a'))
+styled: bytes = fill_in_by_style(b'$a', {b'a': b''}, forms=Forms.SHELL, known=True)
 tree: object = fill_in_tree(['$a'], a='x')
 """
 

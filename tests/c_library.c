@@ -98,6 +98,50 @@ static void test_other_tools(void)
     EXPECT(is_empty(subst_shell_form_text(UINT32_MAX, NULL, 0, &needed), &needed));
 }
 
+typedef uint32_t styled(const void *source, size_t source_len, const struct subst_style *style,
+                        const struct subst_pair *pairs, size_t pairs_len, void *buffer, size_t buffer_len,
+                        size_t *needed, struct subst_style_fault *fault);
+
+static void test_style(const char *name, styled *call)
+{
+    const struct subst_pair port = {"PORT", 4, NULL, 0}, host = {"HOST", 4, "", 0};
+    const struct subst_style shell = {SUBST_FORMS_SHELL, SUBST_NAMES_ALL, SUBST_UNSET_NOTHING, NULL, 0},
+                             one = {SUBST_FORMS_SHELL, SUBST_NAMES_ONLY, SUBST_UNSET_REFUSED, &port, 1},
+                             known = {SUBST_FORMS_OWN, SUBST_NAMES_KNOWN, SUBST_UNSET_REFUSED, NULL, 0},
+                             none = {SUBST_FORMS_COMMON + 1, SUBST_NAMES_ALL, SUBST_UNSET_REFUSED, NULL, 0};
+    struct subst_style_fault fault = {0, 0, 0, 0, 0, 0};
+    size_t needed = ROOM;
+    char buffer[ROOM];
+    tested = name;
+    EXPECT(is_empty(call(NULL, 0, &shell, NULL, 0, NULL, 0, &needed, &fault), &needed));
+    EXPECT(call("${PORT:-80}$HOST", 16, &one, NULL, 0, NULL, 0, &needed, &fault) == SUBST_ROOM_TOO_SMALL && needed == 7);
+    EXPECT(call("${PORT:-80}$HOST", 16, &one, NULL, 0, buffer, 7, &needed, &fault) == SUBST_DONE
+           && memcmp(buffer, "80$HOST", 7) == 0);
+    EXPECT(call("$PORT,$HOST\\${a:b}", 18, &known, &host, 1, buffer, ROOM, &needed, &fault) == SUBST_DONE && needed == 8
+           && memcmp(buffer, "$PORT,\\b", 8) == 0);
+    EXPECT(call("$$ $a<${HOST:?must be ${set}}>", 30, &shell, &host, 1, buffer, ROOM, &needed, &fault) == SUBST_REFUSED
+           && fault.kind == SUBST_NO_SUCH_VARIABLE && fault.form == 0 && fault.position == 8 && fault.length == 4
+           && fault.message_position == 14 && fault.message_length == 14);
+    EXPECT(call("${HOST?} ${PORT^}", 17, &shell, &host, 1, buffer, ROOM, &needed, &fault) == SUBST_REFUSED
+           && fault.kind == SUBST_REFUSED_FORM && fault.form == SUBST_FORM_OTHER && fault.position == 9
+           && fault.length == 1 && fault.message_position == 0 && fault.message_length == 0);
+    EXPECT(call("$a", 2, &one, NULL, 0, buffer, ROOM, &needed, &fault) == SUBST_DONE && needed == 2);
+    EXPECT(call("$PORT", 5, &one, NULL, 0, buffer, ROOM, &needed, &fault) == SUBST_REFUSED && fault.position == 1);
+    EXPECT(call("", 0, &none, NULL, 0, buffer, ROOM, &needed, &fault) == SUBST_NO_SUCH_STYLE);
+}
+
+static void test_styles(void)
+{
+    const struct subst_style shell = {SUBST_FORMS_SHELL, SUBST_NAMES_ALL, SUBST_UNSET_NOTHING, NULL, 0};
+    struct subst_style_fault fault;
+    size_t needed = ROOM;
+    char buffer[ROOM];
+    test_style("subst_bytes_by_style", subst_bytes_by_style);
+    test_style("subst_text_by_style", subst_text_by_style);
+    EXPECT(subst_bytes_by_style("\xC3$a", 3, &shell, NULL, 0, buffer, ROOM, &needed, &fault) == SUBST_DONE && needed == 1);
+    EXPECT(subst_text_by_style("\xC3$a", 3, &shell, NULL, 0, buffer, ROOM, &needed, &fault) == SUBST_NOT_UTF8);
+}
+
 /* Makes the call of this name, or fails. */
 static uint32_t call_of(const char *name, const char *source, const struct subst_pair *pairs, size_t pairs_len)
 {
@@ -128,6 +172,7 @@ int main(int argc, char **argv)
     test_filling("subst_text", subst_text);
     test_filling("subst_bytes_into", subst_bytes_into);
     test_filling("subst_text_into", subst_text_into);
+    test_styles();
     tested = "";
     test_rows_and_lists();
     test_documents_and_faults();

@@ -46,31 +46,36 @@ def become_nobody():
 
 def told(place, what, line, carets):
     """The message about a fault, with the line and the carets as they are shown below its position."""
-    return f'{place}: {what}\n  {line}\n  {carets}\n'.encode()
+    return told_without_line(place, what) + f'  {line}\n  {carets}\n'.encode()
 
 
 def told_without_line(place, what):
     """The message about a fault of a values file, of which no line is shown: it may be a secret."""
-    return f'{place}: {what}\n'.encode()
+    return f'{place}: error: {what}\n'.encode()
 
 
-def missing(name, place, line, carets):
-    return told(place, no_such_variable(name), line, carets)
+def missing(name, place, line, carets, path=''):
+    """The message about a variable without a value, in a document with the path of its string."""
+    return told(place, f'{path}: ' * bool(path) + no_such_variable(name), line, carets)
 
 
 def wrong_words(text, usage='[OPTIONS]', more=''):
     """The message about wrong arguments."""
-    return f"subst: {text}\n\n{more}Usage: subst {usage} [FILE]...\n\nFor more information, try '--help'.\n".encode()
+    return f"subst: error: {text}\n\n{more}Usage: subst {usage} [FILE]...\n\nFor more information, try '--help'.\n".encode()
 
 
 def failed(file, number):
     """The message about a file or a device that fails."""
-    return f'{file}: {os.strerror(number)}\n'.encode()
+    return failed_since(file, os.strerror(number))
+
+
+def failed_since(file, why):
+    return f'{file}: error: {why}\n'.encode()
 
 
 def not_replaced(file, number, new):
     """The messages about a new file that can't be made, or can't take the place of a file."""
-    return failed(file, number) + f"{file}: {new} can't take its place; '> FILE' writes through\n".encode()
+    return failed(file, number) + failed_since(file, f"{new} can't take its place; '> FILE' writes through")
 
 
 # Sources and files

@@ -37,7 +37,7 @@ class End(NamedTuple):
 
 
 # The hints of `subst`, which are printed beside its messages.
-HINT = re.compile(rb'^(?:subst: hint: .*|.* begins with \'.\': for a shell\'s default see --shell)\n', re.MULTILINE)
+HINT = re.compile(rb'^\S.*?: hint: .*\n', re.MULTILINE)
 
 
 def run(crate, words=(), source=b'', name=None, **options):

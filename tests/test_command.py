@@ -3,7 +3,7 @@ import errno
 import re
 
 from faults import invalid_escape
-from tests.subst import NO_NAME, PROGRAM, Subst, failed, missing, subst, told, write
+from tests.subst import NO_NAME, PROGRAM, UNREADABLE, Subst, failed, missing, subst, told, told_without_line, write
 from tests.support import MIB, in_memory, run_with_hints, shown, some_size, version
 
 HELP = b"""\
@@ -20,38 +20,45 @@ Options:
 
 Variables:
   -s, --set <NAME=VALUE>      Gives a variable; of one given twice, the last counts
-      --set-file <NAME=FILE>  Gives a variable all that is in a file
-  -f, --values <FILE>         Reads NAME=VALUE lines, or of a folder the file of each name
+      --set-file <NAME=FILE>  Gives a variable what is in a file, without its last line end
+  -f, --values <FILE>         Reads NAME=VALUE lines (docker run --env-file) or a folder (directory)
+      --keep-line-end         Keeps the last line end of a file that is a value
   -e, --env                   Takes variables from the environment
+      --dotenv <FILE>         Read a .env file: quotes, 'export', comments, and variables as with --shell
       --default <NAME=VALUE>  Gives a variable that nothing above gives
       --defaults <FILE>       Reads such variables, as --values does
       --no-empty              Passes over variables whose value is empty
-      --escape <FOR>          Escapes values: json, between quotes, or sh, as a word
+      --escape <json|sh>      Escapes values for json (in YAML double-quoted strings alone) or sh
 
 Reading:
       --bytes         Takes any bytes, where otherwise text is in UTF-8
       --json          Fills in the strings of a JSON document
       --toml          Fills in the strings of a TOML document
-      --only <NAMES>  Takes $NAME and ${NAME} of these names, and all else as text
-      --envsubst      Takes what envsubst would fill in, and all else as text
-      --known         Takes names that have a value, and all else as text
-      --shell         Takes ${NAME:-default} and ${NAME:?}, as Docker Compose does
-      --optional      With --envsubst and --only, takes a missing value as empty
+      --only <NAMES>  Expand only these variables, as NAME or APP_*; leave all other text as it is
+      --envsubst      Expand $NAME and ${NAME}, as envsubst; leave all other text as it is
+      --known         Expand only variables that are set; leave all other text as it is
+      --shell         Expand ${NAME:-default} and the other forms that Docker Compose has
+      --compose       The same as --shell
+      --strict        With --shell, report unset variables as errors; with --check, other tools' defaults
+      --optional      Expand unset variables of --envsubst, --shell, --only and --known to nothing
 
 Writing:
   -o, --output <FILE>           Writes to a file, whole or not at all
-  -O, --output-folder <FOLDER>  Writes each file, and those of each folder, into a folder
+  -O, --output-folder <FOLDER>  Writes each file, and those of folders, into a folder (directory)
       --strip <SUFFIX>          Takes of folders such files, and the suffix off their names
   -i, --in-place                Replaces each file by what it gives, whole or not at all
 
 Asking:
-      --check  Writes nothing, and reports the faults of every file
-      --names  Prints each name, where it is first used, and whether it is required
+      --check  Reports the faults of files and of those of folders, and writes nothing
+      --names  Prints each name, where it is first used, whether it is required, and its default
+
+A backslash escapes \\ $ { } and :, but not where --only, --envsubst, --known or
+--shell chooses what a variable is: there it is text.
 
 A name has the value of the first of these that has it: --set, --set-file, the
-values files, the environment, --default, the defaults files. All names without
-a value are reported, but of a file with a fault of another kind that fault
-alone.
+values files, the environment, the .env files, --default, the defaults files.
+All names without a value are reported, but of a file with another fault that
+one alone, and of another tool's text all forms that are refused.
 
 Status: 0 done, 1 a file or value is refused, 2 wrong arguments, 3 a file or
 device failed, 4 out of memory. The page subst(1) says more.
@@ -80,7 +87,8 @@ class Help(Subst):
 
 # Pairs of options that can't be given together, as arguments and as they are reported.
 CONFLICTS = (
-    ('--bytes', '--json'), ('--bytes', '--toml'), ('--json', '--toml'), ('--only <NAMES>', '--envsubst'),
+    ('--bytes', '--json'), ('--bytes', '--toml'), ('--json', '--toml'), ('--only <NAMES>', '--known'),
+    ('--envsubst', '--shell'), ('--envsubst', '--compose'), ('--known', '--names'),
     ('--output <FILE>', '--in-place'), ('--output <FILE>', '--check'), ('--output <FILE>', '--names'),
     ('--in-place', '--check'), ('--in-place', '--names'), ('--check', '--names'),
 )
@@ -132,11 +140,15 @@ class Arguments(Subst):
         for word, option, usage in rows:
             more = f"  tip: a similar argument exists: '{option}'\n\n"
             self.assert_wrong([word], f"unexpected argument '{word}' found", usage, more)
+        for word, option in (('--env-file', '--values'), ('--output-dir', '--output-folder')):
+            for words in ([word, 'a'], ['-sA=1', f'{word}=a'], [word]):
+                self.assert_wrong(words, f"unexpected argument '{word}' found",
+                                  more=f"  tip: a similar argument exists: '{option}'\n\n")
         for word in ('--wrong', '-x'):
             more = f"  tip: to pass '{word}' as a value, use '-- {word}'\n\n"
             self.assert_wrong([word], f"unexpected argument '{word}' found", more=more)
         self.assert_wrong(['-o', 'a', '-o', 'b'], "the argument '--output <FILE>' cannot be used multiple times")
-        self.assert_ends(subst([b'\xff']), 2, errors=b"subst: a word of the command line isn't UTF-8\n")
+        self.assert_ends(subst([b'\xff']), 2, errors=b"subst: error: a word of the command line isn't UTF-8\n")
         self.assert_wrong(['-i'], '--in-place needs a file')
         self.assert_wrong(['-i', 'a', '-'], "--in-place can't be of standard input")
 
@@ -180,11 +192,28 @@ class Questions(Subst):
         write('a', b'\n${b:$c} ${d?} \\$no ${e:x}')
         write('b', b'$a ${b} ${d:x} ${c:} ${e?} $a')
         self.assert_done(['--names', 'a', 'b'], output=b'b\ta:2:3\trequired\nc\ta:2:6\trequired\nd\ta:2:11\toptional\n'
-                         b'e\ta:2:22\tdefault\na\tb:1:2\trequired\n')
+                         b'e\ta:2:22\tdefault\tx\na\tb:1:2\trequired\n')
         self.assert_done(['--names', 'b', '-sa=1', '-e', '--bytes'], output=b'a\tb:1:2\trequired\nb\tb:1:6\trequired\n'
-                         b'd\tb:1:11\tdefault\nc\tb:1:18\tdefault\ne\tb:1:24\toptional\n')
+                         b'd\tb:1:11\tdefault\tx\nc\tb:1:18\tdefault\t\ne\tb:1:24\toptional\n')
         self.assert_done(['--names'], b'a\n')
-        self.assert_done(['--names', '--only=a,x'], b'\\$b ${a:x} $a', b'a\t<stdin>:1:13\trequired\n')
+        self.assert_done(['--names', '--only=a,x'], b'\\$b ${c:x} ${a:x} $a', b'a\t<stdin>:1:14\trequired\n')
+
+    def test_names_with_defaults(self):
+        nested = '${B:' * 100 + '}' * 100
+        for words, default, as_shown in (
+                ([], '', ''), ([], 'x y', 'x y'), ([], '${B?}d', '${B?}d'), ([], r'\}\{\\', r'\}\{\\'),
+                ([], '{"k": {}}', '{"k": {}}'), ([], 'a\tb\r\n\x1bc', 'a b\\u{d}\\u{a}\\u{1b}c'), ([], '\u6f22', '\u6f22'),
+                ([], 'x' * 240, 'x' * 240), ([], 'x' * 241, 'x' * 240 + '\u2026'), ([], 'x' * 2000, 'x' * 240 + '\u2026'),
+                ([], '\u200b' * 2000, None), ([], nested, nested[:240] + '\u2026'), (['--shell'], '$B-x', '$B-x'),
+                (['--shell'], '${B:-\\}d', '${B:-\\}d'), (['--bytes'], 'x:-', 'x:-')):
+            sign = ':-' if '--shell' in words else ':'
+            output = subst(['--names', *words], f'${{A{sign}{default}}}'.encode()).output.decode()
+            if as_shown is None:
+                self.assertTrue(output.endswith('\u2026\n'), output)
+            else:
+                self.assertEqual(output.splitlines()[0], f'A\t<stdin>:1:3\tdefault\t{as_shown}')
+        self.assert_done(['--names', '--bytes'], b'${A:\xff}', 'A\t<stdin>:1:3\tdefault\t\ufffd\n'.encode())
+        self.assert_done(['--names', '--json'], b'["\\u0024{A:say \\"hi\\"}"]', b'A\t<stdin>:1:10\tdefault\tsay "hi"\n')
 
     def test_names_of_files_that_are_refused(self):
         write('a', b'$a')
@@ -200,7 +229,7 @@ class Questions(Subst):
         self.assert_done(['--json', '--names'], b'{"$k": ["\\u0041$a", "${b?}"], "z": "${a:1}$c"}',
                          b'a\t<stdin>:1:17\trequired\nb\t<stdin>:1:24\toptional\nc\t<stdin>:1:44\trequired\n')
         self.assert_done(['--toml', '--names'], b'a = "${x:1}"\n[t]\nb = ["$y"]\n',
-                         b'x\t<stdin>:1:8\tdefault\ny\t<stdin>:3:8\trequired\n')
+                         b'x\t<stdin>:1:8\tdefault\t1\ny\t<stdin>:3:8\trequired\n')
         message = told('<stdin>:1:9', f'/1: {NO_NAME}', '["$a", "$"]', '        ^')
         self.assert_refused(['--json', '--names'], b'["$a", "$"]', message)
 
@@ -213,7 +242,7 @@ class Questions(Subst):
             came = subst([option], source)
             heads = [line for line in came.errors.splitlines() if line.startswith(b'<stdin>:')]
             last = source.rindex(b'$') + 1
-            place = b'<stdin>:%d:%d: ' % (source.count(b'\n', 0, last) + 1, last - source.rfind(b'\n', 0, last))
+            place = b'<stdin>:%d:%d: error: ' % (source.count(b'\n', 0, last) + 1, last - source.rfind(b'\n', 0, last))
             self.assertTrue(came.status == 1 and len(heads) == count, f'{option}: {came.status}, {len(heads)} faults')
             self.assertTrue(heads[-1].startswith(place), f'{option}: {shown(heads[-1])}')
 
@@ -227,12 +256,12 @@ class Questions(Subst):
         self.assert_done(['--json', '--names'], b'{' + members + b'}', wanted)
 
 
-def hinted(words, source=b''):
-    return run_with_hints(PROGRAM, words, source, name='subst')
+def hinted(words, source=b'', **options):
+    return run_with_hints(PROGRAM, words, source, name='subst', **options)
 
 
 def default_of_a_shell(place, what, sign):
-    return f"{place}: {what} begins with '{sign}': for a shell's default see --shell\n".encode()
+    return f"{place}: hint: {what} begins with '{sign}': for a shell's default see --shell\n".encode()
 
 
 class Hints(Subst):
@@ -245,14 +274,74 @@ class Hints(Subst):
             self.assert_ends(hinted(['-sA=1'], source), 0, f'1 1\n{sign}x-y'.encode(), hint)
             self.assert_ends(hinted(['-sA=1', '--check'], source), 0, errors=hint)
             self.assert_ends(hinted(['-sA=1', '--envsubst'], source), 0, source.replace(b'$A ', b'1 '),
+                             b'<stdin>:1:8: hint: this default is text here: see --only and --known\n')
+            after = source.split(b'\n')[1]
+            self.assert_ends(hinted(['-sA=1', '--envsubst'], after), 0, after,
+                             default_of_a_shell('<stdin>:1:7', 'this text', sign))
+            self.assert_ends(hinted(['-sB=1', '--only=A_1'], source), 0, source,
                              default_of_a_shell('<stdin>:2:7', 'this text', sign))
-            self.assert_ends(hinted(['-sA=1', '--only=A'], source), 0, source.replace(b'$A ', b'1 '))
+            self.assert_ends(hinted(['-sA=1', '--only=A'], source), 0, source.replace(b'$A ${A:d}', b'1 1'))
+            self.assert_ends(hinted(['-sC=1', '--known'], source), 0, source.replace(b'${A:d}', b'd'),
+                             default_of_a_shell('<stdin>:2:7', 'this text', sign))
         write('a', b'${A:-x}')
         write('b', b'$B ${A:-x}')
         self.assert_faults(hinted(['a', 'b']), default_of_a_shell('a:1:5', 'this default', '-'),
                           missing('B', 'b:1:2', '$B ${A:-x}', ' ^'))
         for source in (b'${A:x-}', b'{A:-x}', b'$A:-x', b'${A:', b'${:-x}'):
-            self.assertTrue(b'--shell\n' not in hinted(['-sA=1', '--only=B'], source).errors, f'{source}')
+            self.assertTrue(b'--shell\n' not in hinted(['-sA=1', '--only=A'], source).errors, f'{source}')
+        for words, source in (([], b'\\${A:-x}'), (['--envsubst', '--only=B'], b'${A:-x}${A:d}')):
+            self.assertEqual(hinted(['-sA=1', *words], source).errors, b'', f'{words} {source}')
+        self.assert_ends(hinted(['-sA=1'], b'\\\\${A:-x}'), 0, b'\\1',
+                         default_of_a_shell('<stdin>:1:7', 'this default', '-'))
+
+    def test_default_that_is_an_error(self):
+        shell, text = "begins with '-': for a shell's default see --shell", 'this default is text here: see --only and --known'
+        words = ['-sA=1', '--check', '--strict']
+        for more, source, place, what in (([], '$A ${A:-x}', '1:8', f'this default {shell}'),
+                                          (['--only=A'], '${A:-x}', '1:5', f'this text {shell}'),
+                                          (['--envsubst'], '$A\n${A:x}', '2:5', text),
+                                          ([], 'a' * (2 << 20) + '\n${A:-x}', '2:5', f'this default {shell}')):
+            line = source.split('\n')[-1]
+            message = told(f'<stdin>:{place}', what, line, ' ' * (int(place.split(':')[1]) - 1) + '^')
+            self.assert_faults(hinted([*words, *more], source.encode()), message)
+        source = '${A:-x} \\${A:-x}\n${A:d}${A:+x}'
+        self.assert_faults(hinted(words, source.encode()),
+                           told('<stdin>:1:5', f'this default {shell}', source.split('\n')[0], '    ^'),
+                           told('<stdin>:2:11', f'this default {shell}'.replace('-', '+', 1), '${A:d}${A:+x}', ' ' * 10 + '^'))
+        write('a', b'${A:-x}')
+        write('b', b'$B ${A:=x}')
+        first = told('a:1:5', f'this default {shell}', '${A:-x}', ' ' * 4 + '^')
+        second = told('b:1:8', f'this default {shell}'.replace('-', '=', 1), '$B ${A:=x}', ' ' * 7 + '^')
+        self.assert_faults(hinted([*words, 'a', 'b', 'a']), first, second, missing('B', 'b:1:2', '$B ${A:=x}', ' ^'), first)
+        # It is a hint without either option, and none where the default is read as such.
+        for less in (['--check'], ['--strict']):
+            self.assertEqual(hinted(['-sA=1', *less, 'a']).status, 0)
+        self.assert_ends(hinted([*words, '--shell', 'a']), 0)
+        self.assert_ends(hinted([*words, '--json'], b'["${A:-x}"]'), 0)
+
+    def test_hint_of_names_of_a_shell_that_are_not_set(self):
+        source = b'listen ${PORT:-8080}; $host\n${PORT+$x}$host ${A:+x}$E[${path}]'
+        hints = b'<stdin>:1:24: hint: $host is not set\n<stdin>:2:29: hint: $path is not set\n'
+        for words in ([], ['--only=host,path,PORT,A,E']):
+            self.assert_ends(hinted(['--shell', '-sE=', *words], source), 0, b'listen 8080; \n []', hints)
+        for words in (['--optional'], ['--only=PORT,A,E']):
+            self.assertEqual(hinted(['--shell', '-sE=', *words], source).errors, b'')
+        end = hinted(['--shell', '-sE=', '--strict'], source)
+        self.assertEqual((end.status, end.output, b'hint' in end.errors), (1, b'', False))
+        # Each name is hinted at once in a run, and none whose value can't be read.
+        for name, text in (('a', b'$x ${y-}$x'), ('b', b'$z $x')):
+            write(name, text)
+        for words in ([], ['-o', 'new'], ['-O', 'out'], ['--check'], ['-i']):
+            end = hinted(['--shell', '-sE=', *words, 'a', 'b'])
+            self.assertEqual((end.status, end.errors), (0, b'a:1:2: hint: $x is not set\nb:1:2: hint: $z is not set\n'))
+        self.assert_faults(hinted(['--shell', '-e'], b'$A', env={b'A': b'\xff'}),
+                           told('<stdin>:1:2', f'{UNREADABLE}A', '$A', ' ^'))
+
+    def test_hint_of_a_default_of_ours(self):
+        end = hinted(['-e', '--envsubst'], b'listen ${PORT:8080}; $host', env={})
+        self.assertEqual((end.status, end.output), (1, b''))
+        self.assertIn(missing('host', '<stdin>:1:23', 'listen ${PORT:8080}; $host', ' ' * 22 + '^' * 4), end.errors)
+        self.assertIn(b'<stdin>:1:15: hint: this default is text here: see --only and --known\n', end.errors)
 
     def test_hint_of_a_file_that_is_no_file(self):
         hint = b'subst: hint: variables are given by --set, as --set A=..\n'
@@ -260,6 +349,21 @@ class Hints(Subst):
         hint = b'subst: hint: names are chosen by an option, as for envsubst by its argument\n'
         self.assert_ends(hinted(['$A $B']), 3, errors=failed('$A $B', errno.ENOENT) + hint)
         self.assert_ends(hinted(['-f', 'A=1']), 3, errors=failed('A=1', errno.ENOENT))
+
+    def test_hint_of_a_values_file_of_a_shell(self):
+        quotes = 'the quotes are part of this value, as for docker run --env-file'
+        for text, place in (('A="x"', '1:3'), ("A='x y'\r\nB=\"y\"", '1:3'), ('# "\nB=1\n A=""\n', '3:4')):
+            write('values', text.encode())
+            for word in ('-f', '--defaults'):
+                self.assert_ends(hinted([word, 'values']), 0, errors=f'values:{place}: hint: {quotes}\n'.encode())
+        for text in ('A="x', 'A="', "A='x\"", 'A=x"y"', '#A="x"\n # B=\'\'', 'A= "x"', 'exported=1', 'A=export B="x" y'):
+            write('values', text.encode())
+            self.assert_ends(hinted(['-f', 'values']), 0)
+        for text, place in (('export A=1', '1:1'), ('A=1\n\t export A="x"\n', '2:3')):
+            write('values', text.encode())
+            hint = f"values:{place}: hint: lines are NAME=VALUE, as for docker run --env-file, without 'export'\n"
+            self.assert_faults(hinted(['-f', 'values']), hint.encode(),
+                              told_without_line(f'values:{place}', 'no template can spell this name'))
 
     def test_hint_of_faults(self):
         none = b'subst: hint: no variables are given: see --set, --values and --env\n'

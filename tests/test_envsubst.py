@@ -1,6 +1,6 @@
 """The program subst beside GNU envsubst, on random templates.
 
-Each template goes through envsubst, and through subst with --envsubst, or with --only where two names are listed; both
+Each template goes through envsubst, and through subst with --envsubst, and --only where two names are listed; both
 have to write the same. What subst reports as missing is given to it as an empty value, which is what envsubst takes it
 for.
 """
@@ -51,7 +51,7 @@ class Envsubst(Built):
         end, fault = self.ended(command, source), re.escape(no_such_variable(''))
         if end.returncode == 0:
             return end.stdout
-        missing = re.findall(rf'^<stdin>:\d+:\d+: {fault}(\w+)$', end.stderr.decode(), re.MULTILINE | re.ASCII)
+        missing = re.findall(rf'^<stdin>:\d+:\d+: error: {fault}(\w+)$', end.stderr.decode(), re.MULTILINE | re.ASCII)
         return self.output_of([*command, *(f'-s{name}=' for name in missing)], source)
 
     def assert_same(self, listed, words):
@@ -65,4 +65,4 @@ class Envsubst(Built):
         self.assert_same([], ['--envsubst'])
 
     def test_subst_with_chosen_names_writes_what_envsubst_writes(self):
-        self.assert_same([LISTED], ['--only', LISTED])
+        self.assert_same([LISTED], ['--envsubst', '--only', LISTED])

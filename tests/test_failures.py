@@ -13,7 +13,7 @@ import tty
 from typing import NamedTuple
 
 from faults import missing_name
-from tests.subst import NO_NAME, Subst, failed, subst, told, write
+from tests.subst import NO_NAME, Subst, failed, failed_since, subst, told, write
 from tests.support import (GIB, KIB, MIB, SECONDS, Built, End, file_of, in_memory, left_in, limited, path_of, pipe,
                            preloading, run, shown, some_size, unread_pipe, without)
 
@@ -276,11 +276,11 @@ class Memory(Subst):
             for more in ([], ['-o', 'old'], ['-o', 'new'], ['--check'], ['-i']):
                 write('old', b'old')
                 named = 'subst' if file == 'growing' and more[:1] in ([], ['-o']) else file
-                self.assert_out_of_memory([f'-sA={"a" * 10000}', *more, file], f'{named}: out of memory\n'.encode())
+                self.assert_out_of_memory([f'-sA={"a" * 10000}', *more, file], failed_since(named, 'out of memory'))
                 self.assert_file('old', b'old')
                 self.assertEqual(os.path.getsize(file), size)
                 self.assert_files('growing', 'old', 'small', 'sparse')
-        errors = b'sparse: out of memory\n'
+        errors = failed_since('sparse', 'out of memory')
         self.assert_out_of_memory(['sparse', 'nothing'], errors + failed('nothing', errno.ENOENT))
         self.assert_out_of_memory(['-f', 'sparse'], errors)
         self.assert_out_of_memory(['-i', '-sA=1', 'sparse', 'small'], errors)
@@ -321,5 +321,5 @@ class Memory(Subst):
             file.truncate(GIB)
             for way in WAYS:
                 for source in (file, endless):
-                    errors = b'subst: out of memory\n' if way.is_filter else b'<stdin>: out of memory\n'
+                    errors = b'subst: out of memory\n' if way.is_filter else failed_since('<stdin>', 'out of memory')
                     self.assert_ends(way.run(stdin=source, **in_memory(64 * MIB)), 4, errors=errors)

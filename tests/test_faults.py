@@ -73,9 +73,9 @@ class Faults(Subst):
         key, line = 'k' * 118, '\u2026' + 'k' * 51 + '": "$x"}'
         for more in ('', 'k'):
             path = f'/{key}{more}'[:120] + '\u2026' * (len(key + more) > 119)
-            place = f'<stdin>:1:{len(key + more) + 8}: {path}'
+            place = f'<stdin>:1:{len(key + more) + 8}'
             self.assert_refused(['--json'], f'{{"{key}{more}": "$x"}}'.encode(),
-                                missing('x', place, line, ' ' * 57 + '^'))
+                                missing('x', place, line, ' ' * 57 + '^', path))
 
     def test_names_of_files_are_shown_without_control_characters(self):
         for name, as_shown in (('a\x1b[1m', 'a\\u{1b}[1m'), ('b\n', 'b\\u{a}'), ('c\u202e', 'c\\u{202e}'),

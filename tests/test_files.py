@@ -10,9 +10,9 @@ import subprocess
 import time
 import unittest
 
-from tests.subst import (NOBODY, NO_NAME, PROGRAM, Subst, by_another_user, drawn, failed, missing, mode_of,
-                         not_replaced, read, told, write)
-from tests.support import KIB, MIB, SECONDS, limited, path_of, pipe, run, shown, some_size
+from tests.subst import (NOBODY, NO_NAME, PROGRAM, Subst, by_another_user, drawn, failed, failed_since, missing,
+                         mode_of, not_replaced, read, subst, told, write)
+from tests.support import KIB, MIB, SECONDS, limited, path_of, pipe, run, run_with_hints, shown, some_size
 
 
 class Output(Subst):
@@ -36,6 +36,28 @@ class Output(Subst):
         for mask in (0o022, 0o027, 0o077, 0):
             self.assert_done(['-o', f'new-{mask}'], b'a', preexec_fn=functools.partial(os.umask, mask))
             self.assert_mode(f'new-{mask}', 0o666 & ~mask)
+
+    def test_new_output_has_the_mode_of_its_template(self):
+        for mode in (0o600, 0o640, 0o755, 0o444, 0o4755):
+            template = f'template-{mode:o}'
+            write(template, b'$A', mode)
+            for mask in (0o022, 0o077, 0):
+                options = {'preexec_fn': functools.partial(os.umask, mask)}
+                self.assert_done(['-o', 'new', '-sA=1', template], **options)
+                self.assert_done(['-O', 'folder', '-sA=1', template], **options)
+                for file in ('new', f'folder/{template}'):
+                    self.assert_file(file, b'1')
+                    self.assert_mode(file, mode & 0o777 & ~mask)
+                    os.remove(file)
+                # The mode of none of several counts, nor that of what is no file.
+                self.assert_done(['-o', 'new', '-sA=1', template, template], **options)
+                self.assert_mode('new', 0o666 & ~mask)
+                os.remove('new')
+        write('-', b'', 0o600)
+        for file in ('-', '/dev/stdin'):
+            self.assert_done(['-o', f'new{os.path.basename(file)}', file], b'a',
+                             preexec_fn=functools.partial(os.umask, 0o022))
+            self.assert_mode(f'new{os.path.basename(file)}', 0o644)
 
     def test_output_that_is_there_keeps_its_mode(self):
         modes = {f'file-{mode:o}': mode for mode in (0o600, 0o640, 0o755, 0o400, 0o666)}
@@ -221,17 +243,58 @@ class OutputFolder(Subst):
         os.makedirs('two')
         for folder in ('one', 'two'):
             write(f'{folder}/a.in', folder.encode())
-        errors = b'two/a.in: another file has its place in the folder\n'
+        errors = failed_since('two/a.in', 'another file has its place in the folder')
         self.assert_failed(['-Oout', '--strip=.in', 'one/a.in', 'two'], errors)
         self.assert_file('out/a', b'one')
+
+    def test_output_folder_that_cannot_be_written_into(self):
+        write('a', b'$A')
+        self.assert_failed(['-Oa/b', '-sA=1', 'a'], failed('a/b', errno.ENOTDIR))
+        self.assert_failed(['-Oa', '-sA=1', 'a'], failed('a', errno.EEXIST))
+        options = by_another_user()
+        for folder in ('there', 'there/old'):
+            os.mkdir(folder)
+        write('there/old/a', b'old', 0o444)
+        for folder in ('there/old', 'there'):
+            os.chmod(folder, 0o555)
+        self.assert_failed(['-Othere', '-sA=1', 'a'], failed('there', errno.EACCES), **options)
+        self.assert_failed(['-Othere/new', '-sA=1', 'a'], failed('there/new', errno.EACCES), **options)
+        new = os.path.realpath('there/old/.a.subst-0')
+        self.assert_failed(['-Othere/old', '-sA=1', 'a'], not_replaced('there/old/a', errno.EACCES, new), **options)
+        for folder in ('there', 'there/old'):
+            os.chmod(folder, 0o755)
+        self.assert_files('old', folder='there')
+        self.assert_file('there/old/a', b'old')
+
+    def test_check_and_names_of_folders(self):
+        make_templates()
+        faults = (told('templates/README:1:1', NO_NAME, '$', '^'),
+                  missing('PORT', 'templates/conf.d/deep/b.in:1:2', '$PORT', ' ^^^^'),
+                  missing('PORT', 'templates/web.conf.in:1:7', 'port $PORT', '      ^^^^'))
+        self.assert_refused(['--check', 'templates'], b'', *faults)
+        self.assert_refused(['--check', '--strip=.in', 'templates'], b'', *faults[1:])
+        self.assert_done(['--check', '--strip=.in', '-sPORT=1', 'templates', 'templates/conf.d/a.conf.in'])
+        line = b'PORT\ttemplates/conf.d/deep/b.in:1:2\trequired\n'
+        self.assert_done(['--names', '--strip=.in', 'templates'], output=line)
+        self.assert_ends(subst(['--names', 'templates', '-'], b'$A'), 1, line + b'A\t<stdin>:1:2\trequired\n', faults[0])
+        self.assert_failed(['--check', '-sPORT=1', '--only=PORT', 'nothing', 'templates'], failed('nothing', errno.ENOENT))
+        self.assert_files('templates')
+
+    def test_hint_of_a_suffix_that_no_file_has(self):
+        make_templates()
+        hint = b"subst: hint: no file's name ends in '.tmpl', which --strip takes off\n"
+        write('a.tmpl', b'')
+        for files, errors in ((['templates'], hint), (['templates/README', '--only=A'], hint),
+                              (['templates', 'a.tmpl'], b''), (['a.tmpl'], b'')):
+            for words in (['-Oout'], ['--check'], ['--names']):
+                end = run_with_hints(PROGRAM, ['-sPORT=1', *words, '--strip=.tmpl', *files], name='subst')
+                self.assert_ends(end, 0, errors=errors)
 
     def test_wrong_words_of_output_folders(self):
         self.assert_wrong(['-Oout'], '--output-folder needs a file')
         self.assert_wrong(['-Oout', '-'], "--output-folder can't be of standard input")
-        for words in (['--strip=.in'], ['--strip=', '-Oout', 'a']):
-            self.assert_wrong(words, '--strip needs a suffix and --output-folder')
-        write('a', b'')
-        self.assert_failed(['-Oa/b', 'a'], failed('a/b/a', errno.ENOTDIR))
+        for words in (['--strip=.in'], ['--strip=', '-Oout', 'a'], ['--strip=', '--check']):
+            self.assert_wrong(words, '--strip needs a suffix and --output-folder, --check or --names')
 
 
 # What is filled in as itself, with arguments.
@@ -309,7 +372,7 @@ class InPlace(Subst):
     def test_in_place_of_what_is_no_file(self):
         os.mkfifo('fifo')
         write('file', b'$A')
-        errors = b'fifo: not a regular file\n.: not a regular file\n/dev/null: not a regular file\n'
+        errors = b''.join(failed_since(file, 'not a regular file') for file in ('fifo', '.', '/dev/null'))
         self.assert_failed(['-i', '-sA=1', 'fifo', '.', 'file', '/dev/null'], errors)
         self.assert_file('file', b'1')
         self.assert_files('fifo', 'file')

@@ -63,7 +63,7 @@ class Variables(Subst):
                 self.assert_wrong(['--set', f'{name}={value}'], text)
         for word, value in (('-s', '--set <NAME=VALUE>'), ('--values', '--values <FILE>'), ('--only', '--only <NAMES>'),
                             ('-o', '--output <FILE>')):
-            text = f"subst: a value is required for '{value}' but none was supplied\n\n"
+            text = f"subst: error: a value is required for '{value}' but none was supplied\n\n"
             self.assert_ends(subst([word]), 2, errors=(text + "For more information, try '--help'.\n").encode())
 
     def test_set_is_shown_without_control_characters(self):
@@ -163,6 +163,12 @@ def make_secrets():
         os.symlink(f'..data/{name}', f'secrets/{name}')
 
 
+# Files of a value, and their values.
+LINE_ENDS = ((b'', b''), (b'a', b'a'), (b'a\n', b'a'), (b'a\r\n', b'a'), (b'a\n\n', b'a\n'), (b'a\r\n\r\n', b'a\r\n'),
+             (b'\n', b''), (b'\r\n', b''), (b'\r', b'\r'), (b'a\r', b'a\r'), (b'a\n\r', b'a\n\r'), (b'a\r\r\n', b'a\r'),
+             (b'a \n', b'a '))
+
+
 class FilesOfValues(Subst):
     """Values that are whole files."""
 
@@ -170,7 +176,7 @@ class FilesOfValues(Subst):
         write('key', b'-----BEGIN KEY-----\nhunter2\r\n$A\\\n')
         write('empty', b'')
         for words in (['--set-file=KEY=key'], ['--set-file', 'KEY=key']):
-            self.assert_done(words, b'[$KEY]', b'[-----BEGIN KEY-----\nhunter2\r\n$A\\\n]')
+            self.assert_done(words, b'[$KEY]', b'[-----BEGIN KEY-----\nhunter2\r\n$A\\]')
         self.assert_done(['--set-file=A=empty'], b'[$A${A:d}]', b'[]')
         self.assert_wrong(['--set-file=A=-'], READ_ONCE, source=b'')
         write('template', b'$A')
@@ -187,13 +193,28 @@ class FilesOfValues(Subst):
             self.assert_wrong(['--set-file', word], "no '=' in argument 1 of --set-file")
         self.assert_wrong(['--set-file=a-b=c'], "no template can spell the name 'a-b' of --set-file")
         self.assert_failed(['--set-file=A=nothing'], failed('nothing', errno.ENOENT), source=b'a')
-        write('bad', b'ab\nc\xff')
-        self.assert_refused(['--set-file=A=bad'], b'a', told_without_line('bad:2:2', 'invalid UTF-8'))
+        for data in (b'ab\nc\xff', b'ab\nc\xff\n'):
+            write('bad', data)
+            self.assert_refused(['--set-file=A=bad'], b'a', told_without_line('bad:2:2', 'invalid UTF-8'))
+
+    def test_last_line_end_of_a_value(self):
+        os.makedirs('folder')
+        for data, value in LINE_ENDS:
+            write('folder/A', data)
+            for words in (['--set-file=A=folder/A'], ['-ffolder'], ['--defaults=folder']):
+                self.assert_done(words, b'[$A]', b'[' + value + b']')
+                self.assert_done([*words, '--keep-line-end'], b'[$A]', b'[' + data + b']')
+        # Nothing but a line end is an empty value.
+        write('folder/A', b'\n')
+        self.assert_done(['-ffolder', '--no-empty'], b'${A:d}', b'd')
+        self.assert_done(['-ffolder', '--no-empty', '--keep-line-end'], b'${A:d}', b'\n')
+        write('values', b'A=1\n')
+        self.assert_done(['-fvalues', '--keep-line-end'], b'[$A]', b'[1]')
 
     def test_folder_of_values(self):
         make_secrets()
         for words in (['-fsecrets'], ['-f', 'secrets/'], ['--defaults=secrets']):
-            self.assert_done(words, b'$USER:$PASSWORD', b'ann:hunter2\n')
+            self.assert_done(words, b'$USER:$PASSWORD', b'ann:hunter2')
         write('values', b'USER=bob\n')
         self.assert_done(['-fsecrets', '-fvalues'], b'$USER', b'bob')
         self.assert_done(['-fvalues', '-fsecrets'], b'$USER', b'ann')

@@ -25,7 +25,7 @@ use guest::Guest;
 use loader::{Loaded, load_as};
 use std::alloc::AllocError;
 use std::env;
-use subst::{ByteTemplate, Layered, NoEmpty, NoSubstitution, Template, TemplateBuf};
+use subst::{ByteTemplate, Layered, NoEmpty, NoSubstitution, ShellMap, Template, TemplateBuf};
 use subst::{escape, foreign, laws, substitute_bytes, substitute_bytes_into, substitute_bytes_owned, substitute_into};
 use subst::{substitute_owned, toml};
 

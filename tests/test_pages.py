@@ -72,11 +72,15 @@ class Completions(Case):
     def test_bash_offers_options_files_or_nothing(self):
         self.assertEqual(set(offered_by_bash('-')), names())
         files, nothing = [], ['+o', 'bashdefault', '+o', 'default']
+        folders = [*nothing, '-o', 'dirnames']
         self.assert_offers(
             offered_by_bash, ('--in', ['--in-place']), ('file', files), ('a --in', ['--in-place']), ('-- --in', files),
             ('-f f', files), ('-ef -', files), ('--values = f', files), ('-o f', files), ('--output = f', files),
             ('-s A', nothing), ('-es A = b', nothing), ('-sA = b : c', nothing), ('--set A', nothing),
-            ('--set = A = b', nothing), ('--set =', nothing), ('--only A', nothing), ('--only = A', nothing))
+            ('--set = A = b', nothing), ('--set =', nothing), ('--only A', nothing), ('--only = A', nothing),
+            ('-O f', folders), ('-eO f', folders), ('--output-folder f', folders), ('--output-folder = f', folders),
+            ('--escape j', [*nothing, 'json']), ('--escape = s', [*nothing, 'sh']),
+            ('--escape =', [*nothing, 'json', 'sh']), ('--escape x', nothing))
 
     @needs('zsh')
     def test_zsh_loads_its_completion(self):
@@ -89,9 +93,10 @@ class Completions(Case):
         ran(['fish', '-n', written('fish', 'subst.fish')])
         self.assertEqual(set(offered_by_fish('-')), names())
         pathlib.Path('values.env').touch()
+        pathlib.Path('folder').mkdir()
         self.assert_offers(
             offered_by_fish, ('va', ['values.env']), ('-f va', ['values.env']), ('-o va', ['values.env']), ('-s va', []),
-            ('--only va', []))
+            ('--only va', []), ('-O fo', ['folder/']), ('--escape j', ['json']))
 
 
 class Pages(Case):

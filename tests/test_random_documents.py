@@ -444,7 +444,7 @@ def check_faults(folder, kind, documents):
     messages = [line for line in end.errors.decode().split('\n') if line and not line.startswith('  ')]
     for number, (text, at, what) in enumerate(documents):
         message = messages[number] if number < len(messages) else 'nothing'
-        assert message.startswith(f'{number}:{at}: ') and message.endswith(what), \
+        assert message.startswith(f'{number}:{at}: error: ') and message.endswith(what), \
             f'{text!r} has a fault at {at}, {what}, and what is reported is {message}'
     assert len(messages) == len(documents), f'{len(documents)} faults are reported as {len(messages)}'
 

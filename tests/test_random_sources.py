@@ -14,6 +14,7 @@ import random
 from concurrent.futures import ProcessPoolExecutor
 
 from tests import installed
+from tests.subst import told_without_line
 from tests.support import CRATES, Built, Tried, as_told, ended, run, some_size
 from tests.vectors import decode, encode, pairs_column, ruled_answer, ruled_lists
 
@@ -229,5 +230,5 @@ class Sources(Built):
         """Of the messages the first line is compared, which has the position and the text of the first fault."""
         words = [word for name, value in variables.items() for word in (b'-s', name + b'=' + value)]
         end = run('subst_cli', words, source, name='subst')
-        first = f'<stdin>:{error.line}:{error.column}: {as_told(error.message)}\n'.encode() if error else b''
+        first = told_without_line(f'<stdin>:{error.line}:{error.column}', as_told(error.message)) if error else b''
         self.assert_ends(end._replace(errors=end.errors[:len(first) or None]), 1 if error else 0, output, first)

@@ -1,8 +1,10 @@
 """What `subst` takes as variables, in bytes, texts and documents."""
 import json
+import os
 
 from faults import missing_brace, unexpected
-from tests.subst import UNREADABLE, Subst, in_each_form, missing, subst, told, toml_of
+from tests.subst import PROGRAM, UNREADABLE, Subst, in_each_form, missing, read, subst, told, toml_of, write
+from tests.support import run_with_hints
 
 # Sources that aren't UTF-8, with the position of the first byte that isn't, and its line.
 NOT_UTF8 = (
@@ -16,9 +18,46 @@ FILLED_JSON = (b'{ "$A" : "\\"\\n\\\\",\r\n\t"b":[1.50, -0, 1E30,"\\"\\n\\\\",nu
                b'"c":{"a":["\\"\\n\\\\\\n"]}}\r\n')
 # Texts that are no documents, with their fault.
 NO_JSON = (
-    (b'{"a": "$x",}', told('<stdin>:1:12', 'invalid JSON', '{"a": "$x",}', ' ' * 11 + '^')),
+    (b'{"a": "$x",}', told('<stdin>:1:12', 'a comma before the end', '{"a": "$x",}', ' ' * 11 + '^')),
     (b'{"a": 1,\n "b" 2}', told('<stdin>:2:6', 'invalid JSON', ' "b" 2}', ' ' * 5 + '^')),
     (b'', told('<stdin>:1:1', 'EOF while parsing', '', '^')),
+)
+# Texts of one line that aren't JSON, with the column of what is wrong and what that is. The column of a comma before
+# the end is that of the bracket after it.
+MISTAKES = (
+    ('[1,]', 4, 'a comma before the end'),
+    ('[[1 , ], "$x"]', 7, 'a comma before the end'),
+    ('// x', 1, 'a comment'),
+    ('["$x", /* x */ 2]', 8, 'a comment'),
+    ('{ /* x */ "a": 1}', 3, 'a comment'),
+    ('{"a" /* x */: 1}', 6, 'a comment'),
+    ('{"a": "//"} // x', 13, 'a comment'),
+    ('{"a": /x}', 7, 'invalid JSON'),
+    ('{} {}', 4, 'a second document'),
+    ('["$x"]]', 7, 'a second document'),
+    ('"a" "\\ud800"', 5, 'a second document'),
+    ('[1} ]', 5, 'invalid JSON'),
+    ('["\\ud800\\n"]', 3, 'half of a surrogate pair'),
+    ('["ab\\\\\\ud83d\\ude00 \\uDC00x"]', 20, 'half of a surrogate pair'),
+    ('{"\\uDbff\\uDBff": 1}', 3, 'half of a surrogate pair'),
+    ('["\\ud8zz"]', 2, 'invalid JSON'),
+    ('{"a": $x}', 7, 'a variable outside a string'),
+    ('{$x: 1}', 2, 'a variable outside a string'),
+    ('["$x", ${x}]', 8, 'a variable outside a string'),
+    ('{"a": 1$x}', 7, 'invalid JSON'),
+    ('{1: 2}', 3, 'invalid JSON'),
+    ('[1e999,]', 8, 'number out of range'),
+)
+NO_VALUE = 'invalid value, expected a string, number, boolean, date-time, array or inline table'
+# TOML documents whose last line isn't read, with the column and what is said of it, and whether there is a hint.
+UNQUOTED = (
+    ('a = $x', 5, NO_VALUE, True),
+    ('# $x\na = [1, ${x}]', 9, NO_VALUE, True),
+    ('a = {b = $}', 10, NO_VALUE, True),
+    ('a = x$y', 5, NO_VALUE, False),
+    ('a = # $x', 5, NO_VALUE, False),
+    ('a = 1 $x', 7, 'unexpected key or value, expected newline, `#`', False),
+    ('$a = 1', 1, 'invalid key, expected letters, numbers, `-`, `_` or a quoted key', False),
 )
 NO_TOML = (
     (b'a = "$x"\na = 2\n', told('<stdin>:2:1', 'duplicate key', 'a = 2', '^^^^^')),
@@ -69,16 +108,17 @@ class Forms(Subst):
     def test_faults_of_json(self):
         line = r'{"a": "\u0041\"$x", "b/~": [1, "$x ${y"], "c": {"": "$x"}}'
         self.assert_refused(['--json'], b'\n' + line.encode(),
-                            missing('x', '<stdin>:2:17: /a', line, '                ^'),
+                            missing('x', '<stdin>:2:17', line, '                ^', '/a'),
                             told('<stdin>:2:37', f'/b~1~0/1: {missing_brace()}', line, ' ' * 36 + '^'),
-                            missing('x', '<stdin>:2:55: /c/', line, ' ' * 54 + '^'))
+                            missing('x', '<stdin>:2:55', line, ' ' * 54 + '^', '/c/'))
         # Of a key that is there twice, each string is filled in.
         line = '{"a": "$x", "a": "$y"}'
-        self.assert_refused(['--json'], line.encode(), missing('x', '<stdin>:1:9: /a', line, ' ' * 8 + '^'),
-                            missing('y', '<stdin>:1:20: /a', line, ' ' * 19 + '^'))
+        self.assert_refused(['--json'], line.encode(), missing('x', '<stdin>:1:9', line, ' ' * 8 + '^', '/a'),
+                            missing('y', '<stdin>:1:20', line, ' ' * 19 + '^', '/a'))
         line = r'["\\ \\$a \u0024b"]'
-        self.assert_refused(['--json', '--envsubst'], line.encode(), missing('a', '<stdin>:1:9: /0', line, '        ^'),
-                            missing('b', '<stdin>:1:17: /0', line, '                ^'))
+        self.assert_refused(['--json', '--envsubst'], line.encode(),
+                            missing('a', '<stdin>:1:9', line, '        ^', '/0'),
+                            missing('b', '<stdin>:1:17', line, '                ^', '/0'))
 
     def test_fault_of_a_document_that_is_a_string(self):
         self.assert_refused(['--json'], b'"$x"', missing('x', '<stdin>:1:3', '"$x"', '  ^'))
@@ -89,12 +129,43 @@ class Forms(Subst):
                 self.assert_refused([option], source, message)
                 self.assert_refused([option, '--names'], source, message)
 
+    def test_mistakes_in_json(self):
+        for line, column, what in MISTAKES:
+            message = told(f'<stdin>:2:{column}', what, line, ' ' * (column - 1) + '^')
+            for words in ([], ['--names'], ['--check']):
+                self.assert_refused(['--json', *words], b'\n' + line.encode() + b'\n', message)
+        write('a', b'[1,]')
+        for words in (['-i', 'a'], ['-o', 'b', 'a'], ['-O', 'c', 'a']):
+            self.assert_refused(['--json', *words], b'', told('a:1:4', 'a comma before the end', '[1,]', '   ^'))
+        self.assertEqual((read('a'), os.listdir()), (b'[1,]', ['a']))
+
+    def test_depth_of_documents(self):
+        for option, start, levels in (('--json', '', 127), ('--toml', 'a = ', 80)):
+            text = start + '[' * levels + '"$A"' + ']' * levels
+            self.assert_done([option, '-sA=1'], text.encode(), text.replace('$A', '1').encode())
+            end = subst([option], (start + '[' * (levels + 1) + ']' * (levels + 1)).encode())
+            self.assertEqual((end.status, end.output), (1, b''))
+            self.assertIn(f':1:{len(start) + levels + 1}: error: nested deeper than {levels}\n'.encode(), end.errors)
+        # Brackets of strings are none.
+        self.assert_done(['--json'], text := b'["' + b'[' * 200 + b'\\"{"]', text)
+
+    def test_variable_outside_a_string_of_toml(self):
+        for text, column, what, is_hinted in UNQUOTED:
+            *before, line = text.split('\n')
+            place = f'<stdin>:{len(before) + 1}:{column}'
+            end = run_with_hints(PROGRAM, ['--toml'], text.encode() + b'\n')
+            self.assertEqual((end.status, end.output), (1, b''))
+            self.assertTrue(end.errors.startswith(f'{place}: error: {what}\n  {line}\n'.encode()), f'{text}')
+            hint = f'{place}: hint: put the variable in quotes\n'.encode()
+            self.assertEqual(end.errors.endswith(hint), is_hinted, f'{text}')
+            self.assertEqual(b'hint' in end.errors, is_hinted, f'{text}')
+
     def test_json_with_a_byte_order_mark(self):
         mark = b'\xef\xbb\xbf'
         self.assert_done(['--json', '-sA=1'], mark + b'{"a": "$A"}\n', mark + b'{"a": "1"}\n')
         self.assert_done(['--json', '--names'], mark + b'\n["$A"]', b'A\t<stdin>:2:4\trequired\n')
-        self.assert_refused(['--json'], mark + b'[\n"$A"]', missing('A', '<stdin>:2:3: /0', '"$A"]', '  ^'))
-        self.assert_refused(['--json'], mark + b'[\n1,]', told('<stdin>:2:3', 'invalid JSON', '1,]', '  ^'))
+        self.assert_refused(['--json'], mark + b'[\n"$A"]', missing('A', '<stdin>:2:3', '"$A"]', '  ^', '/0'))
+        self.assert_refused(['--json'], mark + b'[\n1,]', told('<stdin>:2:3', 'a comma before the end', '1,]', '  ^'))
         self.assert_refused(['--json'], mark + b'["\xff"]', told('<stdin>:1:3', 'invalid UTF-8', '["\ufffd"]', '  ^'))
 
     def test_toml(self):
@@ -105,11 +176,11 @@ class Forms(Subst):
     def test_faults_of_toml(self):
         lines = ('[a.b]', '"k k" = "$x"', '[[t]]', 'x = ["a", "\\u00e4$y"]')
         self.assert_refused(['--toml'], '\n'.join(lines).encode(),
-                            missing('x', '<stdin>:2:11: a.b."k k"', lines[1], '          ^'),
-                            missing('y', '<stdin>:4:19: t[0].x[1]', lines[3], '                  ^'))
+                            missing('x', '<stdin>:2:11', lines[1], '          ^', 'a.b."k k"'),
+                            missing('y', '<stdin>:4:19', lines[3], '                  ^', 't[0].x[1]'))
 
     def test_only(self):
-        taken = b'1 1 \\1 \\. $B ${B} ${A:x} ${A?} $AB $1 $$ ${ $(A) $'
+        taken = b'1 1 \\1 \\. $B ${B} 1 1 $AB $1 $$ ${ $(A) $'
         both = taken.replace(b'$B ${B}', b'2 2')
         variables = ['-sA=1', '-sB=2']
         for names in ('A', '$A', '${A}', ' A, ', 'A,A', ',A,'):
@@ -145,10 +216,11 @@ class ChosenNames(Subst):
 
     def test_known(self):
         source = b'root /srv/${APP}$uri; ${APP:x} $1 \\$APP $EMPTY$$'
-        for words in (['--known', '-e'], ['--known', '-sAPP=shop', '-sEMPTY=']):
-            self.assert_done(words, source, b'root /srv/shop$uri; ${APP:x} $1 \\shop $$',
-                             env={'APP': 'shop', 'EMPTY': ''})
-        self.assert_done(['--known', '-e'], source, source, env={})
+        for words in (['-e'], ['-sAPP=shop', '-sEMPTY=']):
+            for form, default in (([], b'shop'), (['--envsubst'], b'${APP:x}')):
+                output = b'root /srv/shop$uri; ' + default + b' $1 \\shop $$'
+                self.assert_done(['--known', *form, *words], source, output, env={'APP': 'shop', 'EMPTY': ''})
+        self.assert_done(['--known', '-e'], source, source.replace(b'${APP:x}', b'x'), env={})
         self.assert_done(['--known', '--no-empty', '-sEMPTY='], b'$EMPTY', b'$EMPTY')
         self.assert_done(['--known', '--json', '-sA="'], b'["$A $B", {"k": "${A}"}]', b'["\\" $B", {"k": "\\""}]')
         self.assert_done(['--known', '--bytes', '-sA=1'], b'\xff$A$B', b'\xff1$B')
@@ -156,17 +228,63 @@ class ChosenNames(Subst):
                             env={b'A': b'\xff'})
 
     def test_optional(self):
-        for words in (['--envsubst', '--optional'], ['--only=A,B,a1', '--optional']):
-            self.assert_done([*words, '-sA=1'], b'[$A][${B}][$a1] $1 ${A:d} \\$B $', b'[1][][] $1 ${A:d} \\ $')
+        for words in (['--envsubst', '--optional'], ['--only=A,B,a1', '--optional'], ['--shell', '--optional'],
+                      ['--shell']):
+            self.assert_done([*words, '-sA=1'], b'[$A][${B}][$a1] $1 \\$B $', b'[1][][] $1 \\ $')
             self.assert_done([*words, '-sA=1', '-sB=real'], b'$A$B', b'1real')
-            self.assert_done([*words, '--bytes'], b'\xff$A.', b'\xff.')
-            self.assert_done([*words, '--json'], b'["$A", "$A $B"]', b'["", " "]')
-            self.assert_done([*words, '--check'], b'$A')
+            self.assert_done([*words, '-sX=', '--bytes'], b'\xff$A.', b'\xff.')
+            self.assert_done([*words, '-sX=', '--json'], b'["$A", "$A $B"]', b'["", " "]')
+            self.assert_done([*words, '-sX=', '--check'], b'$A')
             self.assert_done([*words, '--names'], b'\n\\ ${A}', b'A\t<stdin>:2:5\toptional\n')
         self.assert_refused(['--envsubst', '--optional', '-e'], b'\\ $B $A',
                             told('<stdin>:1:7', f'{UNREADABLE}A', '\\ $B $A', '      ^'), env={b'A': b'\xff'})
         for words in ([], ['--json']):
-            self.assert_wrong(['--optional', *words], '--optional needs --envsubst or --only')
+            self.assert_wrong(['--optional', *words], '--optional needs --envsubst, --shell, --only or --known')
+        for words in ([], ['--shell'], ['--envsubst'], ['--only=A'], ['--known']):
+            self.assert_wrong(['--optional', '--strict', *words], '--strict and --optional exclude each other')
+
+    def test_strict(self):
+        """With `--shell`; elsewhere that is so without it."""
+        fault = missing('B', '<stdin>:1:10', '$A ${A} $B', ' ' * 9 + '^')
+        for words in (['--shell'], ['--compose', '--only=A,B'], ['--envsubst'], ['--only=A,B'], []):
+            self.assert_refused([*words, '--strict', '-sA=1'], b'$A ${A} $B', fault)
+            self.assert_done([*words, '--strict', '--names'], b'${A}', b'A\t<stdin>:1:3\trequired\n')
+        self.assert_done(['--shell', '--strict', '--known', '-sA=1'], b'$A $B ${B-d}', b'1 $B d')
+
+    def test_names_that_begin_so(self):
+        source = b'$APP_A ${APP_1} ${APP_} $APP $APPLE \\$B_1'
+        for names in ('APP_*', '$APP_*', '${APP_*}', ' A APP_*,', 'APP_*,$APP_1'):
+            for words in ([], ['--envsubst'], ['--shell']):
+                given = [f'-s{name}={at}' for at, name in enumerate(('APP_A', 'APP_1', 'APP_', 'APP', 'APPLE'), 1)]
+                self.assert_done(['--only', names, *words, *given], source, b'1 2 3 $APP $APPLE \\$B_1')
+        self.assert_done(['--only=1*', '-s1=x', '-s12=y'], b'$1 $12 $21', b'x y $21')
+        self.assert_done(['--only=A*', '--names'], b'$AB ${A:d} $B',
+                         b'AB\t<stdin>:1:2\trequired\nA\t<stdin>:1:7\tdefault\td\n')
+        self.assert_done(['--only=A,B', '--names'], b'$A? ${B?}',
+                         b'A\t<stdin>:1:2\trequired\nB\t<stdin>:1:7\toptional\n')
+        for name in ('*', '$*', '${*}', '*A', 'A**', 'A*B', 'A-*', '$A*}', '\u00e4*'):
+            self.assert_wrong(['--only', f'A,{name}'], f"no template can spell the name '{name}' of --only")
+
+    def test_options_that_need_variables(self):
+        write('file', b'$A')
+        write('empty', b'')
+        os.mkdir('folder')
+        sources = (['-e'], ['-sB='], ['-fempty'], ['-ffolder'], ['--set-file=B=empty'], ['--default=B='],
+                   ['--defaults=empty'])
+        for option, more in (('--known', []), ('--known', ['--envsubst']), ('--known', ['--optional']), ('--shell', []),
+                             ('--compose', []), ('--shell', ['--only=A']), ('--optional', ['--envsubst']), ('--optional', ['--only=A'])):
+            text = f"{option} needs variables; '-e' takes the environment's"
+            for words in ([], ['-o', 'new'], ['-O', 'new'], ['-i'], ['--check'], ['--no-empty'], ['--json'],
+                          ['--no-empty', '--escape=sh']):
+                self.assert_wrong([option, *more, *words, 'file'], text)
+            for words in sources:
+                self.assert_done([option, *more, '--check', *words, 'file'], env={})
+            if option != '--known':
+                self.assert_done([option, *more, '--names', 'file'], output=b'A\tfile:1:2\toptional\n')
+        for words in (['--envsubst'], ['--only=A'], []):
+            self.assert_done([*words, '--check'], b'')
+        self.assert_file('file', b'$A')
+        self.assert_files('file', 'empty', 'folder')
 
 
 def splits(text):

@@ -1,10 +1,9 @@
 """Templates that were written for other programs."""
-import json
 import re
 import shutil
 
 from faults import invalid_escape, no_such_variable
-from tests.subst import NO_NAME, UNREADABLE, Subst, missing, subst, told
+from tests.subst import NO_NAME, UNREADABLE, Subst, missing, subst, told, write
 from tests.support import TOP, needs, ran
 
 TEMPLATES = TOP / 'tests/data/templates'
@@ -57,7 +56,7 @@ class Templates(Subst):
             others = {other: value for other, value in variables().items() if other != name}
             end = subst(['--envsubst', '-e', template.name], env=others, cwd=TEMPLATES)
             heads = [line for line in end.errors.decode().splitlines() if not line.startswith('  ')]
-            wanted = [f'{template.name}:{line}:{column}: {no_such_variable(name)}' for line, column in places]
+            wanted = [f'{template.name}:{line}:{column}: error: {no_such_variable(name)}' for line, column in places]
             self.assertEqual((end.status, end.output, heads), (1, b'', wanted), f'{template.name} without {name}')
 
     def test_templates_of_other_programs_in_our_language(self):
@@ -69,40 +68,14 @@ class Templates(Subst):
                                  'Environment="PRICE=US$$ 5" "ROOT=/srv/${APP_NAME}"', ' ' * 21 + '^'), cwd=TEMPLATES)
 
 
-# Texts, and what Docker Compose makes of them where A is 1, E is empty and nothing else has a value.
-SHELL = (
-    ('$A ${A} $E ${E} $B ${B}.', '1 1    .'),
-    ('${A:-x} ${E:-x} ${B:-x} ${B:-}', '1 x x '),
-    ('${B:-a:b-c?d\\e"f"}', 'a:b-c?d\\e"f"'),
-    ('${B:-${E:-${A:-x}y}z}$${B:-no}', '1yz${B:-no}'),
-    ('${A:?must} ${A:?}', '1 1'),
-    ('$$ $$A $$$A $${A:-x}', '$ $A $1 ${A:-x}'),
-    ('\\$A \\ {} } { : ? # % \u00e4', '\\1 \\ {} } { : ? # % \u00e4'),
-    ('$A_1 ${A_1:-_} $_ ${_}', ' _  '),
-)
-# Texts that are refused, with the column, what it is, and how many columns are told.
+# What is said of the forms that are refused, and texts that have one.
 NO_SHELL = (
-    ('a ${B-x}', 3, '`-` of a shell\'s variable can\'t be given here'),
-    ('${B?x}', 1, '`?` of a shell\'s variable can\'t be given here'),
-    ('${B=x}', 1, '`=` of a shell\'s variable can\'t be given here'),
-    ('${B:=x}', 1, '`:=` of a shell\'s variable can\'t be given here'),
-    ('${B+x}', 1, '`+` of a shell\'s variable can\'t be given here'),
-    ('${A:+x}', 1, '`:+` of a shell\'s variable can\'t be given here'),
-    ('${A:1:2}', 1, '`:` of a shell\'s variable can\'t be given here'),
-    ('${A#x}', 1, '`#` of a shell\'s variable can\'t be given here'),
-    ('${A%x}', 1, '`%` of a shell\'s variable can\'t be given here'),
-    ('${A/x/y}', 1, '`/` of a shell\'s variable can\'t be given here'),
-    ('${A!}', 1, 'what is after the name of a shell\'s variable can\'t be given here'),
-    ('$A ${#A}', 4, '`${` without a name can\'t be given here'),
-    ('$(id)', 1, 'a dollar that begins no variable can\'t be given here'),
-    ('x $1', 3, 'a dollar that begins no variable can\'t be given here'),
-    ('5 $', 3, 'a dollar that begins no variable can\'t be given here'),
-    ('${B:-x', 1, 'a variable without its closing brace can\'t be given here'),
-    ('${B:-{}', 6, 'an opening brace in a default can\'t be given here'),
-    # of two forms the one at which reading stops
-    ('$1 ${A-x}', 1, 'a dollar that begins no variable can\'t be given here'),
-    ('$${1} ${A+x} $1', 7, '`+` of a shell\'s variable can\'t be given here'),
-    ('${B:-${A-x} y', 6, '`-` of a shell\'s variable can\'t be given here'),
+    ("`=` assigns, which isn't done here; for a default write `${NAME:-default}`", ('${B=x}', 'a ${B:=x}')),
+    ("patterns aren't matched here; give a variable that has the result", ('${A#x}', '${A%x}', '$A ${A/x/y}')),
+    ("`:` takes a part of a value, which isn't done here; for a default write `${NAME:-default}`", ('${A:1:2}', '${A:x}')),
+    ("`${` without a name; for a dollar write `$$`", ('${}', '$A ${#A}', '$$${1}', '${!A}')),
+    ("this operator isn't known; for a dollar write `$$`", ('${A!}', '${A^}', '${A,,}', '${A@Q}', '${A }')),
+    ('a variable without its closing brace; write `}` after it', ('a ${A', '${A:-x', '${A:?m', '${B-${A}')),
 )
 
 
@@ -110,15 +83,11 @@ class Shell(Subst):
     """Templates of Docker Compose."""
 
     def test_shell(self):
-        words = ['--shell', '-sA=1', '-sE=']
-        for text, output in SHELL:
-            self.assert_done(words, text.encode(), output.encode())
-            self.assert_done([*words, '--bytes'], b'\xff' + text.encode(), b'\xff' + output.encode())
-            end = subst([*words, '--json'], json.dumps([text]).encode())
-            self.assertEqual((end.status, json.loads(end.output)), (0, [output]), text)
-        self.assert_done(words, b'')
-        self.assert_done(['--shell', '-e'], b'${TAG:-latest}', b'latest', env={'TAG': ''})
-        self.assert_done(['--shell', '-e', '--default=TAG=d', '--no-empty'], b'$TAG', b'd', env={'TAG': ''})
+        for word in ('--shell', '--compose'):
+            self.assert_done([word, '-e'], b'${TAG:-latest}', b'latest', env={'TAG': ''})
+            self.assert_done([word, '-e', '--default=TAG=d', '--no-empty'], b'$TAG', b'd', env={'TAG': ''})
+            self.assert_done([word, '-e', '--json'], b'["$A ${A:-\\"x\\"}", {"$$A": "$$A"}]',
+                             b'[" \\"x\\"", {"$$A": "$A"}]', env={})
 
     def test_compose_file(self):
         """What Docker Compose's rules give was worked out by hand."""
@@ -129,23 +98,42 @@ class Shell(Subst):
         self.assert_done(['--shell', '-e', template], output=wanted, env=values)
         self.assert_done(['--shell', *(f'-s{name}={value}' for name, value in values.items()), template], output=wanted)
         line = '      POSTGRES_PASSWORD: ${DB_PASSWORD:?set it in .env}'
-        message = missing('DB_PASSWORD', 'compose.yml:15:28', line, ' ' * 27 + '^' * 11)
+        message = told('compose.yml:15:28', '$DB_PASSWORD is empty: set it in .env', line, ' ' * 27 + '^' * 11)
         self.assert_refused(['--shell', '-e', 'compose.yml'], b'', message, env={**values, 'DB_PASSWORD': ''},
                             cwd=TEMPLATES)
 
     def test_shell_that_is_refused(self):
-        for text, column, what in NO_SHELL:
-            message = told(f'<stdin>:1:{column}', what, text, ' ' * (column - 1) + '^')
-            for words in ([], ['--bytes'], ['--names']):
-                self.assert_refused(['--shell', '-sA=1', *words], text.encode(), message)
+        for what, texts in NO_SHELL:
+            for text in texts:
+                column = text.index('${') + 1
+                message = told(f'<stdin>:1:{column}', what, text, ' ' * (column - 1) + '^')
+                for words in ([], ['--bytes'], ['--names'], ['--strict']):
+                    self.assert_refused(['--shell', '-sA=1', *words], text.encode(), message)
+        what = 'an opening brace in a default; give a variable that has the text'
+        self.assert_refused(['--only=B', '-sB=1'], b'$ ${B:{}}', told('<stdin>:1:7', what, '$ ${B:{}}', ' ' * 6 + '^'))
+
+    def test_faults_of_a_shell(self):
         line = '$$ ${A:-$B} ${B:?must} $B ${C:-${D:?x}} ${E:?}'
-        faults = (missing('B', '<stdin>:2:15', line, ' ' * 14 + '^'),
-                  missing('D', '<stdin>:2:34', line, ' ' * 33 + '^'),
-                  missing('E', '<stdin>:2:43', line, ' ' * 42 + '^'))
-        self.assert_refused(['--shell', '-sE='], b'$A\n' + line.encode(), *faults)
+        faults = (missing('B: must', '<stdin>:2:15', line, ' ' * 14 + '^'),
+                  missing('D: x', '<stdin>:2:34', line, ' ' * 33 + '^'),
+                  told('<stdin>:2:43', '$E is empty', line, ' ' * 42 + '^'))
+        self.assert_refused(['--shell', '-sA=1', '-sE='], b'$A\n' + line.encode(), *faults)
         self.assert_refused(['--shell', '-e'], b'$$ ${A:-x}',
                             told('<stdin>:1:6', f'{UNREADABLE}A', '$$ ${A:-x}', '     ^'), env={b'A': b'\xff'})
-        self.assert_refused(['--shell', '--json'], b'["\\u0024{A:?}"]',
-                            missing('A', '<stdin>:1:10: /0', '["\\u0024{A:?}"]', ' ' * 9 + '^'))
-        self.assert_done(['--shell', '--names'], b'$$A ${B:-$C} ${D:?x $y}$E', b'B\t<stdin>:1:7\tdefault\n'
+        self.assert_refused(['--shell', '--json', '-sB='], b'["\\u0024{A:?}"]',
+                            missing('A', '<stdin>:1:10', '["\\u0024{A:?}"]', ' ' * 9 + '^', '/0'))
+        self.assert_done(['--shell', '--names'], b'$$A ${B:-$C} ${D:?x $y}$E', b'B\t<stdin>:1:7\tdefault\t$C\n'
                          b'C\t<stdin>:1:11\toptional\nD\t<stdin>:1:16\trequired\nE\t<stdin>:1:25\toptional\n')
+
+    def test_messages(self):
+        """Of a variable that isn't set, and of one that is empty."""
+        unset = no_such_variable('A')
+        for text, as_told in (('must be set', ': must be set'), ('', ''), (' {}: $B', ':  {}: 1'),
+                              ('\t\x1b', ':  \\u{1b}')):
+            line = f'  listen ${{A:?{text}}};'
+            write('web.conf', f'server {{\n{line}\n'.encode())
+            shown = line.replace('\t', ' ').replace('\x1b', '\\u{1b}')
+            for words, what in ((['-sB=1'], unset), (['-sB=1', '-sA='], '$A is empty')):
+                for more in ([], ['--only=A,B'], ['--known'], ['--strict']):
+                    self.assert_refused(['--shell', *words, *more, 'web.conf'], b'',
+                                        told('web.conf:2:12', what + as_told, shown, ' ' * 11 + '^'))

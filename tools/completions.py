@@ -1,6 +1,6 @@
 #!/usr/bin/env python3
 """completions.py bash|zsh|fish   Prints what completes the arguments of subst in a shell, from the options in its
-source, crates/subst_cli/src/options.rt. The options of its library, -h and -V, are named here.
+source, crates/subst_cli/src/options/table.rt. The options of its library, -h and -V, are named here.
 """
 import re
 import sys
@@ -9,14 +9,14 @@ from typing import NamedTuple
 sys.dont_write_bytecode = True
 from building import CRATES
 
-SOURCE = CRATES / 'subst_cli/src/options.rt'
+SOURCE = CRATES / 'subst_cli/src/options/table.rt'
 # A row of the table there, and its value.
 ROW = re.compile(r'^    Row \{\n(.*?)^    \},', re.MULTILINE | re.DOTALL)
 TAKES = re.compile(r'takes: Some\(\("([^"]+)", ArgAction::(\w+)\)\)')
 
 
 class Option(NamedTuple):
-    """An option: its letter and its value are empty where it has none."""
+    """An option: its letter and its value are empty where it has none. A value may be all that it can be, as a|b."""
     letter: str
     name: str
     value: str
@@ -74,7 +74,9 @@ _subst() {
   for given in "${COMP_WORDS[@]:1:at - 1}"; do
     [[ $given == -- ]] && return
   done
-  if [[ $before =~ ^(@LONG@|-[@FLAG_SHORT@]*[@SHORT@])$ || $word =~ ^((@LONG@)=|-[@FLAG_SHORT@]*[@SHORT@].) ]]; then
+  if [[ $before =~ ^(@FOLDER_LONG@|-[@FLAG_SHORT@]*[@FOLDER_SHORT@])$ || $word =~ ^(@FOLDER_LONG@)= ]]; then
+    compopt +o bashdefault +o default -o dirnames
+@CHOICES@  elif [[ $before =~ ^(@LONG@|-[@FLAG_SHORT@]*[@SHORT@])$ || $word =~ ^((@LONG@)=|-[@FLAG_SHORT@]*[@SHORT@].) ]]; then
     compopt +o bashdefault +o default
   elif [[ $word == -* && ! $before =~ ^(@FILE_LONG@|-[@FLAG_SHORT@]*[@FILE_SHORT@])$ ]]; then
     mapfile -t COMPREPLY < <(compgen -W '@WORDS@' -- "$word")
@@ -87,9 +89,14 @@ complete -o bashdefault -o default -F _subst subst
 
 def bash():
     kinds = {'FILE_': [it for it in options() if it.value == 'FILE'],
+             'FOLDER_': [it for it in options() if it.value == 'FOLDER'],
              'FLAG_': [it for it in options() if not it.value and it not in OF_LIBRARY],
-             '': [it for it in options() if it.value not in ('', 'FILE')]}
-    meant = {'WORDS': ' '.join(words(options()))}
+             '': [it for it in options() if it.value not in ('', 'FILE', 'FOLDER') and '|' not in it.value]}
+    choices = ''.join(f'  elif [[ $before == --{it.name} || $word == --{it.name}=* ]]; then\n'
+                      f'    compopt +o bashdefault +o default\n'
+                      f"    mapfile -t COMPREPLY < <(compgen -W '{it.value.replace('|', ' ')}' -- \"${{word#*=}}\")\n"
+                      for it in options() if '|' in it.value)
+    meant = {'WORDS': ' '.join(words(options())), 'CHOICES': choices}
     for kind, chosen in kinds.items():
         meant[f'{kind}LONG'] = '|'.join(f'--{it.name}' for it in chosen)
         meant[f'{kind}SHORT'] = ''.join(it.letter for it in chosen)
@@ -100,7 +107,10 @@ def zsh_words(option):
     """An option as zsh has it: what it can't be given with, its names, its help and what it takes."""
     others = '- *' if option in OF_LIBRARY else ' '.join(excluded(option))
     before = (f'({others})' if others else '') + '*' * option.repeats
-    takes = f":{option.value.lower()}:{'_files' if option.value == 'FILE' else ' '}" if option.value else ''
+    offered = {'FILE': '_files', 'FOLDER': '_files -/'}.get(option.value, ' ')
+    if '|' in option.value:
+        offered = f"({option.value.replace('|', ' ')})"
+    takes = f':{option.value.lower()}:{offered}' if option.value else ''
     letter, name = option.letter + '+' * bool(takes), option.name + '=' * bool(takes)
     after = f'[{option.text}]{takes}'
     if not option.letter:
@@ -117,7 +127,9 @@ def fish():
     made = '# Completes arguments of subst in fish.\n\n'
     for option in options():
         letter = f' -s {option.letter}' if option.letter else ''
-        takes = {'': '', 'FILE': ' -r -F'}.get(option.value, ' -x')
+        takes = {'': '', 'FILE': ' -r -F', 'FOLDER': " -x -a '(__fish_complete_directories)'"}.get(option.value, ' -x')
+        if '|' in option.value:
+            takes = f" -x -a '{option.value.replace('|', ' ')}'"
         text = quoted(option.text, r"\'")
         made += f'complete -c subst{letter} -l {option.name}{takes} -d {text}\n'
     return made

@@ -30,6 +30,7 @@ HIDDEN = {
     'subst_json/src/typed.rt': 'its module is private, and its trait is there for each type of `serde`',
     'subst_toml/src/typed.rt': 'its module is private, and its trait is there for each type of `serde`',
     'subst_c/': 'its modules are private',
+    'subst_c/src/style.rt': '',
     'subst_c/src/lib.rt': '',
     'subst_cli/': 'most of its modules are private',
     'subst_cli/src/filling.rt': '',

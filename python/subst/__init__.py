@@ -39,11 +39,12 @@ from ._library import version as _version
 from ._memory import BYTES as _BYTES, TEXT as _TEXT, Encoding as _Encoding
 from ._source import (Document as _Document, Source as _Source, check as _check, fill_in_large as _fill_in_large,
                       from_shell as _from_shell)
-from ._types import DocumentError, FaultKind, ShellError, ShellForm, SubstError, Variable, VariableKind
+from ._style import Text as _Text
+from ._types import DocumentError, FaultKind, Forms, ShellError, ShellForm, SubstError, Variable, VariableKind
 
-__all__ = ['DocumentError', 'FaultKind', 'ShellError', 'ShellForm', 'SubstError', 'Template', 'Variable',
-           'VariableKind', 'check', 'fill_in', 'fill_in_json', 'fill_in_toml', 'fill_in_tree', 'from_envsubst',
-           'from_shell', 'missing', 'variables']
+__all__ = ['DocumentError', 'FaultKind', 'Forms', 'ShellError', 'ShellForm', 'SubstError', 'Template', 'Variable',
+           'VariableKind', 'check', 'fill_in', 'fill_in_by_style', 'fill_in_json', 'fill_in_toml', 'fill_in_tree',
+           'from_envsubst', 'from_shell', 'missing', 'variables']
 
 # What is taken as bytes, and what has no values.
 _BytesLike = Union[bytes, bytearray, memoryview]
@@ -200,6 +201,37 @@ def fill_in_tree(tree: Any, variables: Mapping[str, str] = _NONE, /, *, only: Op
             raise error.below(path) if path else error from None
 
     return filled(tree, '')
+
+
+@overload
+def fill_in_by_style(text: str, variables: Mapping[str, str] = ..., /, *, forms: Forms,
+                     only: Optional[Iterable[str]] = ..., known: bool = ..., optional: bool = ...,
+                     **more: str) -> str: ...
+
+
+@overload
+def fill_in_by_style(text: _BytesLike, variables: Mapping[bytes, _BytesLike] = ..., /, *, forms: Forms,
+                     only: Optional[Iterable[_BytesLike]] = ..., known: bool = ..., optional: bool = ...,
+                     **more: _BytesLike) -> bytes: ...
+
+
+def fill_in_by_style(text: Any, variables: Mapping[Any, Any] = _NONE, /, *, forms: Forms,
+                     only: Optional[Iterable[Any]] = None, known: bool = False, optional: bool = False,
+                     **more: Any) -> Any:
+    """Returns a text of another tool with its variables filled in: these forms of all names, of the names in only, or,
+    where known is True, of the names that have a value, and of all names in forms with a default, another value or a
+    message. All else is text. The mapping is asked for all names after a dollar, of those in only if it is given.
+
+        >>> fill_in_by_style('listen ${PORT:-80}; $host', forms=Forms.SHELL, only=['PORT'])
+        'listen 80; $host'
+
+    Raises ShellError for the first form that is refused, and SubstError where a variable has no value, with its message.
+    Where optional is True, one without a default and a message gives nothing then.
+    """
+    if known and only is not None:
+        raise TypeError('only and known are two choices of names: give one of them')
+    encoding = _encoding_of(text)
+    return _Text(encoding, text, Forms(forms), _names_of(encoding, only), bool(known), bool(optional)).fill_in(variables, more)
 
 
 @overload

@@ -39,9 +39,14 @@ def with_optional(template: bytes, required: Sequence[Tuple[int, int]]) -> bytes
     return b''.join([*parts, template[before:]])
 
 
-# What begins a variable in a string of a document, and how its readers let a character be spelled otherwise.
+# What begins a variable in a text, or in a string of a document, and how its readers let a character be spelled otherwise.
 _USED = re.compile(rb'\$\{?([0-9A-Za-z_]+)')
 _ESCAPE = re.compile(rb'\\(?:[uUx]((?<=u)[0-9A-Fa-f]{4}|(?<=U)[0-9A-Fa-f]{8}|(?<=x)[0-9A-Fa-f]{2})|\s*\n\s*|.)', re.DOTALL)
+
+
+def names_in_text(text: bytes) -> List[bytes]:
+    """The names that a text may use, in their order: those after its dollars."""
+    return _USED.findall(text)
 
 
 def names_in_document(document: bytes) -> List[bytes]:
@@ -49,7 +54,7 @@ def names_in_document(document: bytes) -> List[bytes]:
     keys and comments, once escapes are read."""
     if b'\\' in document:
         document = _ESCAPE.sub(_meant, document)
-    return _USED.findall(document)
+    return names_in_text(document)
 
 
 def _meant(escape: re.Match[bytes]) -> bytes:

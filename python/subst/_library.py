@@ -6,8 +6,10 @@ import os
 from typing import Any, Dict, List
 
 DONE, REFUSED, OUT_OF_MEMORY, ROOM_TOO_SMALL, NOT_CONFIRMED = 0, 1, 4, 5, 8
-# The kind of fault of a source that is no document.
-INVALID_DOCUMENT = 6
+# The kinds of faults of a source that is no document, and of a text that has a form that is refused.
+INVALID_DOCUMENT, REFUSED_FORM = 6, 7
+# The choices of names of a style.
+ALL_NAMES, ONLY_NAMES, KNOWN_NAMES = 0, 1, 2
 
 _ADDRESS, _SIZE = ctypes.c_void_p, ctypes.c_size_t
 _SOURCE: List[Any] = [ctypes.c_char_p, _SIZE]
@@ -29,6 +31,7 @@ ARGUMENTS: Dict[str, List[Any]] = {
     'subst_toml_fault_text': _SAY,
     'subst_from_shell': [*_SOURCE, *_ITEMS, _ADDRESS, _ADDRESS, _ADDRESS],
     'subst_shell_form_text': [ctypes.c_uint32, *_ITEMS, _ADDRESS],
+    'subst_bytes_by_style': [*_SOURCE, _ADDRESS, *_ITEMS, *_ITEMS, _ADDRESS, _ADDRESS],
     'subst_place': [*_SOURCE, _SIZE, _ADDRESS, _ADDRESS],
     'subst_version': [],
 }

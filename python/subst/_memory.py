@@ -134,6 +134,10 @@ class Memory:
         for missing in absent:
             words[HEAD + PAIR * missing + 1] = 0
 
+    def has_value(self, index: int) -> bool:
+        """Whether the pair at an index has a value, which may be empty."""
+        return self.words[HEAD + PAIR * index + 1] > 0
+
 
 class Frame(NamedTuple):
     """Memory for a source that is filled in often, and the call with all its arguments."""

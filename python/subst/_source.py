@@ -183,10 +183,10 @@ class Source(Filler[AnyStr]):
         place = self.places.get(position, position)
         arguments = (self.encoded, self.length, pairs_at, len(self.names))
         if self.places:
-            shown = _underlined(self.original, place, length)
+            shown = underlined(self.original, place, length)
         else:
-            shown = _said(_library.subst_fault_highlighting, *arguments)
-        text = _said(_library.subst_fault_text, *arguments)
+            shown = said(_library.subst_fault_highlighting, *arguments)
+        text = said(_library.subst_fault_text, *arguments)
         return _error(self.encoding, self.original, (kind, place, length), text, shown, row)
 
     def fill_in_each(self, rows: Iterable[Mapping[Any, Any]]) -> List[AnyStr]:
@@ -250,11 +250,11 @@ class Document(Filler[str]):
         self.kind = kind
 
     def refused(self, memory: Memory) -> Exception:
-        text = _said(getattr(_library, f'subst_{self.kind}_fault_text'), self.encoded, self.length, memory.items_at,
+        text = said(getattr(_library, f'subst_{self.kind}_fault_text'), self.encoded, self.length, memory.items_at,
                      len(self.names))
         kind, position, length = memory.fault
         if kind == INVALID_DOCUMENT:
-            return DocumentError(text, *_span(TEXT, self.encoded, position, length))
+            return DocumentError(text, *span(TEXT, self.encoded, position, length))
         return _error(TEXT, self.encoded, memory.fault, text)
 
 
@@ -292,7 +292,7 @@ def from_shell(encoding: Encoding[AnyStr], text: bytes) -> AnyStr:
     if result == DONE:
         return encoding.decoded(memory.room[:memory.words[NEEDED]])
     form, position, _ = memory.fault
-    raise ShellError(_said(_library.subst_shell_form_text, form), ShellForm(form), *_span(encoding, text, position, 1))
+    raise ShellError(said(_library.subst_shell_form_text, form), ShellForm(form), *span(encoding, text, position, 1))
 
 
 def _records(encoding: Encoding[Any], source: bytes) -> array[int]:
@@ -321,7 +321,7 @@ def _failure(result: int) -> Exception:
 
 def _fault_alone(encoding: Encoding[Any], source: bytes, memory: Memory) -> SubstError:
     """The error that the fault of a source is, whatever the variables."""
-    text, shown = (_said(call, source, len(source), None, 0)
+    text, shown = (said(call, source, len(source), None, 0)
                    for call in (_library.subst_fault_text, _library.subst_fault_highlighting))
     return _error(encoding, source, memory.fault, text, shown)
 
@@ -331,7 +331,7 @@ def _error(encoding: Encoding[Any], source: bytes, fault: Tuple[int, int, int], 
     """The error with this text. The text of a variable without a value ends with its name."""
     kind, position, length = fault
     name = text.rpartition('$')[2] if kind == FaultKind.NO_SUCH_VARIABLE else None
-    return SubstError(text, FaultKind(kind), *_span(encoding, source, position, length), shown, row, name)
+    return SubstError(text, FaultKind(kind), *span(encoding, source, position, length), shown, row, name)
 
 
 def _put(call: Callable[[Memory], Any], size: int) -> Tuple[int, Memory]:
@@ -346,13 +346,13 @@ def _put(call: Callable[[Memory], Any], size: int) -> Tuple[int, Memory]:
         size = memory.words[NEEDED]
 
 
-def _said(call: _Call, *arguments: Any) -> str:
+def said(call: _Call, *arguments: Any) -> str:
     """What a call says of a source."""
     result, memory = _put(lambda memory: call(*arguments, memory.bytes_at, memory.size, memory.head_at), 256)
     return memory.room[:memory.words[NEEDED]].decode() if result == DONE else ''
 
 
-def _span(encoding: Encoding[Any], source: bytes, position: int,
+def span(encoding: Encoding[Any], source: bytes, position: int,
           length: int) -> Tuple[int, int, Optional[int], Optional[int]]:
     """The position of a part of the source, its length, its line and its column."""
     start, end = _indices(encoding, source, [position, position + length])
@@ -370,7 +370,7 @@ def _place(source: bytes, offset: int) -> Tuple[Optional[int], Optional[int]]:
     return line, column
 
 
-def _underlined(source: bytes, position: int, length: int) -> str:
+def underlined(source: bytes, position: int, length: int) -> str:
     """The line of a name, underlined as the library does it."""
     line, column = _place(source, position)
     if line is None or column is None:

@@ -1,4 +1,4 @@
-"""What calls report: the kinds of faults and variables, the forms of a shell, and the errors."""
+"""What calls take and report: the forms of texts, the kinds of faults and variables, and the errors."""
 from __future__ import annotations
 
 import enum
@@ -72,6 +72,24 @@ class ShellForm(enum.IntEnum):
     MESSAGE = 14
     BRACE = 15
     UNCLOSED = 16
+
+
+class Forms(enum.IntEnum):
+    """The forms of variables in a text of another tool.
+
+    OWN: $name, ${name}, ${name?} and ${name:default}, where a backslash is text. A default that begins with one of - = ?
+    and + makes it no variable.
+    ENVSUBST: $name and ${name}.
+    SHELL: $name, ${name}, ${name:-default}, ${name-default}, ${name:+other}, ${name+other}, ${name:?message} and
+    ${name?message}. Of all names they are the whole language of Docker Compose: $$ is a dollar, and every other form after
+    ${ is refused.
+    COMMON: those of from_shell. An empty value is none, and a variable without a value gives nothing.
+    """
+
+    OWN = 0
+    ENVSUBST = 1
+    SHELL = 2
+    COMMON = 3
 
 
 if TYPE_CHECKING:
@@ -151,8 +169,8 @@ class DocumentError(_Located):
 
 
 class ShellError(_Located):
-    """A text of a shell that has a form for which there is no template. Its message is the library's. The form begins
-    at text[position], a dollar or a brace. Its line and column are as those of a SubstError.
+    """A text of another tool that has a form that is refused. Its message is the library's. The form begins at
+    text[position], a dollar or a brace. Its line and column are as those of a SubstError.
     """
 
     def __init__(self, message: str, form: ShellForm, position: int, length: int, line: Optional[int],

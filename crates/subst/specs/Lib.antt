@@ -1,6 +1,7 @@
 pub mod Calls
 pub mod Errors
 pub mod Json
+pub mod Styles
 pub mod Toml
 pub use Rattle.subst_language.specs.Earlier
 pub use Rattle.subst_language.specs.Language
@@ -14,6 +15,10 @@ pub use Rattle.subst_error.specs.Position
 pub use Rattle.subst_error.specs.Range
 pub use Rattle.subst_error.specs.Writing
 pub use Rattle.subst_foreign.specs.Foreign
-pub use Rattle.subst_foreign.specs.Shell
-pub use Rattle.subst_foreign.specs.ShellDisplay
+pub use Rattle.subst_foreign.specs.Grammar
+pub use Rattle.subst_foreign.specs.Question
+pub use Rattle.subst_foreign.specs.Reading
+pub use Rattle.subst_foreign.specs.RefusedDisplay
+pub use Rattle.subst_foreign.specs.Template
+pub use Rattle.subst_foreign.specs.Text
 pub use Rattle.subst_report.specs.Report

@@ -1,9 +1,7 @@
-//! Templates for texts that were written for another tool: one whose variables are `$NAME` and `${NAME}` alone,
-//! or a shell.
+//! Templates for texts that were written for another tool, in which some forms of chosen names are variables and
+//! all else is text.
 
 pub use subst_foreign::{
-    KnownNames, Names, OnlyNames, ShellError, ShellForm, ShellNames, bytes_from_envsubst,
-    bytes_from_shell, bytes_with_known, bytes_with_names, bytes_with_names_optional,
-    bytes_with_only, from_envsubst, from_shell, place_in_text, with_known, with_names,
-    with_names_optional, with_only,
+    AllNames, FormAt, Forms, KnownNames, Missing, Names, OnlyNames, Operator, ShellForm, Style,
+    TextError, TextVariable, from_envsubst, with_only,
 };

@@ -2,6 +2,10 @@
 //! [`escaped`], of which one of them speaks.
 
 pub use subst_foreign::escape::escaped;
+pub use subst_foreign::laws::{
+    one_listing, one_reading, questions_are_answered, questions_are_answered_by_texts,
+    shell_names_are_no_questions, variables_are_in_one_order,
+};
 pub use subst_json::laws::{pointers_find_strings, trees_have_one_outcome};
 pub use subst_language::laws::{
     law_1, law_2, law_3, law_4, law_5, law_6, law_7, law_8, law_9, missing_lists_are_whole,

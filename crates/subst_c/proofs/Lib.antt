@@ -4,4 +4,5 @@ mod EachLemmas
 mod IndexLemmas
 mod RecordsLemmas
 mod BufferLemmas
+mod StyleLemmas
 mod TextLemmas

@@ -61,6 +61,13 @@ pub gives_texts : (pairs : List Pair) → have_texts pairs ≡ true → GivesTex
 gives_texts pairs all name x found =
     value_is_text (find (λ pair. bytes_eq name pair.name.now) pairs) x (found_is_text pairs name all) found
 
+-- where all are texts, so is the source, and so is what the pairs have
+pub source_is_text : (s : List ℕ) (pairs : List Pair) → are_texts s pairs ≡ true → IsUtf8 s
+source_is_text s pairs are = IsUtf8-from_is_utf8 s (first_passes (is_utf8 s) _ are)
+
+pub values_are_texts : (s : List ℕ) (pairs : List Pair) → are_texts s pairs ≡ true → GivesTexts (pair_value pairs)
+values_are_texts s pairs are = gives_texts pairs (second_passes (is_utf8 s) _ are)
+
 -- where the source is a text, all are texts if the values are
 pub texts_of_a_text : (s : List ℕ) (pairs : List Pair) → IsUtf8 s → are_texts s pairs ≡ have_texts pairs
 texts_of_a_text s pairs is = rw (is_utf8-from_IsUtf8 s is)
@@ -76,7 +83,7 @@ texts_of_no_text s pairs none = of (is_utf8 s) refl
 -- what the source gives is a text
 pub gives_text : (law : TextsGiveTexts) (s : List ℕ) (pairs : List Pair) → are_texts s pairs ≡ true
     → (x : List ℕ) → GivenBy s pairs x → TextGivenBy s pairs x
-gives_text law s pairs are x (t, spells, gives) =
-    let texts = gives_texts pairs (second_passes (is_utf8 s) _ are) in
-    let source = IsUtf8-from_is_utf8 s (first_passes (is_utf8 s) _ are) in
-    (law s x 0 (pair_value pairs) source texts t spells gives, (t, spells, gives))
+gives_text law s pairs are x (t, spells, gives) = (
+  law s x 0 (pair_value pairs) (source_is_text s pairs are) (values_are_texts s pairs are) t spells gives,
+  (t, spells, gives),
+)

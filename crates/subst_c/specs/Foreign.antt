@@ -1,17 +1,26 @@
 -- Templates for texts of other tools, as calls from C make them.
-use Rattle.std.specs.Prelude.{◌≡◌, ◌≢◌, ◌⊎◌, ℕ, List, []}
-use Rattle.subst_foreign.specs.Foreign.{IsTemplateFor, IsOptionalTemplateFor}
-use Rattle.subst_foreign.specs.Shell.{RefusesShell}
-use Rattle.subst_foreign.specs.ShellDisplay.{display_of_form}
-use Rattle.subst_foreign.specs.declared.shell_error.ShellError.TheVariants as error
-use Rattle.subst_foreign.specs.declared.shell_error.ShellForm.{ShellForm}
-use Rattle.subst_foreign.specs.declared.shell_error.ShellForm.TheVariants as form
+use Rattle.std.specs.Prelude.{◌≡◌, ◌≢◌, ◌⊎◌, Bool, true, false, ℕ, zero, suc, List, []}
+use Rattle.subst_foreign.specs.Foreign.{HasValue}
+use Rattle.subst_foreign.specs.Grammar.{grammar}
+use Rattle.subst_foreign.specs.Reading.{IsRefusalOf}
+use Rattle.subst_foreign.specs.RefusedDisplay.{display_of_form}
+use Rattle.subst_foreign.specs.declared.forms.Forms.TheVariants.{Common}
+use Rattle.subst_foreign.specs.declared.forms.Missing.{Missing}
+use Rattle.subst_foreign.specs.declared.forms.Missing.TheVariants as missing
+use Rattle.subst_foreign.specs.declared.refused.ShellForm.{ShellForm}
+use Rattle.subst_foreign.specs.declared.refused.ShellForm.TheVariants as form
+use Rattle.subst_foreign.specs.declared.refused.TextError.TheVariants as error
+use Rattle.subst_language.specs.Language.LookUp.{LookUp}
 
--- a template for the text s, of which all variables are optional unless the number is 0
-abbrev pub IsTemplate : (optional : ℕ) → (List ℕ → Type 0) → (s template : List ℕ) → Type 0
-IsTemplate optional Counts s template =
-    (optional ≡ 0 → IsTemplateFor Counts s template)
-    × (optional ≢ 0 → IsOptionalTemplateFor Counts s template)
+-- how an unset variable expands: to a fault if the number is 0
+abbrev pub missing_of : (optional : ℕ) → Missing
+missing_of zero = missing.Fault
+missing_of (suc n) = missing.Nothing
+
+-- a name without an operator that the look-up has something for
+abbrev pub HasPlain : LookUp → (operated : Bool) → List ℕ → Type 0
+HasPlain look true name = ⊥
+HasPlain look false name = HasValue look name
 
 -- the number of a form of a shell
 abbrev pub form_number : ShellForm → ℕ
@@ -34,8 +43,9 @@ form_number form.Unclosed = 16
 
 -- the text of a shell is refused for the form of this number, which begins at this position
 abbrev pub IsRefusedFor : (s : List ℕ) → (number position : ℕ) → Type 0
-IsRefusedFor s number position =
-    (form : ShellForm) × (number ≡ form_number form) × RefusesShell s (error.Refused position form)
+IsRefusedFor s number position = (form : ShellForm) × (number ≡ form_number form)
+    × IsRefusalOf (grammar Common true (λ operated name. Unit {0})) s
+    (error.Refused (record { position = position; form = form }))
 
 -- the text is what the form of this number is shown as, and nothing where no form has it
 abbrev pub IsFormText : (number : ℕ) → List ℕ → Type 0

@@ -7,4 +7,5 @@ pub mod Pairs
 pub mod Records
 pub mod Results
 pub mod Buffer
+pub mod Style
 pub mod Text

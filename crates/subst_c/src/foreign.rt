@@ -1,55 +1,93 @@
 //! Templates for texts of other tools.
 
-ghost use Rattle.std.specs.Prelude.{◌≡◌, ◌≢◌, IfOk, MatchOption, string_bytes};
+ghost use Rattle.std.specs.Prelude.{◌≡◌, ◌≢◌, ◌↔◌, IfOk, IsTrue, MatchOption, string_bytes};
 ghost use Rattle.subst_c.specs.Buffer.{FillsBuffer};
-ghost use Rattle.subst_c.specs.Foreign.{IsFormText, IsTemplate, form_number};
-ghost use Rattle.subst_foreign.specs.declared.shell_error.ShellForm.{ShellForm};
+ghost use Rattle.subst_c.specs.Foreign.{IsFormText, form_number, missing_of as spec_missing_of};
+ghost use Rattle.subst_c.specs.Pairs.{pair_value};
+ghost use Rattle.subst_foreign.specs.Foreign.{HasValue};
+ghost use Rattle.subst_foreign.specs.Grammar.{grammar};
+ghost use Rattle.subst_foreign.specs.Template.{IsTemplate};
+ghost use Rattle.subst_foreign.specs.declared.refused.ShellForm.{ShellForm};
+ghost use Rattle.subst_language.specs.Language.Name.{IsName};
 ghost use Rattle.subst_c.specs.declared.outcome.TheConstants.{DONE, OUT_OF_MEMORY, ROOM_TOO_SMALL};
 
 use crate::buffer;
 use crate::outcome::OUT_OF_MEMORY;
+use crate::pairs::Pairs;
 use std::alloc::{AllocError, Global};
-use subst_foreign::{Names, ShellForm, bytes_with_names, bytes_with_names_optional};
+use subst_foreign::{Forms, Missing, Names, ShellForm, Style};
+use subst_language::VariableMap;
 
-/// Puts a template for a text in which chosen names are variables at the front of the buffer. Where `optional`
-/// isn't 0, a variable without a value gives nothing.
+/// Puts a template for a text in which `$NAME` and `${NAME}` of chosen names are variables at the front of the
+/// buffer. No such text is refused. Where `optional` isn't 0, an unset variable expands to nothing.
 pub fn deliver<N: Names>(
     alloc: Global,
     text: &[u8],
+    forms: Forms,
     names: &N,
     optional: u32,
     buffer: &mut [u8],
     needed: &mut usize,
 ) -> u32
-    ensures buffer { FillsBuffer (IsTemplate optional (N.counts names.now) text.now)
+    ensures buffer { FillsBuffer (IsTemplate (grammar forms (N.all names.now)
+        (N.counts names.now)) (spec_missing_of optional) text.now)
         result needed.old needed.new buffer.old buffer.new }
     ensures others { result ≢ DONE → result ≢ ROOM_TOO_SMALL → result ≡ OUT_OF_MEMORY }
 {
-    match template_for(alloc, text, names, optional) {
+    let style = Style {
+        forms,
+        names,
+        missing: missing_of(optional),
+    };
+    match style.byte_template(alloc, text) {
         Ok(template) => buffer::deliver(&template, buffer, needed),
         Err(_) => OUT_OF_MEMORY,
     }
 }
 
-/// Returns a template for a text in which chosen names are variables, which are optional unless `optional` is
-/// 0.
-///
-/// # Errors
-///
-/// When allocation fails.
-fn template_for<N: Names>(
-    alloc: Global,
-    text: &[u8],
-    names: &N,
-    optional: u32,
-) -> Result<Vec<u8>, AllocError>
-    ensures { IfOk result (λ template.
-        IsTemplate optional (N.counts names.now) text.now template.items) }
+/// Returns how an unset variable expands: to a fault if `optional` is 0, or to nothing.
+fn missing_of(optional: u32) -> Missing
+    ensures { result ≡ spec_missing_of optional }
 {
     if optional == 0 {
-        bytes_with_names(alloc, text, names)
+        Missing::Fault
     } else {
-        bytes_with_names_optional(alloc, text, names)
+        Missing::Nothing
+    }
+}
+
+/// The names of pairs, without an operator.
+#[derive(Clone, Copy)]
+pub struct PlainNames<'n, 'p> {
+    pub pairs: &'n Pairs<'p>,
+}
+
+impl Names for PlainNames<'_, '_> {
+    ghost use Rattle.std.specs.Prelude.{false};
+    ghost use Rattle.subst_c.specs.Foreign.{HasPlain};
+    ghost use Rattle.subst_c.specs.Pairs.{pair_value};
+
+    ghost all = { λ names. false };
+
+    ghost counts = { λ names. HasPlain (pair_value names.pairs.now.pairs.now) };
+
+    fn are_all(&self) -> bool {
+        false
+    }
+
+    fn has(&self, name: &[u8], operated: bool) -> bool {
+        !operated && has_name(self.pairs, name)
+    }
+}
+
+/// Returns whether a pair has the name.
+pub fn has_name(pairs: &Pairs, name: &[u8]) -> bool
+    requires { IsName name.now }
+    ensures { IsTrue result ↔ HasValue (pair_value pairs.now.pairs.now) name.now }
+{
+    match str::from_utf8(name) {
+        Ok(name) => pairs.get(name).is_some(),
+        Err(_) => false,
     }
 }
 

@@ -14,28 +14,34 @@ ghost use Rattle.subst_language.specs.Language.Answer.{Answers, Gives};
 ghost use Rattle.subst_language.specs.Language.BadItem.{HasFault};
 ghost use Rattle.subst_language.specs.Language.Sentence.{IsSentence};
 ghost use Rattle.subst_language.specs.Language.Variables.{all_missing, variables_of};
-ghost use Rattle.subst_foreign.specs.Foreign.{HasValue, IsShellName};
-ghost use Rattle.subst_foreign.specs.Shell.{IsShellTemplateFor};
+ghost use Rattle.subst_foreign.specs.Grammar.{grammar};
+ghost use Rattle.subst_foreign.specs.Template.{IsTemplate};
+ghost use Rattle.subst_foreign.specs.declared.forms.Forms.TheVariants.{Common, Envsubst, Own};
+ghost use Rattle.subst_foreign.specs.declared.forms.Missing.TheVariants.{Nothing};
 ghost use Rattle.subst_c.specs.Documents.{IsFilledIn, IsReported, IsSaidOf, Json, Toml};
 ghost use Rattle.subst_c.specs.Each.{AreOutputs, IsRefusedIn};
 ghost use Rattle.subst_c.specs.Fault.{IsToldOf, SetsFault};
-ghost use Rattle.subst_c.specs.Foreign.{IsFormText, IsRefusedFor, IsTemplate};
+ghost use Rattle.subst_c.specs.Foreign.{HasPlain, IsFormText, IsRefusedFor, missing_of};
 ghost use Rattle.subst_c.specs.Pairs.{pair_value, GivenBy, TextGivenBy, RefusedBy};
 ghost use Rattle.subst_c.specs.Records.{HasRecords};
 ghost use Rattle.subst_c.specs.Buffer.{FillsBuffer, IsPut, IsTooLong};
+ghost use Rattle.subst_c.specs.Style.{AreOf, GivenByStyle, SetsStyleFault, TextGivenByStyle};
+ghost use Rattle.subst_c.specs.declared.style.Choices.{Choices};
 ghost use Rattle.subst_c.specs.Text.{IsHighlighting, SaysOf, are_texts};
-ghost use Rattle.subst_c.specs.declared.outcome.TheConstants.{DONE, REFUSED, OUT_OF_MEMORY, ROOM_TOO_SMALL, NOT_UTF8, NOT_A_BOUNDARY, NOT_CONFIRMED};
+ghost use Rattle.subst_c.specs.declared.outcome.TheConstants.{DONE, REFUSED, OUT_OF_MEMORY, ROOM_TOO_SMALL, NOT_UTF8, NOT_A_BOUNDARY, NOT_CONFIRMED, NO_SUCH_STYLE};
 ghost use Rattle.subst_c.specs.Results.{IsOther};
 ghost use Rattle.subst_version.specs.declared.TheConstants.{MAJOR, MINOR, PATCH};
 
 use document::{of_json, of_toml};
 pub use fault::FaultRecord;
+use foreign::PlainNames;
 use outcome::{DONE, NOT_A_BOUNDARY, NOT_UTF8, OUT_OF_MEMORY, REFUSED};
 pub use pairs::{Pair, Row};
 use pairs::{Pairs, index_of};
 use std::alloc::Global;
+pub use style::{StyleFault, StyleRecord};
 use subst_error::{Error, line_and_column};
-use subst_foreign::{KnownNames, ShellError, ShellNames, bytes_from_shell};
+use subst_foreign::{AllNames, Forms, Missing, Style, TextError};
 use subst_language::laws;
 use subst_template::ByteTemplate;
 use subst_version::{MAJOR, MINOR, PATCH};
@@ -50,6 +56,7 @@ mod foreign;
 mod into;
 pub mod outcome;
 mod pairs;
+mod style;
 mod variables;
 
 /// Returns the version of the library as one number, as 102 for 0.1.2.
@@ -505,6 +512,64 @@ pub extern "C" fn subst_place(
     DONE
 }
 
+/// Puts the bytes of `source`, a text of another tool, with its variables filled in from `pairs` at the front of
+/// the buffer. What is a variable, and how an unset one expands, the style says.
+#[unsafe(no_mangle)]
+pub extern "C" fn subst_bytes_by_style(
+    alloc: Global,
+    source: &[u8],
+    style: &StyleRecord,
+    pairs: &[Pair],
+    buffer: &mut [u8],
+    needed: &mut usize,
+    fault: &mut StyleFault,
+) -> u32
+    // The buffer begins with what the source gives, or is as it was.
+    ensures buffer { FillsBuffer (GivenByStyle style.now pairs.now source.now)
+        result needed.old needed.new buffer.old buffer.new }
+
+    // The fault is the form that is refused first, or else the variable that is missing.
+    ensures fault { SetsStyleFault style.now pairs.now source.now result fault.old fault.new }
+
+    // The result is `NO_SUCH_STYLE` exactly where one of the style's numbers is that of no choice.
+    ensures style { result ≢ NO_SUCH_STYLE → (choices : Choices) × AreOf style.now choices }
+    ensures no_style { result ≡ NO_SUCH_STYLE → (choices : Choices) → ¬ (AreOf style.now choices) }
+    ensures others { result ≢ NO_SUCH_STYLE → IsOther result }
+{
+    style::deliver(alloc, source, style, pairs, buffer, needed, fault)
+}
+
+/// Does what `subst_bytes_by_style` does, where the source and all values are UTF-8. What is put into the buffer
+/// is then UTF-8 too.
+#[unsafe(no_mangle)]
+pub extern "C" fn subst_text_by_style(
+    alloc: Global,
+    source: &[u8],
+    style: &StyleRecord,
+    pairs: &[Pair],
+    buffer: &mut [u8],
+    needed: &mut usize,
+    fault: &mut StyleFault,
+) -> u32
+    // As `subst_bytes_by_style`, and what is put into the buffer is UTF-8.
+    ensures buffer { FillsBuffer (TextGivenByStyle style.now pairs.now source.now)
+        result needed.old needed.new buffer.old buffer.new }
+    ensures fault { SetsStyleFault style.now pairs.now source.now result fault.old fault.new }
+
+    // The source or a value is told not to be UTF-8 exactly where one isn't.
+    ensures text { result ≢ NOT_UTF8 → are_texts source.now pairs.now ≡ true }
+    ensures not_text { result ≡ NOT_UTF8 → are_texts source.now pairs.now ≡ false }
+    ensures style { result ≢ NOT_UTF8 → result ≢ NO_SUCH_STYLE
+        → (choices : Choices) × AreOf style.now choices }
+    ensures no_style { result ≡ NO_SUCH_STYLE → (choices : Choices) → ¬ (AreOf style.now choices) }
+    ensures others { result ≢ NOT_UTF8 → result ≢ NO_SUCH_STYLE → IsOther result }
+{
+    if !answer::are_texts(source, pairs) {
+        return NOT_UTF8;
+    }
+    style::deliver(alloc, source, style, pairs, buffer, needed, fault)
+}
+
 /// Puts a template for `source`, a text of `envsubst`, at the front of the buffer: each `$NAME` and `${NAME}`
 /// whose name doesn't begin with a digit is a variable, and all else is text. Unless `optional` is 0, a
 /// variable without a value gives nothing.
@@ -517,11 +582,19 @@ pub extern "C" fn subst_from_envsubst(
     needed: &mut usize,
 ) -> u32
     // The buffer begins with the template. No source is refused.
-    ensures buffer { FillsBuffer (IsTemplate optional IsShellName source.now)
-        result needed.old needed.new buffer.old buffer.new }
+    ensures buffer { FillsBuffer (IsTemplate (grammar Envsubst true (λ operated name. Unit {0}))
+        (missing_of optional) source.now) result needed.old needed.new buffer.old buffer.new }
     ensures others { result ≢ DONE → result ≢ ROOM_TOO_SMALL → result ≡ OUT_OF_MEMORY }
 {
-    foreign::deliver(alloc, source, &ShellNames, optional, buffer, needed)
+    foreign::deliver(
+        alloc,
+        source,
+        Forms::Envsubst,
+        &AllNames,
+        optional,
+        buffer,
+        needed,
+    )
 }
 
 /// Puts a template for `source` at the front of the buffer, in which `$NAME` and `${NAME}` of the names of
@@ -535,25 +608,26 @@ pub extern "C" fn subst_with_only(
     buffer: &mut [u8],
     needed: &mut usize,
 ) -> u32
-    ensures buffer { FillsBuffer (IsTemplate optional (HasValue (pair_value pairs.now)) source.now)
-        result needed.old needed.new buffer.old buffer.new }
+    ensures buffer { FillsBuffer (IsTemplate (grammar Own false (HasPlain (pair_value pairs.now)))
+        (missing_of optional) source.now) result needed.old needed.new buffer.old buffer.new }
     ensures others { result ≢ DONE → result ≢ ROOM_TOO_SMALL → result ≡ OUT_OF_MEMORY }
 {
     let index = index_of(alloc, source, pairs);
-    let map = Pairs { pairs, index };
+    let pairs = Pairs { pairs, index };
     foreign::deliver(
         alloc,
         source,
-        &KnownNames { map: &map },
+        Forms::Own,
+        &PlainNames { pairs: &pairs },
         optional,
         buffer,
         needed,
     )
 }
 
-/// Puts a template for `source`, a text of a shell, at the front of the buffer, as `from_shell`. It is to be
-/// filled in from pairs without empty values. Where a form of the source can't be given, `form` is its number,
-/// and `position` the byte offset where it begins.
+/// Puts a template for `source`, a text of a shell, at the front of the buffer, in the forms that shells and
+/// Docker Compose read alike. It is to be filled in from pairs without empty values. Where a form is refused,
+/// `form` is its number, and `position` the byte offset where it begins.
 #[unsafe(no_mangle)]
 pub extern "C" fn subst_from_shell(
     alloc: Global,
@@ -563,26 +637,26 @@ pub extern "C" fn subst_from_shell(
     form: &mut u32,
     position: &mut usize,
 ) -> u32
-    ensures buffer { FillsBuffer (IsShellTemplateFor source.now)
-        result needed.old needed.new buffer.old buffer.new }
+    ensures buffer { FillsBuffer (IsTemplate (grammar Common true (λ operated name. Unit {0}))
+        Nothing source.now) result needed.old needed.new buffer.old buffer.new }
     ensures refused { result ≡ REFUSED → IsRefusedFor source.now form.new position.new }
     ensures others { IsOther result }
     ensures place_kept { result ≢ REFUSED
         → (form.new ≡ form.old) × (position.new ≡ position.old) }
 {
-    match bytes_from_shell(alloc, source) {
+    let style = Style {
+        forms: Forms::Common,
+        names: &AllNames,
+        missing: Missing::Nothing,
+    };
+    match style.byte_template(alloc, source) {
         Ok(template) => buffer::deliver(&template, buffer, needed),
-        Err(
-            ShellError::Refused {
-                position: at,
-                form: refused,
-            },
-        ) => {
-            *form = foreign::number_of(refused);
-            *position = at;
+        Err(TextError::Refused(first)) => {
+            *form = foreign::number_of(first.form);
+            *position = first.position;
             REFUSED
         }
-        Err(ShellError::OutOfMemory(_)) => OUT_OF_MEMORY,
+        Err(TextError::OutOfMemory(_)) => OUT_OF_MEMORY,
     }
 }
 

@@ -20,3 +20,6 @@ pub const NOT_A_BOUNDARY: u32 = 7;
 
 /// What was made of a document isn't confirmed.
 pub const NOT_CONFIRMED: u32 = 8;
+
+/// A number of a style is that of no choice.
+pub const NO_SUCH_STYLE: u32 = 9;

@@ -11,7 +11,7 @@ ghost use Rattle.subst_c.specs.Text.{have_texts};
 use memchr::memchr_iter;
 use std::alloc::{AllocError, Global};
 use std::collections::BTreeMap;
-use subst_language::VariableMap;
+use subst_language::{BytesMap, VariableMap};
 
 /// How many pairs, or placeholders, there are at most for which searching the pairs in turn takes no longer
 /// than an index.
@@ -63,6 +63,17 @@ impl<'a> VariableMap<'a> for Pairs<'_> {
     }
 }
 
+/// The bytes of the pairs' values.
+impl<'a> BytesMap<'a> for Pairs<'_> {
+    ghost use Rattle.std.proofs.Common.{refl, sym};
+    ghost use Rattle.std.proofs.lemmas.Iterator.Adapters.{option_map_id};
+    ghost use Rattle.subst_c.specs.Pairs.{pair_value};
+
+    ghost look_up_bytes = { λ self. pair_value self.pairs.now };
+
+    ghost reads = { ((λ bytes. bytes), (λ v. refl), (λ self name. sym (option_map_id _))) };
+}
+
 /// Pairs whose values are texts, as a map of texts.
 #[derive(Drop)]
 pub struct TextPairs<'a> {
@@ -92,6 +103,14 @@ fn find<'a>(pairs: &[Pair<'a>], name: &str) -> Option<&'a [u8]>
 {
     let pair = pairs.iter().find(|pair| name.as_bytes() == pair.name)?;
     Some(pair.value)
+}
+
+/// Returns pairs as a map, with an index if they and the placeholders of a source are many.
+pub fn pairs_of<'a>(alloc: Global, source: &[u8], pairs: &'a [Pair<'a>]) -> Pairs<'a>
+    ensures { result.pairs.now ≡ pairs.now }
+{
+    let index = index_of(alloc, source, pairs);
+    Pairs { pairs, index }
 }
 
 /// Returns the index of many pairs for a source with many placeholders, or nothing where there is no memory

@@ -39,7 +39,7 @@ use Rattle.subst_cli.specs.declared.document.format.Format.TheVariants.{Json, To
 use Rattle.subst_cli.specs.declared.document.format.Unfilled.{Unfilled}
 use Rattle.subst_cli.specs.declared.document.format.Unfilled.TheVariants.{Refused, Unread}
 use Rattle.subst_cli.specs.declared.fault.Cause.{Cause}
-use Rattle.subst_cli.specs.declared.fault.Cause.TheVariants.{NotADocument, NotConfirmed}
+use Rattle.subst_cli.specs.declared.fault.Cause.TheVariants.{Mistake, NotADocument, NotConfirmed}
 use Rattle.subst_cli.specs.declared.fault.Fault.{Fault}
 use Rattle.subst_cli.specs.declared.options.Placeholders.{Placeholders}
 
@@ -47,6 +47,7 @@ use Rattle.subst_cli.specs.declared.options.Placeholders.{Placeholders}
 
 unread_weaker : (IsNone Weaker : Type 0) → (IsNone → Weaker) → (cause : Cause) → IsUnread IsNone cause
     → IsUnread Weaker cause
+unread_weaker IsNone Weaker weaker (Mistake mistake) is = weaker is
 unread_weaker IsNone Weaker weaker (NotADocument message) is = weaker is
 unread_weaker IsNone Weaker weaker NotConfirmed is = tt
 unread_weaker IsNone Weaker weaker _ is = absurd is

@@ -22,7 +22,7 @@ spelled_iff (b ∷ bytes) = (
 )
 
 -- a test of whether bytes are a name says whether a template can spell it
-spelled_by : (result : Bool) (name : List ℕ) → IsTrue result ↔ IsName name → is_spelled name ≡ result
+pub spelled_by : (result : Bool) (name : List ℕ) → IsTrue result ↔ IsName name → is_spelled name ≡ result
 spelled_by result name test = same_from_decides (is_spelled name) result (spelled_iff name) test
 
 -- without `=` bytes give nothing

@@ -1,17 +1,19 @@
 -- Lemmas on lists of entries, and on what names have by them.
-use Rattle.std.proofs.Common.{◌≡◌, ◌<◌, ◌+◌, ℕ, Bool, true, false, List, [], ◌∷◌, ◌++◌, ◌||◌, ◌&&◌, not, if◌then◌else◌, filter, get_or, length, map, reverse, take, Bor, IfSome, Option, Some, None, is_some, is_none, refl, sym, subst, ap, ◌∙◌, arith}
+use Rattle.std.proofs.Common.{◌≡◌, ◌<◌, ◌+◌, ℕ, Bool, true, false, List, [], ◌∷◌, ◌++◌, ◌||◌, ◌&&◌, not, if◌then◌else◌, filter, get_or, length, map, reverse, take, Bor, Option, Some, None, is_some, is_none, refl, sym, subst, ap, ◌∙◌, arith}
 use Rattle.std.proofs.lemmas.Grind.{common_steps, reverse_onto}
 use Rattle.std.proofs.lemmas.List.{map-append, map_push, take_more}
 use Rattle.std.proofs.lemmas.List.Elements.{filter_map-append}
 use Rattle.std.specs.List.{cons_option}
 use Rattle.std.specs.Option.{option_flatten, option_map, option_map_or, option_or, option_to_list}
 use Rattle.std.specs.Str.{bytes_eq}
-use Rattle.subst_cli.specs.Fill.{IsChosen}
+use Rattle.subst.specs.Grammar.{grammar}
+use Rattle.subst_cli.specs.Fill.{all_of, grammar_in, grammar_of, has_in, has_of, or_operated}
 use Rattle.subst_filter_lib.specs.Words.{value_under}
-use Rattle.subst_cli.specs.Layers.{AreVariablesOf, Entry, IsKnown, IsKnownBy, has_unreadable, entry_in, environment_of, escaped, given_to, is_unreadable, look_up_in}
+use Rattle.subst_cli.specs.Layers.{AreVariablesOf, Entry, IsKnown, has_unreadable, entry_in, environment_of, escaped, given_to, is_unreadable, look_up_in}
 use Rattle.subst_cli.specs.declared.layers.Variables.{Variables}
 use Rattle.subst_cli.specs.declared.options.Choice.{Choice}
-use Rattle.subst_cli.specs.declared.options.Choice.TheVariants.{Known}
+use Rattle.subst_cli.specs.declared.options.Choice.TheVariants.{All, Known, Only}
+use Rattle.subst_cli.specs.declared.options.Chosen.{Chosen}
 use Rattle.subst_cli.specs.declared.options.Escape.TheVariants.{Nothing}
 
 -- what a function gives of one element more, where it was given `at` of them so far
@@ -75,17 +77,23 @@ map_reverse f (x ∷ xs) =
     rw (reverse_onto xs x [], reverse_onto (map f xs) (f x) [], map_push f (reverse xs) x, map_reverse f xs)
     refl
 
--- a function of the elements of four lists in the order of a run's variables
-pub ordered : {X Y : Type 0} (f : X → Y) (given lines environment defaults : List X)
-    → map f (reverse (lines ++ given) ++ environment ++ reverse defaults)
-    ≡ reverse (map f lines ++ map f given) ++ map f environment ++ reverse (map f defaults)
-ordered f given lines environment defaults =
-    let above = map-append f (reverse (lines ++ given)) environment
+-- a function of the elements of three lists in the order of the variables above .env files
+pub ordered_above : {X Y : Type 0} (f : X → Y) (given lines environment : List X)
+    → map f (reverse (lines ++ given) ++ environment) ≡ reverse (map f lines ++ map f given) ++ map f environment
+ordered_above f given lines environment =
+    map-append f (reverse (lines ++ given)) environment
     ∙ ap (λ front. front ++ map f environment)
-    (map_reverse f (lines ++ given) ∙ ap reverse (map-append f lines given)) in
-    map-append f (reverse (lines ++ given) ++ environment) (reverse defaults)
-    ∙ ap (λ front. front ++ map f (reverse defaults)) above
-    ∙ ap (λ last. reverse (map f lines ++ map f given) ++ map f environment ++ last) (map_reverse f defaults)
+    (map_reverse f (lines ++ given) ∙ ap reverse (map-append f lines given))
+
+-- a function of the elements of three lists in the order of a run's variables
+pub ordered : {X Y : Type 0} (f : X → Y) (above dotenv defaults : List X)
+    → map f (above ++ reverse dotenv ++ reverse defaults)
+    ≡ map f above ++ reverse (map f dotenv) ++ reverse (map f defaults)
+ordered f above dotenv defaults =
+    map-append f (above ++ reverse dotenv) (reverse defaults)
+    ∙ ap (λ front. front ++ map f (reverse defaults)) (map-append f above (reverse dotenv))
+    ∙ ap (λ more. map f above ++ more ++ map f (reverse defaults)) (map_reverse f dotenv)
+    ∙ ap (λ last. map f above ++ reverse (map f dotenv) ++ last) (map_reverse f defaults)
 
 -- a test of what a function gives of elements
 pub filter_map : {X Y : Type 0} (f : X → Y) (test : Y → Bool) (xs : List X)
@@ -131,12 +139,17 @@ pub no_value : {X Y : Type 0} (f : X → Y) (o : Option X) → is_none o ≡ is_
 no_value f None = refl
 no_value f (Some x) = refl
 
--- what is said of the names that variables say are known is said of those that the entries give
-pub known_names : (variables : Option (Bor Variables)) (choice : Choice) (P : (List ℕ → Type 0) → Type 0)
-    → choice ≡ Known → P (IsKnownBy variables) → IfSome variables (λ variables. (entries : List Entry)
-    → AreVariablesOf variables.now entries → P (IsChosen choice entries))
-known_names None choice P is holds = tt
-known_names (Some variables) choice P is holds = λ entries are.
-    let names : IsKnown (value_under variables.now.values) (has_unreadable variables.now)
+-- what is chosen by the variables is chosen by the entries that give them
+same_names : (b : Bor Variables) (entries : List Entry) (choice : Choice) → AreVariablesOf b.now entries
+    → has_in choice (Some b) ≡ has_of choice entries
+same_names b entries All are = refl
+same_names b entries (Only names starts) are = refl
+same_names b entries Known are =
+    let names : IsKnown (value_under b.now.values) (has_unreadable b.now)
     ≡ IsKnown (look_up_in entries) (is_unreadable entries) = rw (are.values, are.unreadable) refl in
-    rw is (subst P names holds)
+    ap or_operated names
+
+pub same_grammar : (b : Bor Variables) (entries : List Entry) (chosen : Chosen) → AreVariablesOf b.now entries
+    → grammar_in chosen (Some b) ≡ grammar_of chosen entries
+same_grammar b entries chosen are =
+    ap (grammar chosen.forms (all_of chosen.names)) (same_names b entries chosen.names are)

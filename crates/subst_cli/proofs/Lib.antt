@@ -1,4 +1,6 @@
 pub mod DocumentLemmas
+pub mod DotenvLemmas
+pub mod DotenvLineLemmas
 pub mod EntryLemmas
 pub mod EscapeLemmas
 pub mod FaultLemmas
@@ -6,7 +8,8 @@ pub mod FillLemmas
 pub mod FillingLemmas
 pub mod LayerLemmas
 pub mod ListLemmas
-pub mod OriginLemmas
+pub mod MistakeLemmas
 pub mod PartLemmas
 pub mod SourceLemmas
+pub mod ToldLemmas
 pub mod ValuesFileLemmas

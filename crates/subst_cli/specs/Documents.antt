@@ -34,7 +34,7 @@ use Rattle.subst_cli.specs.declared.document.format.Format.TheVariants.{Json, To
 use Rattle.subst_cli.specs.declared.document.format.Unfilled.{Unfilled}
 use Rattle.subst_cli.specs.declared.document.format.Unfilled.TheVariants.{Unread, Refused}
 use Rattle.subst_cli.specs.declared.fault.Cause.{Cause}
-use Rattle.subst_cli.specs.declared.fault.Cause.TheVariants.{NotADocument, NotConfirmed}
+use Rattle.subst_cli.specs.declared.fault.Cause.TheVariants.{Mistake, NotADocument, NotConfirmed}
 use Rattle.subst_cli.specs.declared.fault.Fault.{Fault}
 use Rattle.subst_cli.specs.declared.options.Placeholders.{Placeholders}
 
@@ -43,8 +43,9 @@ abbrev pub IsNoDocument : Format → List ℕ → Type 0
 IsNoDocument Json text = ¬ (json.ReadsAsTree text (λ _. ⊤))
 IsNoDocument Toml text = ¬ (toml.ReadsAsTree text (λ _. ⊤))
 
--- it is that a text is no document, and that is so, or that it isn't confirmed
+-- it is that a text is no document, maybe by a mistake, and that is so, or that it isn't confirmed
 abbrev pub IsUnread : Type 0 → Cause → Type 0
+IsUnread IsNone (Mistake mistake) = IsNone
 IsUnread IsNone (NotADocument message) = IsNone
 IsUnread IsNone NotConfirmed = ⊤
 IsUnread IsNone _ = ⊥

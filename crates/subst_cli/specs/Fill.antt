@@ -1,9 +1,9 @@
 -- What a source gives: it is a template itself, or one stands for it, by what in it is a variable.
 use denote.Ref.{Bor}
-use Rattle.std.specs.Prelude.{◌≡◌, ℕ, List, [], ◌∷◌, ◌++◌, ◌+◌, ◌-◌, ◌≤◌, IsUtf8, Option, Some, None, length, take, drop}
-use Rattle.std.specs.List.{All}
-use Rattle.std.specs.Option.{option_or}
-use Rattle.subst.specs.Foreign.{unescaped, IsTemplateFor, IsShellName, IsListed}
+use Rattle.std.specs.Prelude.{◌≡◌, ◌⊎◌, ◌==◌, ◌||◌, ◌++◌, ℕ, Bool, true, false, List, [], ◌∷◌, IsUtf8, Option, Some, None, if◌then◌else◌}
+use Rattle.std.specs.List.{All, Any}
+use Rattle.subst.specs.Foreign.{IsListed}
+use Rattle.subst.specs.Grammar.{Grammar, grammar}
 use Rattle.subst.specs.Json.Filled as json_text
 use Rattle.subst.specs.Json.Mapped as json_tree
 use Rattle.subst.specs.Json.Outcome as json
@@ -12,90 +12,110 @@ use Rattle.subst.specs.Language.LookUp.{LookUp}
 use Rattle.subst.specs.Language.NamesIn.{names_in}
 use Rattle.subst.specs.Language.Sentence.{Spells}
 use Rattle.subst.specs.Language.Tree.{Tree}
-use Rattle.subst.specs.Shell.{IsShellTemplateFor}
+use Rattle.subst.specs.Question.{by_question, value_of, is_missing, is_empty}
+use Rattle.subst.specs.Template.{IsTemplate, seen_by}
 use Rattle.subst.specs.Toml.Filled as toml_text
 use Rattle.subst.specs.Toml.Mapped as toml_tree
 use Rattle.subst.specs.Toml.Outcome as toml
-use Rattle.subst_cli.specs.Layers.{Entry, IsKnown, IsUnreadable, is_unreadable, look_up_in}
+use Rattle.subst_cli.specs.Layers.{Entry, IsKnown, IsKnownBy, IsUnreadable, is_unreadable, look_up_in}
 use Rattle.subst_cli.specs.Mark.{filled_of, kept_of}
 use Rattle.subst_cli.specs.declared.document.format.Format.{Format}
 use Rattle.subst_cli.specs.declared.document.format.Format.TheVariants.{Json, Toml}
 use Rattle.subst_cli.specs.declared.fill.Seen.{Seen}
+use Rattle.subst_cli.specs.declared.fill.Seen.TheVariants.{Asked, Filled, Named}
+use Rattle.subst_cli.specs.declared.layers.Variables.{Variables}
 use Rattle.subst_cli.specs.declared.options.Choice.{Choice}
-use Rattle.subst_cli.specs.declared.options.Choice.TheVariants.{Envsubst, Only, Known}
+use Rattle.subst_cli.specs.declared.options.Choice.TheVariants.{All as AllNames, Only, Known}
+use Rattle.subst_cli.specs.declared.options.Chosen.{Chosen as ChosenForms}
 use Rattle.subst_cli.specs.declared.options.InputFormat.{InputFormat}
 use Rattle.subst_cli.specs.declared.options.InputFormat.TheVariants.{Text, Bytes, Document}
-use Rattle.subst_cli.specs.declared.options.Missing.{Missing}
-use Rattle.subst_cli.specs.declared.options.Missing.TheVariants.{Fault, Nothing, FaultIfEmpty}
 use Rattle.subst_cli.specs.declared.options.Placeholders.{Placeholders}
-use Rattle.subst_cli.specs.declared.options.Placeholders.TheVariants.{Own, Chosen, Shell}
+use Rattle.subst_cli.specs.declared.options.Placeholders.TheVariants.{Own, Chosen}
 use Rattle.subst_filter_lib.specs.Words.{value_under}
+use Rattle.subst_foreign.specs.declared.forms.Forms.{Forms}
+use Rattle.subst_foreign.specs.declared.forms.Forms.TheVariants as of
 use Rattle.subst_language.specs.Maps.{without_empty}
 
--- the name is one of those that are chosen, by what the entries give
-abbrev pub IsChosen : Choice → List Entry → List ℕ → Type 0
-IsChosen Envsubst entries = IsShellName
-IsChosen (Only names) entries = IsListed names.names.keys
-IsChosen Known entries = IsKnown (look_up_in entries) (is_unreadable entries)
+-- a name begins with one of these
+abbrev pub BeginsWithOne : List (Bor (List ℕ)) → List ℕ → Type 0
+BeginsWithOne starts name = Any (λ start. (rest : List ℕ) × (name ≡ start.now ++ rest)) starts
+
+-- all names are chosen
+abbrev pub all_of : Choice → Bool
+all_of AllNames = true
+all_of _ = false
+
+-- names, or with an operator all
+abbrev pub or_operated : (List ℕ → Type 0) → (operated : Bool) → List ℕ → Type 0
+or_operated Has true name = Unit {0}
+or_operated Has false name = Has name
+
+-- the names that are chosen, with an operator or without one, by what variables are known
+abbrev pub has_in : Choice → Option (Bor Variables) → Bool → List ℕ → Type 0
+has_in AllNames variables = λ operated name. Unit {0}
+has_in (Only names starts) variables =
+    λ operated name. IsListed names.names.keys name ⊎ BeginsWithOne starts.items name
+has_in Known variables = or_operated (IsKnownBy variables)
+
+-- the same, by what the entries give
+abbrev pub has_of : Choice → List Entry → Bool → List ℕ → Type 0
+has_of AllNames entries = λ operated name. Unit {0}
+has_of (Only names starts) entries =
+    λ operated name. IsListed names.names.keys name ⊎ BeginsWithOne starts.items name
+has_of Known entries = or_operated (IsKnown (look_up_in entries) (is_unreadable entries))
+
+-- what is read as variables
+abbrev pub grammar_in : ChosenForms → Option (Bor Variables) → Grammar
+grammar_in chosen variables = grammar chosen.forms (all_of chosen.names) (has_in chosen.names variables)
+
+abbrev pub grammar_of : ChosenForms → List Entry → Grammar
+grammar_of chosen entries = grammar chosen.forms (all_of chosen.names) (has_of chosen.names entries)
 
 -- the template that stands for a source
 abbrev pub StandsFor : Placeholders → List Entry → List ℕ → List ℕ → Type 0
 StandsFor Own entries s template = template ≡ s
-StandsFor (Chosen choice missing) entries s template = IsTemplateFor (IsChosen choice entries) s template
-StandsFor Shell entries s template = IsShellTemplateFor s template
+StandsFor (Chosen chosen) entries s template = IsTemplate (grammar_of chosen entries) chosen.missing s template
 
--- what a variable gives that has no value
-abbrev pub missing_in : Placeholders → Missing
-missing_in Own = Fault
-missing_in (Chosen choice missing) = missing
-missing_in Shell = FaultIfEmpty
+-- the forms of the text that the template is made for, if it is made for one
+abbrev pub forms_of : Placeholders → Option Forms
+forms_of Own = None
+forms_of (Chosen chosen) = Some chosen.forms
 
--- what names have: one without a value has nothing in its place, or none, as then one whose value is empty
-abbrev pub look_with : Missing → LookUp → LookUp
-look_with Fault look name = look name
-look_with Nothing look name = option_or (look name) (Some [])
-look_with FaultIfEmpty look name = without_empty look name
+-- what a template sees of a look-up
+abbrev pub look_for : Option Forms → LookUp → LookUp
+look_for None look = look
+look_for (Some forms) look = seen_by forms look
 
--- the same, of values
+-- what values have as a template sees them
 abbrev pub seen : Seen → LookUp
-seen values = look_with values.missing (value_under values.values.now)
+seen (Named values) = value_under values.now
+seen (Filled filled) = without_empty (value_under filled.map.now)
+seen (Asked shell) = by_question (value_under shell.map.now)
 
--- Where in a source is what is at an offset of its template. Where that was made for it, both bytes of an
--- escape are where the byte is that they stand for.
-abbrev pub origin_of : Placeholders → List ℕ → ℕ → ℕ
-origin_of Own template at = at
-origin_of _ template at = length (unescaped (take at template))
-
--- the same, of a template that was made, or of none
-abbrev pub origin_in : Option (Bor (List ℕ)) → ℕ → ℕ
-origin_in None at = at
-origin_in (Some template) at = length (unescaped (take at template.now))
-
--- A template is split at an offset: from there on an offset of it is in the source where it is in the second
--- part, after so many bytes.
-abbrev pub AreSplit : List ℕ → ℕ → ℕ → Type 0
-AreSplit template offset place = (offset ≤ length template) × ((at : ℕ) → offset ≤ at
-    → length (unescaped (take at template))
-    ≡ place + length (unescaped (take (at - offset) (drop offset template))))
+-- the name of the variable that a name of a template asks about
+abbrev pub asked_about : Option Forms → List ℕ → List ℕ
+asked_about (Some of.Shell) (b ∷ name) =
+    if b == value_of || b == is_missing || b == is_empty then name else b ∷ name
+asked_about _ name = name
 
 -- the look-up has what the entries give, but for names whose values can't be read, which may have any
 abbrev pub Agrees : List Entry → LookUp → Type 0
 Agrees entries look = (name : List ℕ) → ¬ (IsUnreadable entries name) → look name ≡ look_up_in entries name
 
 -- the template gives the output, whatever the names have whose values can't be read
-abbrev pub GivesBy : Missing → List Entry → List ℕ → List ℕ → Type 0
-GivesBy missing entries template output =
-    (look : LookUp) → Agrees entries look → Answers template (look_with missing look) (Gives output)
+abbrev pub GivesBy : Option Forms → List Entry → List ℕ → List ℕ → Type 0
+GivesBy forms entries template output =
+    (look : LookUp) → Agrees entries look → Answers template (look_for forms look) (Gives output)
 
 -- the source gives the output: a template that stands for it does
 abbrev pub GivesFor : Placeholders → List Entry → List ℕ → List ℕ → Type 0
 GivesFor placeholders entries s output = (template : List ℕ) × StandsFor placeholders entries s template
-    × GivesBy (missing_in placeholders) entries template output
+    × GivesBy (forms_of placeholders) entries template output
 
--- each name in the template can be read
-abbrev pub AreReadable : List Entry → List ℕ → Type 0
-AreReadable entries template = (t : Tree) → Spells t template
-    → All (λ name. ¬ (IsUnreadable entries name)) (names_in t)
+-- each name in the template asks about one that can be read
+abbrev pub AreReadable : Option Forms → List Entry → List ℕ → Type 0
+AreReadable forms entries template = (t : Tree) → Spells t template
+    → All (λ name. ¬ (IsUnreadable entries (asked_about forms name))) (names_in t)
 
 -- The output is the document with its strings filled in: it reads as the tree whose strings are, and is the
 -- source but for the tokens of strings that change.

@@ -71,10 +71,15 @@ environment_of entries = filter_map entry_in entries
 abbrev pub given_by : List (String Global × String Global) → List Entry
 given_by pairs = map (λ pair. record { name = string_bytes pair.0; value = Some (string_bytes pair.1) }) pairs
 
--- The entries in the order in which they count: those of the options from the last on, those of values files
--- from the last on, those of the environment from the first on, and the defaults from the last on.
-abbrev pub in_order : List Entry → List Entry → List Entry → List Entry → List Entry
-in_order given lines environment defaults = reverse (lines ++ given) ++ environment ++ reverse defaults
+-- The entries above .env files in the order in which they count: those of the options from the last on, those
+-- of values files from the last on, and those of the environment from the first on.
+abbrev pub above : (given lines environment : List Entry) → List Entry
+above given lines environment = reverse (lines ++ given) ++ environment
+
+-- All entries in the order in which they count: those above, those of .env files from the last on, and the
+-- defaults from the last on.
+abbrev pub in_order : (above dotenv defaults : List Entry) → List Entry
+in_order above dotenv defaults = above ++ reverse dotenv ++ reverse defaults
 
 -- the value of the entry is empty
 abbrev pub is_empty : Entry → Bool

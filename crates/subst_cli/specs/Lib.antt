@@ -1,9 +1,13 @@
 pub mod Documents
+pub mod Dotenv
+pub mod DotenvLine
 pub mod Faults
 pub mod Fill
 pub mod Layers
 pub mod Mark
+pub mod Mistakes
 pub mod Run
 pub mod Status
 pub mod Strings
+pub mod Told
 pub mod ValuesFile

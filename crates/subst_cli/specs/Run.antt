@@ -3,9 +3,9 @@ use Rattle.std.specs.Prelude.{◌≡◌, ◌⊎◌, ◌++◌, ℕ, List, [], Non
 use Rattle.std.specs.List.{Any, Contains}
 use Rattle.subst_cli.specs.Documents.{IsDocumentFault}
 use Rattle.subst_cli.specs.Faults.{IsFaultOf, IsNoText}
-use Rattle.subst_cli.specs.Layers.{Entry, entries_of, environment_of, escaped, given_by, in_order, is_empty}
+use Rattle.subst_cli.specs.Layers.{Entry, entries_of, environment_of, above, escaped, given_by, in_order, is_empty}
 use Rattle.subst_cli.specs.Mark.{filled_of}
-use Rattle.subst_cli.specs.ValuesFile.{values_of}
+use Rattle.subst_cli.specs.ValuesFile.{value_bytes, values_of}
 use Rattle.subst_cli.specs.declared.fault.Fault.{Fault}
 use Rattle.subst_cli.specs.declared.layers.Layers.{Layers}
 use Rattle.subst_cli.specs.declared.options.InputFormat.{InputFormat}
@@ -21,15 +21,20 @@ use Rattle.subst_cli.specs.declared.values_file.ValuesSource.TheVariants.{Lines,
 abbrev pub bytes_of : Source → List ℕ
 bytes_of source = source.bytes.items
 
--- The entries of a run, those first that count: of the environment only where the options ask for it, and
--- without those whose value is empty where they ask for that.
-abbrev pub entries_for : Options → Layers → List Entry
-entries_for options read =
-    let all = in_order (given_by options.pairs.items) (entries_of read.lines.items)
+-- the entries above .env files: of the environment only where the options ask for it
+abbrev pub above_for : Options → Layers → List Entry
+above_for options read = above (given_by options.pairs.items) (entries_of read.lines.items)
     (if options.environment then environment_of (map vec_items read.environment.items) else [])
-    (entries_of read.defaults.items ++ given_by options.defaults.items) in
-    map (escaped options.escape)
-    (if options.no_empty then filter (λ entry. not (is_empty entry)) all else all)
+
+-- the entries that count: without those whose value is empty where the options ask for that
+abbrev pub kept_for : Options → List Entry → List Entry
+kept_for options all = if options.no_empty then filter (λ entry. not (is_empty entry)) all else all
+
+-- the entries of a run, those first that count
+abbrev pub entries_for : Options → Layers → List Entry
+entries_for options read = map (escaped options.escape) (kept_for options
+    (in_order (above_for options read) (entries_of read.dotenv.items)
+    (entries_of read.defaults.items ++ given_by options.defaults.items)))
 
 -- the fault is so of the bytes of a source that are filled in
 abbrev pub IsFaultIn : InputFormat → Placeholders → List Entry → List ℕ → Fault → Type 0
@@ -56,8 +61,8 @@ IsFaultOfLines s it = IsNoText s it ⊎ (values_of s ≡ None)
 abbrev pub IsFaultOfFile : ValuesSource → Refused → Type 0
 IsFaultOfFile (Lines source) it =
     (it.source ≡ source) × Any (IsFaultOfLines (bytes_of source)) it.faults.items
-IsFaultOfFile (Value name source) it =
-    (it.source ≡ source) × Any (IsNoText (bytes_of source)) it.faults.items
+IsFaultOfFile (Value name line_end source) it =
+    (it.source ≡ source) × Any (IsNoText (value_bytes line_end (bytes_of source))) it.faults.items
 
 -- one of these files is refused
 abbrev pub IsRefusedFile : List ValuesSource → Refused → Type 0

@@ -4,6 +4,8 @@ use Rattle.std.specs.List.{slice_split}
 use Rattle.std.specs.Str.{bytes_eq, is_utf8}
 use Rattle.subst_cli.specs.Layers.{Entry, entry_in}
 use Rattle.subst_cli.specs.Mark.{after_mark}
+use Rattle.subst_cli.specs.declared.options.LineEnd.{LineEnd}
+use Rattle.subst_cli.specs.declared.options.LineEnd.TheVariants.{Removed, Kept}
 use Rattle.subst_cli.specs.declared.values_file.ValuesSource.{ValuesSource}
 use Rattle.subst_cli.specs.declared.values_file.ValuesSource.TheVariants.{Lines, Value}
 
@@ -19,6 +21,16 @@ carriage_return = 13 ∷ []
 abbrev pub without_return : List ℕ → List ℕ
 without_return line =
     if bytes_eq (drop (length line - 1) line) carriage_return then take (length line - 1) line else line
+
+-- a line feed
+abbrev pub line_feed : List ℕ
+line_feed = 10 ∷ []
+
+-- the bytes without one line end at their end: a line feed, or a carriage return and a line feed
+abbrev pub without_line_end : List ℕ → List ℕ
+without_line_end bytes =
+    if bytes_eq (drop (length bytes - 1) bytes) line_feed
+    then without_return (take (length bytes - 1) bytes) else bytes
 
 -- the byte is a blank or a tab
 abbrev pub is_blank : ℕ → Bool
@@ -77,7 +89,12 @@ abbrev pub with_file : Option (List Entry) → Option (List Entry) → Option (L
 with_file None later = None
 with_file (Some entries) later = before entries later
 
--- what a file gives that is the value of a name, or nothing where it isn't UTF-8
+-- the bytes of a file that are a value
+abbrev pub value_bytes : LineEnd → List ℕ → List ℕ
+value_bytes Removed bytes = without_line_end bytes
+value_bytes Kept bytes = bytes
+
+-- what these bytes give as the value of a name, or nothing where they aren't UTF-8
 abbrev pub value_of : List ℕ → List ℕ → Option (List Entry)
 value_of name bytes =
     if is_utf8 bytes then Some (record { name = name; value = Some bytes } ∷ []) else None
@@ -85,7 +102,8 @@ value_of name bytes =
 -- what a file gives
 abbrev pub values_in : ValuesSource → Option (List Entry)
 values_in (Lines source) = values_of source.bytes.items
-values_in (Value name source) = value_of (string_bytes name) source.bytes.items
+values_in (Value name line_end source) =
+    value_of (string_bytes name) (value_bytes line_end source.bytes.items)
 
 -- what files give, one after the other, or nothing where one of them gives nothing
 abbrev pub values_of_files : List ValuesSource → Option (List Entry)

@@ -16,12 +16,14 @@ use crate::part::{Occurrence, Outcome, uses_in_bytes};
 pub(crate) use filler::StringFiller;
 pub use format::Format;
 use format::{Finder, RefusedAt, Unfilled};
+pub use mistake::Mistake;
 use std::alloc::{AllocError, Global};
 use std::ops::Range;
 use subst::StringAt;
 
 mod filler;
 mod format;
+mod mistake;
 
 /// Returns a text with its strings filled in, or its faults.
 ///
@@ -95,6 +97,7 @@ fn add_uses(
             name: it.name,
             range,
             kind: it.kind,
+            default: it.default,
         })?;
     }
     Ok(())
@@ -184,8 +187,9 @@ fn add_faults(
 fn ranges_of(alloc: Global, faults: &[Fault]) -> Result<Vec<Range<usize>>, AllocError>
     ensures { IfOk result (λ ranges. ranges.items ≡ documents.ranges_of faults.now) }
 {
-    faults
-        .iter()
-        .map(|it| it.range.start..it.range.end)
-        .collect(alloc)
+    let mut ranges = Vec::with_capacity(alloc, faults.len())?;
+    for fault in faults {
+        ranges.push(fault.range.start..fault.range.end)?;
+    }
+    Ok(ranges)
 }

@@ -16,7 +16,7 @@ const AROUND: usize = 512;
 const NEAR: usize = 64;
 
 /// What stands for the part of a line that isn't shown.
-const CUT: &str = "…";
+pub(crate) const CUT: &str = "…";
 
 /// Returns the line that a range of a source begins in and, below the range, carets, both lines indented by
 /// two blanks. Of a line wider than 60 columns what is around the range's start is shown.

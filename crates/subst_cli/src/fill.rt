@@ -1,24 +1,40 @@
 //! Filling in one byte string, or telling what is wrong with it.
 
-ghost use Rattle.std.specs.Prelude.{◌<◌, ◌^◌, ℕ, List, IfOk, IfErr, IsSomeAnd};
+ghost use Rattle.std.specs.Prelude.{◌≡◌, ◌<◌, ◌^◌, ℕ, List, IfOk, IfErr, IsSomeAnd};
 ghost use Rattle.subst.specs.ErrorFault.{error_fault};
 ghost use Rattle.subst.specs.Language.Answer.{Answers, Gives, Refuses};
 ghost use Rattle.subst.specs.Range.{range_of};
-ghost use Rattle.subst_cli.specs.Fill.{seen};
+ghost use Rattle.subst_cli.specs.Fill.{look_for, seen};
+ghost use Rattle.subst_filter_lib.specs.Words.{value_under};
 
-use crate::options::Missing;
 use std::alloc::{AllocError, Global};
 use subst::error::{NoSuchVariable, ParseError};
-use subst::{ByteTemplate, Error, VariableMap, substitute_bytes};
+use subst::foreign::Forms;
+use subst::{ByteTemplate, Error, NoEmpty, OneOf, ShellMap, VariableMap, substitute_bytes};
 use subst_filter_lib::values::Values;
 
-/// Values as a source sees them.
+/// Values as a template sees them.
 #[derive(Clone, Copy)]
-pub(crate) struct Seen<'m, 'v> {
-    /// The values.
-    pub values: &'m Values<'v>,
-    /// What a name has that has no value.
-    pub missing: Missing,
+pub(crate) enum Seen<'m, 'v> {
+    /// The values under their names.
+    Named(&'m Values<'v>),
+    /// Values that aren't empty.
+    Filled(NoEmpty<'m, Values<'v>>),
+    /// Answers to questions about them, as templates of a shell's texts ask.
+    Asked(ShellMap<'m, Values<'v>>),
+}
+
+impl<'m, 'v> Seen<'m, 'v> {
+    /// Returns the values as a template sees them that was made for a text of these forms, or for none.
+    pub fn of(values: &'m Values<'v>, forms: Option<Forms>) -> Self
+        ensures { seen result ≡ look_for forms (value_under values.now) }
+    {
+        match forms {
+            Some(Forms::Shell) => Seen::Asked(ShellMap { map: values }),
+            Some(Forms::Common) => Seen::Filled(NoEmpty { map: values }),
+            Some(Forms::Own | Forms::Envsubst) | None => Seen::Named(values),
+        }
+    }
 }
 
 impl<'m> VariableMap<'m> for Seen<'m, '_> {
@@ -33,11 +49,13 @@ impl<'m> VariableMap<'m> for Seen<'m, '_> {
     ghost look_up = { seen };
 
     fn get(&'m self, key: &str) -> Option<&'m str> {
-        match (self.values.get(key), self.missing) {
-            (Some(value), Missing::FaultIfEmpty) if value.is_empty() => None,
-            (Some(value), _) => Some(*value),
-            (None, Missing::Nothing) => Some(""),
-            (None, Missing::Fault | Missing::FaultIfEmpty) => None,
+        match self {
+            Seen::Named(values) => Some(*values.get(key)?),
+            Seen::Filled(filled) => Some(*filled.get(key)?),
+            Seen::Asked(shell) => match shell.get(key)? {
+                OneOf::First(value) => Some(*value),
+                OneOf::Second(value) => Some(value),
+            },
         }
     }
 }

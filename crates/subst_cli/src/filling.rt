@@ -4,13 +4,18 @@ ghost use Rattle.std.specs.Prelude.{◌≡◌, ◌++◌, ◌∷◌, [], ◌⊎�
 ghost use Rattle.std.specs.List.{All};
 ghost use Rattle.subst_cli.specs.Fill.{AreOutputs, IsOutput};
 ghost use Rattle.subst_cli.specs.Layers.{Entry as SpecEntry, ForEntries, entries_of, environment_of, is_empty};
-ghost use Rattle.subst_cli.specs.Run.{bytes_of, entries_for, IsRefusalOf, StatesFault};
+ghost use Rattle.subst_cli.specs.Dotenv.{FilesLeave, IsFirstRefused};
+ghost use Rattle.subst_cli.specs.Run.{above_for, bytes_of, entries_for, kept_for, IsRefusalOf, StatesFault};
 ghost use Rattle.subst_cli.specs.Strings.{FillsFrom};
 ghost use Rattle.subst_cli.specs.declared.source.Refused.{Refused as SpecRefused};
 
 use crate::document::StringFiller;
+use crate::dotenv::settings_of;
 use crate::entry::Entry;
-use crate::layers::{Layers, Variables, given, in_order, with_escaped_values, without_empty};
+use crate::hints::{UnsetHint, about_unset};
+use crate::layers::{
+    Layers, Variables, above, copied, given, in_order, with_escaped_values, without_empty,
+};
 use crate::options::{InputFormat, Options, Placeholders};
 use crate::part::{Occurrence, Outcome, fill_bytes, uses_in_bytes};
 use crate::placeholders::has_no_dollar;
@@ -25,7 +30,7 @@ pub type Outputs = Result<Vec<u8>, Vec<Refused>>;
 
 /// Fills in sources as the options of a run say, from the variables that the options give and those that were
 /// read. Returns what all of them give, one after the other, or those that give nothing: there is no output
-/// then.
+/// then. Appends a hint at each unset variable of a shell's texts that expands to nothing.
 ///
 /// # Errors
 ///
@@ -35,6 +40,7 @@ pub fn fill_in(
     options: &Options<'_>,
     read: Layers,
     sources: Vec<Source>,
+    unset: &mut Vec<UnsetHint>,
 ) -> Result<Outputs, AllocError>
     ensures gives { let entries = entries_for options.now read in
         IfOk result (λ outputs. IfOk outputs (λ all. AreOutputs options.now.form
@@ -47,7 +53,23 @@ pub fn fill_in(
     let entries = all_entries(alloc, options, read)?;
     let variables = Variables::of(alloc, &entries)?;
     let filling = Filling::of(options, variables);
+    if options.hints_unset {
+        add_unset(alloc, &filling, &sources, unset)?;
+    }
     filling.fill_all(alloc, sources)
+}
+
+/// Adds hints at the unset variables of sources.
+fn add_unset(
+    alloc: Global,
+    filling: &Filling<'_, '_, '_>,
+    sources: &[Source],
+    unset: &mut Vec<UnsetHint>,
+) -> Result<(), AllocError> {
+    for source in sources {
+        unset.append(&mut about_unset(alloc, filling, source)?)?;
+    }
+    Ok(())
 }
 
 /// Returns all entries of a run as its options ask for them, those first that count.
@@ -61,9 +83,38 @@ pub(crate) fn all_entries(
     let asked = asked_environment(alloc, options, &read.environment)?;
     let mut defaults = read.defaults;
     defaults.append(&mut given(alloc, &options.defaults)?)?;
-    let all = in_order(given(alloc, &options.pairs)?, read.lines, asked, defaults)?;
+    let above = above(given(alloc, &options.pairs)?, read.lines, asked)?;
+    let all = in_order(above, read.dotenv, defaults)?;
     let kept = kept(all, options.no_empty);
     with_escaped_values(alloc, kept, options.escape)
+}
+
+/// Reads `.env` files over the variables above them. Returns their settings, or the first file that is refused, and
+/// appends a hint at each unset variable that expands to nothing.
+///
+/// # Errors
+///
+/// When allocation fails.
+pub(crate) fn dotenv_entries(
+    alloc: Global,
+    options: &Options<'_>,
+    read: &Layers,
+    files: Vec<Source>,
+    unset: &mut Vec<UnsetHint>,
+) -> Result<Result<Vec<Entry>, Refused>, AllocError>
+    ensures gives { let above = kept_for options.now (above_for options.now read.now) in
+        IfOk result (λ outcome. IfOk outcome (λ entries.
+        FilesLeave above [] (map bytes_of files.items) (entries_of entries.items))) }
+    ensures refused { let above = kept_for options.now (above_for options.now read.now) in
+        IfOk result (λ outcome. IfErr outcome
+        (IsFirstRefused above (map bytes_of files.items))) }
+{
+    let asked = asked_environment(alloc, options, &read.environment)?;
+    let lines = copied(alloc, &read.lines)?;
+    let above = above(given(alloc, &options.pairs)?, lines, asked)?;
+    let kept = kept(above, options.no_empty);
+    let variables = Variables::of(alloc, &kept)?;
+    settings_of(alloc, files, &variables, unset)
 }
 
 /// Returns what the entries of an environment give, or nothing where they aren't asked for.
@@ -180,7 +231,7 @@ impl<'r, 'w, 'v> Filling<'r, 'w, 'v> {
             }
             (InputFormat::Bytes, Placeholders::Own) => is_plain(source),
             (InputFormat::Bytes, Placeholders::Chosen(..)) => has_no_dollar(source),
-            (InputFormat::Document(_), _) | (_, Placeholders::Shell) => false,
+            (InputFormat::Document(_), _) => false,
         }
     }
 

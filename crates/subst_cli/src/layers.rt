@@ -21,6 +21,8 @@ pub struct Layers {
     pub lines: Vec<Entry>,
     /// The entries of the environment, `NAME=VALUE`, in their order.
     pub environment: Vec<Vec<u8>>,
+    /// The settings of `.env` files, in the order of files and lines.
+    pub dotenv: Vec<Entry>,
     /// What defaults files give, in the order of the files and of their lines.
     pub defaults: Vec<Entry>,
 }
@@ -129,22 +131,38 @@ pub(crate) fn given(alloc: Global, pairs: &[Pair]) -> Result<Vec<Entry>, AllocEr
     Ok(entries)
 }
 
-/// Returns all entries, those first that count: those of the options from the last on, those of values files
-/// from the last on, those of the environment, and the defaults from the last on.
-pub(crate) fn in_order(
+/// Returns the entries above `.env` files, those first that count: those of the options from the last on, those
+/// of values files from the last on, and those of the environment.
+pub(crate) fn above(
     mut given: Vec<Entry>,
     lines: Vec<Entry>,
     mut environment: Vec<Entry>,
-    mut defaults: Vec<Entry>,
 ) -> Result<Vec<Entry>, AllocError>
     ensures { IfOk result (λ entries. entries_of entries.items
-        ≡ layers.in_order (entries_of given.items) (entries_of lines.items)
-        (entries_of environment.items) (entries_of defaults.items)) }
+        ≡ layers.above (entries_of given.items) (entries_of lines.items)
+        (entries_of environment.items)) }
 {
     let mut entries = lines;
     entries.append(&mut given)?;
     entries.reverse();
     entries.append(&mut environment)?;
+    Ok(entries)
+}
+
+/// Returns all entries, those first that count: those above, those of `.env` files from the last on, and the
+/// defaults from the last on.
+pub(crate) fn in_order(
+    above: Vec<Entry>,
+    mut dotenv: Vec<Entry>,
+    mut defaults: Vec<Entry>,
+) -> Result<Vec<Entry>, AllocError>
+    ensures { IfOk result (λ entries. entries_of entries.items
+        ≡ layers.in_order (entries_of above.items) (entries_of dotenv.items)
+        (entries_of defaults.items)) }
+{
+    let mut entries = above;
+    dotenv.reverse();
+    entries.append(&mut dotenv)?;
     defaults.reverse();
     entries.append(&mut defaults)?;
     Ok(entries)
@@ -182,6 +200,21 @@ pub(crate) fn with_escaped_values(
     let mut all = Vec::with_capacity(alloc, entries.len())?;
     for entry in &entries {
         all.push(escaped_entry(alloc, entry, escape)?)?;
+    }
+    Ok(all)
+}
+
+/// Returns copies of entries.
+///
+/// # Errors
+///
+/// When allocation fails.
+pub(crate) fn copied(alloc: Global, entries: &[Entry]) -> Result<Vec<Entry>, AllocError>
+    ensures { IfOk result (λ copies. entries_of copies.items ≡ entries_of entries.now) }
+{
+    let mut all = Vec::with_capacity(alloc, entries.len())?;
+    for entry in entries {
+        all.push(escaped_entry(alloc, entry, Escape::Nothing)?)?;
     }
     Ok(all)
 }

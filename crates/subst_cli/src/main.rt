@@ -5,6 +5,7 @@
 #![tactic(auto)]
 
 mod document;
+mod dotenv;
 pub mod entry;
 mod environment;
 mod escape;
@@ -24,11 +25,11 @@ mod placeholders;
 pub mod process;
 mod report;
 mod run;
-mod shell;
 mod shown;
 pub mod source;
 mod templates;
 mod text;
+mod told;
 pub mod values_file;
 
 use process::run;

@@ -6,8 +6,11 @@ pub use crate::document::Format;
 use clap::error::ErrorKind;
 use clap::{Arg, ArgAction, ArgMatches, Command, Error};
 use std::alloc::{AllocError, Global};
-use subst::foreign::OnlyNames;
+use subst::foreign::{Forms, Missing, OnlyNames};
 use subst::is_name;
+use table::OPTIONS;
+
+mod table;
 
 /// The file that stands for standard input.
 pub const STANDARD_INPUT: &str = "-";
@@ -18,12 +21,24 @@ const STANDARD_INPUT_PATHS: [&str; 3] = ["/dev/stdin", "/dev/fd/0", "/proc/self/
 /// The files of `--output` that stand for standard output.
 const STANDARD_OUTPUT: [&str; 2] = ["-", "/dev/stdout"];
 
+/// Options of other programs, with those that do their work here.
+const FOREIGN: [(&str, &str); 2] = [
+    ("--env-file", "--values"),
+    ("--output-dir", "--output-folder"),
+];
+
+/// The options that expand nothing, or everything to nothing, unless others give variables.
+const NEEDY: [&str; 4] = ["shell", "compose", "known", "optional"];
+
 /// The end of the help.
 const AFTER_HELP: &str = "\
+A backslash escapes \\ $ { } and :, but not where --only, --envsubst, --known or
+--shell chooses what a variable is: there it is text.
+
 A name has the value of the first of these that has it: --set, --set-file, the
-values files, the environment, --default, the defaults files. All names without
-a value are reported, but of a file with a fault of another kind that fault
-alone.
+values files, the environment, the .env files, --default, the defaults files.
+All names without a value are reported, but of a file with another fault that
+one alone, and of another tool's text all forms that are refused.
 
 Status: 0 done, 1 a file or value is refused, 2 wrong arguments, 3 a file or
 device failed, 4 out of memory. The page subst(1) says more.";
@@ -44,32 +59,30 @@ pub enum InputFormat {
 pub enum Placeholders<'w> {
     /// What the template language says.
     Own,
-    /// `$NAME` and `${NAME}` of chosen names, and what one gives that has no value. All else is text.
-    Chosen(Choice<'w>, Missing),
-    /// What Docker Compose finds, as far as it can be given. All else is text.
-    Shell,
+    /// Some forms of chosen names. All else is text.
+    Chosen(Chosen<'w>),
+}
+
+/// Which forms of which names are variables.
+#[derive(Drop)]
+pub struct Chosen<'w> {
+    /// The forms.
+    pub forms: Forms,
+    /// The names.
+    pub names: Choice<'w>,
+    /// How an unset variable without an operator expands.
+    pub missing: Missing,
 }
 
 /// Which names are chosen.
 #[derive(Drop)]
 pub enum Choice<'w> {
-    /// Those that envsubst knows.
-    Envsubst,
-    /// Those of a list.
-    Only(OnlyNames<'w>),
+    /// All names.
+    All,
+    /// The names of a list, and all that begin with one of these texts.
+    Only(OnlyNames<'w>, Vec<&'w str>),
     /// Those that something is given to.
     Known,
-}
-
-/// What a variable gives that has no value.
-#[derive(Clone, Copy, PartialEq, Eq)]
-pub enum Missing {
-    /// A fault.
-    Fault,
-    /// Nothing.
-    Nothing,
-    /// A fault, and one whose value is empty has none.
-    FaultIfEmpty,
 }
 
 /// What values are escaped for.
@@ -83,6 +96,15 @@ pub enum Escape {
     Sh,
 }
 
+/// How the line end at the end of a value's file is treated. The last option wins.
+#[derive(Clone, Copy, PartialEq, Eq)]
+pub enum LineEnd {
+    /// The value ends before it.
+    Removed,
+    /// It is part of the value.
+    Kept,
+}
+
 /// What is done with the sources.
 #[derive(Clone, Copy, PartialEq, Eq)]
 pub enum Action<'w> {
@@ -94,9 +116,9 @@ pub enum Action<'w> {
     WriteInto(&'w str),
     /// Each is replaced by what it gives.
     Replace,
-    /// Their faults are told.
+    /// Their faults, and those of all files of each folder, are reported.
     Check,
-    /// Their variables are listed.
+    /// Their variables, and those of all files of each folder, are listed.
     ListNames,
 }
 
@@ -115,8 +137,12 @@ pub struct Options<'w> {
     pub named_files: Vec<NamedFile<'w>>,
     /// The values files, and the folders of files that are values.
     pub values_files: Vec<&'w str>,
+    /// How the line end at the end of a value's file is treated.
+    pub line_end: LineEnd,
     /// Whether the environment gives variables.
     pub environment: bool,
+    /// The `.env` files.
+    pub dotenv_files: Vec<&'w str>,
     /// The variables of `--default`, in the order of the words.
     pub defaults: Vec<Pair>,
     /// The values files, and folders, below all that is named before.
@@ -129,9 +155,13 @@ pub struct Options<'w> {
     pub form: InputFormat,
     /// What in them is a variable.
     pub placeholders: Placeholders<'w>,
+    /// Whether a name of another tool's text that expands to nothing is told: by default that of a shell.
+    pub hints_unset: bool,
+    /// Whether a default of another tool is a fault: by default it is hinted at.
+    pub refuses_defaults: bool,
     /// What is done with them.
     pub action: Action<'w>,
-    /// What the names of files that are written into a folder lose at their ends.
+    /// The suffix that the names of files of folders end in, which those of files that are written lose.
     pub suffix: &'w str,
     /// The sources. There is at least one.
     pub files: Vec<&'w str>,
@@ -146,7 +176,10 @@ impl<'w> Options<'w> {
     pub fn of_words(alloc: Global, words: &'w [String]) -> Result<Options<'w>, Error>
         ensures files { IfOk result (λ options. 0 < length options.files.items) }
     {
-        let matches = command(alloc)?.try_get_matches_from(words)?;
+        let matches = match command(alloc)?.try_get_matches_from(words) {
+            Ok(matches) => matches,
+            Err(e) => return Err(with_tip(alloc, e)),
+        };
         let files = list(alloc, &matches, "files")?;
         let action = asked_action(&matches);
         check_named(alloc, action, &files)?;
@@ -154,18 +187,23 @@ impl<'w> Options<'w> {
             pairs: asked_pairs(alloc, &matches, "set")?,
             named_files: asked_named_files(alloc, &matches)?,
             values_files: list(alloc, &matches, "values")?,
+            line_end: asked_line_end(&matches),
             environment: matches.get_flag("env"),
+            dotenv_files: list(alloc, &matches, "dotenv")?,
             defaults: asked_pairs(alloc, &matches, "default")?,
             defaults_files: list(alloc, &matches, "defaults")?,
             no_empty: matches.get_flag("no-empty"),
             escape: asked_escape(alloc, &matches)?,
             form: asked_form(&matches),
             placeholders: asked_placeholders(alloc, &matches)?,
+            hints_unset: !matches.get_flag("optional"),
+            refuses_defaults: action == Action::Check && matches.get_flag("strict"),
             action,
-            suffix: asked_suffix(alloc, &matches)?,
+            suffix: asked_suffix(alloc, &matches, action)?,
             files: or_standard_input(files)?,
         };
         options.check_read_once(alloc)?;
+        options.check_given(alloc, &matches)?;
         Ok(options)
     }
 
@@ -174,15 +212,30 @@ impl<'w> Options<'w> {
         let in_words = self.pairs.is_empty() && self.defaults.is_empty();
         let in_files = self.named_files.is_empty()
             && self.values_files.is_empty()
+            && self.dotenv_files.is_empty()
             && self.defaults_files.is_empty();
         in_words && in_files && !self.environment
     }
 
+    /// Refuses options that fill in nothing, or everything with nothing, unless an option gives variables.
+    fn check_given(&self, alloc: Global, matches: &ArgMatches<'_>) -> Result<(), Error> {
+        let Some(option) = option_that_needs_variables(matches) else {
+            return Ok(());
+        };
+        if self.action == Action::ListNames || !self.gives_nothing() {
+            return Ok(());
+        }
+        let message = format!(in alloc;
+            "--{option} needs variables; '-e' takes the environment's"
+        )?;
+        Err(wrong(alloc, &message))
+    }
+
     /// Refuses standard input where it is read twice.
     fn check_read_once(&self, alloc: Global) -> Result<(), Error> {
-        let mut readers = count_standard_input(&self.values_files).saturating_add(
-            count_standard_input(&self.defaults_files),
-        );
+        let mut readers = count_standard_input(&self.values_files)
+            .saturating_add(count_standard_input(&self.dotenv_files))
+            .saturating_add(count_standard_input(&self.defaults_files));
         for (_, file) in &self.named_files {
             readers = readers.saturating_add(usize::from(is_standard_input(file)));
         }
@@ -194,6 +247,16 @@ impl<'w> Options<'w> {
         }
         Ok(())
     }
+}
+
+/// Returns the first given option of those that need variables, or `None` if there is none.
+fn option_that_needs_variables(matches: &ArgMatches<'_>) -> Option<&'static str> {
+    for option in NEEDY {
+        if matches.get_flag(option) {
+            return Some(option);
+        }
+    }
+    None
 }
 
 /// Returns the values that were given to an option, in their order.
@@ -303,6 +366,15 @@ fn asked_form(matches: &ArgMatches<'_>) -> InputFormat {
     }
 }
 
+/// Returns how the line end at the end of a value's file is treated.
+fn asked_line_end(matches: &ArgMatches<'_>) -> LineEnd {
+    if matches.get_flag("keep-line-end") {
+        LineEnd::Kept
+    } else {
+        LineEnd::Removed
+    }
+}
+
 /// Returns what values are escaped for.
 fn asked_escape(alloc: Global, matches: &ArgMatches<'_>) -> Result<Escape, Error> {
     match matches.get_str("escape") {
@@ -313,15 +385,24 @@ fn asked_escape(alloc: Global, matches: &ArgMatches<'_>) -> Result<Escape, Error
     }
 }
 
-/// Returns what the names of files lose at their ends.
-fn asked_suffix<'w>(alloc: Global, matches: &ArgMatches<'w>) -> Result<&'w str, Error> {
+/// Returns the suffix of the files of folders, or an empty one.
+fn asked_suffix<'w>(
+    alloc: Global,
+    matches: &ArgMatches<'w>,
+    action: Action<'_>,
+) -> Result<&'w str, Error> {
     let Some(suffix) = matches.get_str("strip") else {
         return Ok("");
     };
-    if suffix.is_empty() || !matches.contains_id("output-folder") {
-        return Err(wrong(alloc, "--strip needs a suffix and --output-folder"));
+    match action {
+        Action::WriteInto(_) | Action::Check | Action::ListNames if !suffix.is_empty() => {
+            Ok(suffix)
+        }
+        _ => Err(wrong(
+            alloc,
+            "--strip needs a suffix and --output-folder, --check or --names",
+        )),
     }
-    Ok(suffix)
 }
 
 /// Returns what in the sources is a variable.
@@ -329,48 +410,90 @@ fn asked_placeholders<'w>(
     alloc: Global,
     matches: &ArgMatches<'w>,
 ) -> Result<Placeholders<'w>, Error> {
-    let missing = if matches.get_flag("optional") {
+    let forms = asked_forms(matches);
+    let names = asked_choice(alloc, matches)?;
+    let missing = asked_missing(alloc, matches, forms)?;
+    if matches!((forms, &names), (Forms::Own, Choice::All)) {
+        if matches!(missing, Missing::Nothing) {
+            return Err(wrong(
+                alloc,
+                "--optional needs --envsubst, --shell, --only or --known",
+            ));
+        }
+        return Ok(Placeholders::Own);
+    }
+    Ok(Placeholders::Chosen(Chosen {
+        forms,
+        names,
+        missing,
+    }))
+}
+
+/// Returns the forms of variables.
+fn asked_forms(matches: &ArgMatches<'_>) -> Forms {
+    if matches.get_flag("envsubst") {
+        Forms::Envsubst
+    } else if matches.get_flag("shell") || matches.get_flag("compose") {
+        Forms::Shell
+    } else {
+        Forms::Own
+    }
+}
+
+/// Returns the chosen names.
+fn asked_choice<'w>(alloc: Global, matches: &ArgMatches<'w>) -> Result<Choice<'w>, Error> {
+    if matches.contains_id("only") {
+        asked_names(alloc, matches)
+    } else if matches.get_flag("known") {
+        Ok(Choice::Known)
+    } else {
+        Ok(Choice::All)
+    }
+}
+
+/// Returns how an unset variable expands.
+fn asked_missing(alloc: Global, matches: &ArgMatches<'_>, forms: Forms) -> Result<Missing, Error> {
+    let is_strict = matches.get_flag("strict");
+    let is_optional = matches.get_flag("optional");
+    if is_strict && is_optional {
+        return Err(wrong(alloc, "--strict and --optional exclude each other"));
+    }
+    let is_shell = matches!(forms, Forms::Shell);
+    Ok(if is_optional || is_shell && !is_strict {
         Missing::Nothing
     } else {
         Missing::Fault
-    };
-    if matches.get_flag("envsubst") {
-        return Ok(Placeholders::Chosen(Choice::Envsubst, missing));
-    }
-    if matches.get_flag("known") {
-        return Ok(Placeholders::Chosen(Choice::Known, missing));
-    }
-    if matches.get_flag("shell") {
-        return Ok(Placeholders::Shell);
-    }
-    if matches.contains_id("only") {
-        let names = asked_names(alloc, matches)?;
-        return Ok(Placeholders::Chosen(Choice::Only(names), missing));
-    }
-    if missing == Missing::Nothing {
-        return Err(wrong(alloc, "--optional needs --envsubst or --only"));
-    }
-    Ok(Placeholders::Own)
+    })
 }
 
 /// Returns the names of `--only`.
-fn asked_names<'w>(alloc: Global, matches: &ArgMatches<'w>) -> Result<OnlyNames<'w>, Error> {
+fn asked_names<'w>(alloc: Global, matches: &ArgMatches<'w>) -> Result<Choice<'w>, Error> {
     let mut names = Vec::new(alloc);
+    let mut starts = Vec::new(alloc);
     for words in list(alloc, matches, "only")? {
-        add_names(alloc, &mut names, words)?;
+        add_names(alloc, &mut names, &mut starts, words)?;
     }
-    if names.is_empty() {
+    if names.is_empty() && starts.is_empty() {
         return Err(wrong(alloc, "--only needs a name"));
     }
-    Ok(OnlyNames::new(alloc, &names)?)
+    Ok(Choice::Only(OnlyNames::new(alloc, &names)?, starts))
 }
 
-/// Adds the names that stand apart by commas or blanks, each as it is or written as a variable.
-fn add_names<'w>(alloc: Global, names: &mut Vec<&'w str>, words: &'w str) -> Result<(), Error> {
+/// Adds the names that stand apart by commas or blanks, each as it is or written as a variable. What ends in an
+/// asterisk is the beginning of names.
+fn add_names<'w>(
+    alloc: Global,
+    names: &mut Vec<&'w str>,
+    starts: &mut Vec<&'w str>,
+    words: &'w str,
+) -> Result<(), Error> {
     for word in words.split(|c: char| c == ',' || c.is_ascii_whitespace()) {
         let name = without_dollar(word);
+        let start = name.strip_suffix('*').unwrap_or("");
         if is_name(name.as_bytes()) {
             names.push(name)?;
+        } else if is_name(start.as_bytes()) {
+            starts.push(start)?;
         } else if !word.is_empty() {
             let message = format!(in alloc; "no template can spell the name '{word}' of --only")?;
             return Err(wrong(alloc, &message));
@@ -411,6 +534,33 @@ fn asked_action<'w>(matches: &ArgMatches<'w>) -> Action<'w> {
     }
 }
 
+/// Returns an error of `clap`, or that of an option of another program which names the one that does its work.
+fn with_tip(alloc: Global, e: Error) -> Error {
+    match tip(alloc, &e) {
+        Ok(None) => e,
+        Ok(Some(message)) => wrong(alloc, &message),
+        Err(e) => Error::from(e),
+    }
+}
+
+/// Returns the message about an option of another program, if an error is about one.
+fn tip(alloc: Global, e: &Error) -> Result<Option<String>, AllocError> {
+    if e.kind() != ErrorKind::UnknownArgument {
+        return Ok(None);
+    }
+    let text = format!(in alloc; "{e}")?;
+    for (foreign, ours) in &FOREIGN {
+        let unknown = format!(in alloc; "unexpected argument '{foreign}' found")?;
+        if text.contains(unknown.as_str()) {
+            let message = format!(in alloc;
+                "{unknown}\n\n  tip: a similar argument exists: '{ours}'"
+            )?;
+            return Ok(Some(message));
+        }
+    }
+    Ok(None)
+}
+
 /// Returns the error of wrong words, with the usage.
 fn wrong(alloc: Global, message: &str) -> Error {
     match error(alloc, message) {
@@ -440,220 +590,3 @@ fn command<'a>(alloc: Global) -> Result<Command<'a>, AllocError> {
             .action(ArgAction::Append),
     )
 }
-
-/// An option.
-struct Row {
-    /// What it stands under in the help.
-    heading: &'static str,
-    long: &'static str,
-    short: Option<char>,
-    /// What its value is called, and what is done with that, if it has one.
-    takes: Option<(&'static str, ArgAction)>,
-    help: &'static str,
-    /// The options below that it can't stand with.
-    conflicts: &'static [&'static str],
-}
-
-impl Row {
-    /// Returns the option as `clap` has it.
-    fn to_arg<'a>(&self, alloc: Global) -> Result<Arg<'a>, AllocError> {
-        let arg = Arg::new(alloc, self.long)
-            .long(self.long)
-            .help(self.help)
-            .help_heading(self.heading);
-        let arg = with_short(arg, self.short).conflicts_with_all(self.conflicts)?;
-        match self.takes {
-            Some((name, action)) => Ok(arg.value_name(name).action(action)),
-            // A flag may be repeated: each use undoes those before it.
-            None => arg.action(ArgAction::SetTrue).overrides_with(self.long),
-        }
-    }
-}
-
-/// Returns an option that has a letter too, if there is one.
-fn with_short<'a>(arg: Arg<'a>, short: Option<char>) -> Arg<'a> {
-    match short {
-        Some(short) => arg.short(short),
-        None => arg,
-    }
-}
-
-/// The options, in the order of the help.
-static OPTIONS: [Row; 22] = [
-    Row {
-        heading: "Variables",
-        long: "set",
-        short: Some('s'),
-        takes: Some(("NAME=VALUE", ArgAction::Append)),
-        help: "Gives a variable; of one given twice, the last counts",
-        conflicts: &[],
-    },
-    Row {
-        heading: "Variables",
-        long: "set-file",
-        short: None,
-        takes: Some(("NAME=FILE", ArgAction::Append)),
-        help: "Gives a variable all that is in a file",
-        conflicts: &[],
-    },
-    Row {
-        heading: "Variables",
-        long: "values",
-        short: Some('f'),
-        takes: Some(("FILE", ArgAction::Append)),
-        help: "Reads NAME=VALUE lines, or of a folder the file of each name",
-        conflicts: &[],
-    },
-    Row {
-        heading: "Variables",
-        long: "env",
-        short: Some('e'),
-        takes: None,
-        help: "Takes variables from the environment",
-        conflicts: &[],
-    },
-    Row {
-        heading: "Variables",
-        long: "default",
-        short: None,
-        takes: Some(("NAME=VALUE", ArgAction::Append)),
-        help: "Gives a variable that nothing above gives",
-        conflicts: &[],
-    },
-    Row {
-        heading: "Variables",
-        long: "defaults",
-        short: None,
-        takes: Some(("FILE", ArgAction::Append)),
-        help: "Reads such variables, as --values does",
-        conflicts: &[],
-    },
-    Row {
-        heading: "Variables",
-        long: "no-empty",
-        short: None,
-        takes: None,
-        help: "Passes over variables whose value is empty",
-        conflicts: &[],
-    },
-    Row {
-        heading: "Variables",
-        long: "escape",
-        short: None,
-        takes: Some(("FOR", ArgAction::Set)),
-        help: "Escapes values: json, between quotes, or sh, as a word",
-        conflicts: &[],
-    },
-    Row {
-        heading: "Reading",
-        long: "bytes",
-        short: None,
-        takes: None,
-        help: "Takes any bytes, where otherwise text is in UTF-8",
-        conflicts: &["json", "toml"],
-    },
-    Row {
-        heading: "Reading",
-        long: "json",
-        short: None,
-        takes: None,
-        help: "Fills in the strings of a JSON document",
-        conflicts: &["toml"],
-    },
-    Row {
-        heading: "Reading",
-        long: "toml",
-        short: None,
-        takes: None,
-        help: "Fills in the strings of a TOML document",
-        conflicts: &[],
-    },
-    Row {
-        heading: "Reading",
-        long: "only",
-        short: None,
-        takes: Some(("NAMES", ArgAction::Append)),
-        help: "Takes $NAME and ${NAME} of these names, and all else as text",
-        conflicts: &["envsubst", "known", "shell"],
-    },
-    Row {
-        heading: "Reading",
-        long: "envsubst",
-        short: None,
-        takes: None,
-        help: "Takes what envsubst would fill in, and all else as text",
-        conflicts: &["known", "shell"],
-    },
-    Row {
-        heading: "Reading",
-        long: "known",
-        short: None,
-        takes: None,
-        help: "Takes names that have a value, and all else as text",
-        conflicts: &["shell", "optional", "names"],
-    },
-    Row {
-        heading: "Reading",
-        long: "shell",
-        short: None,
-        takes: None,
-        help: "Takes ${NAME:-default} and ${NAME:?}, as Docker Compose does",
-        conflicts: &["optional"],
-    },
-    Row {
-        heading: "Reading",
-        long: "optional",
-        short: None,
-        takes: None,
-        help: "With --envsubst and --only, takes a missing value as empty",
-        conflicts: &[],
-    },
-    Row {
-        heading: "Writing",
-        long: "output",
-        short: Some('o'),
-        takes: Some(("FILE", ArgAction::Set)),
-        help: "Writes to a file, whole or not at all",
-        conflicts: &["output-folder", "in-place", "check", "names"],
-    },
-    Row {
-        heading: "Writing",
-        long: "output-folder",
-        short: Some('O'),
-        takes: Some(("FOLDER", ArgAction::Set)),
-        help: "Writes each file, and those of each folder, into a folder",
-        conflicts: &["in-place", "check", "names"],
-    },
-    Row {
-        heading: "Writing",
-        long: "strip",
-        short: None,
-        takes: Some(("SUFFIX", ArgAction::Set)),
-        help: "Takes of folders such files, and the suffix off their names",
-        conflicts: &["output", "in-place", "check", "names"],
-    },
-    Row {
-        heading: "Writing",
-        long: "in-place",
-        short: Some('i'),
-        takes: None,
-        help: "Replaces each file by what it gives, whole or not at all",
-        conflicts: &["check", "names"],
-    },
-    Row {
-        heading: "Asking",
-        long: "check",
-        short: None,
-        takes: None,
-        help: "Writes nothing, and reports the faults of every file",
-        conflicts: &["names"],
-    },
-    Row {
-        heading: "Asking",
-        long: "names",
-        short: None,
-        takes: None,
-        help: "Prints each name, where it is first used, and whether it is required",
-        conflicts: &[],
-    },
-];

@@ -7,8 +7,8 @@ use std::os::unix::fs::{MetadataExt, OpenOptionsExt, PermissionsExt, fchown};
 use std::path::{Path, PathBuf};
 use std::{fs, io};
 
-/// The mode of a new file, of which the system takes its mask.
-const NEW_MODE: u32 = 0o666;
+/// The mode of a new file that no template has one for, of which the system takes its mask.
+pub(crate) const NEW_MODE: u32 = 0o666;
 
 /// The mode of a file that isn't finished, and is to have another's.
 const PRIVATE_MODE: u32 = 0o600;
@@ -47,12 +47,21 @@ pub(crate) fn regular_file(rt: &HostRuntime, path: &str) -> io::Result<Option<(u
     Ok(found.is_file().then_some((found.dev(), found.ino())))
 }
 
+/// Returns the mode of a new file that is made from a template: the template's, so that it can be read by no one
+/// else, or the usual one if that isn't a regular file. The system takes its mask of it.
+pub(crate) fn mode_of_new(rt: &HostRuntime, template: &str) -> u32 {
+    match fs::metadata(rt, template) {
+        Ok(found) if found.is_file() => found.permissions().mode() & COMMON_PERMISSIONS,
+        _ => NEW_MODE,
+    }
+}
+
 /// Writes bytes to a file as [`replace`] does, or to the open stream that a path leads to.
 ///
 /// # Errors
 ///
 /// What the system says.
-pub(crate) fn write(rt: &HostRuntime, path: &str, bytes: &[u8]) -> io::Result<()> {
+pub(crate) fn write(rt: &HostRuntime, path: &str, mode: u32, bytes: &[u8]) -> io::Result<()> {
     if is_same_file(rt, path, "/proc/self/fd/1") {
         print(rt, bytes)
     } else if is_same_file(rt, path, "/proc/self/fd/2") {
@@ -60,7 +69,7 @@ pub(crate) fn write(rt: &HostRuntime, path: &str, bytes: &[u8]) -> io::Result<()
     } else if path.starts_with("/dev/fd/") || path.starts_with("/proc/") {
         write_through(rt, path, true, bytes)
     } else {
-        replace(rt, path, bytes)
+        replace(rt, path, mode, bytes)
     }
 }
 
@@ -72,22 +81,22 @@ fn is_same_file(rt: &HostRuntime, one: &str, other: &str) -> bool {
     }
 }
 
-/// Writes bytes to a file: all of them, or the file is as before. What isn't a regular file is written
-/// through.
+/// Writes bytes to a file: all of them, or the file is as before. A file that wasn't there gets this mode. What
+/// isn't a regular file is written through.
 ///
 /// # Errors
 ///
 /// What the system says.
-pub(crate) fn replace(rt: &HostRuntime, path: &str, bytes: &[u8]) -> io::Result<()> {
+pub(crate) fn replace(rt: &HostRuntime, path: &str, mode: u32, bytes: &[u8]) -> io::Result<()> {
     match fs::metadata(rt, path) {
         Ok(old) if old.is_file() => {
             let target = fs::canonicalize(rt, path)?;
-            replace_by_new(rt, target.as_path(), Some(&old), bytes)
+            replace_by_new(rt, target.as_path(), Target::There(&old), bytes)
         }
         Ok(_) => write_through(rt, path, false, bytes),
         Err(e) if e.kind() == io::ErrorKind::NotFound => {
             let target = end_of_links(rt, path)?;
-            replace_by_new(rt, target.as_path(), None, bytes)
+            replace_by_new(rt, target.as_path(), Target::Missing(mode), bytes)
         }
         Err(e) => Err(e),
     }
@@ -135,18 +144,25 @@ fn end_of_links(rt: &HostRuntime, path: &str) -> io::Result<PathBuf> {
     Ok(end)
 }
 
+/// The old file at the path of a new one, or none.
+enum Target<'m> {
+    /// A file, whose owner and permissions the new one gets.
+    There(&'m Metadata),
+    /// Nothing. The new one has this mode, of which the system takes its mask.
+    Missing(u32),
+}
+
 /// Writes bytes to a new file in a path's folder and gives it the path's name. Where that fails the new file
 /// is removed.
 fn replace_by_new(
     rt: &HostRuntime,
     path: Path<'_>,
-    old: Option<&Metadata>,
+    target: Target<'_>,
     bytes: &[u8],
 ) -> io::Result<()> {
-    let mode = if old.is_some() {
-        PRIVATE_MODE
-    } else {
-        NEW_MODE
+    let (mode, old) = match target {
+        Target::There(old) => (PRIVATE_MODE, Some(old)),
+        Target::Missing(mode) => (mode, None),
     };
     let (new, file) = create_beside(rt, path, mode)?;
     let outcome = finish(file, old, bytes).and_then(|()| fs::rename(rt, new.as_path(), path));

@@ -34,7 +34,7 @@ fn run_words(rt: &HostRuntime, report: &mut Report<'_>) -> Result<(), AllocError
         Ok(words) => words,
         Err(e) if e.kind() == io::ErrorKind::OutOfMemory => return Err(AllocError),
         Err(_) => {
-            report.wrong_words("subst: a word of the command line isn't UTF-8\n");
+            report.wrong_words("subst: error: a word of the command line isn't UTF-8\n");
             return Ok(());
         }
     };
@@ -59,7 +59,7 @@ fn answer(rt: &HostRuntime, e: &Error, report: &mut Report<'_>) -> Result<(), Al
     let text = format!(in alloc; "{e}")?;
     if e.use_stderr() {
         let said = shown_lines(alloc, text.strip_prefix("error: ").unwrap_or(&text))?;
-        report.wrong_words(&format!(in alloc; "subst: {said}")?);
+        report.wrong_words(&format!(in alloc; "subst: error: {said}")?);
         return Ok(());
     }
     match output::print(rt, text.as_bytes()) {

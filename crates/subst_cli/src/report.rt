@@ -3,8 +3,10 @@
 ghost use Rattle.std.specs.Prelude.{◌≡◌, ◌≤◌, OnOk};
 ghost use Rattle.subst_cli.specs.Status.{status_of, worse};
 
+use crate::hints::UnsetHint;
 use crate::shown::shown;
 use std::alloc::AllocError;
+use std::collections::HashSet;
 use std::io;
 use std::io::Write;
 use subst_filter_lib::status::{DEVICE_FAILED, DONE, OUT_OF_MEMORY, REFUSED, WRONG_WORDS};
@@ -47,6 +49,8 @@ pub(crate) struct Report<'r> {
     worst: Severity,
     /// Whether a hint was given.
     is_hinted: bool,
+    /// The unset names that were hinted at.
+    unset: HashSet<String>,
 }
 
 impl<'r> Report<'r> {
@@ -56,6 +60,7 @@ impl<'r> Report<'r> {
             rt,
             worst: Severity::Nothing,
             is_hinted: false,
+            unset: HashSet::new(rt.alloc()),
         }
     }
 
@@ -101,7 +106,7 @@ impl<'r> Report<'r> {
         let alloc = self.rt.alloc();
         let text = format!(in alloc; "{e}")?;
         let said = shown(alloc, without_code(&text).as_bytes())?;
-        let message = format!(in alloc; "{name}: {said}\n")?;
+        let message = format!(in alloc; "{name}: error: {said}\n")?;
         self.say(Severity::Failure, &message);
         Ok(())
     }
@@ -114,7 +119,7 @@ impl<'r> Report<'r> {
     pub fn failed_since(&mut self, name: &str, why: &str) -> Result<(), AllocError>
         ensures { OnOk result (self.new.worst ≡ worse self.old.worst Severity.Failure) }
     {
-        let message = format!(in self.rt.alloc(); "{name}: {why}\n")?;
+        let message = format!(in self.rt.alloc(); "{name}: error: {why}\n")?;
         self.say(Severity::Failure, &message);
         Ok(())
     }
@@ -131,12 +136,29 @@ impl<'r> Report<'r> {
         }
     }
 
+    /// Hints at unset variables, at each name once in a run. It changes no status.
+    ///
+    /// # Errors
+    ///
+    /// When allocation fails.
+    pub fn hint_unset(&mut self, hints: Vec<UnsetHint>) -> Result<(), AllocError>
+        ensures { self.new.worst ≡ self.old.worst }
+    {
+        for UnsetHint { name, line } in hints {
+            if !self.unset.contains(&name) {
+                let _ = self.rt.stderr().write_all(line.as_bytes());
+                self.unset.insert(name)?;
+            }
+        }
+        Ok(())
+    }
+
     /// Says that memory ran out. That takes none.
     pub fn out_of_memory(&mut self, name: &str)
         ensures { self.new.worst ≡ Severity.Exhaustion }
     {
         self.say(Severity::Exhaustion, name);
-        self.say(Severity::Exhaustion, ": out of memory\n");
+        self.say(Severity::Exhaustion, ": error: out of memory\n");
     }
 
     /// Writes a text, and ignores a failure: there is nowhere else to say it.

@@ -1,11 +1,11 @@
 //! A run over files: what is read is filled in, and then written.
 
 use crate::entry::Entry;
-use crate::filling::{Filling, Outputs, all_entries, fill_in, uses};
+use crate::filling::{Filling, Outputs, all_entries, dotenv_entries, fill_in, uses};
 use crate::input::{is_folder, names_in, path_in, read, shown_name};
 use crate::layers::{Layers, Variables};
 use crate::listing::Listing;
-use crate::options::{Action, Options};
+use crate::options::{Action, Options, STANDARD_INPUT};
 use crate::place::Places;
 use crate::report::Report;
 use crate::source::{Refused, Shows, Source, messages};
@@ -35,7 +35,9 @@ pub(crate) fn run_options(
         Action::ListNames => list(rt, options, report),
         Action::Print | Action::WriteTo(_) => {
             let sources = sources(rt, options, report)?;
-            let outputs = fill_in(alloc, options, read, sources)?;
+            let mut unset = Vec::new(alloc);
+            let outputs = fill_in(alloc, options, read, sources, &mut unset)?;
+            report.hint_unset(unset)?;
             write(rt, options, outputs, report)
         }
         Action::Replace | Action::Check | Action::WriteInto(_) => {
@@ -62,17 +64,12 @@ fn layers(
     report: &mut Report<'_>,
 ) -> Result<Layers, AllocError> {
     let alloc = rt.alloc();
-    let mut values = values_sources(rt, &options.values_files, report)?;
+    let mut values = values_sources(rt, options, &options.values_files, report)?;
     for (name, file) in &options.named_files {
-        add_value(
-            rt,
-            String::from_str(alloc, name)?,
-            file,
-            &mut values,
-            report,
-        )?;
+        let name = String::from_str(alloc, name)?;
+        add_value(rt, options, name, file, &mut values, report)?;
     }
-    let defaults = values_sources(rt, &options.defaults_files, report)?;
+    let defaults = values_sources(rt, options, &options.defaults_files, report)?;
     let lines = entries(alloc, values, report)?;
     let defaults = entries(alloc, defaults, report)?;
     let environment = if options.environment {
@@ -80,17 +77,62 @@ fn layers(
     } else {
         Vec::new(alloc)
     };
-    Ok(Layers {
+    let mut files = Vec::new(alloc);
+    for file in &options.dotenv_files {
+        if let Some(source) = source(rt, file, report)? {
+            files.push(source)?;
+        }
+    }
+    let mut read = Layers {
         lines,
         environment,
+        dotenv: Vec::new(alloc),
         defaults,
-    })
+    };
+    if report.is_empty() && !files.is_empty() {
+        read.dotenv = dotenv(alloc, options, &read, files, report)?;
+    }
+    Ok(read)
+}
+
+/// Reads `.env` files. Reports the first that is refused, and hints at unset variables.
+fn dotenv(
+    alloc: Global,
+    options: &Options<'_>,
+    read: &Layers,
+    files: Vec<Source>,
+    report: &mut Report<'_>,
+) -> Result<Vec<Entry>, AllocError> {
+    let mut unset = Vec::new(alloc);
+    let outcome = dotenv_entries(alloc, options, read, files, &mut unset)?;
+    if options.hints_unset {
+        report.hint_unset(unset)?;
+    }
+    match outcome {
+        Ok(entries) => Ok(entries),
+        Err(refused) => {
+            report_values(alloc, &refused, report)?;
+            Ok(Vec::new(alloc))
+        }
+    }
+}
+
+/// Reports the faults of a file of values, without its lines.
+fn report_values(
+    alloc: Global,
+    refused: &Refused,
+    report: &mut Report<'_>,
+) -> Result<(), AllocError> {
+    let Refused { source, faults } = refused;
+    report.refused(&messages(alloc, &source.name, &source.bytes, faults, Shows::Nothing)?);
+    Ok(())
 }
 
 /// Returns what values files have, and the files of folders under names that templates can spell; and says
 /// which can't be read.
 fn values_sources(
     rt: &HostRuntime,
+    options: &Options<'_>,
     files: &[&str],
     report: &mut Report<'_>,
 ) -> Result<Vec<ValuesSource>, AllocError> {
@@ -99,10 +141,11 @@ fn values_sources(
         match names_in(rt, file) {
             Ok(None) => {
                 if let Some(source) = source(rt, file, report)? {
+                    report.hint(hints::about_values(rt.alloc(), &source)?.as_deref());
                     sources.push(ValuesSource::Lines(source))?;
                 }
             }
-            Ok(Some(names)) => add_folder(rt, file, names, &mut sources, report)?,
+            Ok(Some(names)) => add_folder(rt, options, file, names, &mut sources, report)?,
             Err(e) => report.failed(&shown_name(rt.alloc(), file)?, &e)?,
         }
     }
@@ -112,6 +155,7 @@ fn values_sources(
 /// Adds the files of a folder, each as the value of its name, if a template can spell that.
 fn add_folder(
     rt: &HostRuntime,
+    options: &Options<'_>,
     folder: &str,
     names: Vec<String>,
     sources: &mut Vec<ValuesSource>,
@@ -120,7 +164,7 @@ fn add_folder(
     for name in names {
         let file = path_in(rt.alloc(), folder, &name)?;
         if is_name(name.as_bytes()) && !is_folder(rt, &file) {
-            add_value(rt, name, &file, sources, report)?;
+            add_value(rt, options, name, &file, sources, report)?;
         }
     }
     Ok(())
@@ -129,13 +173,14 @@ fn add_folder(
 /// Adds a file as the value of a name.
 fn add_value(
     rt: &HostRuntime,
+    options: &Options<'_>,
     name: String,
     file: &str,
     sources: &mut Vec<ValuesSource>,
     report: &mut Report<'_>,
 ) -> Result<(), AllocError> {
     if let Some(source) = source(rt, file, report)? {
-        sources.push(ValuesSource::Value(name, source))?;
+        sources.push(ValuesSource::Value(name, options.line_end, source))?;
     }
     Ok(())
 }
@@ -149,9 +194,8 @@ fn entries(
     match lines_of(alloc, files)? {
         Ok(lines) => Ok(lines),
         Err(refused) => {
-            for Refused { source, faults } in refused {
-                let Source { name, bytes } = source;
-                report.refused(&messages(alloc, &name, &bytes, &faults, Shows::Nothing)?);
+            for it in refused {
+                report_values(alloc, &it, report)?;
             }
             Ok(Vec::new(alloc))
         }
@@ -194,7 +238,13 @@ fn write(
         return Ok(());
     }
     match options.action {
-        Action::WriteTo(file) => written(rt, file, output::write(rt, file, &all), report),
+        Action::WriteTo(file) => {
+            let mode = match options.files.as_slice() {
+                [template] if *template != STANDARD_INPUT => output::mode_of_new(rt, template),
+                _ => output::NEW_MODE,
+            };
+            written(rt, file, output::write(rt, file, mode, &all), report)
+        }
         _ => match output::print(rt, &all) {
             Ok(()) => Ok(()),
             Err(e) => report.failed("<stdout>", &e),
@@ -213,6 +263,8 @@ fn report_refused(
     let (_, bytes) = split_source(options.form, &source.bytes);
     report.refused(&messages(alloc, &source.name, bytes, faults, Shows::Lines)?);
     report.hint(hints::about_faults(options, faults));
+    let hint = hints::about_document(alloc, options, &source.name, bytes, faults)?;
+    report.hint(hint.as_deref());
     Ok(())
 }
 
@@ -224,12 +276,31 @@ fn asked_source(
     report: &mut Report<'_>,
 ) -> Result<Option<Source>, AllocError> {
     let found = source(rt, file, report)?;
-    let hint = match &found {
-        Some(source) => hints::about_source(rt.alloc(), options, source)?,
-        None => hints::about_file(rt.alloc(), file)?,
-    };
-    report.hint(hint.as_deref());
+    match &found {
+        Some(source) => report_defaults(rt.alloc(), options, source, report)?,
+        None => report.hint(hints::about_file(rt.alloc(), file)?.as_deref()),
+    }
     Ok(found)
+}
+
+/// Reports the defaults of another tool in a source: each is an error if the options refuse it, else the first is
+/// hinted at.
+fn report_defaults(
+    alloc: Global,
+    options: &Options<'_>,
+    source: &Source,
+    report: &mut Report<'_>,
+) -> Result<(), AllocError> {
+    if !options.refuses_defaults {
+        report.hint(hints::about_default(alloc, options, source)?.as_deref());
+        return Ok(());
+    }
+    let faults = hints::default_faults(alloc, options, source)?;
+    if !faults.is_empty() {
+        let Source { name, bytes } = source;
+        report.refused(&messages(alloc, name, bytes, &faults, Shows::Lines)?);
+    }
+    Ok(())
 }
 
 /// Returns a source, or says why it can't be read.
@@ -259,8 +330,8 @@ struct Run<'r, 'w, 'v> {
 impl Run<'_, '_, '_> {
     /// Says what is wrong with each source. What they give isn't kept.
     fn check_each(&self, report: &mut Report<'_>) -> Result<(), AllocError> {
-        for file in &self.options.files {
-            if let Some(source) = asked_source(self.rt, self.options, file, report)? {
+        for Template { file, .. } in all_templates(self.rt, self.options, report)? {
+            if let Some(source) = asked_source(self.rt, self.options, &file, report)? {
                 let _ = self.output_of(source, report)?;
             }
         }
@@ -270,15 +341,8 @@ impl Run<'_, '_, '_> {
     /// Writes what each source gives into a folder, each by itself.
     fn write_each(&self, folder: &str, report: &mut Report<'_>) -> Result<(), AllocError> {
         let mut done = HashSet::new(self.rt.alloc());
-        for path in &self.options.files {
-            match templates(self.rt, path, self.options.suffix) {
-                Ok(found) => {
-                    for template in found {
-                        self.write_into(folder, template, &mut done, report)?;
-                    }
-                }
-                Err(e) => report.failed(&shown_name(self.rt.alloc(), path)?, &e)?,
-            }
+        for template in all_templates(self.rt, self.options, report)? {
+            self.write_into(folder, template, &mut done, report)?;
         }
         Ok(())
     }
@@ -300,7 +364,8 @@ impl Run<'_, '_, '_> {
         if let Some(source) = asked_source(self.rt, self.options, &file, report)?
             && let Some(Output { bytes, .. }) = self.output_of(source, report)?
         {
-            written(self.rt, &path, write_below(self.rt, &path, &bytes), report)?;
+            let mode = output::mode_of_new(self.rt, &file);
+            write_below(self.rt, &path, mode, &bytes, report)?;
         }
         done.insert(path)?;
         Ok(())
@@ -336,12 +401,8 @@ impl Run<'_, '_, '_> {
                 },
             ) = self.output_of(source, report)?
         {
-            written(
-                self.rt,
-                file,
-                output::replace(self.rt, file, &bytes),
-                report,
-            )?;
+            let outcome = output::replace(self.rt, file, output::NEW_MODE, &bytes);
+            written(self.rt, file, outcome, report)?;
         }
         Ok(())
     }
@@ -358,6 +419,9 @@ impl Run<'_, '_, '_> {
                 bytes: source.bytes,
                 is_source: true,
             }));
+        }
+        if self.options.hints_unset {
+            report.hint_unset(hints::about_unset(alloc, &self.filling, &source)?)?;
         }
         match self.filling.fill(alloc, &source.bytes) {
             Ok(Ok(bytes)) => {
@@ -384,12 +448,54 @@ struct Output {
     is_source: bool,
 }
 
-/// Writes bytes to a file, in whose path folders are made that aren't there.
-fn write_below(rt: &HostRuntime, path: &str, bytes: &[u8]) -> io::Result<()> {
-    if let Some(folder) = Path::new(path).parent() {
-        fs::create_dir_all(rt, folder)?;
+/// Returns the templates of all files and folders, in their order, and says which folders can't be read; and
+/// gives a hint if none has the suffix.
+fn all_templates(
+    rt: &HostRuntime,
+    options: &Options<'_>,
+    report: &mut Report<'_>,
+) -> Result<Vec<Template>, AllocError> {
+    let alloc = rt.alloc();
+    let mut all: Vec<Template> = Vec::new(alloc);
+    for path in &options.files {
+        match templates(rt, path, options.suffix) {
+            Ok(mut found) => all.append(&mut found)?,
+            Err(e) => report.failed(&shown_name(alloc, path)?, &e)?,
+        }
     }
-    output::replace(rt, path, bytes)
+    let suffix = options.suffix;
+    if !suffix.is_empty() && !all.iter().any(|it| it.file.ends_with(suffix)) {
+        report.hint(Some(&hints::about_suffix(alloc, suffix)?));
+    }
+    Ok(all)
+}
+
+/// Writes bytes to a file, in whose path folders are made that aren't there, or says why not: of a folder that
+/// can't be written into, and else of the file.
+fn write_below(
+    rt: &HostRuntime,
+    path: &str,
+    mode: u32,
+    bytes: &[u8],
+    report: &mut Report<'_>,
+) -> Result<(), AllocError> {
+    let folder = Path::new(path).parent().unwrap_or(Path::new(""));
+    let name = shown_name(rt.alloc(), folder.as_str())?;
+    if let Err(e) = fs::create_dir_all(rt, folder) {
+        return report.failed(&name, &e);
+    }
+    match output::replace(rt, path, mode, bytes) {
+        Err(e) if is_denied(&e) && fs::metadata(rt, path).is_err() => report.failed(&name, &e),
+        outcome => written(rt, path, outcome, report),
+    }
+}
+
+/// Returns whether no new file can be made in a folder.
+fn is_denied(e: &io::Error) -> bool {
+    matches!(
+        e.kind(),
+        ErrorKind::PermissionDenied | ErrorKind::ReadOnlyFilesystem
+    )
 }
 
 /// Says why a file isn't written, if it isn't.
@@ -425,8 +531,8 @@ fn list(
 ) -> Result<(), AllocError> {
     let alloc = rt.alloc();
     let mut listing = Listing::new(alloc);
-    for file in &options.files {
-        if let Some(source) = source(rt, file, report)? {
+    for Template { file, .. } in all_templates(rt, options, report)? {
+        if let Some(source) = source(rt, &file, report)? {
             list_source(alloc, options, source, &mut listing, report)?;
         }
     }
@@ -451,7 +557,7 @@ fn list_source(
             let mut places = Places::of(filled);
             for it in uses {
                 let place = places.at(alloc, it.range.start)?;
-                listing.add(alloc, it.name, it.kind, &source.name, place)?;
+                listing.add(alloc, it, &source.name, place)?;
             }
             Ok(())
         }

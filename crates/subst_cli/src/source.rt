@@ -53,7 +53,7 @@ pub(crate) fn messages(
     for fault in faults {
         let Place { line, column } = places.at(alloc, fault.range.start)?;
         let what = shown_fault(alloc, fault)?;
-        text.push_str(&format!(in alloc; "{name}:{line}:{column}: {what}\n")?)?;
+        text.push_str(&format!(in alloc; "{name}:{line}:{column}: error: {what}\n")?)?;
         if shows == Shows::Lines {
             let range = fault.range.start..fault.range.end;
             text.push_str(&excerpt(alloc, bytes, range)?)?;

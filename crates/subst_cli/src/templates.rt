@@ -1,11 +1,11 @@
-//! The files that are filled in into a folder.
+//! The files of folders that are filled in, checked or listed.
 
 use crate::input::{is_folder, names_in, path_in};
 use std::alloc::Global;
 use std::io;
 use std::path::Path;
 
-/// A file, and where below the folder what it gives is written.
+/// A file, and where below a folder its output is written.
 #[derive(Drop)]
 pub(crate) struct Template {
     /// The path of the file.

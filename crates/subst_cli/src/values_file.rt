@@ -10,6 +10,7 @@ ghost use Rattle.subst_cli.specs.Run.{IsFaultOfFile, IsFaultOfLines, IsRefusedFi
 
 use crate::entry::{Entry, entry_in, split_once};
 use crate::fault::{Cause, one_fault};
+use crate::options::LineEnd;
 use crate::part::Outcome;
 use crate::source::{Refused, Source};
 use crate::text::{not_utf8, split_mark, text_of};
@@ -20,8 +21,8 @@ use std::alloc::{AllocError, Global};
 pub enum ValuesSource {
     /// A values file.
     Lines(Source),
-    /// A file that is the value of this name.
-    Value(String, Source),
+    /// A file that is the value of this name, with its line end or without.
+    Value(String, LineEnd, Source),
 }
 
 /// What is wrong with a line of a values file.
@@ -77,14 +78,36 @@ fn entries_in(alloc: Global, file: ValuesSource) -> Result<Result<Vec<Entry>, Re
             Ok(entries) => Ok(Ok(entries)),
             Err(faults) => Ok(Err(Refused { source, faults })),
         },
-        ValuesSource::Value(name, source) => match value_or_faults(alloc, name, &source.bytes)? {
-            Ok(entries) => Ok(Ok(entries)),
-            Err(faults) => Ok(Err(Refused { source, faults })),
-        },
+        ValuesSource::Value(name, line_end, source) => {
+            match value_or_faults(alloc, name, value_bytes(&source.bytes, line_end))? {
+                Ok(entries) => Ok(Ok(entries)),
+                Err(faults) => Ok(Err(Refused { source, faults })),
+            }
+        }
     }
 }
 
-/// Returns the entry of a file that is the value of a name, or its fault.
+/// Returns the bytes of a file that are a value.
+fn value_bytes(bytes: &[u8], line_end: LineEnd) -> &[u8]
+    ensures { result.now ≡ file.value_bytes line_end bytes.now }
+{
+    match line_end {
+        LineEnd::Removed => without_line_end(bytes),
+        LineEnd::Kept => bytes,
+    }
+}
+
+/// Returns bytes without one line end at their end: a line feed, or a carriage return and a line feed.
+fn without_line_end(bytes: &[u8]) -> &[u8]
+    ensures { result.now ≡ file.without_line_end bytes.now }
+{
+    let Some(line) = bytes.strip_suffix(b"\n") else {
+        return bytes;
+    };
+    without_return(line)
+}
+
+/// Returns the entry of a name whose value is these bytes, or their fault.
 fn value_or_faults(
     alloc: Global,
     name: String,
@@ -177,7 +200,7 @@ fn fault(line: &[u8], offset: usize) -> LineFault {
 }
 
 /// Returns the first line and what is after its end.
-fn first_line(bytes: &[u8]) -> (&[u8], &[u8])
+pub(crate) fn first_line(bytes: &[u8]) -> (&[u8], &[u8])
     ensures line { result.0.now ≡ before_first is_line_feed bytes.now }
     ensures rest { result.1.now ≡ after_first is_line_feed bytes.now }
     ensures shorter { 0 < length bytes.now → length result.1.now < length bytes.now }
@@ -189,7 +212,7 @@ fn first_line(bytes: &[u8]) -> (&[u8], &[u8])
 }
 
 /// Returns a line without a carriage return at its end.
-fn without_return(line: &[u8]) -> &[u8]
+pub(crate) fn without_return(line: &[u8]) -> &[u8]
     ensures { result.now ≡ file.without_return line.now }
 {
     let Some(bare) = line.strip_suffix(b"\r") else {
@@ -199,7 +222,7 @@ fn without_return(line: &[u8]) -> &[u8]
 }
 
 /// Returns a line after the blanks and tabs at its start.
-fn after_blanks(line: &[u8]) -> &[u8]
+pub(crate) fn after_blanks(line: &[u8]) -> &[u8]
     ensures { result.now ≡ file.after_blanks line.now }
 {
     let mut rest = line;
@@ -215,14 +238,14 @@ fn after_blanks(line: &[u8]) -> &[u8]
 }
 
 /// Returns whether a byte is a blank or a tab.
-fn is_blank(byte: u8) -> bool
+pub(crate) fn is_blank(byte: u8) -> bool
     ensures { result ≡ file.is_blank byte }
 {
     byte == b' ' || byte == b'\t'
 }
 
 /// Returns whether a line is empty, or begins with `#`.
-fn says_nothing(line: &[u8]) -> bool
+pub(crate) fn says_nothing(line: &[u8]) -> bool
     ensures { result ≡ file.says_nothing line.now }
 {
     let Some((first, _)) = line.split_first() else {

@@ -1,8 +1,14 @@
-pub mod BoundaryLemmas
-pub mod ForeignLemmas
-pub mod NamesLemmas
-pub mod PlaceLemmas
-pub mod SearchLemmas
-pub mod ShellLemmas
-pub mod ShellReadings
-pub mod VariableLemmas
+mod BoundaryLemmas
+mod EnvsubstLemmas
+mod ListedLemmas
+mod ListingLemmas
+mod NamesLemmas
+mod OneListing
+mod OneReading
+mod OneToken
+mod PlainLemmas
+mod QuestionLemmas
+pub mod ReadingLemmas
+mod SearchLemmas
+pub mod TemplateLemmas
+pub mod TokenLemmas

@@ -1,5 +1,6 @@
 -- Names of a list, and of a set that is made of it.
-use Rattle.std.proofs.Common.{◌≡◌, ◌↔◌, ◌||◌, Bool, true, false, ℕ, List, [], ◌∷◌, IsTrue, Ordering, Less, Equal, Greater, Result, Ok, Err, IfOk, refl, sym, ap, ◌∙◌}
+use Rattle.std.proofs.Common.{◌≡◌, ◌↔◌, ◌||◌, Bool, true, false, ℕ, List, [], ◌∷◌, IsTrue, Ordering, Less, Equal, Greater, refl, sym, ap, ◌∙◌}
+use Rattle.std.proofs.Math.Bool.{or_assoc, or_comm}
 use Rattle.std.proofs.lemmas.List.Folds.{Any-from_list_any, list_any-from_Any}
 use Rattle.std.proofs.lemmas.Map.Text.{is_eq-slice_cmp}
 use Rattle.std.proofs.lemmas.Slice.Eq.{bytes_eq-Decides}
@@ -9,8 +10,7 @@ use Rattle.std.specs.BTreeSet.{insert_key}
 use Rattle.std.specs.Cmp.Lexicographic.{slice_cmp}
 use Rattle.std.specs.List.{Any, list_any}
 use Rattle.std.specs.Ordering.{nat_cmp, is_eq, match_ordering}
-use Rattle.subst_foreign.specs.Foreign.{Piece, pieces_text, BeginsWithNoVariable, AreRead, IsListed, IsTemplateFor}
-use Rattle.subst_foreign.specs.Foreign as foreign
+use Rattle.subst_foreign.specs.Foreign.{IsListed}
 
 -- whether a name is in the list
 abbrev pub is_listed : List ℕ → List (Bor (List ℕ)) → Bool
@@ -35,16 +35,6 @@ listed_iff name keys =
     of : Any (λ key. is_at (λ k. slice_cmp nat_cmp name k.now) key ≡ true) keys → IsListed keys name
     of (k, key, within, at, same) = (k, key, within, at, (key_iff name key).0 same)
 
-or_swap : (a b : Bool) → (a || b) ≡ (b || a)
-or_swap true true = refl
-or_swap true false = refl
-or_swap false true = refl
-or_swap false false = refl
-
-or_last : (a b c : Bool) → (a || (b || c)) ≡ ((a || b) || c)
-or_last true b c = refl
-or_last false b c = refl
-
 or_again : (a b : Bool) → (a || b) ≡ ((a || b) || a)
 or_again true b = refl
 or_again false true = refl
@@ -54,7 +44,7 @@ or_again false false = refl
 pub listed-insert : (name : List ℕ) (keys : List (Bor (List ℕ))) (key : Bor (List ℕ))
     → is_listed name (insert_key (λ x y. slice_cmp nat_cmp x.now y.now) keys key)
     ≡ (is_listed name keys || is_at (λ k. slice_cmp nat_cmp name k.now) key)
-listed-insert name [] key = or_swap (is_at (λ (k : Bor (List ℕ)). slice_cmp nat_cmp name k.now) key) false
+listed-insert name [] key = or_comm (is_at (λ (k : Bor (List ℕ)). slice_cmp nat_cmp name k.now) key) false
 listed-insert name (x ∷ keys) key = of (slice_cmp nat_cmp key.now x.now) refl (listed-insert name keys key)
   where
     of : (o : Ordering) → slice_cmp nat_cmp key.now x.now ≡ o
@@ -63,12 +53,12 @@ listed-insert name (x ∷ keys) key = of (slice_cmp nat_cmp key.now x.now) refl 
         → is_listed name (match_ordering o (key ∷ x ∷ keys) (x ∷ keys)
         (x ∷ insert_key (λ x y. slice_cmp nat_cmp x.now y.now) keys key))
         ≡ (is_listed name (x ∷ keys) || is_at (λ k. slice_cmp nat_cmp name k.now) key)
-    of Less is more = or_swap _ (is_listed name (x ∷ keys))
+    of Less is more = or_comm _ (is_listed name (x ∷ keys))
     of Equal is more =
         let same : key.now ≡ x.now = (bytes_eq-Decides key.now x.now).0
         (sym (is_eq-slice_cmp key.now x.now) ∙ ap is_eq is) in
         rw same (or_again _ (is_listed name keys))
-    of Greater is more = rw more (or_last _ (is_listed name keys) _)
+    of Greater is more = rw more (sym (or_assoc _ (is_listed name keys) _))
 
 -- lists that answer alike have the same names
 pub same_listed : (name : List ℕ) (x y : List (Bor (List ℕ))) → is_listed name x ≡ is_listed name y
@@ -77,35 +67,3 @@ same_listed name x y same =
     let of_x = listed_iff name x in
     let of_y = listed_iff name y in
     (λ is. of_y.0 (sym same ∙ of_x.1 is), λ is. of_x.0 (same ∙ of_y.1 is))
-
--- what is read for some names is read for the same names
-same_read : {A B : List ℕ → Type 0} → ((name : List ℕ) → A name ↔ B name) → (pieces : List Piece)
-    → AreRead A pieces → AreRead B pieces
-same_read same [] read = tt
-same_read same (foreign.Byte b ∷ rest) (none, read) = (
-  λ name end is. none name end (record {
-    named = is.named;
-    counts = (same name).1 is.counts;
-    spelled = is.spelled;
-  }),
-  same_read same rest read,
-)
-same_read same (foreign.Short name ∷ rest) (named, counts, ended, read) =
-    (named, (same name).0 counts, ended, same_read same rest read)
-same_read same (foreign.Braced name ∷ rest) (named, counts, read) =
-    (named, (same name).0 counts, same_read same rest read)
-
--- what was returned, if it was, is a template for the same names
-pub same_names : {A B : List ℕ → Type 0} {X E : Type 0} (s : List ℕ) (bytes : X → List ℕ) (r : Result X E)
-    → ((name : List ℕ) → A name ↔ B name) → IfOk r (λ t. IsTemplateFor A s (bytes t))
-    → IfOk r (λ t. IsTemplateFor B s (bytes t))
-same_names s bytes (Ok t) same is = record {
-  pieces = is.pieces;
-  spelled = is.spelled;
-  read = same_read same is.pieces is.read;
-  tree = is.tree;
-  spells = is.spells;
-  unescapes = is.unescapes;
-  gives = is.gives;
-}
-same_names s bytes (Err e) same is = tt

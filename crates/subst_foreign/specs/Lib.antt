@@ -1,5 +1,7 @@
 pub mod Foreign
-pub mod Shell
-pub mod ShellDisplay
-pub mod ShellTemplate
+pub mod Grammar
+pub mod Question
+pub mod Reading
+pub mod RefusedDisplay
 pub mod Template
+pub mod Text

@@ -1,10 +1,26 @@
--- How a template for a text is written: a backslash is before each dollar and each backslash that stands for
--- itself, and a variable is as it was, or optional.
-use Rattle.std.specs.Prelude.{◌≡◌, ◌==◌, ◌||◌, ◌++◌, ℕ, Bool, true, false, List, [], ◌∷◌}
-use Rattle.subst_language.specs.Language.Bytes.{dollar, question_mark, backslash, opening_brace, closing_brace}
-use Rattle.subst_language.specs.Language.Tree.{Item, Plain, Escaped, Short, Braced, Optional, Tree, Empty, Then, text}
-use Rattle.subst_foreign.specs.Foreign.{Piece, pieces_text, AreRead}
-use Rattle.subst_foreign.specs.Foreign as foreign
+-- Templates for texts of other tools: which item stands for which, and what a template gives.
+use Rattle.std.specs.Prelude.{◌≡◌, ◌==◌, ◌||◌, if◌then◌else◌, ℕ, Bool, true, false, List, [], ◌∷◌, Ok, Err, Option, Some, None, map}
+use Rattle.std.specs.Char.{is_ascii_digit}
+use Rattle.subst_foreign.specs.Foreign.{Given, unplaced}
+use Rattle.subst_foreign.specs.Grammar.{Grammar, Head}
+use Rattle.subst_foreign.specs.Grammar as head
+use Rattle.subst_foreign.specs.Question.{by_question, value_of, is_missing, is_empty}
+use Rattle.subst_foreign.specs.Text.{Text, Variable, IsText, spelling, text_value, variables_of}
+use Rattle.subst_foreign.specs.Text as foreign
+use Rattle.subst_foreign.specs.declared.forms.Forms.{Forms}
+use Rattle.subst_foreign.specs.declared.forms.Forms.TheVariants as of
+use Rattle.subst_foreign.specs.declared.forms.Missing.{Missing}
+use Rattle.subst_foreign.specs.declared.forms.Missing.TheVariants as missing
+use Rattle.subst_foreign.specs.declared.forms.Operator.{Operator}
+use Rattle.subst_foreign.specs.declared.forms.Operator.TheVariants as operator
+use Rattle.subst_language.specs.Language.Bytes.{dollar, backslash, opening_brace, closing_brace}
+use Rattle.subst_language.specs.Language.Join.{join}
+use Rattle.subst_language.specs.Language.LookUp.{LookUp}
+use Rattle.subst_language.specs.Language.NamesIn.{names_in}
+use Rattle.subst_language.specs.Language.Sentence.{Spells}
+use Rattle.subst_language.specs.Language.Tree.{Item, Plain, Escaped, Short, Braced, Optional, Default, Tree, Empty, Then}
+use Rattle.subst_language.specs.Language.Value.{value}
+use Rattle.subst_language.specs.Maps.{without_empty}
 
 -- a byte that doesn't stand for itself in a template
 abbrev pub is_escaped : ℕ → Bool
@@ -15,30 +31,86 @@ abbrev pub item_of_byte : Bool → ℕ → Item
 item_of_byte true b = Escaped b
 item_of_byte false b = Plain b
 
--- the item of a variable with this name, which is optional or stays
-abbrev pub item_of_variable : Bool → Item → List ℕ → Item
-item_of_variable true item name = Optional name
-item_of_variable false item name = item
+-- under which name a template asks for a variable, with an operator or without one: of a shell's forms it is a
+-- question where an empty value counts otherwise than a missing one
+abbrev pub asked_name : Forms → Option Operator → List ℕ → List ℕ
+asked_name of.Shell None n = value_of ∷ n
+asked_name of.Shell (Some operator.Minus) n = value_of ∷ n
+asked_name of.Shell (Some operator.Question) n = value_of ∷ n
+asked_name of.Shell (Some operator.Plus) n = is_missing ∷ n
+asked_name of.Shell (Some operator.ColonPlus) n = is_empty ∷ n
+asked_name _ op n = n
 
--- its text
-abbrev pub variable_text : Bool → List ℕ → List ℕ → List ℕ
-variable_text true variable name = dollar ∷ opening_brace ∷ name ++ (question_mark ∷ closing_brace ∷ [])
-variable_text false variable name = variable
+-- the item of a name, in braces or without them
+abbrev pub item_of_name : (in_braces : Bool) → List ℕ → Item
+item_of_name true n = Braced n
+item_of_name false n = Short n
 
--- the item that stands for a piece
-abbrev pub item_of : Bool → Piece → Item
-item_of optional (foreign.Byte b) = item_of_byte (is_escaped b) b
-item_of optional (foreign.Short name) = item_of_variable optional (Short name) name
-item_of optional (foreign.Braced name) = item_of_variable optional (Braced name) name
+-- the item of a variable without an operator: as it stands, or optional
+abbrev pub plain_item : Forms → Missing → Item → List ℕ → Item
+plain_item of.Common unset item n = Optional n
+plain_item of.Shell missing.Fault item n = Braced (value_of ∷ n)
+plain_item of.Shell missing.Nothing item n = Optional (value_of ∷ n)
+plain_item _ missing.Fault item n = item
+plain_item _ missing.Nothing item n = Optional n
 
--- the tree that stands for pieces
-abbrev pub tree_of : Bool → List Piece → Tree
-tree_of optional [] = Empty
-tree_of optional (piece ∷ rest) = Then (item_of optional piece) (tree_of optional rest)
+-- the item of a head
+abbrev pub item_of_head : Forms → Missing → Head → Item
+item_of_head forms unset (head.Short n) = plain_item forms unset (Short n) n
+item_of_head forms unset (head.Braced n) = plain_item forms unset (Braced n) n
+item_of_head forms unset (head.Optional n) = Optional n
+item_of_head forms unset _ = Escaped dollar
 
--- the source is written for the text
-pub record IsWrittenAs (optional : Bool) (Counts : List ℕ → Type 0) (s source : List ℕ) : Type 0 where
-  pub pieces : List Piece
-  pub spelled : s ≡ pieces_text pieces
-  pub read : AreRead Counts pieces
-  pub written : source ≡ text (tree_of optional pieces)
+abbrev mutual
+  -- the tree of an item, before the tree of those after it
+  pub tree_before : Forms → Missing → foreign.Item → Tree → Tree
+  tree_before forms unset (foreign.Byte b) next = Then (item_of_byte (is_escaped b) b) next
+  tree_before forms unset (foreign.Whole h) next = Then (item_of_head forms unset h) next
+  tree_before forms unset (foreign.Operated n op t) next =
+      Then (Default (asked_name forms (Some op) n) (tree_of forms unset t)) next
+  tree_before forms unset (foreign.Required n op m) next = Then (Braced (asked_name forms (Some op) n)) next
+  tree_before forms unset (foreign.Group t) next =
+      Then (Plain opening_brace) (join (tree_of forms unset t) (Then (Plain closing_brace) next))
+
+  -- the tree that stands for a text
+  pub tree_of : Forms → Missing → Text → Tree
+  tree_of forms unset foreign.Empty = Empty
+  tree_of forms unset (foreign.Then item rest) = tree_before forms unset item (tree_of forms unset rest)
+
+-- what a template of these forms sees of a look-up
+abbrev pub seen_by : Forms → LookUp → LookUp
+seen_by of.Shell look = by_question look
+seen_by of.Common look = without_empty look
+seen_by _ look = look
+
+-- a name without the digit of a question
+abbrev pub without_question : List ℕ → List ℕ
+without_question [] = []
+without_question (b ∷ n) = if is_ascii_digit b then n else b ∷ n
+
+-- the name that is told where a template is missing one
+abbrev pub told_name : Forms → List ℕ → List ℕ
+told_name of.Shell n = without_question n
+told_name _ n = n
+
+-- what a template gives, with the name of the text
+abbrev pub told : Forms → Given → Given
+told forms (Ok x) = Ok x
+told forms (Err n) = Err (told_name forms n)
+
+-- the names under which a template asks for variables of a text
+abbrev pub asked : Forms → Variable → List ℕ
+asked forms variable = asked_name forms variable.operator variable.name
+
+-- A source is a template for a text: the text is read as items, the template is a sentence, under each look-up
+-- it gives the value of the text, or the name that is missing there, and its variables are those of the text, in
+-- one order.
+pub record IsTemplate (g : Grammar) (unset : Missing) (s source : List ℕ) : Type 0 where
+  pub items : Text
+  pub read : IsText g false items []
+  pub spelled : s ≡ spelling items
+  pub tree : Tree
+  pub spells : Spells tree source
+  pub gives : (look : LookUp)
+      → told g.forms (unplaced (value 0 tree (seen_by g.forms look))) ≡ text_value g.forms unset items look
+  pub names : names_in tree ≡ map (asked g.forms) (variables_of items)

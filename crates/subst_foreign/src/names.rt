@@ -1,38 +1,47 @@
 //! Which names are those of variables.
 
-ghost use Rattle.std.specs.Prelude.{◌↔◌, ℕ, List, IfOk, IsTrue};
+ghost use Rattle.std.specs.Prelude.{◌≡◌, ◌↔◌, ◌++◌, ◌∷◌, ℕ, Bool, List, IfOk, IfSome, IfNone, IsTrue, []};
 ghost use Rattle.subst_language.specs.Language.Name.{IsName};
-ghost use Rattle.subst_foreign.specs.Foreign.{HasValue, IsListed, IsShellName};
+ghost use Rattle.subst_foreign.specs.Foreign.{IsListed};
 
 use std::alloc::{AllocError, Global};
 use std::collections::BTreeSet;
 use subst_language::VariableMap;
 
-/// A choice of names: those of variables. An implementation gives a ghost member, `counts`: which names are
-/// chosen.
+/// A choice of names: those of variables. An implementation gives two ghost members: `all`, whether every name
+/// is chosen, and `counts`, which names are, with an operator or without one.
 pub trait Names {
-    ghost counts: { Self → List ℕ → Type 0 };
+    ghost all: { Self → Bool };
 
-    /// Returns whether a name is chosen.
-    fn has(&self, name: &[u8]) -> bool
+    ghost counts: { Self → Bool → List ℕ → Type 0 };
+
+    /// Returns whether every name is chosen.
+    fn are_all(&self) -> bool
+        ensures every { result ≡ all self.now };
+
+    /// Returns whether a name is chosen, of a variable with an operator, or without one.
+    fn has(&self, name: &[u8], operated: bool) -> bool
         requires named { IsName name.now }
-        ensures chosen { IsTrue result ↔ counts self.now name.now };
+        ensures chosen { IsTrue result ↔ counts self.now operated name.now };
 }
 
-/// The names that shells know: all that don't begin with a digit.
+/// All names.
 #[derive(Clone, Copy)]
-pub struct ShellNames;
+pub struct AllNames;
 
-impl Names for ShellNames {
-    ghost use Rattle.subst_foreign.specs.Foreign.{IsShellName};
+impl Names for AllNames {
+    ghost use Rattle.std.specs.Prelude.{true};
 
-    ghost counts = { λ names. IsShellName };
+    ghost all = { λ names. true };
 
-    fn has(&self, name: &[u8]) -> bool {
-        match name.first() {
-            Some(first) => !first.is_ascii_digit(),
-            None => true,
-        }
+    ghost counts = { λ names operated name. Unit {0} };
+
+    fn are_all(&self) -> bool {
+        true
+    }
+
+    fn has(&self, _name: &[u8], _operated: bool) -> bool {
+        true
     }
 }
 
@@ -49,8 +58,8 @@ impl<'a> OnlyNames<'a> {
     ///
     /// When allocation fails.
     pub fn new(alloc: Global, names: &[&'a str]) -> Result<OnlyNames<'a>, AllocError>
-        ensures listed { IfOk result (λ only. (name : List ℕ)
-            → (⟦<OnlyNames<'a> as Names>⟧.counts only name ↔ IsListed names.now name)) }
+        ensures listed { IfOk result (λ only. (operated : Bool) (name : List ℕ)
+            → (⟦<OnlyNames<'a> as Names>⟧.counts only operated name ↔ IsListed names.now name)) }
     {
         let mut set = BTreeSet::new(alloc);
         for name in names {
@@ -61,16 +70,23 @@ impl<'a> OnlyNames<'a> {
 }
 
 impl Names for OnlyNames<'_> {
+    ghost use Rattle.std.specs.Prelude.{false};
     ghost use Rattle.subst_foreign.specs.Foreign.{IsListed};
 
-    ghost counts = { λ only. IsListed only.names.keys };
+    ghost all = { λ only. false };
 
-    fn has(&self, name: &[u8]) -> bool {
+    ghost counts = { λ only operated. IsListed only.names.keys };
+
+    fn are_all(&self) -> bool {
+        false
+    }
+
+    fn has(&self, name: &[u8], _operated: bool) -> bool {
         self.names.contains(name)
     }
 }
 
-/// The names that have a value in a map.
+/// The names that have a value in a map, and of variables with an operator all names.
 #[derive_where(Clone, Copy)]
 pub struct KnownNames<'a, M> {
     pub map: &'a M,
@@ -80,11 +96,21 @@ impl<'a, M: VariableMap<'a>> Names for KnownNames<'a, M>
 where
     M::Value: Drop,
 {
-    ghost use Rattle.subst_foreign.specs.Foreign.{HasValue};
+    ghost use Rattle.std.specs.Prelude.{false};
+    ghost use Rattle.subst_foreign.specs.Foreign.{IsKnown};
 
-    ghost counts = { λ known. HasValue (M.look_up known.map.now) };
+    ghost all = { λ known. false };
 
-    fn has(&self, name: &[u8]) -> bool {
+    ghost counts = { λ known. IsKnown (M.look_up known.map.now) };
+
+    fn are_all(&self) -> bool {
+        false
+    }
+
+    fn has(&self, name: &[u8], operated: bool) -> bool {
+        if operated {
+            return true;
+        }
         match str::from_utf8(name) {
             Ok(name) => self.map.get(name).is_some(),
             Err(_) => false,

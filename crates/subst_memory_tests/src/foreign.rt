@@ -1,48 +1,86 @@
-//! Calls that make templates for texts of other tools.
+//! Calls that read texts of other tools.
 
-use crate::calls::{Shown, again};
-use subst::foreign::{ShellError, ShellNames};
-use subst::{NoSubstitution, foreign};
+use crate::calls::{Shown, again, say};
+use std::alloc::AllocError;
+use subst::foreign::{
+    self, AllNames, FormAt, Forms, Missing, OnlyNames, Style, TextError, TextVariable,
+};
 
 /// A text with variables, and with dollars and a backslash that are text.
 const TEXT: &str = "a $b \\ $1 ${c} $";
 
-/// A text of a shell.
+/// A text of a shell, and one with forms that are refused.
 const SHELL: &str = "a ${b:-x} $$ ${c:?m}";
 
-impl Shown for ShellError {
+const REFUSED: &str = "a ${b:=x} ${} ${c:-";
+
+impl Shown for TextError {
     fn show(&self, rt: &HostRuntime, word: &str) {
-        let _ = rt.println(format_args!("{word} {self}"));
+        match self {
+            TextError::Refused(form) => form.show(rt, word),
+            TextError::OutOfMemory(e) => e.show(rt, word),
+        }
+    }
+}
+
+impl Shown for FormAt {
+    fn show(&self, rt: &HostRuntime, word: &str) {
+        let FormAt { position, form } = self;
+        let _ = rt.println(format_args!("{word} {position}: {form}"));
+    }
+}
+
+impl Shown for TextVariable<'_> {
+    fn show(&self, rt: &HostRuntime, word: &str) {
+        let name = str::from_utf8(self.name).unwrap_or("no text");
+        let (position, operator) = (self.position, self.operator);
+        let _ = rt.println(format_args!("{word} {position}: {name} {operator:?}"));
+    }
+}
+
+/// Of a set of names nothing can be shown.
+impl Shown for OnlyNames<'_> {
+    fn show(&self, rt: &HostRuntime, word: &str) {
+        say(rt, word, "names");
+    }
+}
+
+/// A style in which all names count.
+fn of_all(forms: Forms) -> Style<'static, AllNames> {
+    Style {
+        forms,
+        names: &AllNames,
+        missing: Missing::Nothing,
     }
 }
 
 pub fn calls(rt: &HostRuntime) {
-    let (text, bytes, names) = (TEXT, TEXT.as_bytes(), ["c"]);
+    let (text, names) = (TEXT, ["c"]);
     again!(rt, "foreign::from_envsubst", [text], Err(_) => foreign::from_envsubst(rt.alloc(), text));
-    let name = "foreign::bytes_from_envsubst";
-    again!(rt, name, [bytes], Err(_) => foreign::bytes_from_envsubst(rt.alloc(), bytes));
     again!(rt, "foreign::with_only", [text], Err(_) => foreign::with_only(rt.alloc(), text, &names));
-    let name = "foreign::bytes_with_only";
-    again!(rt, name, [bytes], Err(_) => foreign::bytes_with_only(rt.alloc(), bytes, &names));
-    other_choices(rt);
-    shell(rt);
+    again!(rt, "OnlyNames::new", [text], Err(_) => OnlyNames::new(rt.alloc(), &names));
+    templates(rt);
+    lists(rt);
 }
 
-fn other_choices(rt: &HostRuntime) {
-    let (text, bytes, map) = (TEXT, TEXT.as_bytes(), NoSubstitution);
-    again!(rt, "foreign::with_known", [text], Err(_) => foreign::with_known(rt.alloc(), text, &map));
-    let name = "foreign::bytes_with_known";
-    again!(rt, name, [bytes], Err(_) => foreign::bytes_with_known(rt.alloc(), bytes, &map));
-    let name = "foreign::with_names_optional";
-    again!(rt, name, [text], Err(_) => foreign::with_names_optional(rt.alloc(), text, &ShellNames));
-    let name = "foreign::bytes_with_names_optional";
+fn templates(rt: &HostRuntime) {
+    let (own, shell) = (of_all(Forms::Own), of_all(Forms::Shell));
+    let text = TEXT;
+    let name = "Style::template";
+    again!(rt, name, [text], Err(TextError::OutOfMemory(_)) => own.template(rt.alloc(), text));
+    let (text, bytes, refused) = (SHELL, SHELL.as_bytes(), REFUSED);
+    let name = "Style::template of a shell";
+    again!(rt, name, [text], Err(TextError::OutOfMemory(_)) => shell.template(rt.alloc(), text));
+    let name = "Style::template of a refused form";
+    again!(rt, name, [refused],
+        Err(TextError::OutOfMemory(_)) => shell.template(rt.alloc(), refused));
+    let name = "Style::byte_template";
     again!(rt, name, [bytes],
-        Err(_) => foreign::bytes_with_names_optional(rt.alloc(), bytes, &ShellNames));
+        Err(TextError::OutOfMemory(_)) => shell.byte_template(rt.alloc(), bytes));
 }
 
-fn shell(rt: &HostRuntime) {
-    let (text, bytes) = (SHELL, SHELL.as_bytes());
-    again!(rt, "foreign::from_shell", [text], Err(_) => foreign::from_shell(rt.alloc(), text));
-    let name = "foreign::bytes_from_shell";
-    again!(rt, name, [bytes], Err(_) => foreign::bytes_from_shell(rt.alloc(), bytes));
+fn lists(rt: &HostRuntime) {
+    let (style, text, refused) = (of_all(Forms::Shell), SHELL.as_bytes(), REFUSED.as_bytes());
+    again!(rt, "Style::refusals", [refused], Err(AllocError) => style.refusals(rt.alloc(), refused));
+    again!(rt, "Style::variables", [text], Err(AllocError) => style.variables(rt.alloc(), text));
 }

@@ -7,8 +7,8 @@ use std::alloc::{AllocError, Global};
 use std::collections::{BTreeMap, HashMap};
 use subst::steps::{Reads, Turns};
 use subst::{
-    ByteTemplate, ByteTemplateBuf, Env, Error, Layered, NoEmpty, NoSubstitution, Template,
-    TemplateBuf, VariableMap, escape, laws, substitute_bytes_owned, substitute_owned,
+    ByteTemplate, ByteTemplateBuf, Env, Error, Layered, NoEmpty, NoSubstitution, ShellMap,
+    Template, TemplateBuf, VariableMap, escape, laws, substitute_bytes_owned, substitute_owned,
 };
 use subst_testing::variables::owned_pairs;
 
@@ -62,6 +62,7 @@ fn get_of_env(rt: &HostRuntime) -> Result<(), AllocError> {
     };
     get(rt, "get of Layered", &layers);
     get(rt, "get of NoEmpty", &NoEmpty { map: &env });
+    get(rt, "get of ShellMap", &ShellMap { map: &env });
     Ok(())
 }
 
@@ -140,6 +141,7 @@ fn call_laws() {
     laws::missing_lists_are_whole();
     laws::missing_variables_are_missing();
     laws::outputs_are_bounded();
+    laws::shell_names_are_no_questions();
     laws::texts_give_texts();
     laws::turns_are_bounded();
     laws::writes_are_bounded();

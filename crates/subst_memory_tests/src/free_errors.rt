@@ -10,6 +10,7 @@ use subst::error::{
     MissingClosingBrace, MissingVariableName, NoSuchVariableRef, ParseError, SubstituteIntoError,
     UnexpectedCharacter, line_and_column,
 };
+use subst::foreign::{FormAt, ShellForm, TextError};
 use subst::{Error, json, toml as filled};
 use subst_filter_lib::device::standard::{FromReader, ToWriter};
 use subst_filter_lib::device::{ByteInput, ByteOutput};
@@ -72,6 +73,13 @@ fn display_errors(rt: &HostRuntime) -> Result<(), AllocError> {
     display(rt, "Display of SubstituteIntoError", &missing)?;
     display(rt, "Display of OutOfMemory", &Error::from(AllocError))?;
     display(rt, "Display of RunError", &refusal(rt)?)
+}
+
+fn display_forms(rt: &HostRuntime) -> Result<(), AllocError> {
+    let (position, form) = (3, ShellForm::Equals);
+    display(rt, "Display of ShellForm", &form)?;
+    let refused = TextError::Refused(FormAt { position, form });
+    display(rt, "Display of TextError", &refused)
 }
 
 fn characters(rt: &HostRuntime) -> Result<(), AllocError> {
@@ -196,6 +204,7 @@ fn make_devices(rt: &HostRuntime, drip: &mut Drip) {
 pub fn calls(rt: &HostRuntime) -> Result<(), AllocError> {
     display_faults(rt)?;
     display_errors(rt)?;
+    display_forms(rt)?;
     characters(rt)?;
     convert(rt)?;
     clone(rt)?;

@@ -1,3 +1,4 @@
+pub mod ComposeLemmas
 pub mod ConfigLemmas
 pub mod LineLemmas
 pub mod LoaderLemmas

@@ -7,6 +7,7 @@ pub mod all_missing;
 pub mod any_map;
 pub mod any_template;
 pub mod cache;
+pub mod compose;
 pub mod config;
 pub mod filled;
 pub mod greeting;

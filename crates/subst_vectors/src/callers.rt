@@ -5,15 +5,17 @@ use crate::expect::{expect, expect_bytes};
 use std::alloc::{AllocError, Global};
 use std::collections::BTreeMap;
 use subst::steps::Turns;
-use subst::{ByteTemplate, Error, NoSubstitution, Template};
+use subst::{ByteTemplate, Env, Error, NoSubstitution, Template};
+use subst_testing::variables::owned_pairs;
 use subst_uses::cache::Cached;
+use subst_uses::compose::ComposeError;
 use subst_uses::greeting::{Guest, greet};
 use subst_uses::launcher::command_line;
 use subst_uses::log_line::{Fields, LINE, ROOM, append_line};
 use subst_uses::missing::{Prompt, filled_or_asked, given_or_none};
 use subst_uses::own_map::{Colours, coloured, warning};
 use subst_uses::report::Outcome;
-use subst_uses::{all_missing, any_map, any_template, filled, lines, plain, texts, words};
+use subst_uses::{all_missing, any_map, any_template, compose, filled, lines, plain, texts, words};
 
 const SOURCE: &str = "Hello $name!";
 
@@ -197,6 +199,24 @@ fn other_callers(rt: HostRuntime) {
     let red = warning(alloc, &Colours { on: true });
     expect_bytes(&rt, "a warning", red, "\x1B[31mWarning: \x1B[0m");
     assert!(rt; is_early(alloc));
+}
+
+#[test]
+fn texts_of_docker_compose(rt: HostRuntime) -> Result<(), AllocError> {
+    let pairs = owned_pairs(rt.alloc(), &[("name", "world"), ("empty", "")])?;
+    let (alloc, env) = (rt.alloc(), Env::from_pairs(pairs));
+    let source = "Hello ${empty-big }${name:?no name}${name:+!}$absent";
+    expect(
+        &rt,
+        source,
+        compose::filled_in(alloc, source, &env),
+        "Hello world!",
+    );
+    let refused = compose::filled_in(alloc, "${name:=you}", &env);
+    assert!(rt; matches!(refused, Err(ComposeError::Text(_))));
+    let missing = compose::filled_in(alloc, "${empty:?no value}", &env);
+    assert!(rt; matches!(missing, Err(ComposeError::Variable(_))));
+    Ok(())
 }
 
 fn handed_back(alloc: Global) -> Result<Vec<u8>, AllocError> {

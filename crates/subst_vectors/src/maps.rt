@@ -6,7 +6,9 @@ use std::alloc::{AllocError, Global};
 use std::collections::{BTreeMap, HashMap};
 use std::convert::{AsSlice, AsStr};
 use std::test::Fail;
-use subst::{Env, Layered, NoEmpty, NoSubstitution, VariableMap, substitute, substitute_bytes};
+use subst::{
+    Env, Layered, NoEmpty, NoSubstitution, ShellMap, VariableMap, substitute, substitute_bytes,
+};
 use subst_testing::answers::{told_bytes, told_text};
 use subst_testing::variables::owned_pairs;
 use subst_uses::maps::{bytes, texts};
@@ -154,6 +156,35 @@ fn an_empty_value_counts_as_none(rt: HostRuntime) -> Result<(), Fail> {
     );
     let bytes = bytes::no_empty(rt.alloc(), source.as_bytes(), &env);
     expect_bytes(&rt, "bytes", bytes, "Hello world!");
+    Ok(())
+}
+
+/// Sources that ask about a variable with a value, an empty one and a missing one, and their outputs.
+const QUESTIONS: [(&str, &str); 4] = [
+    ("${1full:d} ${1empty:d} ${1absent:d}", "text  d"),
+    ("${2full:d} ${2empty:d} ${2absent:d}", "d d "),
+    ("${3full:d} ${3empty:d} ${3absent:d}", "d  "),
+    ("${full:d} ${empty:d} ${absent:d}", "text d d"),
+];
+
+#[test]
+fn digits_before_names_ask_what_they_have(rt: HostRuntime) -> Result<(), Fail> {
+    let env = env_of(rt.alloc(), &[("full", "text"), ("empty", "")])?;
+    let shell = ShellMap { map: &env };
+    for (source, want) in QUESTIONS {
+        expect(
+            &rt,
+            source,
+            texts::shell_map(rt.alloc(), source, &env),
+            want,
+        );
+        let bytes = bytes::shell_map(rt.alloc(), source.as_bytes(), &env);
+        expect_bytes(&rt, source, bytes, want);
+    }
+    expect_answer(&rt, "a${1empty}b", &shell, "gives ab");
+    expect_debug(&rt, &shell.get("1full"), r#"Some(First("text"))"#);
+    expect_debug(&rt, &shell.get("2absent"), r#"Some(Second(""))"#);
+    expect_debug(&rt, &shell.get("4full"), "None");
     Ok(())
 }
 

@@ -40,7 +40,9 @@ impl StringFiller<'_, '_, '_> {
             Some(variables) => fill_bytes(alloc, source, self.placeholders, variables)?.err(),
             None => uses_in_bytes(alloc, source, self.placeholders)?.err(),
         };
-        Ok(faults.unwrap_or(Vec::new(alloc)))
+        let mut faults = faults.unwrap_or(Vec::new(alloc));
+        faults.sort_unstable_by_key(|fault| fault.range.start);
+        Ok(faults)
     }
 }
 
@@ -70,7 +72,6 @@ impl Fill for StringFiller<'_, '_, '_> {
         match self.placeholders {
             Placeholders::Own => is_plain(text.as_bytes()),
             Placeholders::Chosen(..) => has_no_dollar(text.as_bytes()),
-            Placeholders::Shell => false,
         }
     }
 

@@ -14,11 +14,12 @@ ghost use Rattle.subst_cli.specs.Strings.{FillsFrom};
 ghost use Rattle.subst_cli.specs.declared.document.format.Format.TheVariants as formats;
 
 use super::filler::StringFiller;
+use super::mistake;
 use crate::fault::Cause;
 use std::alloc::{AllocError, Global};
 use std::fmt;
 use std::ops::Range;
-use subst::json::{RangeFinder, ReaderStop};
+use subst::json::RangeFinder;
 use subst::{RefusalAt, StringAt, json, toml};
 
 /// A format of documents.
@@ -109,9 +110,8 @@ fn of_json<T: Drop>(alloc: Global, text: &str, returned: Result<Option<T>, json:
         Ok(Some(it)) => Ok(Ok(it)),
         Ok(None) => Ok(Err(Unfilled::Unread(0..0, Cause::NotConfirmed))),
         Err(json::Error::Json(e)) => {
-            let ReaderStop { offset, message } = json::reader_stop(alloc, text, &e)?;
-            let cause = Cause::NotADocument(message);
-            Ok(Err(Unfilled::Unread(offset..offset, cause)))
+            let stop = json::reader_stop(alloc, text, &e)?;
+            Ok(Err(mistake::unread(alloc, text, stop)?))
         }
         Err(json::Error::Subst(_)) => Ok(Err(Unfilled::Refused)),
         Err(json::Error::OutOfMemory(e)) => Err(e),
@@ -130,7 +130,10 @@ fn of_toml<T: Drop>(alloc: Global, returned: Result<Option<T>, toml::Error>) -> 
             Ok(Err(Unfilled::Unread(0..0, Cause::NotConfirmed)))
         }
         Err(toml::Error::Toml(e)) => {
-            let cause = Cause::NotADocument(String::from_str(alloc, e.message())?);
+            let cause = match mistake::of_toml(e.message()) {
+                Some(mistake) => Cause::Mistake(mistake),
+                None => Cause::NotADocument(String::from_str(alloc, e.message())?),
+            };
             Ok(Err(Unfilled::Unread(e.span().unwrap_or(0..0), cause)))
         }
         Err(toml::Error::Subst(_)) => Ok(Err(Unfilled::Refused)),

@@ -8,6 +8,7 @@ ghost use Rattle.std.specs.HashMap.{get_by_text as hash_get_by_text};
 ghost use Rattle.subst.specs.Language.Answer.{Answers};
 ghost use Rattle.subst.specs.Calls.Maps.{first_value, btree_get_by_lent_text, hash_get_by_lent_text, without_empty};
 ghost use Rattle.subst.specs.Calls.Outcome.{answer_of};
+ghost use Rattle.subst.specs.Question.{by_question};
 
 use crate::any_map;
 use indexmap::IndexMap;
@@ -15,7 +16,7 @@ use std::alloc::Global;
 use std::collections::{BTreeMap, HashMap};
 use std::convert::AsSlice;
 use std::hash::BuildHasher;
-use subst::{Env, Error, Layered, NoEmpty, NoSubstitution, substitute_bytes};
+use subst::{Env, Error, Layered, NoEmpty, NoSubstitution, ShellMap, substitute_bytes};
 
 /// Returns bytes filled in from a `BTreeMap` whose keys are borrowed.
 pub fn btree_map_of_borrowed<V: AsSlice<u8>>(
@@ -120,4 +121,12 @@ pub fn no_empty(alloc: Global, source: &[u8], variables: &Env) -> Result<Vec<u8>
         (Answers source.now (without_empty (first_value variables.now))) }
 {
     any_map::filled_in(alloc, source, &NoEmpty { map: variables })
+}
+
+/// Returns bytes filled in from the answers to questions about the pairs of an `Env`.
+pub fn shell_map(alloc: Global, source: &[u8], variables: &Env) -> Result<Vec<u8>, Error>
+    ensures { IfSome (answer_of (λ output. output.items) result)
+        (Answers source.now (by_question (first_value variables.now))) }
+{
+    any_map::filled_in(alloc, source, &ShellMap { map: variables })
 }

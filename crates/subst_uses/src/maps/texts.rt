@@ -7,13 +7,14 @@ ghost use Rattle.std.specs.HashMap.{get_by_text as hash_get_by_text};
 ghost use Rattle.subst.specs.Language.Answer.{Answers};
 ghost use Rattle.subst.specs.Calls.Maps.{first_value, btree_get_by_lent_text, hash_get_by_lent_text, without_empty};
 ghost use Rattle.subst.specs.Calls.Outcome.{answer_of};
+ghost use Rattle.subst.specs.Question.{by_question};
 
 use indexmap::IndexMap;
 use std::alloc::Global;
 use std::collections::{BTreeMap, HashMap};
 use std::convert::AsStr;
 use std::hash::BuildHasher;
-use subst::{Env, Error, Layered, NoEmpty, NoSubstitution, laws, substitute};
+use subst::{Env, Error, Layered, NoEmpty, NoSubstitution, ShellMap, laws, substitute};
 
 /// Returns a text filled in from a `BTreeMap`.
 pub fn btree_map<V: AsStr>(
@@ -131,4 +132,12 @@ pub fn no_empty(alloc: Global, source: &str, variables: &Env) -> Result<String, 
         (Answers source.now (without_empty (first_value variables.now))) }
 {
     substitute(alloc, source, &NoEmpty { map: variables })
+}
+
+/// Returns a text filled in from the answers to questions about the pairs of an `Env`.
+pub fn shell_map(alloc: Global, source: &str, variables: &Env) -> Result<String, Error>
+    ensures { IfSome (answer_of (λ output. string_bytes output) result)
+        (Answers source.now (by_question (first_value variables.now))) }
+{
+    substitute(alloc, source, &ShellMap { map: variables })
 }

@@ -4,4 +4,5 @@ use Rattle.subst_c.proofs.foreign.deliver.Goals as goal
 
 pub returns-in-Ok-clause-buffer : goal.returns-in-Ok-clause-buffer
 returns-in-Ok-clause-buffer g c =
-    fills_with c.in-Ok.ensures (rw c.deref.ensures.value at c.deliver.ensures.buffer)
+    fills_with (rw c.missing_of.ensures at c.in-Ok.ensures.template)
+    (rw c.deref.ensures.value at c.deliver.ensures.buffer)

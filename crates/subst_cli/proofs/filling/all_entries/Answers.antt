@@ -8,13 +8,11 @@ pub returns : goal.returns
 returns c =
     let defaults = ap entries_of c.in_ok-append.ensures.items
     ∙ map-append entry_of c.args.read.defaults.items c.in_ok-given.field-0.items in
-    let all = rw (
+    let above = rw (
       c.in_ok-asked.ensures,
       c.deref.ensures.value,
       c.in_ok-given-2.ensures,
       c.deref-3.ensures.value,
-      defaults,
-      c.in_ok-given.ensures,
-      c.deref-2.ensures.value,
-    ) at c.in_ok-all.ensures in
+    ) at c.in_ok-above.ensures in
+    let all = rw (above, defaults, c.in_ok-given.ensures, c.deref-2.ensures.value) at c.in_ok-all.ensures in
     rw (rw all at c.kept-kept.ensures) at c.with_escaped_values.ensures

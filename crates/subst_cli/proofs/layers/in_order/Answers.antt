@@ -6,16 +6,14 @@ use Rattle.subst_cli.proofs.layers.in_order.Goals as goal
 
 pub returns : goal.returns
 returns c =
-    let given = c.args.given.items in
-    let lines = c.args.lines.items in
-    let environment = c.args.environment.items in
+    let above = c.args.above.items in
+    let dotenv = c.args.dotenv.items in
     let defaults = c.args.defaults.items in
-    let all : c.append-3.new.self.items ≡ reverse (lines ++ given) ++ environment ++ reverse defaults =
+    let all : c.append-2.new.self.items ≡ above ++ reverse dotenv ++ reverse defaults =
     cc (
-      c.in_ok-append.ensures.items,
       c.reverse.ensures.items,
-      c.in_ok-append-2.ensures.items,
+      c.in_ok-append.ensures.items,
       c.reverse-2.ensures.items,
-      c.in_ok-append-3.ensures.items,
+      c.in_ok-append-2.ensures.items,
     ) in
-    ap (map entry_of) all ∙ ordered entry_of given lines environment defaults
+    ap (map entry_of) all ∙ ordered entry_of above dotenv defaults

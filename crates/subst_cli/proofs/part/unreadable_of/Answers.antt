@@ -7,6 +7,7 @@ use Rattle.std.specs.Vec.Iter.{into_iter_items}
 use Rattle.subst.specs.Calls.Variables.{variable_of}
 use Rattle.subst_language.specs.declared.variable.Variable.{Variable}
 use Rattle.subst_cli.specs.Faults.{IsUnreadableAmong}
+use Rattle.subst_cli.specs.Fill.{asked_about}
 use Rattle.subst_cli.specs.Layers.{IsUnreadable}
 use Rattle.subst_cli.proofs.PartLemmas.{as_told, pushed, readable_name}
 use Rattle.subst_cli.proofs.part.unreadable_of.Goals as goal
@@ -32,10 +33,10 @@ loop-variable-preserved c =
       all = next_done _ l.yielded (into_iter_items l.variable-iterator) (into_iter_items c.next.new.self) v
           l.invariant.all c.in-Some.ensures.steps.0;
       readable = λ entries are none.
-          All-push (λ it. ¬ (IsUnreadable entries it.name.now)) l.yielded v
+          All-push (λ it. ¬ (IsUnreadable entries (asked_about c.args.forms it.name.now))) l.yielded v
           (l.invariant.readable entries are none)
-          (readable_name c.args.variables.now entries are v.name.now
-          (sym c.is_unreadable.ensures.unreadable ∙ c.if-is_unreadable.false));
+          (rw (← c.asked_about-name.ensures) (readable_name c.args.variables.now entries are
+          c.asked_about-name.result.now (sym c.is_unreadable.ensures.unreadable ∙ c.if-is_unreadable.false)));
       unreadable = l.invariant.unreadable;
     }
 
@@ -51,13 +52,13 @@ loop-variable-preserved-in_ok-push c =
       all = all;
       readable = λ entries are none. absurd (pushed l.faults.items fault (rw more at none));
       unreadable = λ entries are.
-          let P = IsUnreadableAmong entries (map variable_of c.args.list.items) in
+          let P = IsUnreadableAmong c.args.forms entries (map variable_of c.args.list.items) in
           let unreadable = c.is_unreadable.ensures.unreadable in
-          let told = as_told c.args.variables.now entries are v.name.now _ unreadable in
+          let told = as_told c.args.variables.now entries are c.asked_about-name.result.now _ unreadable in
           rw more (All-push P l.faults.items fault (l.invariant.unreadable entries are) (
             variable_of v,
             contains_done _ l.yielded _ v all,
-            told ∙ c.if-is_unreadable.true,
-            c.in_ok-unreadable.ensures,
+            rw (← c.asked_about-name.ensures) (told ∙ c.if-is_unreadable.true),
+            rw (← c.asked_about-name.ensures) c.in_ok-unreadable.ensures,
           ));
     }

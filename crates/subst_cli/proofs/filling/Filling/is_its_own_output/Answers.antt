@@ -17,7 +17,7 @@ pub returns-then-has_no_dollar : goal.returns-then-has_no_dollar
 returns-then-has_no_dollar c = record {
   itself = λ t entries.
       let source = c.args.source.now in
-      let given = text_given _ _ entries source (c.has_no_dollar.ensures c.if-has_no_dollar.true) in
+      let given = text_given _ entries source (c.has_no_dollar.ensures c.if-has_no_dollar.true) in
       let text = c.is_text-then-has_no_dollar.ensures t in
       rw (c.in-Text-Chosen.is-0, c.in-Text-Chosen.is-1) (source, refl, (text, given));
 }
@@ -35,5 +35,5 @@ returns-in-Bytes-Chosen c = record {
   itself = λ t entries.
       let source = c.args.source.now in
       rw (c.in-Bytes-Chosen.is-0, c.in-Bytes-Chosen.is-1)
-      (source, refl, text_given _ _ entries source (c.has_no_dollar-in-Bytes-Chosen.ensures t));
+      (source, refl, text_given _ entries source (c.has_no_dollar-in-Bytes-Chosen.ensures t));
 }

@@ -25,6 +25,6 @@ returns c =
     let all : take c.loop-name.name-index names ≡ names =
     subst (λ n. take n names ≡ names) (omega arith) (take-length names) in
     record {
-      listed = λ name. same_listed name c.loop-name.set.keys names
+      listed = λ operated name. same_listed name c.loop-name.set.keys names
           (c.loop-name.invariant name ∙ ap (is_listed name) all);
     }

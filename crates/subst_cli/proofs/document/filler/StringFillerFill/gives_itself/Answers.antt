@@ -18,6 +18,6 @@ returns-in-Chosen c = record {
   itself = λ is.
       let each = rw c.as_bytes-in-Chosen.ensures.value at (c.has_no_dollar.ensures is) in (
         if_none c.args.self.now.variables _ refl,
-        λ entries from. rw c.in-Chosen.is (text_given _ _ entries c.args.text.now each),
+        λ entries from. rw c.in-Chosen.is (text_given _ entries c.args.text.now each),
       );
 }

@@ -1,0 +1,175 @@
+-- Texts of other tools that are filled in by a style, as calls from C take them, and what they report.
+use Rattle.std.specs.Prelude.{◌≡◌, ◌≢◌, ◌⊎◌, ℕ, Bool, true, false, ◌+◌, ◌<◌, ◌≤◌, List, [], length, Option, Some, None, Ok, Err, IsUtf8, if◌then◌else◌}
+use Rattle.std.specs.List.{slice_get}
+use Rattle.subst_foreign.specs.Foreign.{HasValue, IsKnown}
+use Rattle.subst_foreign.specs.Grammar.{Grammar, grammar, operator_text, takes_message}
+use Rattle.subst_foreign.specs.Reading.{IsRefusalOf, Listing, VariableAt, end_of, variable_of}
+use Rattle.subst_foreign.specs.Template.{IsTemplate, seen_by}
+use Rattle.subst_foreign.specs.Text.{Text, IsText, spelling, text_value}
+use Rattle.subst_foreign.specs.declared.forms.Forms.{Forms}
+use Rattle.subst_foreign.specs.declared.forms.Forms.TheVariants as of
+use Rattle.subst_foreign.specs.declared.forms.Missing.{Missing}
+use Rattle.subst_foreign.specs.declared.forms.Missing.TheVariants as missing
+use Rattle.subst_foreign.specs.declared.forms.Operator.{Operator}
+use Rattle.subst_foreign.specs.declared.refused.FormAt.{FormAt}
+use Rattle.subst_foreign.specs.declared.refused.TextError.TheVariants as error
+use Rattle.subst_language.specs.Language.LookUp.{LookUp}
+use Rattle.subst_language.specs.Language.Sentence.{Spells}
+use Rattle.subst_language.specs.Language.Tree.{Tree}
+use Rattle.subst_language.specs.Language.Value.{value, Missing as IsMissing}
+use Rattle.subst_language.specs.Language.Variables.{Variable, variables_of}
+use Rattle.subst_c.specs.Foreign.{form_number}
+use Rattle.subst_c.specs.Pairs.{pair_value}
+use Rattle.subst_c.specs.declared.outcome.TheConstants.{REFUSED}
+use Rattle.subst_c.specs.declared.pairs.Pair.{Pair}
+use Rattle.subst_c.specs.declared.style.Choice.{Choice}
+use Rattle.subst_c.specs.declared.style.Choice.TheVariants as choice
+use Rattle.subst_c.specs.declared.style.Choices.{Choices}
+use Rattle.subst_c.specs.declared.style.StyleFault.{StyleFault}
+use Rattle.subst_c.specs.declared.style.StyleRecord.{StyleRecord}
+use Rattle.subst_c.specs.declared.style.Unfilled.{Unfilled}
+use Rattle.subst_c.specs.declared.style.Unfilled.TheVariants as unfilled
+
+-- the numbers of the forms, of the names and of how an unset variable expands
+abbrev pub forms_number : Forms → ℕ
+forms_number of.Own = 0
+forms_number of.Envsubst = 1
+forms_number of.Shell = 2
+forms_number of.Common = 3
+
+abbrev pub names_number : Choice → ℕ
+names_number choice.All = 0
+names_number choice.Only = 1
+names_number choice.Known = 2
+
+abbrev pub missing_number : Missing → ℕ
+missing_number missing.Fault = 0
+missing_number missing.Nothing = 1
+
+-- the style has the numbers of these choices
+abbrev pub AreOf : StyleRecord → Choices → Type 0
+AreOf style choices = (style.forms ≡ forms_number choices.forms)
+    × (style.names ≡ names_number choices.names) × (style.missing ≡ missing_number choices.missing)
+
+-- every name is chosen
+abbrev pub is_all : Choice → Bool
+is_all choice.All = true
+is_all _ = false
+
+-- the names that are chosen: all, those of a list of pairs, or those that are given, and with an operator all
+abbrev pub Has : Choice → (only given : List Pair) → (operated : Bool) → List ℕ → Type 0
+Has choice.All only given operated name = Unit {0}
+Has choice.Only only given operated name = HasValue (pair_value only) name
+Has choice.Known only given operated name = IsKnown (pair_value given) operated name
+
+-- what is read as variables by these choices
+abbrev pub grammar_of : Choices → (only given : List Pair) → Grammar
+grammar_of choices only given =
+    grammar choices.forms (is_all choices.names) (Has choices.names only given)
+
+-- The text s gives x: it is read as items, and x is their value under the look-up.
+pub record IsGiven (g : Grammar) (unset : Missing) (s : List ℕ) (look : LookUp) (x : List ℕ) : Type 0 where
+  pub items : Text
+  pub read : IsText g false items []
+  pub spelled : s ≡ spelling items
+  pub gives : text_value g.forms unset items look ≡ Ok x
+
+-- where the message of a variable begins whose name ends here: after its operator, if that takes a message
+abbrev pub message_after : Option Operator → (end : ℕ) → ℕ
+message_after None end = 0
+message_after (Some op) end = if takes_message op then end + length (operator_text op) else 0
+
+-- what is reported of a form that is refused: the dollar or the brace with which it begins
+abbrev pub fault_of_form : FormAt → StyleFault
+fault_of_form first = record {
+  kind = 7;
+  form = form_number first.form;
+  position = first.position;
+  length = 1;
+  message_position = 0;
+  message_length = 0;
+}
+
+-- what is reported of a variable that has no value: its name, and its message
+abbrev pub fault_of_variable : VariableAt → StyleFault
+fault_of_variable v = record {
+  kind = 5;
+  form = 0;
+  position = v.position;
+  length = length v.name;
+  message_position = message_after v.operator (v.position + length v.name);
+  message_length = length v.message;
+}
+
+-- the variable is at the index in the text that the one of this position and name is at in a template
+pub record HasIndex (g : Grammar) (s template : List ℕ) (position : ℕ) (name : List ℕ) (v : VariableAt)
+    : Type 0 where
+  pub index : ℕ
+  pub listed : List VariableAt
+  pub lists : Listing g 0 0 s listed
+  pub here : slice_get listed index ≡ Some v
+  pub in_template : (t : Tree) → Spells t template → (w : Variable)
+      × (slice_get (variables_of 0 t) index ≡ Some w) × (w.position ≡ position) × (w.name ≡ name)
+
+-- The variable of the text s is missing: a template for it is missing one, this is at the same index in the
+-- text, and its name is the one that the value of the text says.
+pub record IsUnset (g : Grammar) (unset : Missing) (s : List ℕ) (look : LookUp) (v : VariableAt) : Type 0 where
+  pub template : List ℕ
+  pub is_template : IsTemplate g unset s template
+  pub position : ℕ
+  pub name : List ℕ
+  pub missing : value 0 is_template.tree (seen_by g.forms look) ≡ IsMissing position name
+  pub at_index : HasIndex g s template position name v
+  pub says : text_value g.forms unset is_template.items look ≡ Err v.name
+
+-- why the text isn't filled in
+abbrev pub IsRefusal : Grammar → Missing → List ℕ → LookUp → Unfilled → Type 0
+IsRefusal g unset s look (unfilled.Refused first) = IsRefusalOf g s (error.Refused first)
+IsRefusal g unset s look (unfilled.Unset v) = IsUnset g unset s look (variable_of v)
+IsRefusal g unset s look (unfilled.OutOfMemory e) = Unit {0}
+
+-- the record is that of the form that is refused first, or else of the variable that is missing
+abbrev pub IsFaultOf : Grammar → Missing → List ℕ → LookUp → StyleFault → Type 0
+IsFaultOf g unset s look fault =
+    ((first : FormAt) × IsRefusalOf g s (error.Refused first) × (fault ≡ fault_of_form first))
+    ⊎ ((v : VariableAt) × IsUnset g unset s look v × (fault ≡ fault_of_variable v))
+
+-- what the text gives by a style
+abbrev pub GivenByStyle : StyleRecord → List Pair → List ℕ → List ℕ → Type 0
+GivenByStyle style given s x = (choices : Choices) × AreOf style choices
+    × IsGiven (grammar_of choices style.only.now given) choices.missing s (pair_value given) x
+
+-- it gives x, which is UTF-8
+abbrev pub TextGivenByStyle : StyleRecord → List Pair → List ℕ → List ℕ → Type 0
+TextGivenByStyle style given s x = IsUtf8 x × GivenByStyle style given s x
+
+-- why it gives nothing
+abbrev pub RefusedByStyle : StyleRecord → List Pair → List ℕ → StyleFault → Type 0
+RefusedByStyle style given s fault = (choices : Choices) × AreOf style choices
+    × IsFaultOf (grammar_of choices style.only.now given) choices.missing s (pair_value given) fault
+
+-- the fault and its message lie in the text
+abbrev pub LiesIn : List ℕ → StyleFault → Type 0
+LiesIn s fault = (fault.position + fault.length ≤ length s)
+    × (fault.message_position + fault.message_length ≤ length s)
+
+-- the record is that of why a text isn't filled in
+abbrev pub IsReported : Unfilled → StyleFault → Type 0
+IsReported (unfilled.Refused first) fault = fault ≡ fault_of_form first
+IsReported (unfilled.Unset v) fault = fault ≡ fault_of_variable (variable_of v)
+IsReported (unfilled.OutOfMemory e) fault = ⊥
+
+-- the form or the variable lies in the text
+abbrev pub IsIn : List ℕ → Unfilled → Type 0
+IsIn s (unfilled.Refused first) = first.position < length s
+IsIn s (unfilled.Unset v) = end_of (variable_of v) ≤ length s
+IsIn s (unfilled.OutOfMemory e) = Unit {0}
+
+-- what a call with this result leaves in the record of a fault
+pub record SetsStyleFault (style : StyleRecord) (given : List Pair) (s : List ℕ) (result : ℕ)
+    (old new : StyleFault) : Type 0 where
+  -- the record says why the text is refused, and lies in it
+  pub refused : result ≡ REFUSED → RefusedByStyle style given s new
+  pub within : result ≡ REFUSED → LiesIn s new
+  -- unless it is refused, the record stays as it was
+  pub fault_kept : result ≢ REFUSED → new ≡ old

@@ -1,0 +1,21 @@
+-- What the lines that are left leave or stop at is so of all lines.
+use Rattle.std.proofs.Common.{List, length}
+use Rattle.subst_cli.specs.Dotenv.{HasLast, Leaves, Stops}
+use Rattle.subst_cli.specs.Layers.{AreVariablesOf, Entry, entries_of}
+use Rattle.subst_cli.specs.Mark.{after_mark}
+use Rattle.subst_cli.specs.declared.fault.Cause.{Cause}
+use Rattle.subst_cli.proofs.dotenv.add_lines.Given as goal
+
+abbrev pub invariant-loop-rest : goal.invariant-loop-rest
+invariant-loop-rest l = record {
+  last : HasLast l.set;
+  leaves : (above after : List Entry) → AreVariablesOf l.above above
+      → Leaves above (entries_of l.set.entries.items) l.rest after
+      → Leaves above (entries_of l.fn.set.entries.items) (after_mark l.bytes) after;
+  stops : (above : List Entry) (cause : Cause) → AreVariablesOf l.above above
+      → Stops above (entries_of l.set.entries.items) l.rest cause
+      → Stops above (entries_of l.fn.set.entries.items) (after_mark l.bytes) cause;
+}
+
+abbrev pub decreases-loop-rest : goal.decreases-loop-rest
+decreases-loop-rest l = length l.rest

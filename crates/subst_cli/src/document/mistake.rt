@@ -1,0 +1,302 @@
+//! Mistakes that keep a text from being a document, found where its reader stopped.
+
+ghost use Rattle.std.specs.Prelude.{◌≡◌, ◌<◌, ◌↔◌, IfOk, IfSome, IsSome, IsTrue, drop, length, slice_index};
+ghost use Rattle.std.specs.Str.{IsCharBoundary};
+ghost use Rattle.json.specs.Json.{document};
+ghost use Rattle.subst_cli.specs.Mistakes.{after_first, bracket_past, does_close, does_open, half_at, half_by, is_lone_at, is_surrogate_at, last_of, lone_at, mistake_at, mistake_of_toml, part_after, unread_at};
+ghost use Rattle.subst_cli.specs.declared.document.mistake.Part.TheVariants as parts;
+
+use super::format::Unfilled;
+use crate::fault::Cause;
+use json::{Scratch, is_valid};
+use std::alloc::{AllocError, Global};
+use std::fmt;
+use subst::json::ReaderStop;
+
+/// The levels of arrays and objects that the reader of JSON reads.
+const LEVELS: u8 = 127;
+
+/// The levels of arrays and inline tables, and the parts of a key, that the reader of TOML reads.
+const TOML_LEVELS: u8 = 80;
+
+/// The message of the reader of JSON that doesn't say why.
+const INVALID: &str = "invalid JSON";
+
+/// The message of the reader of TOML at one level too many.
+const TOO_DEEP: &str = "cannot recurse further; max recursion depth met";
+
+/// A mistake that keeps a text from being a document.
+#[derive(Clone, Copy, PartialEq, Eq)]
+pub enum Mistake {
+    /// A comma before the bracket that closes an array or object.
+    TrailingComma,
+    /// A comment in JSON.
+    Comment,
+    /// A variable outside a string.
+    Variable,
+    /// Something after the document.
+    SecondDocument,
+    /// One half of a surrogate pair without the other.
+    LoneSurrogate,
+    /// More levels than so many.
+    TooDeep(u8),
+}
+
+impl fmt::Display for Mistake {
+    fn fmt<W: fmt::Write>(&self, f: &mut fmt::Formatter<W>) -> fmt::Result {
+        match self {
+            Mistake::TrailingComma => f.write_str("a comma before the end"),
+            Mistake::Comment => f.write_str("a comment"),
+            Mistake::Variable => f.write_str("a variable outside a string"),
+            Mistake::SecondDocument => f.write_str("a second document"),
+            Mistake::LoneSurrogate => f.write_str("half of a surrogate pair"),
+            Mistake::TooDeep(levels) => write!(f, "nested deeper than {levels}"),
+        }
+    }
+}
+
+/// Returns why a text isn't JSON: the mistake at the place where the reader stopped, or the reader's message.
+///
+/// # Errors
+///
+/// When allocation fails.
+pub(crate) fn unread(alloc: Global, text: &str, stop: ReaderStop) -> Result<Unfilled, AllocError>
+    requires { IsCharBoundary text.now stop.offset }
+    ensures { IfOk result (λ why. why ≡ unread_at text.now stop) }
+{
+    let (before, rest) = text.split_at(stop.offset);
+    if stop.message.as_str() == INVALID {
+        let is_document = is_document(alloc, before)?;
+        if let Some((mistake, offset)) = find(before.as_bytes(), rest.as_bytes(), is_document) {
+            return Ok(Unfilled::Unread(offset..offset, Cause::Mistake(mistake)));
+        }
+    }
+    let ReaderStop { offset, message } = stop;
+    Ok(Unfilled::Unread(offset..offset, Cause::NotADocument(message)))
+}
+
+/// Returns whether a text is a JSON document.
+fn is_document(alloc: Global, text: &str) -> Result<bool, AllocError>
+    ensures { IfOk result (λ is. IsTrue is ↔ IsSome (document text.now)) }
+{
+    is_valid(text, &mut Scratch::new(alloc))
+}
+
+/// Returns the mistake between what the reader of JSON read, which may be a document, and the rest, with its
+/// byte offset in the text; or `None` if it isn't known.
+fn find(before: &[u8], rest: &[u8], is_document: bool) -> Option<(Mistake, usize)>
+    ensures { result ≡ mistake_at before.now rest.now is_document }
+{
+    let offset = before.len();
+    if let Some(bracket) = past_levels(before) {
+        return Some((Mistake::TooDeep(LEVELS), bracket));
+    }
+    let first = byte_at(rest, 0);
+    if first == b'/' && (byte_at(rest, 1) == b'/' || byte_at(rest, 1) == b'*') {
+        Some((Mistake::Comment, offset))
+    } else if first == b'$' {
+        Some((Mistake::Variable, offset))
+    } else if (first == b']' || first == b'}') && last_byte(before) == b',' {
+        Some((Mistake::TrailingComma, offset))
+    } else if is_document && !rest.is_empty() {
+        Some((Mistake::SecondDocument, offset))
+    } else if first == b'"' {
+        let half = lone_surrogate(rest)?;
+        Some((Mistake::LoneSurrogate, offset + half))
+    } else {
+        None
+    }
+}
+
+/// Returns the mistake that a message of the reader of TOML is about; or `None` if it isn't known.
+pub(crate) fn of_toml(message: &str) -> Option<Mistake>
+    ensures { result ≡ mistake_of_toml message.now }
+{
+    if message == TOO_DEEP {
+        Some(Mistake::TooDeep(TOML_LEVELS))
+    } else {
+        None
+    }
+}
+
+/// Returns the byte at an index, or 0 if there is none.
+fn byte_at(bytes: &[u8], index: usize) -> u8
+    ensures { result ≡ slice_index bytes.now index }
+{
+    match bytes.get(index) {
+        Some(byte) => *byte,
+        None => 0,
+    }
+}
+
+/// Returns the last byte that isn't white space, or 0 if there is none.
+fn last_byte(bytes: &[u8]) -> u8
+    ensures { result ≡ last_of 0 bytes.now }
+{
+    let mut last = 0;
+    for byte in bytes {
+        if !byte.is_ascii_whitespace() {
+            last = *byte;
+        }
+    }
+    last
+}
+
+/// Where a byte of JSON is.
+#[derive(Clone, Copy, PartialEq, Eq)]
+enum Part {
+    /// Outside the strings.
+    Outside,
+    /// In a string.
+    Inside,
+    /// In a string, after the backslash of an escape.
+    Escaped,
+}
+
+impl Part {
+    /// Returns the part that the byte after this one is in.
+    fn after(self, byte: u8) -> Part
+        ensures { result ≡ part_after self byte }
+    {
+        match self {
+            Part::Outside if byte == b'"' => Part::Inside,
+            Part::Outside => Part::Outside,
+            Part::Inside if byte == b'"' => Part::Outside,
+            Part::Inside if byte == b'\\' => Part::Escaped,
+            Part::Inside | Part::Escaped => Part::Inside,
+        }
+    }
+
+    /// Returns whether a byte opens a level.
+    fn opens(self, byte: u8) -> bool
+        ensures { result ≡ does_open self byte }
+    {
+        matches!(self, Part::Outside) && (byte == b'[' || byte == b'{')
+    }
+
+    /// Returns whether a byte closes a level.
+    fn closes(self, byte: u8) -> bool
+        ensures { result ≡ does_close self byte }
+    {
+        matches!(self, Part::Outside) && (byte == b']' || byte == b'}')
+    }
+}
+
+/// Returns the index of the first bracket that opens one level too many, if there is one.
+fn past_levels(bytes: &[u8]) -> Option<usize>
+    ensures { result ≡ bracket_past 0 parts.Outside 0 bytes.now }
+{
+    let mut part = Part::Outside;
+    let mut depth = 0u8;
+    for at in 0..bytes.len() {
+        let byte = bytes[at];
+        if part.opens(byte) {
+            if depth == LEVELS {
+                return Some(at);
+            }
+            depth += 1;
+        } else if part.closes(byte) {
+            depth = depth.saturating_sub(1);
+        } else {
+            part = part.after(byte);
+        }
+    }
+    None
+}
+
+/// A half of a surrogate pair.
+#[derive(Clone, Copy, PartialEq, Eq)]
+enum Half {
+    First,
+    Second,
+}
+
+/// Returns the half of a surrogate pair whose escape these bytes begin with, if they do.
+fn half_of(bytes: &[u8]) -> Option<Half>
+    ensures { result ≡ half_at bytes.now }
+{
+    if is_surrogate(bytes) {
+        half_of_digit(byte_at(bytes, 3))
+    } else {
+        None
+    }
+}
+
+/// Returns whether these bytes begin with an escape of four digits, the first of which is that of surrogates.
+fn is_surrogate(bytes: &[u8]) -> bool
+    ensures { result ≡ is_surrogate_at bytes.now }
+{
+    let digit = byte_at(bytes, 2);
+    byte_at(bytes, 0) == b'\\'
+        && byte_at(bytes, 1) == b'u'
+        && (digit == b'd' || digit == b'D')
+        && byte_at(bytes, 4).is_ascii_hexdigit()
+        && byte_at(bytes, 5).is_ascii_hexdigit()
+}
+
+/// Returns the half of a surrogate pair whose second digit this is, if it is one.
+fn half_of_digit(digit: u8) -> Option<Half>
+    ensures { result ≡ half_by digit }
+{
+    match digit {
+        b'8' | b'9' | b'a' | b'b' | b'A' | b'B' => Some(Half::First),
+        b'c'..=b'f' | b'C'..=b'F' => Some(Half::Second),
+        _ => None,
+    }
+}
+
+/// Returns the bytes after an escape of four digits.
+fn after_escape(bytes: &[u8]) -> &[u8]
+    ensures { result.now ≡ drop 6 bytes.now }
+{
+    match bytes.split_at_checked(6) {
+        Some((_, after)) => after,
+        None => &[],
+    }
+}
+
+/// Returns whether bytes begin with a half of a surrogate pair without the other half.
+fn is_lone(bytes: &[u8]) -> bool
+    ensures { result ≡ is_lone_at bytes.now }
+{
+    match half_of(bytes) {
+        None => false,
+        Some(Half::Second) => true,
+        Some(Half::First) => half_of(after_escape(bytes)) != Some(Half::Second),
+    }
+}
+
+/// Returns the bytes after the first one that the escape or the pair has which bytes begin with.
+fn bytes_after(bytes: &[u8]) -> u8
+    ensures { result ≡ after_first bytes.now }
+{
+    if byte_at(bytes, 0) != b'\\' {
+        0
+    } else if half_of(bytes) == Some(Half::First) {
+        11
+    } else {
+        1
+    }
+}
+
+/// Returns the index of the first half of a surrogate pair without the other half in a string, which begins
+/// with its quote.
+fn lone_surrogate(string: &[u8]) -> Option<usize>
+    ensures value { result ≡ lone_at 0 1 string.now }
+    ensures bound { IfSome result (λ at. at < length string.now) }
+{
+    let mut passed = 1u8;
+    for at in 0..string.len() {
+        let rest = &string[at..];
+        if passed > 0 {
+            passed -= 1;
+        } else if byte_at(rest, 0) == b'"' {
+            return None;
+        } else if is_lone(rest) {
+            return Some(at);
+        } else {
+            passed = bytes_after(rest);
+        }
+    }
+    None
+}

@@ -1,0 +1,260 @@
+//! `.env` files: what their lines set, from the variables above and the lines before.
+
+ghost use Rattle.std.specs.Prelude.{◌≡◌, ◌<◌, ◌∷◌, ◌++◌, ℕ, [], None, Some, IfErr, IfOk, IfSome, List, OnOk, length, map, string_bytes, if◌then◌else◌};
+ghost use Rattle.std.specs.List.{Any};
+ghost use Rattle.std.specs.Str.{bytes_eq};
+ghost use Rattle.subst_cli.specs.Dotenv.{setting, value_in, FilesLeave, GoesOn, HasLast, IsFaultOfFile, IsFirstRefused, Leaves, Stops};
+ghost use Rattle.subst_cli.specs.Layers.{ForEntries, entries_of};
+ghost use Rattle.subst_cli.specs.Mark.{after_mark};
+ghost use Rattle.subst_cli.specs.Run.{bytes_of};
+
+use crate::entry::Entry;
+use crate::fault::{Cause, one_fault};
+use crate::hints::{UnsetHint, unset_hint};
+use crate::layers::Variables;
+use crate::part::Outcome;
+use crate::place::Places;
+use crate::source::{Refused, Source};
+use crate::text::{not_utf8, split_mark, text_of};
+use crate::values_file::after_blanks;
+use line::{Line, line_in};
+use std::alloc::{AllocError, Global};
+use std::collections::HashMap;
+use value::{Scope, expanded, unset_variables};
+
+mod line;
+mod value;
+mod written;
+
+/// The settings of `.env` files.
+#[derive(Drop)]
+pub struct Settings {
+    /// The names with their values, in the order of the lines.
+    pub entries: Vec<Entry>,
+    /// The last value of each name.
+    pub values: HashMap<String, String>,
+}
+
+/// A line that is wrong or doesn't expand, which ends the reading of its file.
+#[derive(Drop)]
+struct LineFault {
+    /// The cause.
+    pub cause: Cause,
+    /// Where its line begins, after its blanks: a byte offset in the file.
+    pub start: usize,
+}
+
+/// Reads `.env` files. Returns their settings in the order of files and lines, or the first file that is refused,
+/// and appends a hint at each unset variable that expands to nothing.
+///
+/// # Errors
+///
+/// When allocation fails.
+pub fn settings_of(
+    alloc: Global,
+    files: Vec<Source>,
+    above: &Variables<'_>,
+    unset: &mut Vec<UnsetHint>,
+) -> Result<Result<Vec<Entry>, Refused>, AllocError>
+    ensures gives { ForEntries above.now (λ above. IfOk result (λ outcome. IfOk outcome
+        (λ entries. FilesLeave above [] (map bytes_of files.items) (entries_of entries.items)))) }
+    ensures refused { ForEntries above.now (λ above. IfOk result (λ outcome. IfErr outcome
+        (IsFirstRefused above (map bytes_of files.items)))) }
+{
+    let mut set = Settings {
+        entries: Vec::new(alloc),
+        values: HashMap::new(alloc),
+    };
+    for source in files {
+        let outcome = add_file(alloc, &source, above, &mut set, unset)?;
+        match outcome {
+            Ok(()) => {}
+            Err(faults) => return Ok(Err(Refused { source, faults })),
+        }
+    }
+    Ok(Ok(set.entries))
+}
+
+/// Adds the settings of a file, or returns its faults.
+///
+/// # Errors
+///
+/// When allocation fails.
+fn add_file(
+    alloc: Global,
+    source: &Source,
+    above: &Variables<'_>,
+    set: &mut Settings,
+    unset: &mut Vec<UnsetHint>,
+) -> Result<Outcome<()>, AllocError>
+    requires { HasLast set.now }
+    ensures last { IfOk result (λ outcome. IfOk outcome (λ _. HasLast set.new)) }
+    ensures leaves { ForEntries above.now (λ above. IfOk result (λ outcome. IfOk outcome (λ _.
+        Leaves above (entries_of set.old.entries.items) (after_mark (bytes_of source.now))
+        (entries_of set.new.entries.items)))) }
+    ensures refused { ForEntries above.now (λ above. IfOk result (λ outcome. IfErr outcome
+        (λ faults. Any (IsFaultOfFile above (entries_of set.old.entries.items)
+        (bytes_of source.now)) faults.items))) }
+{
+    if text_of(&source.bytes).is_none() {
+        return Ok(Err(not_utf8(alloc, &source.bytes)?));
+    }
+    let mut hints = Hints {
+        file: &source.name,
+        places: Places::of(&source.bytes),
+        unset,
+    };
+    match add_lines(alloc, &source.bytes, above, set, &mut hints)? {
+        None => Ok(Ok(())),
+        Some(LineFault { cause, start }) => Ok(Err(one_fault(alloc, start..start, cause)?)),
+    }
+}
+
+/// Adds the settings of a file's lines, up to the first one that is wrong or doesn't expand, which is returned.
+///
+/// # Errors
+///
+/// When allocation fails.
+fn add_lines(
+    alloc: Global,
+    bytes: &[u8],
+    above: &Variables<'_>,
+    set: &mut Settings,
+    hints: &mut Hints<'_, '_>,
+) -> Result<Option<LineFault>, AllocError>
+    requires { HasLast set.now }
+    ensures last { IfOk result (λ fault. fault ≡ None → HasLast set.new) }
+    ensures leaves { ForEntries above.now (λ above. IfOk result (λ fault. fault ≡ None
+        → Leaves above (entries_of set.old.entries.items) (after_mark bytes.now)
+        (entries_of set.new.entries.items))) }
+    ensures stops { ForEntries above.now (λ above. IfOk result (λ fault. IfSome fault
+        (λ it. Stops above (entries_of set.old.entries.items) (after_mark bytes.now) it.cause))) }
+{
+    let (_, mut rest) = split_mark(bytes);
+    while !rest.is_empty() {
+        let start = bytes.len().saturating_sub(after_blanks(rest).len());
+        match add_line(alloc, rest, above, set, hints, start)? {
+            Ok(later) => rest = later,
+            Err(cause) => return Ok(Some(LineFault { cause, start })),
+        }
+    }
+    Ok(None)
+}
+
+/// Adds the setting of a text's first line. Returns the text after it, or the cause if it is wrong.
+///
+/// # Errors
+///
+/// When allocation fails.
+fn add_line<'t>(
+    alloc: Global,
+    text: &'t [u8],
+    above: &Variables<'_>,
+    set: &mut Settings,
+    hints: &mut Hints<'_, '_>,
+    start: usize,
+) -> Result<Result<&'t [u8], Cause>, AllocError>
+    requires { HasLast set.now }
+    ensures last { IfOk result (λ outcome. IfOk outcome (λ _. HasLast set.new)) }
+    ensures goes_on { ForEntries above.now (λ above. IfOk result (λ outcome. IfOk outcome
+        (GoesOn above (entries_of set.old.entries.items) text.now
+        (entries_of set.new.entries.items)))) }
+    ensures stops { ForEntries above.now (λ above. IfOk result (λ outcome. IfErr outcome
+        (Stops above (entries_of set.old.entries.items) text.now))) }
+    ensures shorter { 0 < length text.now → IfOk result (λ outcome. IfOk outcome
+        (λ later. length later.now < length text.now)) }
+{
+    match line_in(alloc, text)? {
+        Line::Nothing(later) => Ok(Ok(later)),
+        Line::Wrong(why) => Ok(Err(Cause::NoVariable(why))),
+        Line::Sets(name, value, later) => {
+            let scope = Scope {
+                above,
+                set: &set.values,
+            };
+            hints.add(alloc, start, &value, &scope)?;
+            match expanded(alloc, &value, &scope)? {
+                Ok(value) => {
+                    set.add(alloc, name, value)?;
+                    Ok(Ok(later))
+                }
+                Err(cause) => Ok(Err(cause)),
+            }
+        }
+    }
+}
+
+/// Hints at unset variables of a file.
+#[derive(Drop)]
+struct Hints<'s, 'h> {
+    /// The name of the file.
+    file: &'s str,
+    /// The places in it.
+    places: Places<'s>,
+    /// The hints so far.
+    unset: &'h mut Vec<UnsetHint>,
+}
+
+impl Hints<'_, '_> {
+    /// Adds a hint at each unset variable of a value, whose line begins at an offset.
+    ///
+    /// # Errors
+    ///
+    /// When allocation fails.
+    fn add(
+        &mut self,
+        alloc: Global,
+        start: usize,
+        value: &[u8],
+        scope: &Scope<'_, '_>,
+    ) -> Result<(), AllocError> {
+        for variable in unset_variables(alloc, value, scope)? {
+            let place = self.places.at(alloc, start)?;
+            self.unset
+                .push(unset_hint(alloc, self.file, place, variable.name)?)?;
+        }
+        Ok(())
+    }
+}
+
+impl Settings {
+    /// Sets a name to a value.
+    ///
+    /// # Errors
+    ///
+    /// When allocation fails.
+    fn add(&mut self, alloc: Global, name: &str, value: String) -> Result<(), AllocError>
+        requires { HasLast self.now }
+        ensures last { OnOk result (HasLast self.new) }
+        ensures entries { OnOk result (entries_of self.new.entries.items
+            ≡ entries_of self.old.entries.items ++ setting name.now (string_bytes value) ∷ []) }
+    {
+        put(alloc, &mut self.values, name, &value)?;
+        let name = String::from_str(alloc, name)?;
+        let value = Some(value);
+        self.entries.push(Entry { name, value })?;
+        Ok(())
+    }
+}
+
+/// Puts a copy of a value under a name.
+///
+/// # Errors
+///
+/// When allocation fails.
+#[tactic(auto, using(std::proofs::lemmas::Map::Text::text_keys))]
+fn put(
+    alloc: Global,
+    values: &mut HashMap<String, String>,
+    name: &str,
+    value: &str,
+) -> Result<(), AllocError>
+    ensures { OnOk result ((other : List ℕ) → value_in values.new other
+        ≡ (if bytes_eq other name.now then Some value.now else value_in values.old other)) }
+{
+    values.insert(
+        String::from_str(alloc, name)?,
+        String::from_str(alloc, value)?,
+    )?;
+    Ok(())
+}

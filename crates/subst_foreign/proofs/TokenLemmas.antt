@@ -1,0 +1,564 @@
+-- The token that a text begins with.
+use Rattle.std.proofs.Common.{◌≡◌, ◌≢◌, ◌↔◌, inl, inr, Bool, true, false, IsTrue, ℕ, zero, suc, ◌<◌, ◌≤◌, ◌+◌, List, [], ◌∷◌, ◌++◌, length, get_or, take, drop, length-append, refl, sym, ap, ◌∙◌, subst, append_assoc, append-nil, arith}
+use Rattle.std.proofs.lemmas.List.{drop_more, take_more, take-append-drop}
+use Rattle.std.specs.List.{AllByRecursion}
+use Rattle.subst_foreign.specs.Foreign.{IsShellName, is_inside}
+use Rattle.subst_foreign.specs.Grammar.{BeginsWithNoHead, ClosesBraces, FollowsDollar, GoesOn, Grammar, Head, Dollar, Short, Braced, Optional, Opened, HasForm, IsEnd, IsEndless, IsHead, IsMessage, IsNameOf, IsNoBrace, IsRefused, IsStart, IsUnfit, IsVariable, NeverCloses, OpensMessage, has_operator, head_text, in_braces, is_whole, operator_text, takes_message}
+use Rattle.subst_foreign.specs.Grammar.ClosesBraces.{nothing, byte, opening, closing}
+use Rattle.subst_foreign.specs.Reading.{after_message, IsFront, IsInner, IsLone, IsStep}
+use Rattle.subst_foreign.specs.Text.{IsByte}
+use Rattle.subst_foreign.specs.declared.forms.Forms.{Forms}
+use Rattle.subst_foreign.specs.declared.forms.Forms.TheVariants as of
+use Rattle.subst_foreign.specs.declared.forms.Operator.{Operator}
+use Rattle.subst_foreign.specs.declared.forms.Operator.TheVariants as operator
+use Rattle.subst_foreign.specs.declared.refused.ShellForm.{ShellForm}
+use Rattle.subst_foreign.specs.declared.refused.ShellForm.TheVariants as form
+use Rattle.subst_foreign.specs.declared.token.End.{End as SeenEnd}
+use Rattle.subst_foreign.specs.declared.token.End.TheVariants as ends
+use Rattle.subst_foreign.specs.declared.token.Token.{Token as SeenToken}
+use Rattle.subst_foreign.specs.declared.token.Token.TheVariants as seen
+use Rattle.subst_language.proofs.Language.ListLemmas.{each_append, first_same, rest_same, no_element}
+use Rattle.subst_language.proofs.Language.NameLemmas.{closing_no_name, opening_no_name, question_mark_no_name, name_bytes, split_unique}
+use Rattle.subst_language.specs.Language.Bytes.{dollar, question_mark, opening_brace, closing_brace}
+use Rattle.subst_language.specs.Language.Name.{IsName, IsNameByte, BeginsWithNo}
+
+-- after a byte of a message that is no brace as many braces are open
+no_brace_more : {d : ℕ} {m : List ℕ} → ClosesBraces d m → (b : ℕ) (x y : List ℕ) → IsNoBrace b
+    → b ∷ x ≡ m ++ closing_brace ∷ y → (n : List ℕ) × ClosesBraces d n × (x ≡ n ++ closing_brace ∷ y)
+no_brace_more nothing b x y none is = absurd (none.1 (first_same is))
+no_brace_more (byte {m = n} other closes) b x y none is = (n, closes, rest_same is)
+no_brace_more (opening closes) b x y none is = absurd (none.0 (first_same is))
+no_brace_more (closing closes) b x y none is = absurd (none.1 (first_same is))
+
+-- after an opening brace there is one more
+one_more : {d : ℕ} {m : List ℕ} → ClosesBraces d m → (x y : List ℕ) → opening_brace ∷ x ≡ m ++ closing_brace ∷ y
+    → (n : List ℕ) × ClosesBraces (suc d) n × (x ≡ n ++ closing_brace ∷ y)
+one_more nothing x y is = absurd (omega (arith, first_same is))
+one_more (byte {m = n} other closes) x y is = absurd (other.0 (sym (first_same is)))
+one_more (opening {m = n} closes) x y is = (n, closes, rest_same is)
+one_more (closing closes) x y is = absurd (omega (arith, first_same is))
+
+-- and after a closing brace, where one is open, there is one less
+one_less : {d : ℕ} {m : List ℕ} → ClosesBraces (suc d) m → (x y : List ℕ)
+    → closing_brace ∷ x ≡ m ++ closing_brace ∷ y
+    → (n : List ℕ) × ClosesBraces d n × (x ≡ n ++ closing_brace ∷ y)
+one_less (byte {m = n} other closes) x y is = absurd (other.1 (sym (first_same is)))
+one_less (opening closes) x y is = absurd (omega (arith, first_same is))
+one_less (closing {m = n} closes) x y is = (n, closes, rest_same is)
+
+-- A message is read up to a byte, where so many of its braces are open.
+pub record IsInMessage (forms : Forms) (depth : ℕ) (front rest text : List ℕ) : Type 0 where
+  pub few : depth ≤ length front
+  pub plain : forms ≢ of.Shell → (depth ≡ 0) × AllByRecursion IsNoBrace front
+  pub closes : (m : List ℕ) → ClosesBraces depth m → ClosesBraces 0 (front ++ m)
+  pub goes_on : (m y : List ℕ) → ClosesBraces 0 m → text ≡ m ++ closing_brace ∷ y
+      → (n : List ℕ) × ClosesBraces depth n × (rest ≡ n ++ closing_brace ∷ y)
+
+-- after a byte that is no brace
+pub message_byte : {forms : Forms} {depth : ℕ} {front rest text : List ℕ} (b : ℕ) → IsNoBrace b
+    → IsInMessage forms depth front (b ∷ rest) text → IsInMessage forms depth (front ++ b ∷ []) rest text
+message_byte {depth} {front} {rest} b none so_far = record {
+  few = omega (arith, length-append front (b ∷ []), so_far.few);
+  plain = λ differs.
+      ((so_far.plain differs).0, each_append IsNoBrace front (b ∷ []) (so_far.plain differs).1 (none, tt));
+  closes = λ m is. rw append_assoc (so_far.closes (b ∷ m) (byte none is));
+  goes_on = λ m y is splits.
+      let (n, closes, left) = so_far.goes_on m y is splits in no_brace_more closes b rest y none left;
+}
+
+-- after an opening brace, of a shell
+message_opening : {depth : ℕ} {front rest text : List ℕ}
+    → IsInMessage of.Shell depth front (opening_brace ∷ rest) text
+    → IsInMessage of.Shell (suc depth) (front ++ opening_brace ∷ []) rest text
+message_opening {depth} {front} {rest} so_far = record {
+  few = omega (arith, length-append front (opening_brace ∷ []), so_far.few);
+  plain = λ differs. absurd (differs refl);
+  closes = λ m is. rw append_assoc (so_far.closes (opening_brace ∷ m) (opening is));
+  goes_on = λ m y is splits.
+      let (n, closes, left) = so_far.goes_on m y is splits in one_more closes rest y left;
+}
+
+-- after a closing brace of one that was opened
+pub message_closing : {forms : Forms} {depth : ℕ} {front rest text : List ℕ}
+    → IsInMessage forms (suc depth) front (closing_brace ∷ rest) text
+    → IsInMessage forms depth (front ++ closing_brace ∷ []) rest text
+message_closing {depth} {front} {rest} so_far = record {
+  few = omega (arith, length-append front (closing_brace ∷ []), so_far.few);
+  plain = λ differs. absurd (omega (arith, (so_far.plain differs).0));
+  closes = λ m is. rw append_assoc (so_far.closes (closing_brace ∷ m) (closing is));
+  goes_on = λ m y is splits.
+      let (n, closes, left) = so_far.goes_on m y is splits in one_less closes rest y left;
+}
+
+-- whole, before the brace that closes it
+pub message_whole : (forms : Forms) {front rest text : List ℕ} → IsInMessage forms 0 front rest text
+    → IsMessage forms front
+message_whole of.Shell {front} so_far = subst (ClosesBraces 0) (append-nil front) (so_far.closes [] nothing)
+message_whole _ so_far = (so_far.plain (λ is. cc)).1
+
+-- or never closed
+pub message_endless : (forms : Forms) {depth : ℕ} {front text : List ℕ} → front ≡ text
+    → IsInMessage forms depth front [] text → NeverCloses forms text
+message_endless of.Shell same so_far = λ (m, y, is, splits).
+    let (n, closes, left) = so_far.goes_on m y is splits in no_element closing_brace n y left
+message_endless _ same so_far = subst (AllByRecursion IsNoBrace) same (so_far.plain (λ is. cc)).1
+
+-- the byte at which a message goes on
+pub byte_next : (text : List ℕ) (at b : ℕ) {forms : Forms} {depth : ℕ} → at < length text → get_or text at 0 ≡ b
+    → IsInMessage forms depth (take at text) (drop at text) text
+    → IsInMessage forms depth (take at text) (b ∷ drop (at + 1) text) text
+byte_next text at b {forms} {depth} below is =
+    subst (λ x. IsInMessage forms depth (take at text) x text)
+    (drop_more text at 0 below ∙ ap (λ (c : ℕ). c ∷ drop (at + 1) text) is)
+
+-- from the message up to one byte of a text to that up to the next
+pub message_turn : (text : List ℕ) (at b : ℕ) {forms : Forms} {depth next : ℕ} → at < length text
+    → get_or text at 0 ≡ b
+    → (IsInMessage forms depth (take at text) (b ∷ drop (at + 1) text) text
+    → IsInMessage forms next (take at text ++ b ∷ []) (drop (at + 1) text) text)
+    → IsInMessage forms depth (take at text) (drop at text) text
+    → IsInMessage forms next (take (at + 1) text) (drop (at + 1) text) text
+message_turn text at b {forms} {depth} {next} below is step so_far =
+    let more : take (at + 1) text ≡ take at text ++ b ∷ [] =
+    take_more text at 0 below ∙ ap (λ (c : ℕ). take at text ++ c ∷ []) is in
+    subst (λ x. IsInMessage forms next x (drop (at + 1) text) text) (sym more)
+    (step (byte_next text at b below is so_far))
+
+-- over an opening brace of a shell's message
+pub message_more : (text : List ℕ) (at : ℕ) {forms : Forms} {depth next : ℕ} → next ≡ depth + 1
+    → at < length text → get_or text at 0 ≡ opening_brace → forms ≡ of.Shell
+    → IsInMessage forms depth (take at text) (drop at text) text
+    → IsInMessage forms next (take (at + 1) text) (drop (at + 1) text) text
+message_more text at {depth} {next} counts below is shell so_far =
+    let one : suc depth ≡ next = omega (arith, counts) in
+    subst (λ f. IsInMessage f next (take (at + 1) text) (drop (at + 1) text) text) (sym shell)
+    (subst (λ d. IsInMessage of.Shell d (take (at + 1) text) (drop (at + 1) text) text) one
+    (message_turn text at opening_brace below is message_opening
+    (subst (λ f. IsInMessage f depth (take at text) (drop at text) text) shell so_far)))
+
+-- the text around a byte
+pub around_byte : (text : List ℕ) (at b : ℕ) → at < length text → get_or text at 0 ≡ b
+    → text ≡ take at text ++ b ∷ drop (at + 1) text
+around_byte text at b below is =
+    sym (take-append-drop at text)
+    ∙ ap (λ x. take at text ++ x)
+    (drop_more text at 0 below ∙ ap (λ (c : ℕ). c ∷ drop (at + 1) text) is)
+
+-- a message up to an opening brace, of no shell
+pub message_opens : (forms : Forms) {depth : ℕ} {front text : List ℕ} (rest : List ℕ) → forms ≢ of.Shell
+    → text ≡ front ++ opening_brace ∷ rest → IsInMessage forms depth front (opening_brace ∷ rest) text
+    → IsEndless forms form.Message text
+message_opens of.Shell rest differs splits so_far = absurd (differs refl)
+message_opens _ {front} rest differs splits so_far = (front, rest, (so_far.plain differs).1, splits)
+
+-- the name of a variable is a name
+pub name_of : (forms : Forms) (n : List ℕ) → IsNameOf forms n → IsName n
+name_of of.Own n named = named
+name_of _ n named = named.0
+
+-- no operator begins with a name byte
+pub operator_ends : (op : Operator) (x : List ℕ) → BeginsWithNo IsNameByte (operator_text op ++ x)
+operator_ends operator.Default x = λ is. cc
+operator_ends _ x = λ is. cc
+
+-- or with a closing brace
+operator_differs : (op : Operator) (x y : List ℕ) → ¬ (operator_text op ++ x ≡ closing_brace ∷ y)
+operator_differs operator.Default x y is = omega (arith, first_same is)
+operator_differs _ x y is = omega (arith, first_same is)
+
+-- what is after a name in braces, moved out of it
+pub braces_append : (n x y : List ℕ) → in_braces n x ++ y ≡ in_braces n (x ++ y)
+braces_append n x y = ap (λ z. dollar ∷ opening_brace ∷ z) (append_assoc n x y)
+
+-- a name in braces, and what is after it, are the same however they were split
+same_braced : (n m x y : List ℕ) → AllByRecursion IsNameByte n → AllByRecursion IsNameByte m
+    → BeginsWithNo IsNameByte x → BeginsWithNo IsNameByte y → in_braces n x ≡ in_braces m y → (n ≡ m) × (x ≡ y)
+same_braced n m x y each all ended ends is = split_unique n m x y each all ended ends (rest_same (rest_same is))
+
+-- a form that is refused after a name in braces
+name_refused : (g : Grammar) (depth : ℕ) (f : ShellForm) (n x : List ℕ)
+    → IsRefused g (is_inside depth) f (in_braces n x) → IsFront f (in_braces n []) x
+    → IsStep g depth (in_braces n x) (seen.Refused f) x
+name_refused g depth f n x refused front =
+    let taken : in_braces n x ≡ in_braces n [] ++ x = sym (braces_append n [] x) in
+    record {
+      front = in_braces n [];
+      is = (subst (IsRefused g (is_inside depth) f) taken refused, front);
+      taken = taken;
+    }
+
+-- what never closes goes to the end of the text
+never_closed : (g : Grammar) (depth : ℕ) (s : List ℕ) → IsRefused g (is_inside depth) form.Unclosed s
+    → IsStep g depth s (seen.Refused form.Unclosed) []
+never_closed g depth s refused =
+    let taken : s ≡ s ++ [] = sym (append-nil s) in
+    record {
+      front = s;
+      is = (subst (IsRefused g (is_inside depth) form.Unclosed) taken refused, refl);
+      taken = taken;
+    }
+
+-- messages of no shell are in common forms
+takes_common : (forms : Forms) (op : Operator) → IsTrue (takes_message op) → IsTrue (has_operator forms op)
+    → forms ≢ of.Shell → forms ≡ of.Common
+takes_common of.Own operator.Question takes has differs = absurd cc
+takes_common of.Own operator.ColonQuestion takes has differs = absurd cc
+takes_common of.Own _ takes has differs = absurd cc
+takes_common of.Envsubst op takes has differs = absurd cc
+takes_common of.Shell op takes has differs = absurd (differs refl)
+takes_common of.Common op takes has differs = refl
+
+-- a message with an opening brace is of no shell
+message_common : (forms : Forms) (x : List ℕ) → IsEndless forms form.Message x
+    → (forms ≢ of.Shell) × ((m y : List ℕ) × AllByRecursion IsNoBrace m × (x ≡ m ++ opening_brace ∷ y))
+message_common of.Shell x endless = absurd endless
+message_common _ x endless = ((λ is. cc), endless)
+
+-- a message that isn't closed is refused
+pub message_refused : (g : Grammar) (depth : ℕ) (f : ShellForm) (n after x : List ℕ) (op : Operator)
+    → IsTrue (takes_message op) → IsHead g (Opened n op) x → after ≡ operator_text op ++ x
+    → IsEndless g.forms f x → IsStep g depth (in_braces n after) (seen.Refused f) (after_message f after)
+message_refused g depth f n after x op takes head is endless = of f endless
+  where
+    opens : in_braces n after ≡ head_text (Opened n op) ++ x
+    opens = ap (in_braces n) is ∙ sym (braces_append n (operator_text op) x)
+
+    named : IsName n
+    named = name_of g.forms n head.1.0
+
+    ended : BeginsWithNo IsNameByte after
+    ended = subst (BeginsWithNo IsNameByte) (sym is) (operator_ends op x)
+
+    of : (f : ShellForm) → IsEndless g.forms f x
+        → IsStep g depth (in_braces n after) (seen.Refused f) (after_message f after)
+    of form.Unclosed never =
+        never_closed g depth (in_braces n after) (inl (n, op, x, takes, head, opens, never))
+    of form.Message braces =
+        let (differs, at) = message_common g.forms x braces in
+        name_refused g depth form.Message n after
+        (takes_common g.forms op takes head.0 differs, (n, op, x, takes, head, opens, at)) (n, named, ended, refl)
+    of _ none = absurd none
+
+-- the name is none of a variable's with this end
+abbrev pub IsNotOf : Grammar → List ℕ → SeenEnd → Type 0
+IsNotOf g n (ends.Closed x) = ¬ (IsVariable g false n)
+IsNotOf g n (ends.Optional x) = ¬ (IsVariable g true n)
+IsNotOf g n (ends.Operated op x) = ¬ (IsVariable g true n)
+IsNotOf g n ends.Unfit = Unit {0}
+
+-- before a closing brace
+not_closed : (g : Grammar) (n after : List ℕ) (end : SeenEnd) → IsEnd g.forms after end → IsNotOf g n end
+    → (x : List ℕ) → after ≡ closing_brace ∷ x → ¬ (IsVariable g false n)
+not_closed g n after (ends.Closed y) at none x is named = none named
+not_closed g n after (ends.Optional y) at none x is named = omega (arith, first_same (sym is ∙ at.1))
+not_closed g n after (ends.Operated op y) at none x is named = operator_differs op y.now x (sym at.2 ∙ is)
+not_closed g n after ends.Unfit at none x is named = at.0 x is
+
+-- before a question mark and a closing brace
+not_optional : (g : Grammar) (n after : List ℕ) (end : SeenEnd) → IsEnd g.forms after end → IsNotOf g n end
+    → (x : List ℕ) → g.forms ≡ of.Own → after ≡ question_mark ∷ closing_brace ∷ x → ¬ (IsVariable g true n)
+not_optional g n after (ends.Closed y) at none x own is named = omega (arith, first_same (sym is ∙ at))
+not_optional g n after (ends.Optional y) at none x own is named = none named
+not_optional g n after (ends.Operated op y) at none x own is named = none named
+not_optional g n after ends.Unfit at none x own is named = at.1 own x is
+
+-- before an operator
+not_operated : (g : Grammar) (n after : List ℕ) (end : SeenEnd) → IsEnd g.forms after end → IsNotOf g n end
+    → (op : Operator) (x : List ℕ) → IsTrue (has_operator g.forms op) → IsStart op x
+    → after ≡ operator_text op ++ x → ¬ (IsVariable g true n)
+not_operated g n after (ends.Closed y) at none op x has start is named = operator_differs op x y.now (sym is ∙ at)
+not_operated g n after (ends.Optional y) at none op x has start is named = none named
+not_operated g n after (ends.Operated other y) at none op x has start is named = none named
+not_operated g n after ends.Unfit at none op x has start is named = at.2 op x has start is
+
+-- a name begins with no opening brace
+name_differs : (n x y : List ℕ) → IsName n → ¬ (opening_brace ∷ y ≡ n ++ x)
+name_differs [] x y named is = named
+name_differs (b ∷ n) x y named is = opening_no_name (subst IsNameByte (sym (first_same is)) named.0)
+
+-- no head begins with name bytes in braces that are no variable's with what is after them
+pub no_braced_head : (g : Grammar) (n after : List ℕ) (end : SeenEnd) → AllByRecursion IsNameByte n
+    → BeginsWithNo IsNameByte after → IsEnd g.forms after end → IsNotOf g n end
+    → BeginsWithNoHead g (in_braces n after)
+no_braced_head g n after end run ended at none Dollar x is head = omega (arith, first_same (rest_same is))
+no_braced_head g n after end run ended at none (Short m) x is head =
+    name_differs m x (n ++ after) (name_of g.forms m head.0.0) (rest_same is)
+no_braced_head g n after end run ended at none (Braced m) x is head =
+    let (same, rest) = same_braced n m after (closing_brace ∷ x) run (name_bytes m (name_of g.forms m head.0))
+    ended closing_no_name (is ∙ braces_append m (closing_brace ∷ []) x) in
+    not_closed g n after end at none x rest (subst (IsVariable g false) (sym same) head)
+no_braced_head g n after end run ended at none (Optional m) x is (own, head) =
+    let (same, rest) = same_braced n m after (question_mark ∷ closing_brace ∷ x) run
+    (name_bytes m (name_of g.forms m head.0)) ended question_mark_no_name
+    (is ∙ braces_append m (question_mark ∷ closing_brace ∷ []) x) in
+    not_optional g n after end at none x own rest (subst (IsVariable g true) (sym same) head)
+no_braced_head g n after end run ended at none (Opened m op) x is (has, head, start) =
+    let (same, rest) = same_braced n m after (operator_text op ++ x) run
+    (name_bytes m (name_of g.forms m head.0)) ended (operator_ends op x)
+    (is ∙ braces_append m (operator_text op) x) in
+    not_operated g n after end at none op x has start rest (subst (IsVariable g true) (sym same) head)
+
+-- no text is of a form that is refused: what begins it is no head, and none of the forms of a whole shell's text
+none_refused : (g : Grammar) (inside : Bool) (x : List ℕ) → BeginsWithNoHead g (dollar ∷ x)
+    → (g.forms ≡ of.Common → ¬ (BeginsWithNo FollowsDollar x))
+    → (IsTrue (is_whole g.forms g.all) → (y : List ℕ) → x ≡ opening_brace ∷ y
+    → ¬ (BeginsWithNo (λ b. IsName (b ∷ []) × IsShellName (b ∷ [])) y))
+    → ((f : ShellForm) → ¬ (GoesOn g f (dollar ∷ x)))
+    → (f : ShellForm) → ¬ (IsRefused g inside f (dollar ∷ x))
+none_refused g inside x none dollars names goes_on = of
+  where
+    opens : (P : List ℕ → Type 0) → ¬ (OpensMessage g P (dollar ∷ x))
+    opens P (n, op, y, takes, head, is, holds) = none (Opened n op) y is head
+
+    of : (f : ShellForm) → ¬ (IsRefused g inside f (dollar ∷ x))
+    of form.Brace (within, differs, (y, is)) = omega (arith, first_same is)
+    of form.Dollar (common, (y, is, follows)) =
+        dollars common (subst (BeginsWithNo FollowsDollar) (sym (rest_same is)) follows)
+    of form.NoName (whole, (y, is, nameless)) = names whole y (rest_same is) nameless
+    of form.Message (common, message) = opens _ message
+    of form.Unclosed (inl message) = opens _ message
+    of form.Unclosed (inr goes) = goes_on form.Unclosed goes
+    of f goes = goes_on f goes
+
+-- a dollar that begins nothing
+dollar_byte : (g : Grammar) (depth : ℕ) (x : List ℕ) → BeginsWithNoHead g (dollar ∷ x)
+    → ((f : ShellForm) → ¬ (IsRefused g (is_inside depth) f (dollar ∷ x)))
+    → IsStep g depth (dollar ∷ x) (seen.Byte dollar) x
+dollar_byte g depth x none taken = record {
+  front = [];
+  is = record { no_head = none; taken = taken; no_brace = λ within. ((λ is. omega arith), (λ is. omega arith)) };
+  taken = refl;
+}
+
+-- texts of common forms are read as a whole
+common_whole : (forms : Forms) (all : Bool) → forms ≡ of.Common → IsTrue (is_whole forms all)
+common_whole forms all common = subst (λ f. IsTrue (is_whole f all)) (sym common) refl
+
+-- a dollar where no text is read as a whole
+pub unread_dollar : (g : Grammar) (depth : ℕ) (x : List ℕ) → is_whole g.forms g.all ≡ false
+    → BeginsWithNoHead g (dollar ∷ x) → IsStep g depth (dollar ∷ x) (seen.Byte dollar) x
+unread_dollar g depth x unread none =
+    let part : ¬ (IsTrue (is_whole g.forms g.all)) = λ whole. cc in
+    dollar_byte g depth x none (none_refused g (is_inside depth) x none
+    (λ common. absurd (part (common_whole g.forms g.all common))) (λ whole. absurd (part whole))
+    (λ f goes. part goes.0))
+
+-- where a text is read as a whole it isn't of own forms
+whole_differs : (forms : Forms) (all : Bool) → IsTrue (is_whole forms all) → forms ≢ of.Own
+whole_differs forms all whole own = let none = subst (λ f. IsTrue (is_whole f all)) own whole in cc
+
+-- other forms than own ones have no operator with a start of its own
+started : (forms : Forms) (op : Operator) (x : List ℕ) → forms ≢ of.Own → IsTrue (has_operator forms op)
+    → IsStart op x
+started of.Own op x differs has = absurd (differs refl)
+started of.Envsubst op x differs has = absurd cc
+started of.Shell operator.Default x differs has = absurd cc
+started of.Common operator.Default x differs has = absurd cc
+started _ _ x differs has = tt
+
+-- so what may not follow a name is all that is no end of a variable
+unfit_end : (forms : Forms) (all : Bool) (x : List ℕ) → IsTrue (is_whole forms all)
+    → IsUnfit forms x ↔ IsEnd forms x ends.Unfit
+unfit_end forms all x whole = (
+  λ unfit. (
+    unfit.0,
+    λ own. absurd (whole_differs forms all whole own),
+    λ op y has start. unfit.1 op y has,
+  ),
+  λ end. (end.0, λ op y has. end.2 op y has (started forms op y (whole_differs forms all whole) has)),
+)
+
+-- no name of a shell begins with name bytes that are none
+no_shell_name : (n x : List ℕ) → AllByRecursion IsNameByte n → BeginsWithNo IsNameByte x
+    → ¬ (IsName n × IsShellName n) → BeginsWithNo (λ b. IsName (b ∷ []) × IsShellName (b ∷ [])) (n ++ x)
+no_shell_name [] [] run ended none = tt
+no_shell_name [] (b ∷ x) run ended none = λ first. ended first.0.0
+no_shell_name (b ∷ n) x run ended none = λ first. none (run, first.1)
+
+-- and one begins with those that are
+shell_name : (n x : List ℕ) → IsName n → IsShellName n
+    → ¬ (BeginsWithNo (λ b. IsName (b ∷ []) × IsShellName (b ∷ [])) (n ++ x))
+shell_name [] x named shell = absurd named
+shell_name (b ∷ n) x named shell = λ none. none ((named.0, tt), shell)
+
+-- a dollar and an opening brace before no name of a shell
+pub nameless : (g : Grammar) (depth : ℕ) (n x : List ℕ) → IsTrue (is_whole g.forms g.all)
+    → AllByRecursion IsNameByte n → BeginsWithNo IsNameByte x → ¬ (IsName n × IsShellName n)
+    → IsStep g depth (in_braces n x) (seen.Refused form.NoName) (n ++ x)
+nameless g depth n x whole run ended none = record {
+  front = dollar ∷ opening_brace ∷ [];
+  is = ((whole, (n ++ x, refl, no_shell_name n x run ended none)), refl);
+  taken = refl;
+}
+
+-- a dollar before a brace, a name and an end of a variable that isn't chosen
+pub fit_dollar : (g : Grammar) (depth : ℕ) (n x : List ℕ) → IsTrue (is_whole g.forms g.all) → IsName n
+    → IsShellName n → BeginsWithNo IsNameByte x → ¬ (IsEnd g.forms x ends.Unfit)
+    → BeginsWithNoHead g (in_braces n x)
+    → IsStep g depth (in_braces n x) (seen.Byte dollar) (opening_brace ∷ n ++ x)
+fit_dollar g depth n x whole named shell ended fit none =
+    dollar_byte g depth (opening_brace ∷ n ++ x) none
+    (none_refused g (is_inside depth) (opening_brace ∷ n ++ x) none
+    (λ common follows. follows (inr (inl refl)))
+    (λ _ y is nameless. shell_name n x named shell
+    (subst (BeginsWithNo (λ b. IsName (b ∷ []) × IsShellName (b ∷ []))) (sym (rest_same is)) nameless))
+    fits)
+  where
+    fits : (f : ShellForm) → ¬ (GoesOn g f (in_braces n x))
+    fits f (_, (m, y, other, _, is, ends, unfit, _)) =
+        let same : x ≡ y = (same_braced n m x y (name_bytes n named) (name_bytes m other) ended ends is).1 in
+        fit ((unfit_end g.forms g.all x whole).0 (subst (IsUnfit g.forms) (sym same) unfit))
+
+-- what may not follow a name is refused by its form
+pub unfit_refused : (g : Grammar) (depth : ℕ) (n x : List ℕ) (f : ShellForm) → IsTrue (is_whole g.forms g.all)
+    → IsName n → IsShellName n → BeginsWithNo IsNameByte x → IsEnd g.forms x ends.Unfit → HasForm f x
+    → IsStep g depth (in_braces n x) (seen.Refused f) x
+unfit_refused g depth n x f whole named shell ended end has = of f has
+  where
+    goes_on : (f : ShellForm) → HasForm f x → GoesOn g f (in_braces n x)
+    goes_on f has =
+        (whole, (n, x, named, shell, refl, ended, (unfit_end g.forms g.all x whole).1 end, has))
+
+    front : (m : List ℕ) × IsName m × BeginsWithNo IsNameByte x × (in_braces n [] ≡ in_braces m [])
+    front = (n, named, ended, refl)
+
+    of : (f : ShellForm) → HasForm f x → IsStep g depth (in_braces n x) (seen.Refused f) x
+    of form.Dollar has = absurd has
+    of form.NoName has = absurd has
+    of form.Message has = absurd has
+    of form.Brace has = absurd has
+    of form.Unclosed has =
+        subst (IsStep g depth (in_braces n x) (seen.Refused form.Unclosed)) (sym has)
+        (never_closed g depth (in_braces n x) (inr (goes_on form.Unclosed has)))
+    of f has = name_refused g depth f n x (goes_on f has) front
+
+-- no head begins with a dollar that begins none of these: two dollars, a name, an opening brace
+no_lone_head : (g : Grammar) (n x : List ℕ) → AllByRecursion IsNameByte n → BeginsWithNo IsNameByte x
+    → (IsTrue (is_whole g.forms g.all) → (y : List ℕ) → ¬ (n ++ x ≡ dollar ∷ y)) → ¬ (IsVariable g false n)
+    → ((y : List ℕ) → ¬ (n ++ x ≡ opening_brace ∷ y)) → BeginsWithNoHead g (dollar ∷ n ++ x)
+no_lone_head g n x run ended one none brace Dollar y is head = one head y (rest_same is)
+no_lone_head g n x run ended one none brace (Short m) y is head =
+    let same = split_unique n m x y run (name_bytes m (name_of g.forms m head.0.0)) ended head.1 (rest_same is) in
+    none (subst (IsVariable g false) (sym same.0) head.0)
+no_lone_head g n x run ended one none brace (Braced m) y is head =
+    brace ((m ++ closing_brace ∷ []) ++ y) (rest_same is)
+no_lone_head g n x run ended one none brace (Optional m) y is head =
+    brace ((m ++ question_mark ∷ closing_brace ∷ []) ++ y) (rest_same is)
+no_lone_head g n x run ended one none brace (Opened m op) y is head =
+    brace ((m ++ operator_text op) ++ y) (rest_same is)
+
+-- what follows a dollar that begins nothing
+no_follower : (n x : List ℕ) → ((y : List ℕ) → ¬ (n ++ x ≡ dollar ∷ y))
+    → ((y : List ℕ) → ¬ (n ++ x ≡ opening_brace ∷ y))
+    → BeginsWithNo (λ b. IsName (b ∷ []) × IsShellName (b ∷ [])) (n ++ x) → BeginsWithNo FollowsDollar (n ++ x)
+no_follower n x = of (n ++ x)
+  where
+    of : (s : List ℕ) → ((y : List ℕ) → ¬ (s ≡ dollar ∷ y)) → ((y : List ℕ) → ¬ (s ≡ opening_brace ∷ y))
+        → BeginsWithNo (λ b. IsName (b ∷ []) × IsShellName (b ∷ [])) s → BeginsWithNo FollowsDollar s
+    of [] one brace nameless = tt
+    of (b ∷ s) one brace nameless = of_first
+      where
+        of_first : ¬ (FollowsDollar b)
+        of_first (inl is) = one s (ap (λ c. c ∷ s) is)
+        of_first (inr (inl is)) = brace s (ap (λ c. c ∷ s) is)
+        of_first (inr (inr named)) = nameless named
+
+-- a shell's name follows a dollar
+follows : (n x : List ℕ) → IsName n × IsShellName n → ¬ (BeginsWithNo FollowsDollar (n ++ x))
+follows [] x named = λ none. named.0
+follows (b ∷ n) x named = λ none. none (inr (inr ((named.0.0, tt), named.1)))
+
+-- a dollar that begins no variable, and no brace follows it
+pub lone_step : (g : Grammar) (depth : ℕ) (n x : List ℕ) (t : SeenToken) → AllByRecursion IsNameByte n
+    → BeginsWithNo IsNameByte x → (IsTrue (is_whole g.forms g.all) → (y : List ℕ) → ¬ (n ++ x ≡ dollar ∷ y))
+    → ¬ (IsVariable g false n) → ((y : List ℕ) → ¬ (n ++ x ≡ opening_brace ∷ y)) → IsLone g.forms n t
+    → IsStep g depth (dollar ∷ n ++ x) t (n ++ x)
+lone_step g depth n x t run ended one none brace = of t
+  where
+    no_head : BeginsWithNoHead g (dollar ∷ n ++ x)
+    no_head = no_lone_head g n x run ended one none brace
+
+    of : (t : SeenToken) → IsLone g.forms n t → IsStep g depth (dollar ∷ n ++ x) t (n ++ x)
+    of (seen.Byte b) (is, named) =
+        subst (λ c. IsStep g depth (dollar ∷ n ++ x) (seen.Byte c) (n ++ x)) (sym is)
+        (dollar_byte g depth (n ++ x) no_head (none_refused g (is_inside depth) (n ++ x) no_head
+        (λ common. follows n x (named common)) (λ _ y begins. absurd (brace y begins))
+        (λ f (_, (m, y, _, _, begins, _, _, _)). brace (m ++ y) (rest_same begins))))
+    of (seen.Refused f) (common, is, nameless) =
+        let whole = common_whole g.forms g.all common in
+        subst (λ c. IsStep g depth (dollar ∷ n ++ x) (seen.Refused c) (n ++ x)) (sym is)
+        (record {
+          front = dollar ∷ [];
+          is = (
+            (common, (n ++ x, refl, no_follower n x (one whole) brace (no_shell_name n x run ended nameless))),
+            refl,
+          );
+          taken = refl;
+        })
+    of _ none = absurd none
+
+-- a head begins with a dollar
+pub head_first : (h : Head) (b : ℕ) (x y : List ℕ) → b ∷ x ≡ head_text h ++ y → b ≡ dollar
+head_first Dollar b x y is = first_same is
+head_first _ b x y is = first_same is
+
+-- a byte that is no dollar, and in a text after an operator no brace, stands for itself
+pub plain_byte : (g : Grammar) (inside : Bool) (b : ℕ) (x : List ℕ) → b ≢ dollar → (IsTrue inside → IsNoBrace b)
+    → IsByte g inside b x
+plain_byte g inside b x differs none = record {
+  no_head = λ h y is head. differs (head_first h b x y is);
+  taken = of;
+  no_brace = none;
+}
+  where
+    opens : (P : List ℕ → Type 0) → ¬ (OpensMessage g P (b ∷ x))
+    opens P (n, op, y, takes, head, is, holds) = differs (first_same is)
+
+    goes_on : (f : ShellForm) → ¬ (GoesOn g f (b ∷ x))
+    goes_on f (_, (n, y, _, _, is, _, _, _)) = differs (first_same is)
+
+    of : (f : ShellForm) → ¬ (IsRefused g inside f (b ∷ x))
+    of form.Brace (within, other, (y, is)) = (none within).0 (first_same is)
+    of form.Dollar (common, (y, is, follows)) = differs (first_same is)
+    of form.NoName (whole, (y, is, nameless)) = differs (first_same is)
+    of form.Message (common, message) = opens _ message
+    of form.Unclosed (inl message) = opens _ message
+    of form.Unclosed (inr goes) = goes_on form.Unclosed goes
+    of f goes = goes_on f goes
+
+-- a text is open
+pub depth_inside : (depth : ℕ) → 0 < depth → IsTrue (is_inside depth)
+depth_inside zero more = absurd (omega (arith, more))
+depth_inside (suc depth) more = refl
+
+-- none is
+outside : (depth : ℕ) → depth ≡ 0 → ¬ (IsTrue (is_inside depth))
+outside zero closed is = cc
+outside (suc depth) closed is = absurd (omega (arith, closed))
+
+-- a byte that is no dollar, where no text is open
+pub outer_step : (g : Grammar) (depth b : ℕ) (x : List ℕ) → b ≢ dollar → depth ≡ 0
+    → IsStep g depth (b ∷ x) (seen.Byte b) x
+outer_step g depth b x differs closed = record {
+  front = [];
+  is = plain_byte g (is_inside depth) b x differs (λ within. absurd (outside depth closed within));
+  taken = refl;
+}
+
+-- where one is open
+pub inner_step : (g : Grammar) (depth b : ℕ) (x : List ℕ) (t : SeenToken) → b ≢ dollar → 0 < depth
+    → IsInner g.forms b t → IsStep g depth (b ∷ x) t x
+inner_step g depth b x (seen.Byte c) differs more (is, none) =
+    subst (λ d. IsStep g depth (b ∷ x) (seen.Byte d) x) (sym is)
+    (record { front = []; is = plain_byte g (is_inside depth) b x differs (λ within. none); taken = refl })
+inner_step g depth b x seen.Opening differs more (is, shell) =
+    record { front = []; is = (more, shell); taken = ap (λ c. c ∷ x) is }
+inner_step g depth b x seen.Closing differs more is =
+    record { front = []; is = more; taken = ap (λ c. c ∷ x) is }
+inner_step g depth b x (seen.Refused f) differs more (is, other, brace) =
+    subst (λ r. IsStep g depth (b ∷ x) (seen.Refused r) x) (sym brace) (record {
+      front = opening_brace ∷ [];
+      is = ((depth_inside depth more, other, (x, refl)), refl);
+      taken = ap (λ c. c ∷ x) is;
+    })
+inner_step g depth b x _ differs more none = absurd none

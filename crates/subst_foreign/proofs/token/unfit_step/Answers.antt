@@ -1,0 +1,30 @@
+use Rattle.std.proofs.Common.{sym, ◌∙◌}
+use Rattle.std.proofs.lemmas.Bool.{false≢true}
+use Rattle.std.proofs.lemmas.List.{take_rest}
+use Rattle.subst_foreign.proofs.TokenLemmas.{fit_dollar, nameless, unfit_refused, unread_dollar}
+use Rattle.subst_foreign.proofs.token.unfit_step.Goals as goal
+
+pub returns-then-not-is_whole : goal.returns-then-not-is_whole
+returns-then-not-is_whole g c depth =
+    unread_dollar _ depth c.args.text.now (sym c.is_whole.ensures ∙ c.if-not-is_whole.true) c.requires.no_head
+
+pub returns-then-not-begins_shell_name : goal.returns-then-not-begins_shell_name
+returns-then-not-begins_shell_name g c depth =
+    rw (take_rest, c.requires.text)
+    (nameless _ depth c.args.name.now c.args.after.now (sym c.if-not-is_whole.ensures) c.requires.run
+    c.requires.ended (λ named. false≢true (c.if-not-begins_shell_name.ensures.1 named)))
+
+pub returns-then-not-is_unfit : goal.returns-then-not-is_unfit
+returns-then-not-is_unfit g c depth =
+    let (named, shell) = c.begins_shell_name.ensures.0 c.if-not-begins_shell_name.false in
+    rw (c.requires.text)
+    (fit_dollar _ depth c.args.name.now c.args.after.now (sym c.if-not-is_whole.ensures) named shell
+    c.requires.ended (λ end. false≢true (sym c.if-not-is_unfit.true ∙ c.requires.unfit.1 end))
+    (rw c.requires.text at c.requires.no_head))
+
+pub returns : goal.returns
+returns g c depth =
+    let (named, shell) = c.begins_shell_name.ensures.0 c.if-not-begins_shell_name.false in
+    rw (c.requires.text)
+    (unfit_refused _ depth c.args.name.now c.args.after.now c.form_at.result (sym c.if-not-is_whole.ensures) named
+    shell c.requires.ended (c.requires.unfit.0 c.if-not-is_unfit.false) c.form_at.ensures)

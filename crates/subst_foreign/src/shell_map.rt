@@ -1,0 +1,110 @@
+//! `ShellMap`, a map for the templates of shell-style texts.
+
+ghost use Rattle.std.specs.Prelude.{◌≡◌};
+ghost use Rattle.std.specs.Option.{option_map};
+ghost use Rattle.subst_foreign.specs.Question as question;
+ghost use Rattle.subst_language.specs.Maps.{of_one, without_empty};
+
+use std::convert::AsSlice;
+use subst_language::{BytesMap, OneOf, VariableMap};
+
+/// A map for the templates of shell-style texts: a name that begins with the digit 1, 2 or 3 is a question about
+/// the variable whose name comes after it.
+///
+/// - `1X` has the value of `X`, also an empty one.
+/// - `2X` has the empty text if `X` is missing, and nothing if it is there.
+/// - `3X` has the empty text if `X` is missing or empty, and nothing otherwise.
+/// - Any other name has its value, unless it is empty.
+///
+/// ```rust
+/// let mut variables = BTreeMap::new(alloc);
+/// variables.insert("name", "")?;
+/// let shell = ShellMap { map: &variables };
+/// let output = substitute(alloc, "${name:a}, ${1name:b}, ${3name:c}, ${2name:d}", &shell)?;
+/// // a, , , d
+/// ```
+#[derive(Debug)]
+#[derive_where(Clone, Copy)]
+pub struct ShellMap<'a, M> {
+    pub map: &'a M,
+}
+
+/// The answer to the question that the name is, or else the value of the map, unless it is empty.
+impl<'a, M: BytesMap<'a>> VariableMap<'a> for ShellMap<'a, M>
+where
+    M::Value: AsSlice<u8> + Drop,
+{
+    ghost use Rattle.std.specs.Prelude.{ℕ, List};
+    ghost use Rattle.subst_foreign.specs.Question.{by_question};
+    ghost use Rattle.subst_language.specs.Maps.{of_one};
+
+    type Value = OneOf<M::Value, &'a str>;
+
+    ghost Seen = { List ℕ };
+
+    ghost see = { of_one M.Value.items (λ text. text.now) };
+
+    ghost look_up = { λ self. by_question (M.look_up_bytes self.map.now) };
+
+    #[tactic(auto, using(crate::proofs::QuestionLemmas::no_question))]
+    fn get(&'a self, key: &str) -> Option<OneOf<M::Value, &'a str>> {
+        if let Some(name) = key.strip_prefix('1') {
+            return Some(OneOf::First(value_of(self.map, name)?));
+        }
+        if let Some(name) = key.strip_prefix('2') {
+            return negated(value_of(self.map, name));
+        }
+        if let Some(name) = key.strip_prefix('3') {
+            return negated(filled_value_of(self.map, name));
+        }
+        Some(OneOf::First(filled_value_of(self.map, key)?))
+    }
+}
+
+/// The bytes of the answers.
+impl<'a, M: BytesMap<'a>> BytesMap<'a> for ShellMap<'a, M>
+where
+    M::Value: AsSlice<u8> + Drop,
+{
+    ghost use Rattle.std.proofs.Common.{refl, sym};
+    ghost use Rattle.std.proofs.lemmas.Iterator.Adapters.{option_map_id};
+    ghost use Rattle.subst_foreign.specs.Question.{by_question};
+
+    ghost look_up_bytes = { λ self. by_question (M.look_up_bytes self.map.now) };
+
+    ghost reads = { ((λ bytes. bytes), (λ v. refl), (λ self name. sym (option_map_id _))) };
+}
+
+/// Returns the value of a name.
+fn value_of<'a, M: BytesMap<'a>>(map: &'a M, name: &str) -> Option<M::Value>
+where
+    M::Value: AsSlice<u8> + Drop,
+    ensures { option_map M.Value.items result ≡ M.look_up_bytes map.now name.now }
+{
+    map.get(name)
+}
+
+/// Returns the value of a name, unless it is empty.
+fn filled_value_of<'a, M: BytesMap<'a>>(map: &'a M, name: &str) -> Option<M::Value>
+where
+    M::Value: AsSlice<u8> + Drop,
+    ensures { option_map M.Value.items result ≡ without_empty (M.look_up_bytes map.now) name.now }
+{
+    let value = map.get(name)?;
+    if value.as_slice().is_empty() {
+        None
+    } else {
+        Some(value)
+    }
+}
+
+/// Returns the empty text if there is no value, and nothing otherwise.
+fn negated<'a, V: AsSlice<u8> + Drop>(value: Option<V>) -> Option<OneOf<V, &'a str>>
+    ensures { option_map (of_one V.items (λ text. text.now)) result
+        ≡ question.negated (option_map V.items value) }
+{
+    match value {
+        Some(_) => None,
+        None => Some(OneOf::Second("")),
+    }
+}

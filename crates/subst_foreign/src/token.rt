@@ -1,0 +1,435 @@
+//! The token that a text begins with.
+
+ghost use Rattle.std.specs.Prelude.{◌≡◌, ◌↔◌, ◌++◌, ◌<◌, ◌∷◌, ℕ, List, length, IfErr, IfOk, IfSome, IfNone, IsTrue, codes, false};
+ghost use Rattle.std.specs.List.{AllByRecursion};
+ghost use Rattle.subst_language.specs.Language.Bytes.{closing_brace, colon, dollar, opening_brace, question_mark};
+ghost use Rattle.subst_language.specs.Language.Name.{BeginsWithNo, IsName, IsNameByte};
+ghost use Rattle.subst_foreign.specs.Foreign.{IsShellName};
+ghost use Rattle.subst_foreign.specs.Grammar.{grammar, has_operator, in_braces, minus, operator_text, BeginsWithNoHead, BeginsWithNone, HasForm, IsEnd, IsEndless, IsHead, IsMessage, IsUnfit, Opened};
+ghost use Rattle.subst_foreign.specs.Reading.{after_message, IsInner, IsLone, IsStep};
+ghost use Rattle.subst_foreign.specs.declared.forms.Forms.TheVariants.{Common, Own, Shell};
+ghost use Rattle.subst_foreign.specs.declared.token.End.TheVariants.{Unfit};
+ghost use Rattle.subst_foreign.specs.declared.forms.Operator.{Operator as SpecOperator};
+
+use crate::forms::{Forms, Operator};
+use crate::names::Names;
+use crate::refused::ShellForm;
+use crate::style::Style;
+use subst_language::name_len;
+
+/// A token of a text.
+#[derive(Clone, Copy)]
+pub(crate) enum Token<'t> {
+    /// A byte that stands for itself.
+    Byte(u8),
+    /// `$$`, a dollar.
+    Dollars,
+    /// `$NAME`.
+    Short(&'t [u8]),
+    /// `${NAME}`.
+    Braced(&'t [u8]),
+    /// `${NAME?}` of own forms.
+    Optional(&'t [u8]),
+    /// `${NAME` and an operator, which a text follows.
+    Opens(&'t [u8], Operator),
+    /// `${NAME`, an operator, its message and the closing brace.
+    Required(&'t [u8], Operator, &'t [u8]),
+    /// An opening brace in the text after an operator.
+    Opening,
+    /// A closing brace in the text after an operator.
+    Closing,
+    /// The beginning of a form that is refused.
+    Refused(ShellForm),
+}
+
+/// A token, and the text after it.
+#[derive(Clone, Copy)]
+pub(crate) struct Step<'t> {
+    pub token: Token<'t>,
+    pub rest: &'t [u8],
+}
+
+/// How a variable goes on after its name in braces, with the rest of the text.
+#[derive(Clone, Copy)]
+enum End<'t> {
+    /// The closing brace.
+    Closed(&'t [u8]),
+    /// A question mark and the closing brace, of own forms.
+    Optional(&'t [u8]),
+    /// An operator of the forms.
+    Operated(Operator, &'t [u8]),
+    /// Anything else.
+    Unfit,
+}
+
+/// Returns the token that a text begins with, where so many texts after operators and braces in them are open.
+pub(crate) fn step_at<'t, N: Names>(text: &'t [u8], depth: usize, style: Style<'_, N>) -> Step<'t>
+    requires { 0 < length text.now }
+    ensures { IsStep (grammar style.entry.forms (N.all style.entry.names.now)
+        (N.counts style.entry.names.now)) depth text.now result.token result.rest.now }
+{
+    let (first, rest) = (text[0], &text[1..]);
+    if first == b'$' {
+        return dollar_step(rest, style);
+    }
+    let token = if depth == 0 {
+        Token::Byte(first)
+    } else {
+        inner_token(first, style.forms)
+    };
+    Step { token, rest }
+}
+
+/// Returns the token of a byte that is no dollar, in the text after an operator.
+fn inner_token<'t>(first: u8, forms: Forms) -> Token<'t>
+    ensures { IsInner forms first result }
+{
+    match first {
+        b'}' => Token::Closing,
+        b'{' if matches!(forms, Forms::Shell) => Token::Opening,
+        b'{' => Token::Refused(ShellForm::Brace),
+        _ => Token::Byte(first),
+    }
+}
+
+/// Returns the token that begins with a dollar, which is before the text.
+fn dollar_step<'t, N: Names>(text: &'t [u8], style: Style<'_, N>) -> Step<'t>
+    ensures { (depth : ℕ) → IsStep (grammar style.entry.forms (N.all style.entry.names.now)
+        (N.counts style.entry.names.now)) depth (dollar ∷ text.now) result.token result.rest.now }
+{
+    if let Some(rest) = second_dollar(text, style.is_whole()) {
+        return Step {
+            token: Token::Dollars,
+            rest,
+        };
+    }
+    let (name, rest) = text.split_at(name_len(text));
+    if style.has(name, false) {
+        return Step {
+            token: Token::Short(name),
+            rest,
+        };
+    }
+    match after_byte(text, b'{') {
+        Some(braced) => braced_step(text, braced, style),
+        None => Step {
+            token: lone_dollar(name, style.forms),
+            rest: text,
+        },
+    }
+}
+
+/// Returns the text after the second of two dollars, or `None` if they aren't one dollar.
+fn second_dollar(text: &[u8], is_whole: bool) -> Option<&[u8]>
+    ensures some { IfSome result (λ rest. IsTrue is_whole × (text.now ≡ dollar ∷ rest.now)) }
+    ensures none { IfNone result (IsTrue is_whole → (rest : List ℕ)
+        → ¬ (text.now ≡ dollar ∷ rest)) }
+{
+    if is_whole {
+        after_byte(text, b'$')
+    } else {
+        None
+    }
+}
+
+/// Returns the token of a dollar that begins no variable, before these name bytes.
+fn lone_dollar<'t>(name: &[u8], forms: Forms) -> Token<'t>
+    requires { AllByRecursion IsNameByte name.now }
+    ensures { IsLone forms name.now result }
+{
+    if matches!(forms, Forms::Common) && !begins_shell_name(name) {
+        Token::Refused(ShellForm::Dollar)
+    } else {
+        Token::Byte(b'$')
+    }
+}
+
+/// Returns the token that begins with a dollar and an opening brace. The text is after the dollar, and goes on
+/// after the brace with this.
+fn braced_step<'t, N: Names>(text: &'t [u8], braced: &'t [u8], style: Style<'_, N>) -> Step<'t>
+    requires { text.now ≡ opening_brace ∷ braced.now }
+    ensures { (depth : ℕ) → IsStep (grammar style.entry.forms (N.all style.entry.names.now)
+        (N.counts style.entry.names.now)) depth (dollar ∷ text.now) result.token result.rest.now }
+{
+    let (name, after) = braced.split_at(name_len(braced));
+    let end = end_at(after, style.forms);
+    match head_step(name, after, end, style) {
+        Some(step) => step,
+        None => unfit_step(text, name, after, matches!(end, End::Unfit), style),
+    }
+}
+
+/// Returns the token of a name in braces, if it is a variable's: this comes after the name.
+fn head_step<'t, N: Names>(
+    name: &'t [u8],
+    after: &'t [u8],
+    end: End<'t>,
+    style: Style<'_, N>,
+) -> Option<Step<'t>>
+    requires run { AllByRecursion IsNameByte name.now }
+    requires ended { BeginsWithNo IsNameByte after.now }
+    requires end { IsEnd style.forms after.now end }
+    ensures some { IfSome result (λ step. (depth : ℕ) → IsStep (grammar style.entry.forms
+        (N.all style.entry.names.now) (N.counts style.entry.names.now)) depth
+        (in_braces name.now after.now) step.token step.rest.now) }
+    ensures none { IfNone result (BeginsWithNoHead (grammar style.entry.forms
+        (N.all style.entry.names.now) (N.counts style.entry.names.now))
+        (in_braces name.now after.now)) }
+{
+    match end {
+        End::Closed(rest) if style.has(name, false) => Some(Step {
+            token: Token::Braced(name),
+            rest,
+        }),
+        End::Optional(rest) if style.has(name, true) => Some(Step {
+            token: Token::Optional(name),
+            rest,
+        }),
+        End::Operated(operator, rest) if style.has(name, true) => {
+            Some(operated_step(name, operator, after, rest, style))
+        }
+        _ => None,
+    }
+}
+
+/// Returns the token of a dollar, an opening brace, a name, which may be empty, and what comes after it, which
+/// begin no variable. The text is after the dollar.
+fn unfit_step<'t, N: Names>(
+    text: &'t [u8],
+    name: &'t [u8],
+    after: &'t [u8],
+    is_unfit: bool,
+    style: Style<'_, N>,
+) -> Step<'t>
+    requires text { text.now ≡ opening_brace ∷ name.now ++ after.now }
+    requires run { AllByRecursion IsNameByte name.now }
+    requires ended { BeginsWithNo IsNameByte after.now }
+    requires no_head { BeginsWithNoHead (grammar style.forms (N.all style.names.now)
+        (N.counts style.names.now)) (dollar ∷ text.now) }
+    requires unfit { IsTrue is_unfit ↔ IsEnd style.forms after.now Unfit }
+    ensures { (depth : ℕ) → IsStep (grammar style.entry.forms (N.all style.entry.names.now)
+        (N.counts style.entry.names.now)) depth (dollar ∷ text.now) result.token result.rest.now }
+{
+    if !style.is_whole() {
+        return Step {
+            token: Token::Byte(b'$'),
+            rest: text,
+        };
+    }
+    if !begins_shell_name(name) {
+        return Step {
+            token: Token::Refused(ShellForm::NoName),
+            rest: &text[1..],
+        };
+    }
+    if !is_unfit {
+        return Step {
+            token: Token::Byte(b'$'),
+            rest: text,
+        };
+    }
+    Step {
+        token: Token::Refused(form_at(after)),
+        rest: after,
+    }
+}
+
+/// Returns whether name bytes are a name of a shell's variable.
+fn begins_shell_name(name: &[u8]) -> bool
+    requires { AllByRecursion IsNameByte name.now }
+    ensures { IsTrue result ↔ (IsName name.now × IsShellName name.now) }
+{
+    match name.first() {
+        None => false,
+        Some(first) => !first.is_ascii_digit(),
+    }
+}
+
+/// Returns the token of a name in braces with an operator: the rest comes after the operator, and the operator
+/// begins what comes after the name.
+fn operated_step<'t, N: Names>(
+    name: &'t [u8],
+    operator: Operator,
+    after: &'t [u8],
+    rest: &'t [u8],
+    style: Style<'_, N>,
+) -> Step<'t>
+    requires head { IsHead (grammar style.forms (N.all style.names.now) (N.counts style.names.now))
+        (Opened name.now operator) rest.now }
+    requires after { after.now ≡ operator_text operator ++ rest.now }
+    ensures { (depth : ℕ) → IsStep (grammar style.entry.forms (N.all style.entry.names.now)
+        (N.counts style.entry.names.now)) depth (in_braces name.now after.now) result.token
+        result.rest.now }
+{
+    if !operator.takes_message() {
+        return Step {
+            token: Token::Opens(name, operator),
+            rest,
+        };
+    }
+    match message_at(rest, style.forms) {
+        Ok((message, rest)) => Step {
+            token: Token::Required(name, operator, message),
+            rest,
+        },
+        Err(form) => Step {
+            token: Token::Refused(form),
+            rest: rest_of_message(form, after),
+        },
+    }
+}
+
+/// Returns the text after a message that isn't closed. One that never closes goes to the end of the text; of
+/// another the text after its name is read.
+fn rest_of_message(form: ShellForm, after: &[u8]) -> &[u8]
+    ensures { result.now ≡ after_message form after.now }
+{
+    match form {
+        ShellForm::Unclosed => b"",
+        _ => after,
+    }
+}
+
+/// Returns the message that a text begins with and what comes after the brace that closes it.
+///
+/// # Errors
+///
+/// The form of a message that isn't closed.
+fn message_at(text: &[u8], forms: Forms) -> Result<(&[u8], &[u8]), ShellForm>
+    ensures ok { IfOk result (λ found. IsMessage forms found.0.now
+        × (text.now ≡ found.0.now ++ closing_brace ∷ found.1.now)) }
+    ensures err { IfErr result (λ form. IsEndless forms form text.now) }
+{
+    // How many braces of the message are open.
+    let mut open = 0usize;
+    for (at, byte) in text.iter().enumerate() {
+        match *byte {
+            b'}' if open == 0 => return Ok((&text[..at], &text[at + 1..])),
+            b'}' => open -= 1,
+            b'{' if !matches!(forms, Forms::Shell) => return Err(ShellForm::Message),
+            b'{' => open += 1,
+            _ => {}
+        }
+    }
+    Err(ShellForm::Unclosed)
+}
+
+/// Returns how a variable goes on after its name in braces.
+fn end_at(text: &[u8], forms: Forms) -> End<'_>
+    ensures { IsEnd forms text.now result }
+{
+    if let Some(rest) = after_byte(text, b'}') {
+        return End::Closed(rest);
+    }
+    if let Some((operator, rest)) = operator_at(text)
+        && forms.has(operator)
+    {
+        return End::Operated(operator, rest);
+    }
+    if matches!(forms, Forms::Own) {
+        own_end_at(text)
+    } else {
+        End::Unfit
+    }
+}
+
+/// Returns how a variable of own forms goes on after its name in braces, but for a closing brace.
+fn own_end_at(text: &[u8]) -> End<'_>
+    requires { (x : List ℕ) → ¬ (text.now ≡ closing_brace ∷ x) }
+    ensures { IsEnd Own text.now result }
+{
+    if let Some(rest) = text.strip_prefix(b"?}") {
+        return End::Optional(rest);
+    }
+    match after_byte(text, b':') {
+        Some(rest) if !is_of_a_shell(rest) => End::Operated(Operator::Default, rest),
+        _ => End::Unfit,
+    }
+}
+
+/// Returns whether what comes after a name in braces and a colon is an operator of a shell.
+fn is_of_a_shell(text: &[u8]) -> bool
+    ensures { (result ≡ false) ↔ BeginsWithNone (codes "-=?+") text.now }
+{
+    matches!(text.first(), Some(b'-' | b'=' | b'?' | b'+'))
+}
+
+/// Returns the operator of a shell that a text begins with, and what comes after it.
+fn operator_at(text: &[u8]) -> Option<(Operator, &[u8])>
+    ensures some { IfSome result (λ found. IsTrue (has_operator Shell found.0)
+        × (text.now ≡ operator_text found.0 ++ found.1.now)) }
+    ensures none { IfNone result ((operator : SpecOperator) (rest : List ℕ)
+        → IsTrue (has_operator Shell operator) → ¬ (text.now ≡ operator_text operator ++ rest)) }
+{
+    let (first, rest) = text.split_first()?;
+    match *first {
+        b'-' => Some((Operator::Minus, rest)),
+        b'+' => Some((Operator::Plus, rest)),
+        b'?' => Some((Operator::Question, rest)),
+        b':' => colon_operator_at(rest),
+        _ => None,
+    }
+}
+
+/// Returns the operator of a shell whose colon is before the text, and what comes after it.
+fn colon_operator_at(text: &[u8]) -> Option<(Operator, &[u8])>
+    ensures some { IfSome result (λ found. IsTrue (has_operator Shell found.0)
+        × (colon ∷ text.now ≡ operator_text found.0 ++ found.1.now)) }
+    ensures none { IfNone result ((operator : SpecOperator) (rest : List ℕ)
+        → IsTrue (has_operator Shell operator)
+        → ¬ (colon ∷ text.now ≡ operator_text operator ++ rest)) }
+{
+    let (first, rest) = text.split_first()?;
+    match *first {
+        b'-' => Some((Operator::ColonMinus, rest)),
+        b'+' => Some((Operator::ColonPlus, rest)),
+        b'?' => Some((Operator::ColonQuestion, rest)),
+        _ => None,
+    }
+}
+
+/// Returns the form of what comes after a name in braces and may not follow it.
+fn form_at(text: &[u8]) -> ShellForm
+    requires no_name { BeginsWithNo IsNameByte text.now }
+    requires unfit { IsUnfit Common text.now }
+    ensures { HasForm result text.now }
+{
+    let Some((first, rest)) = text.split_first() else {
+        return ShellForm::Unclosed;
+    };
+    match *first {
+        b'-' => ShellForm::Minus,
+        b'?' => ShellForm::Question,
+        b'=' => ShellForm::Equals,
+        b'+' => ShellForm::Plus,
+        b'#' => ShellForm::Hash,
+        b'%' => ShellForm::Percent,
+        b'/' => ShellForm::Slash,
+        b':' => colon_form_at(rest),
+        _ => ShellForm::Other,
+    }
+}
+
+/// Returns the form of what comes after a name in braces and a colon, and may not follow these.
+fn colon_form_at(text: &[u8]) -> ShellForm
+    requires no_default { (x : List ℕ) → ¬ (text.now ≡ minus ∷ x) }
+    requires no_message { (x : List ℕ) → ¬ (text.now ≡ question_mark ∷ x) }
+    ensures { HasForm result (colon ∷ text.now) }
+{
+    match text.first() {
+        Some(b'=') => ShellForm::ColonEquals,
+        Some(b'+') => ShellForm::ColonPlus,
+        _ => ShellForm::Colon,
+    }
+}
+
+/// Returns the text after its first byte, or `None` if that isn't `byte`.
+fn after_byte(text: &[u8], byte: u8) -> Option<&[u8]>
+    ensures some { IfSome result (λ rest. text.now ≡ byte ∷ rest.now) }
+    ensures none { IfNone result ((rest : List ℕ) → ¬ (text.now ≡ byte ∷ rest)) }
+{
+    match text.split_first() {
+        Some((first, rest)) if *first == byte => Some(rest),
+        _ => None,
+    }
+}

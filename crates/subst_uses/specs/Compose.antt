@@ -1,0 +1,33 @@
+-- What a text of Docker Compose is filled in as.
+use Rattle.std.specs.Prelude.{◌≡◌, ℕ, true, false, List, [], Err, IfSome}
+use Rattle.subst.specs.ErrorFault.{error_fault}
+use Rattle.subst.specs.Fault.{Fault, NoSuchVariable}
+use Rattle.subst.specs.Foreign.{Given}
+use Rattle.subst.specs.Grammar.{Grammar, grammar}
+use Rattle.subst.specs.Language.LookUp.{LookUp}
+use Rattle.subst.specs.Reading.{IsRefusalOf}
+use Rattle.subst.specs.Template.{without_question}
+use Rattle.subst.specs.Text as text
+use Rattle.subst.specs.Styles.forms.{Shell}
+use Rattle.subst.specs.Styles.missing.{Nothing}
+use Rattle.subst_uses.specs.declared.compose.ComposeError.{ComposeError}
+use Rattle.subst_uses.specs.declared.compose.ComposeError.TheVariants.{Text, Variable}
+
+-- a shell's forms, of all names
+abbrev pub compose : Grammar
+compose = grammar Shell true (λ operated name. Unit {0})
+
+-- the text s is read as items that have this value
+abbrev pub IsValueOf : LookUp → (s : List ℕ) → Given → Type 0
+IsValueOf look s given = (items : text.Text) × text.IsText compose false items [] × (s ≡ text.spelling items)
+    × (text.text_value Shell Nothing items look ≡ given)
+
+-- the fault names the variable for which the text s has no value: a digit before its name is a question
+abbrev pub IsMissingOf : LookUp → (s : List ℕ) → Fault → Type 0
+IsMissingOf look s f = (position : ℕ) × (name : List ℕ) × (f ≡ NoSuchVariable position name)
+    × IsValueOf look s (Err (without_question name))
+
+-- the error states the first form of the text s that is refused, or the variable that is missing
+abbrev pub IsFaultOf : LookUp → (s : List ℕ) → ComposeError → Type 0
+IsFaultOf look s (Text e) = IsRefusalOf compose s e
+IsFaultOf look s (Variable e) = IfSome (error_fault e) (IsMissingOf look s)

@@ -1,0 +1,55 @@
+//! A text of Docker Compose, filled in from the environment.
+
+ghost use Rattle.std.specs.Prelude.{◌≡◌, Ok, IfErr, IfOk, string_bytes};
+ghost use Rattle.subst.specs.Calls.Maps.{first_value};
+ghost use Rattle.subst_uses.specs.Compose.{IsFaultOf, IsValueOf};
+ghost use Rattle.subst_uses.specs.declared.compose.ComposeError.TheVariants as fault;
+
+use std::alloc::Global;
+use subst::foreign::{AllNames, Forms, Missing, Style, TextError};
+use subst::{Env, Error, ShellMap, substitute};
+
+/// Why a text isn't filled in. Both say when memory ran out.
+#[derive(Debug, Drop)]
+pub enum ComposeError {
+    /// A form of it is refused.
+    Text(TextError),
+    /// A variable that has to have a value is missing.
+    Variable(Error),
+}
+
+impl From<TextError> for ComposeError {
+    ghost from_gives = { λ e error. error ≡ fault.Text e };
+
+    fn from(e: TextError) -> ComposeError {
+        ComposeError::Text(e)
+    }
+}
+
+impl From<Error> for ComposeError {
+    ghost from_gives = { λ e error. error ≡ fault.Variable e };
+
+    fn from(e: Error) -> ComposeError {
+        ComposeError::Variable(e)
+    }
+}
+
+/// Returns a text of Docker Compose, filled in from the environment. An unset variable expands to nothing.
+///
+/// # Errors
+///
+/// The first form that is refused. Otherwise the first variable that is missing, of those with `?` or `:?`.
+pub fn filled_in(alloc: Global, text: &str, environment: &Env) -> Result<String, ComposeError>
+    ensures value { IfOk result
+        (λ output. IsValueOf (first_value environment.now) text.now (Ok (string_bytes output))) }
+    ensures fault { IfErr result (IsFaultOf (first_value environment.now) text.now) }
+{
+    let style = Style {
+        forms: Forms::Shell,
+        names: &AllNames,
+        missing: Missing::Nothing,
+    };
+    let template = style.template(alloc, text)?;
+    let variables = ShellMap { map: environment };
+    Ok(substitute(alloc, template.as_str(), &variables)?)
+}
