@@ -5,7 +5,6 @@ pub use Rattle.subst_json.specs.Errors
 pub use Rattle.subst_json.specs.Filled
 pub use Rattle.subst_json.specs.Laws
 pub use Rattle.subst_json.specs.Listed
-pub use Rattle.subst_json.specs.Located
 pub use Rattle.subst_json.specs.Mapped
 pub use Rattle.subst_json.specs.Outcome
 pub use Rattle.subst_json.specs.Paths

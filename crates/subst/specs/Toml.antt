@@ -5,7 +5,6 @@ pub use Rattle.subst_toml.specs.Errors
 pub use Rattle.subst_toml.specs.DottedKey
 pub use Rattle.subst_toml.specs.Filled
 pub use Rattle.subst_toml.specs.Laws
-pub use Rattle.subst_toml.specs.Located
 pub use Rattle.subst_toml.specs.Mapped
 pub use Rattle.subst_toml.specs.Outcome
 pub use Rattle.subst_toml.specs.Paths

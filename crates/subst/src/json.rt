@@ -9,9 +9,8 @@
 //! [`strings`] and [`refusals_in`] list the strings of a text, or those that are refused, with where they
 //! stand.
 //!
-//! [`first_refusal`] and [`all_refusals`] return refused strings of a tree with their paths; [`place_of`] and
-//! [`place_in`] return where they are in the document that was read, and [`places_in`] where many ranges of
-//! one string are; a [`RangeFinder`] does so for many strings. [`fill_in_by`] and [`refusals_by`] take a
+//! [`place_in`] returns where the text spells a range of one of its strings, and [`places_in`] where it spells
+//! many of one string; a [`RangeFinder`] does so for many strings. [`fill_in_by`] and [`refusals_by`] take a
 //! [`Fill`], a way to fill in a string, which by a map is [`Filler`]. [`reader_stop`] returns where a text
 //! that is no JSON goes wrong.
 //!
@@ -19,9 +18,8 @@
 //! refused, with line, column and path, or what the reader says.
 
 pub use subst_json::{
-    Error, Fill, Filler, Path, PathStep, RangeFinder, ReaderStop, RefusalAt, RefusedString,
-    StringAt, all_refusals, fill_in, fill_in_by, fill_in_slice, first_refusal, from_slice,
-    from_str, place_in, place_of, places_in, reader_stop, refusals_by, refusals_in, strings,
-    substitute_string_values, value_from_slice, value_from_str,
+    Error, Fill, Filler, Path, PathStep, RangeFinder, ReaderStop, RefusalAt, StringAt, fill_in,
+    fill_in_by, fill_in_slice, from_slice, from_str, place_in, places_in, reader_stop, refusals_by,
+    refusals_in, strings, substitute_string_values, value_from_slice, value_from_str,
 };
 pub use subst_report::of_json::report;

@@ -9,17 +9,16 @@
 //! keys and layout stay. [`strings`] returns its strings with their places in the text, and [`refusals_in`]
 //! those that are refused.
 //!
-//! [`first_refusal`] and [`all_refusals`] return refused strings of a tree with their paths; [`place_of`] and
-//! [`place_in`] return where they are in the document that was read, and [`places_in`] where many ranges of
-//! one string are. [`fill_in_by`] and [`refusals_by`] take a [`Fill`], a way to fill in a string, which by a
-//! map is [`Filler`].
+//! [`place_in`] returns where the text spells a range of one of its strings, and [`places_in`] where it spells
+//! many of one string. [`fill_in_by`] and [`refusals_by`] take a [`Fill`], a way to fill in a string, which by
+//! a map is [`Filler`].
 //!
 //! [`report`] tells people what is wrong with a document for which a call returned an error: all strings that
 //! are refused, with line, column and path, or what the reader says.
 
 pub use subst_report::of_toml::report;
 pub use subst_toml::{
-    Error, Fill, Filler, Path, PathStep, RefusalAt, RefusedString, StringAt, all_refusals, fill_in,
-    fill_in_by, fill_in_slice, first_refusal, from_slice, from_str, place_in, place_of, places_in,
-    refusals_by, refusals_in, strings, substitute_string_values, value_from_slice, value_from_str,
+    Error, Fill, Filler, Path, PathStep, RefusalAt, StringAt, fill_in, fill_in_by, fill_in_slice,
+    from_slice, from_str, place_in, places_in, refusals_by, refusals_in, strings,
+    substitute_string_values, value_from_slice, value_from_str,
 };

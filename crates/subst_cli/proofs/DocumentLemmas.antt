@@ -24,7 +24,7 @@ use Rattle.subst_walk.specs.Edits.{text_at, AreSpelled}
 use Rattle.subst_walk.specs.Paths.{AreRefusals, Located, Refusal}
 use Rattle.subst_walk.specs.Pieces.{position, ArePiecesFrom}
 use Rattle.subst_walk.specs.declared.edits.StringAt.{StringAt}
-use Rattle.subst_walk.specs.declared.found.RefusalAt.{RefusalAt}
+use Rattle.subst_walk.specs.declared.edits.RefusalAt.{RefusalAt}
 use Rattle.subst_walk.specs.declared.pieces.Position.{Position}
 use Rattle.subst_cli.proofs.FaultLemmas.{any_of_one, any_weaker}
 use Rattle.subst_cli.proofs.FillingLemmas.{weaker_faults}

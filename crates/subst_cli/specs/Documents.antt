@@ -22,7 +22,7 @@ use Rattle.subst_language.specs.Language.Several.{RefusesFirst}
 use Rattle.subst_walk.specs.Edits.{text_at}
 use Rattle.subst_walk.specs.Paths.{PathStep}
 use Rattle.subst_walk.specs.declared.edits.StringAt.{StringAt}
-use Rattle.subst_walk.specs.declared.found.RefusalAt.{RefusalAt}
+use Rattle.subst_walk.specs.declared.edits.RefusalAt.{RefusalAt}
 use Rattle.subst_cli.specs.Faults.{IsFaultOf}
 use Rattle.subst_cli.specs.Layers.{Entry}
 use Rattle.subst_cli.specs.Strings.{AnswersBy}

@@ -3,11 +3,9 @@ pub mod FilledLemmas
 pub mod FindLemmas
 pub mod JsonTreeLemmas
 pub mod ListedLemmas
-pub mod LocatedLemmas
 pub mod MappedLemmas
 pub mod NumberLemmas
 pub mod OneOutcomeLemmas
 pub mod PlaceLemmas
 pub mod PointerLemmas
 pub mod ReadingLemmas
-pub mod RefusedLemmas

@@ -11,7 +11,7 @@ use Rattle.subst_walk.specs.Paths.{PathStep, Located, AreRefusals, step_of}
 use Rattle.subst_walk.specs.Refused.{HasRangeInText}
 use Rattle.subst_walk.specs.declared.edits.StringAt.{StringAt}
 use Rattle.subst_walk.specs.declared.path_step.PathStep as steps
-use Rattle.subst_walk.proofs.FoundLemmas.{pushed_step, refusals_append}
+use Rattle.subst_walk.proofs.RefusalLemmas.{pushed_step, refusals_append}
 use Rattle.subst_json.specs.Filled.{IsStringToken}
 use Rattle.subst_json.specs.Listed.{located, past_value, refusal_at, refusal_of, string_of, AreListedRefusals, RefusalAt}
 

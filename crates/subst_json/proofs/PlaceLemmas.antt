@@ -8,17 +8,6 @@ use Rattle.subst_walk.specs.Paths.{PathStep, Key, Index}
 use Rattle.subst_json.specs.Paths.{Leads}
 use Rattle.subst_json.specs.Places.{value_at, IsSpelledUntil, IsTokenOf}
 
--- a path whose value is a string leads to it
-pub leads_to_value : (path : List PathStep) (d : Data) (s : List ℕ) → value_at path d ≡ Some (string s)
-    → Leads path d s
-leads_to_value [] d s h = cc
-leads_to_value (Key key ∷ path) d s h =
-    option_and_then_some (value_at path) (get key d) (string s) h
-    (λ e is rest. (e, is, leads_to_value path e s rest))
-leads_to_value (Index i ∷ path) d s h =
-    option_and_then_some (value_at path) (at i d) (string s) h
-    (λ e is rest. (e, is, leads_to_value path e s rest))
-
 -- the start of a range
 take-slice_range : (s : List ℕ) (start end len : ℕ) → len ≤ length (slice_range s start end)
     → take len (slice_range s start end) ≡ slice_range s start (start + len)

@@ -9,7 +9,7 @@ use Rattle.subst_walk.specs.Paths.{PathStep, Key, Index, Located, Refusal, AreRe
 use Rattle.subst_walk.specs.Refused.{HasRangeInText}
 use Rattle.subst_walk.specs.Refused as refused
 use Rattle.subst_walk.specs.declared.edits.StringAt.{StringAt}
-use Rattle.subst_walk.specs.declared.found.RefusalAt as found
+use Rattle.subst_walk.specs.declared.edits.RefusalAt as found
 use Rattle.subst_json.specs.Filled.{strings_of_token, IsStringToken}
 use Rattle.subst_json.specs.Paths.{steps_of}
 use Rattle.subst_json.specs.declared.path.Path.{Path}

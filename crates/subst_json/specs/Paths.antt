@@ -2,9 +2,7 @@
 use Rattle.std.specs.Prelude.{◌≡◌, ℕ, List, [], ◌∷◌, Some, map}
 use Rattle.serde_json.specs.Data.{Data, string}
 use Rattle.serde_json.specs.Find.{get, at}
-use Rattle.subst_walk.specs.Paths.{PathStep, Key, Index, Refusal, step_of}
-use Rattle.subst_walk.specs.Refused.{refusal_with}
-use Rattle.subst_walk.specs.declared.found.RefusedString.{RefusedString}
+use Rattle.subst_walk.specs.Paths.{PathStep, Key, Index, step_of}
 use Rattle.subst_json.specs.declared.path.Path.{Path}
 
 -- the steps of a path
@@ -17,11 +15,3 @@ abbrev pub Leads : List PathStep → Data → List ℕ → Type 0
 Leads [] d s = d ≡ string s
 Leads (Key key ∷ path) d s = (e : Data) × (get key d ≡ Some e) × Leads path e s
 Leads (Index i ∷ path) d s = (e : Data) × (at i d ≡ Some e) × Leads path e s
-
--- the refusal of a string
-abbrev pub refusal_of : RefusedString Path → Refusal
-refusal_of it = refusal_with steps_of it
-
--- the path of a refusal leads to its string
-abbrev pub LeadsTo : Data → Refusal → Type 0
-LeadsTo d it = Leads it.path d it.text

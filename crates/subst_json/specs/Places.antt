@@ -8,40 +8,13 @@ use Rattle.subst_error.specs.Range.{IsRangeIn}
 use Rattle.subst_walk.specs.Paths.{PathStep, Key, Index}
 use Rattle.subst_json.specs.Paths.{Leads}
 
--- the value that the steps lead to
-abbrev pub value_at : List PathStep → Data → Option Data
-value_at [] d = Some d
-value_at (Key key ∷ path) d = option_and_then (value_at path) (get key d)
-value_at (Index i ∷ path) d = option_and_then (value_at path) (at i d)
-
 -- The text reads as this string, between quotes.
 abbrev pub IsTokenOf : List ℕ → List ℕ → Type 0
 IsTokenOf token x = read token ≡ Some (string x)
 
--- the text with `null` in place of a range
-abbrev pub with_null : List ℕ → Range ℕ → List ℕ
-with_null s range = take range.start s ++ codes "null" ++ drop range.end s
-
 -- the token begins and ends with a quote
 abbrev pub HasQuotes : List ℕ → Type 0
 HasQuotes token = (slice_index token 0 ≡ 34) × (slice_index token (length token - 1) ≡ 34)
-
--- the text reads as a tree in which the path leads to a null
-abbrev pub LeadsToNull : List PathStep → List ℕ → Type 0
-LeadsToNull path s = (d : Data) × (read s ≡ Some d) × (value_at path d ≡ Some null)
-
--- The range of the text is the string to which the path leads, with its quotes: it reads as that string, and
--- if `null` is written in its place, the path leads to a null.
-pub record IsPlaceOf (s : List ℕ) (path : List PathStep) (range : Range ℕ) : Type 0 where
-  pub within : IsRangeIn s range
-  pub forwards : range.start ≤ range.end
-  pub tree : Data
-  pub text : List ℕ
-  pub reads : read s ≡ Some tree
-  pub leads : Leads path tree text
-  pub spells : IsTokenOf (slice_range s range.start range.end) text
-  pub quoted : HasQuotes (slice_range s range.start range.end)
-  pub replaced : LeadsToNull path (with_null s range)
 
 -- The token's text from its start up to a position spells the first bytes of the string, once it is closed by
 -- a quote.

@@ -10,7 +10,7 @@ ghost use Rattle.subst_json.specs.Pointer.{escaped_byte, pointer_text, step_text
 
 use std::fmt;
 use std::fmt::Write;
-use subst_walk::{PathStep, TreePath};
+use subst_walk::PathStep;
 
 /// The path from a tree to a string of it. It displays as a JSON Pointer (RFC 6901), as
 /// `/server/list/0/x~1y`.
@@ -18,14 +18,6 @@ use subst_walk::{PathStep, TreePath};
 pub struct Path {
     /// The steps, the first one from the root.
     pub steps: Vec<PathStep>,
-}
-
-impl TreePath for Path {
-    ghost path_steps = { steps_of };
-
-    fn from_steps(steps: Vec<PathStep>) -> Self {
-        Path { steps }
-    }
 }
 
 /// For each step `/` and then its key, with `~` as `~0` and `/` as `~1`, or its index.

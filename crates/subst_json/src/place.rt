@@ -1,65 +1,22 @@
-//! Spans of strings in the JSON that they are read from.
-//!
-//! A span is looked for in the text, and then made certain by the reader: one that the reader doesn't confirm
-//! is never returned.
+//! Where a part of a string is spelled in the JSON that it is read from. The reader confirms each span before
+//! it is returned.
 
-ghost use Rattle.std.specs.Prelude.{◌≡◌, ◌++◌, ◌<◌, ◌≤◌, ◌∷◌, [], length, map, option_map, string_bytes, take, IfOk, IfSome, IsTrue, MatchOption, None, Some};
+ghost use Rattle.std.specs.Prelude.{◌≡◌, ◌++◌, ◌<◌, ◌≤◌, ◌∷◌, [], length, string_bytes, take, IfOk, IfSome, MatchOption, None, Some};
 ghost use Rattle.serde_json.specs.Read.{read};
 ghost use Rattle.serde_json.specs.View.{view};
-ghost use Rattle.subst_walk.specs.Paths.{step_of};
-ghost use Rattle.subst_json.specs.Paths.{steps_of};
-ghost use Rattle.subst_json.specs.Places.{value_at, with_null, IsPlaceIn, IsPlaceOf, LeadsToNull, IsTokenOf};
+ghost use Rattle.subst_json.specs.Places.{IsPlaceIn, IsTokenOf};
 
-use crate::path::Path;
-use crate::tokens::JsonStrings;
-use json::{MAX_DEPTH, Reader, Scratch, Token};
 use serde_json::Value;
 use std::alloc::{AllocError, Global};
 use std::ops::Range;
-use subst_walk::{PathStep, StringFormat, slice};
-
-/// Returns the byte range in `source`, a JSON text, of the string that a path leads to, with its quotes.
-///
-/// Of members with one key the last one counts, as it does for the reader. It is `None` where `source` isn't
-/// JSON, or the path leads to no string of it. The whole text is read twice, and for each step the value from
-/// which it leads is passed over once more.
-///
-/// # Errors
-///
-/// That an allocation failed.
-pub fn place_of(
-    alloc: Global,
-    source: &str,
-    path: &Path,
-) -> Result<Option<Range<usize>>, AllocError>
-    ensures place { IfOk result
-        (λ place. IfSome place (IsPlaceOf source.now (steps_of path.now))) }
-{
-    let Some(tree) = read_tree(alloc, source)? else {
-        return Ok(None);
-    };
-    let Some(Value::String(text)) = value_at(&tree, &path.steps) else {
-        return Ok(None);
-    };
-    let Some(place) = find_token(alloc, source, &path.steps)? else {
-        return Ok(None);
-    };
-    let Some(token) = slice(source, &place) else {
-        return Ok(None);
-    };
-    let mut format = JsonStrings::new(alloc);
-    if !format.spells(alloc, token, text)? || !is_replaced(alloc, source, &place, &path.steps)? {
-        return Ok(None);
-    }
-    Ok(Some(place))
-}
+use subst_walk::slice;
 
 /// Returns the byte range in `source`, a JSON text, that spells a range of a string of it.
 ///
-/// `token` is the byte range in `source` of the string with its quotes, as [`place_of`] returns it, and
-/// `range` is in byte offsets of the string. The position of a byte offset is where the character there
-/// begins to be spelled, and that of the string's end is the closing quote. It is `None` where the token is
-/// no string, where an end of the range is past the string's end or within a character, or where the range
+/// `token` is the byte range in `source` of the string with its quotes, as [`strings`](crate::strings) returns
+/// it, and `range` is in byte offsets of the string. The position of a byte offset is where the character
+/// there begins to be spelled, and that of the string's end is the closing quote. It is `None` where the token
+/// is no string, where an end of the range is past the string's end or within a character, or where the range
 /// ends before it begins.
 ///
 /// # Errors
@@ -114,136 +71,6 @@ fn read_string(alloc: Global, text: &str) -> Result<Option<String>, AllocError>
         Some(Value::String(string)) => Ok(Some(string)),
         _ => Ok(None),
     }
-}
-
-/// Returns the value that these steps lead to.
-fn value_at<'a>(tree: &'a Value, steps: &[PathStep]) -> Option<&'a Value>
-    ensures { option_map (λ value. view value.now) result
-        ≡ value_at (map step_of steps.now) (view tree.now) }
-{
-    let mut value = tree;
-    for step in steps {
-        value = match step {
-            PathStep::Key(key) => value.get(key.as_str())?,
-            PathStep::Index(index) => value.get(*index)?,
-        };
-    }
-    Some(value)
-}
-
-/// Returns whether these steps lead to a null once `null` is written in place of a range of a text.
-fn is_replaced(
-    alloc: Global,
-    source: &str,
-    range: &Range<usize>,
-    steps: &[PathStep],
-) -> Result<bool, AllocError>
-    ensures { IfOk result
-        (λ is. IsTrue is → LeadsToNull (map step_of steps.now) (with_null source.now range.now)) }
-{
-    let (Some(before), Some(after)) = (source.get(..range.start), source.get(range.end..)) else {
-        return Ok(false);
-    };
-    let mut replaced = String::with_capacity(alloc, source.len())?;
-    replaced.push_str(before)?;
-    replaced.push_str("null")?;
-    replaced.push_str(after)?;
-    let Some(tree) = read_tree(alloc, &replaced)? else {
-        return Ok(false);
-    };
-    Ok(matches!(value_at(&tree, steps), Some(Value::Null)))
-}
-
-/// Looks for the string that these steps lead to, and returns its byte range.
-fn find_token(
-    alloc: Global,
-    source: &str,
-    steps: &[PathStep],
-) -> Result<Option<Range<usize>>, AllocError> {
-    let mut scratch = Scratch::new(alloc);
-    let mut value = from_value(source, &mut scratch)?;
-    for step in steps {
-        let next = match step {
-            PathStep::Key(key) => from_member(value, key, &mut scratch)?,
-            PathStep::Index(index) => from_item(value, *index, &mut scratch)?,
-        };
-        let Some(next) = next else {
-            return Ok(None);
-        };
-        value = next;
-    }
-    let start = source.len() - value.len();
-    let Some(len) = token_len(value, &mut scratch)? else {
-        return Ok(None);
-    };
-    Ok(Some(start..start + len))
-}
-
-/// Returns a text from its first value on.
-fn from_value<'a>(text: &'a str, scratch: &mut Scratch) -> Result<&'a str, AllocError>
-    ensures { IfOk result (λ rest. length rest.now ≤ length text.now) }
-{
-    let reader = Reader::new(text, scratch)?;
-    Ok(text.get(reader.offset()..).unwrap_or(text))
-}
-
-/// Returns a text that begins with an array from an item of it on.
-fn from_item<'a>(
-    text: &'a str,
-    index: usize,
-    scratch: &mut Scratch,
-) -> Result<Option<&'a str>, AllocError>
-    ensures { IfOk result (λ rest. IfSome rest (λ rest. length rest.now ≤ length text.now)) }
-{
-    let mut reader = Reader::new(text, scratch)?;
-    if !matches!(reader.next(), Some(Token::BeginArray)) {
-        return Ok(None);
-    }
-    for _ in 0..index {
-        if reader.skip_value(MAX_DEPTH).is_err() {
-            return Ok(None);
-        }
-    }
-    Ok(text.get(reader.offset()..))
-}
-
-/// Returns a text that begins with an object from the value of its last member with this key on.
-fn from_member<'a>(
-    text: &'a str,
-    key: &str,
-    scratch: &mut Scratch,
-) -> Result<Option<&'a str>, AllocError>
-    ensures { IfOk result (λ rest. IfSome rest (λ rest. length rest.now ≤ length text.now)) }
-{
-    let mut reader = Reader::new(text, scratch)?;
-    if !matches!(reader.next(), Some(Token::BeginObject)) {
-        return Ok(None);
-    }
-    let mut found = None;
-    while let Ok(Some(name)) = reader.next_key() {
-        if name == key {
-            found = text.get(reader.offset()..);
-        }
-        if reader.skip_value(MAX_DEPTH).is_err() {
-            return Ok(None);
-        }
-    }
-    Ok(found)
-}
-
-/// Returns how many bytes the string takes that a text begins with. The reader goes on past white space and
-/// a comma, so the string ends with the last quote before the reader's offset.
-fn token_len(text: &str, scratch: &mut Scratch) -> Result<Option<usize>, AllocError>
-    ensures { IfOk result (λ len. IfSome len (λ len. len ≤ length text.now)) }
-{
-    let mut reader = Reader::new(text, scratch)?;
-    if !matches!(reader.next(), Some(Token::String(_))) {
-        return Ok(None);
-    }
-    let Some(passed) = text.get(..reader.offset()) else {
-        return Ok(None);
-    };
-    Ok(passed.rfind('"').map(|last| last + 1))
 }
 
 /// Returns how many bytes of a token, with its opening quote, spell the first `offset` bytes of its string.

@@ -35,7 +35,7 @@ impl Shown for json::Error {
     }
 }
 
-pub fn json_tree(alloc: Global, source: &str) -> Result<serde_json::Value, AllocError> {
+fn json_tree(alloc: Global, source: &str) -> Result<serde_json::Value, AllocError> {
     serde_json::Value::from_str(alloc, source).map_err(|_| AllocError)
 }
 
@@ -94,7 +94,7 @@ impl Shown for Compared {
     }
 }
 
-pub fn toml_tree(alloc: Global, source: &str) -> Result<toml::Value, AllocError> {
+fn toml_tree(alloc: Global, source: &str) -> Result<toml::Value, AllocError> {
     match toml::table_from_str(alloc, source) {
         Ok(table) => Ok(toml::Value::Table(table)),
         Err(_) => Err(AllocError),

@@ -1,7 +1,7 @@
-//! Calls that look for the refused strings of a tree, and for their spans in the document.
+//! Calls about the refused strings of a document: where it spells a part of one, and their paths.
 
-use crate::calls::{Shown, again, once, say, say_end, tell};
-use crate::documents::{VARIABLES, json_tree, toml_tree};
+use crate::calls::{Shown, again, say};
+use crate::documents::VARIABLES;
 use crate::free_errors::display;
 use std::alloc::AllocError;
 use std::ops::Range;
@@ -34,71 +34,30 @@ impl Shown for Range<usize> {
     }
 }
 
-impl Shown for json::Path {
-    fn show(&self, rt: &HostRuntime, word: &str) {
-        let _ = rt.println(format_args!("{word} {self}"));
-    }
-}
-
-impl Shown for filled::Path {
-    fn show(&self, rt: &HostRuntime, word: &str) {
-        let _ = rt.println(format_args!("{word} {self}"));
-    }
-}
-
-impl Shown for json::RefusedString {
-    fn show(&self, rt: &HostRuntime, word: &str) {
-        self.path.show(rt, word);
-        self.text.show(rt, word);
-        self.error.show(rt, word);
-    }
-}
-
-impl Shown for filled::RefusedString {
-    fn show(&self, rt: &HostRuntime, word: &str) {
-        self.path.show(rt, word);
-        self.text.show(rt, word);
-        self.error.show(rt, word);
-    }
-}
-
-/// Looks for the refused strings of a tree that has none, and of that of a document, and for the name of one in
-/// this span of the document.
+/// Looks for the name in the first refused string of a document.
 macro_rules! calls_of_refusals {
-    ($rt:ident, $format:ident, $name:literal, $tree:ident, $plain:expr, $source:ident, $span:expr) => {
+    ($rt:ident, $format:ident, $name:literal, $source:ident) => {
         let alloc = $rt.alloc();
         let map = texts(alloc, VARIABLES)?;
-        let plain = $tree(alloc, $plain)?;
-        let (first, all) = once!($rt, concat!($name, "::first_refusal and all_refusals of plain strings") =>
-            ($format::first_refusal(alloc, &plain, &map), $format::all_refusals(alloc, &plain, &map)));
-        tell($rt, first);
-        tell($rt, all);
-        say_end($rt);
-        let tree = $tree(alloc, $source)?;
-        again!($rt, concat!($name, "::first_refusal"), [tree, map],
-            Err(_) => $format::first_refusal(alloc, &tree, &map));
-        again!($rt, concat!($name, "::all_refusals"), [tree, map],
-            Err(_) => $format::all_refusals(alloc, &tree, &map));
-        let Some(first) = $format::first_refusal(alloc, &tree, &map)? else {
-            return Ok(());
+        let Ok(Some(refused)) = $format::refusals_in(alloc, $source, &map) else {
+            return Err(AllocError);
         };
-        let path = &first.path;
-        again!($rt, concat!($name, "::place_of"), [$source, path],
-            Err(_) => $format::place_of(alloc, $source, path));
+        let Some(first) = refused.first() else {
+            return Err(AllocError);
+        };
+        let (start, end) = (first.span.start, first.span.end);
         again!($rt, concat!($name, "::place_in"), [$source],
-            Err(_) => $format::place_in(alloc, $source, $span, name_in_string()));
-        display($rt, concat!("Display of ", $name, "::Path"), path)?;
+            Err(_) => $format::place_in(alloc, $source, start..end, name_in_string()));
+        display($rt, concat!("Display of ", $name, "::Path"), &first.path)?;
     };
 }
 
 pub fn json_calls(rt: &HostRuntime) -> Result<(), AllocError> {
-    let plain = "{\"k\":[\"x\",1],\"l\":\"y\"}";
-    calls_of_refusals!(rt, json, "json", json_tree, plain, JSON, 34..49);
+    calls_of_refusals!(rt, json, "json", JSON);
     Ok(())
 }
 
 pub fn toml_calls(rt: &HostRuntime) -> Result<(), AllocError> {
-    let plain = "k = ['x', 1]\nl = 'y'\n";
-    calls_of_refusals!(rt, filled, "toml", toml_tree, plain, TOML, 25..40);
+    calls_of_refusals!(rt, filled, "toml", TOML);
     Ok(())
 }

@@ -8,7 +8,7 @@ use Rattle.toml.specs.declared.de.error.Error as reading
 use Rattle.subst_error.specs.ErrorFault.{error_fault}
 use Rattle.subst_error.specs.Range.{IsRangeIn}
 use Rattle.subst_language.specs.Language.Answer.{Answer}
-use Rattle.subst_walk.specs.declared.found.RefusalAt as found
+use Rattle.subst_walk.specs.declared.edits.RefusalAt as found
 use Rattle.subst_toml.specs.DottedKey.{dotted_text}
 use Rattle.subst_toml.specs.Filled.{refusal_in, AreAllRefusals, HasFaultInText, IsFound}
 use Rattle.subst_toml.specs.Outcome.{ReadsAsTree}

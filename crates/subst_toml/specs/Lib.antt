@@ -3,7 +3,6 @@ pub mod DottedKey
 pub mod Errors
 pub mod Filled
 pub mod Laws
-pub mod Located
 pub mod Mapped
 pub mod Outcome
 pub mod Paths

@@ -1,9 +1,7 @@
 -- Paths into a TOML tree, and the strings that they lead to.
 use Rattle.std.specs.Prelude.{◌≡◌, ℕ, List, [], ◌∷◌, Some, map}
 use Rattle.toml.specs.Data.{Data, string, get, at}
-use Rattle.subst_walk.specs.Paths.{PathStep, Key, Index, Refusal, step_of}
-use Rattle.subst_walk.specs.Refused.{refusal_with}
-use Rattle.subst_walk.specs.declared.found.RefusedString.{RefusedString}
+use Rattle.subst_walk.specs.Paths.{PathStep, Key, Index, step_of}
 use Rattle.subst_toml.specs.declared.path.Path.{Path}
 
 -- the steps of a path
@@ -16,11 +14,3 @@ abbrev pub Leads : List PathStep → Data → List ℕ → Type 0
 Leads [] d s = d ≡ string s
 Leads (Key key ∷ path) d s = (e : Data) × (get key d ≡ Some e) × Leads path e s
 Leads (Index i ∷ path) d s = (e : Data) × (at i d ≡ Some e) × Leads path e s
-
--- the refusal of a string
-abbrev pub refusal_of : RefusedString Path → Refusal
-refusal_of it = refusal_with steps_of it
-
--- the path of a refusal leads to its string
-abbrev pub LeadsTo : Data → Refusal → Type 0
-LeadsTo d it = Leads it.path d it.text

@@ -16,23 +16,6 @@ part_at s range = slice_range s range.start range.end
 abbrev pub IsTokenOf : List ℕ → List ℕ → Type 0
 IsTokenOf token x = parse_value token ≡ Some (string x)
 
--- the text with an empty string in place of a range
-abbrev pub with_empty : List ℕ → Range ℕ → List ℕ
-with_empty s range = take range.start s ++ codes "''" ++ drop range.end s
-
--- the text is a document, in whose tree the path leads to an empty string
-abbrev pub LeadsToEmpty : List PathStep → List ℕ → Type 0
-LeadsToEmpty path s = (ms : Members) × (parse_document s ≡ Some ms) × Leads path (table ms) []
-
--- The text is a document, and the path leads to a string of its tree. The part of the text in the span is
--- read as the same string, alone; and if an empty string is written in its place, the path leads to that.
-abbrev pub IsPlaceOf : List ℕ → List PathStep → Range ℕ → Type 0
-IsPlaceOf s path place =
-    IsRangeIn s place × (place.start ≤ place.end)
-    × ((ms : Members) × (x : List ℕ) × (parse_document s ≡ Some ms) × Leads path (table ms) x
-    × IsTokenOf (part_at s place) x)
-    × LeadsToEmpty path (with_empty s place)
-
 -- the quotes before and after the string of a token: three if it begins with three, else one
 abbrev pub quotes_of : List ℕ → List ℕ
 quotes_of token =

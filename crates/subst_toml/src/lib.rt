@@ -8,8 +8,9 @@
 //! document first, whose tree is a table, and [`from_str`] and [`from_slice`] go on to read a type of the
 //! caller's from it, by `serde`.
 //!
-//! [`place_of`] finds where in a document a string of its tree is, and [`place_in`] where a part of that
-//! string is spelled, as the range of a fault.
+//! [`fill_in`], [`fill_in_slice`] and [`fill_in_by`] fill in a document where its strings stand, and each
+//! other byte of it stays. [`strings`] lists the strings of a document, [`refusals_in`] those that are
+//! refused, and [`place_in`] tells where a part of one is spelled, as the range of a fault.
 //!
 //! The walk calls itself for each array and table that is inside another one. A document has up to 6,639 of
 //! them in each other, as the reader allows 80 parts of a key and 80 arrays and inline tables; for so many
@@ -35,9 +36,8 @@ pub use document::listing::{RefusalAt, refusals_by, refusals_in, strings};
 pub use document::{fill_in, fill_in_by, fill_in_slice};
 pub use error::Error;
 pub use path::Path;
-pub use place::{place_in, place_of};
+pub use place::place_in;
 pub use places::places_in;
-pub use refusals::{RefusedString, all_refusals, first_refusal};
 use std::alloc::Global;
 use std::convert::AsStr;
 use std::str::{self, Utf8Error};
@@ -53,8 +53,6 @@ pub mod laws;
 mod path;
 mod place;
 mod places;
-mod refusals;
-mod refused;
 mod typed;
 
 /// Fills in the strings of a tree from `variables`, whose values are texts.

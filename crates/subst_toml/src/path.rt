@@ -8,7 +8,7 @@ ghost use Rattle.subst_toml.specs.Paths.{steps_of};
 
 use std::fmt;
 use std::fmt::Write;
-use subst_walk::{PathStep, TreePath};
+use subst_walk::PathStep;
 use toml_writer::write_key;
 
 /// The path from a tree to a string of it. It displays as a dotted key, with indices in brackets, as
@@ -17,14 +17,6 @@ use toml_writer::write_key;
 pub struct Path {
     /// The steps, the first one from the root.
     pub steps: Vec<PathStep>,
-}
-
-impl TreePath for Path {
-    ghost path_steps = { steps_of };
-
-    fn from_steps(steps: Vec<PathStep>) -> Self {
-        Path { steps }
-    }
 }
 
 /// The keys, quoted where they have to be, after dots, and the indices in brackets. Before the first key is

@@ -1,19 +1,14 @@
-//! Spans in a TOML document: that of a string of its tree, and that which spells a part of the string.
-//!
-//! A span is found by a walk over the text. Then the kit's reader is asked whether it is the right one, so a
-//! result is certain without a proof of the walk.
+//! Where a part of a string is spelled in its TOML document. The kit's reader confirms each span before it is
+//! returned.
 
 ghost use Rattle.std.specs.Prelude.{◌≡◌, ◌≤◌, ◌++◌, IfOk, IfSome, IsTrue, map, string_bytes};
 ghost use Rattle.toml.specs.Parse.{parse_document};
 ghost use Rattle.toml.specs.View.{view, table_view};
 ghost use Rattle.subst_error.specs.Range.{IsRangeIn};
 ghost use Rattle.subst_walk.specs.Paths.{step_of};
-ghost use Rattle.subst_toml.specs.Paths.{steps_of, Leads};
-ghost use Rattle.subst_toml.specs.Places.{part_at, quotes_of, with_empty, IsTokenOf, IsInNewline, IsPlaceOf, IsPlaceIn, LeadsToEmpty};
+ghost use Rattle.subst_toml.specs.Paths.{Leads};
+ghost use Rattle.subst_toml.specs.Places.{part_at, quotes_of, IsTokenOf, IsInNewline, IsPlaceIn};
 
-use crate::document::numbered::{number_at, with_numbers};
-use crate::document::tokens::strings_in;
-use crate::path::Path;
 use std::alloc::{AllocError, Global};
 use std::ops::Range;
 use subst_walk::{PathStep, slice};
@@ -22,98 +17,9 @@ use toml_parser::bytes::byte_at;
 
 pub(crate) mod spelling;
 
-/// Returns where the string that a path leads to is in a document: the range of its token, with its
-/// quotes, in byte offsets of `source`. It is `None` where `source` isn't a TOML document, or the path leads
-/// to no string of it.
-///
-/// # Errors
-///
-/// An allocation failed.
-pub fn place_of(
-    alloc: Global,
-    source: &str,
-    path: &Path,
-) -> Result<Option<Range<usize>>, AllocError>
-    ensures place { IfOk result
-        (λ place. IfSome place (IsPlaceOf source.now (steps_of path.now))) }
-{
-    let steps = path.steps.as_slice();
-    let Some(members) = table_of(alloc, source)? else {
-        return Ok(None);
-    };
-    let tree = Value::Table(members);
-    let Some(text) = string_at(&tree, steps) else {
-        return Ok(None);
-    };
-    let Some(place) = span_at(alloc, source, steps)? else {
-        return Ok(None);
-    };
-    let Some(token) = slice(source, &place) else {
-        return Ok(None);
-    };
-    match string_of(alloc, token)? {
-        Some(spelled) if spelled.as_str() == text => {
-            if is_emptied(alloc, source, &place, steps)? {
-                Ok(Some(place))
-            } else {
-                Ok(None)
-            }
-        }
-        _ => Ok(None),
-    }
-}
-
-/// Returns the range of the token of the string at a path.
-fn span_at(
-    alloc: Global,
-    source: &str,
-    steps: &[PathStep],
-) -> Result<Option<Range<usize>>, AllocError> {
-    let Some(found) = strings_in(alloc, source)? else {
-        return Ok(None);
-    };
-    let Some(numbered) = with_numbers(alloc, source, &found)? else {
-        return Ok(None);
-    };
-    let Some(members) = table_of(alloc, numbered.as_str())? else {
-        return Ok(None);
-    };
-    match number_at(&Value::Table(members), steps) {
-        Some(number) => Ok(found.get(number).map(|it| it.span.start..it.span.end)),
-        None => Ok(None),
-    }
-}
-
-/// Returns whether these steps lead to an empty string once one is written in place of a range.
-fn is_emptied(
-    alloc: Global,
-    source: &str,
-    place: &Range<usize>,
-    steps: &[PathStep],
-) -> Result<bool, AllocError>
-    ensures { IfOk result
-        (λ is. IsTrue is → LeadsToEmpty (map step_of steps.now) (with_empty source.now place.now)) }
-{
-    let (Some(before), Some(after)) = (source.get(..place.start), source.get(place.end..)) else {
-        return Ok(false);
-    };
-    let mut emptied = String::with_capacity(alloc, source.len())?;
-    emptied.push_str(before)?;
-    emptied.push_str("''")?;
-    emptied.push_str(after)?;
-    let Some(members) = table_of(alloc, emptied.as_str())? else {
-        return Ok(false);
-    };
-    let tree = Value::Table(members);
-    match string_at(&tree, steps) {
-        Some(text) => Ok(text.is_empty()),
-        None => Ok(false),
-    }
-}
-
 /// Returns where a part of a string is spelled in its document. `token` is the range of the string's token in
-/// `source`, with its quotes, as [`place_of`] returns it, and `range` is the part, in byte offsets of the
-/// string. The result is in byte offsets of `source`.
+/// `source`, with its quotes, as [`strings`](crate::strings) returns it, and `range` is the part, in byte
+/// offsets of the string. The result is in byte offsets of `source`.
 ///
 /// It begins where the character at `range.start` begins to be spelled, after what the document leaves out
 /// before it: the newline after the opening quotes of a multi-line string, and a backslash at the end of a

@@ -23,36 +23,41 @@ pub fn ask<F: Format>(source: &[u8], values: &Texts, ways: &mut Ways) -> Result<
 fn ask_text<F: Format>(text: &str, values: &Texts, ways: &mut Ways) -> Result<(), AllocError> {
     let alloc = ways.alloc;
     let read = answer::<F>(alloc, F::from_str(alloc, text, values))?;
-    let filled = read_again::<F>(alloc, F::fill_in(alloc, text, values), &read)?;
+    let filled = F::fill_in(alloc, text, values);
+    if !are_as_refused(&F::refusals(alloc, text, values), &filled, &read) {
+        ways.add(
+            "refusals_in",
+            Answer::Breaks("they aren't what the text is refused for"),
+        )?;
+    }
+    let filled = read_again::<F>(alloc, filled, &read)?;
     ways.add("value_from_str", read)?;
     ways.add("fill_in", filled)?;
     match F::tree(alloc, text) {
-        Ok(mut tree) => ask_tree::<F>(text, &mut tree, values, ways),
+        Ok(mut tree) => {
+            ways.add(
+                "substitute_string_values",
+                in_place::<F>(alloc, &mut tree, values)?,
+            )
+        }
         Err(e) => ways.add("its reader", F::refusal(e)?),
     }
 }
 
-fn ask_tree<F: Format>(
-    text: &str,
-    tree: &mut F::Tree,
-    values: &Texts,
-    ways: &mut Ways,
-) -> Result<(), AllocError> {
-    let alloc = ways.alloc;
-    let first = F::first(alloc, tree, values)?;
-    let all = F::all(alloc, tree, values)?;
-    let are_listed = match F::listed_count(alloc, text, values) {
-        Some(listed) if F::HAS_EQUAL_KEYS => all.len() <= listed,
-        listed => listed == Some(all.len()),
+/// Returns whether the first of all refusals is that of the text, and that of its tree is one of them.
+fn are_as_refused<E>(
+    refusals: &Result<Option<Vec<Error>>, E>,
+    filled: &Result<Option<String>, E>,
+    of_tree: &Answer,
+) -> bool {
+    let Ok(Some(all)) = refusals else {
+        return filled.is_err();
     };
-    if !are_listed {
-        ways.add("refusals_in", Answer::Breaks("it lists other strings"))?;
-    }
-    let all = all.into_iter().next();
-    let filled = in_place::<F>(alloc, tree, values)?;
-    ways.add("first_refusal", after_refusals(alloc, first, &filled)?)?;
-    ways.add("all_refusals", after_refusals(alloc, all, &filled)?)?;
-    ways.add("substitute_string_values", filled)
+    let has_that_of_tree = match of_tree {
+        Answer::Refuses(fault) => all.contains(fault),
+        _ => true,
+    };
+    has_that_of_tree && all.is_empty() == filled.is_ok()
 }
 
 /// Returns the answer of a tree that is filled in.
@@ -68,19 +73,6 @@ fn in_place<F: Format>(
         Err(_) if before != after => Ok(Answer::Breaks("the tree isn't as it was")),
         Err(fault) => Answer::of(Err(fault)),
         Ok(()) => Ok(Answer::Gives(after.into_bytes())),
-    }
-}
-
-/// Returns the answer that the first refusal in a tree states; where there is none, the tree is `filled`.
-fn after_refusals(
-    alloc: Global,
-    first: Option<Error>,
-    filled: &Answer,
-) -> Result<Answer, AllocError> {
-    match (first, filled) {
-        (Some(fault), _) => Answer::of(Err(fault)),
-        (None, Answer::Gives(text)) => Ok(Answer::Gives(Vec::from_slice(alloc, text)?)),
-        (None, _) => Ok(Answer::Breaks("no string is refused")),
     }
 }
 

@@ -48,14 +48,12 @@ pub trait Format {
     /// Calls `fill_in`.
     fn fill_in(alloc: Global, source: &str, map: &Texts) -> Filled<Self::Error>;
 
-    /// Returns the fault of `first_refusal`.
-    fn first(alloc: Global, tree: &Self::Tree, map: &Texts) -> Result<Option<Error>, AllocError>;
-
-    /// Returns the faults of `all_refusals`.
-    fn all(alloc: Global, tree: &Self::Tree, map: &Texts) -> Result<Vec<Error>, AllocError>;
-
-    /// Returns how many strings are listed by `refusals_in`.
-    fn listed_count(alloc: Global, source: &str, map: &Texts) -> Option<usize>;
+    /// Returns the faults of `refusals_in`, or `None` where a place isn't confirmed.
+    fn refusals(
+        alloc: Global,
+        source: &str,
+        map: &Texts,
+    ) -> Result<Option<Vec<Error>>, Self::Error>;
 }
 
 /// JSON.
@@ -106,18 +104,15 @@ impl Format for Json {
         json::fill_in(alloc, source, map)
     }
 
-    fn first(alloc: Global, tree: &Value, map: &Texts) -> Result<Option<Error>, AllocError> {
-        Ok(json::first_refusal(alloc, tree, map)?.map(|it| it.error))
-    }
-
-    fn all(alloc: Global, tree: &Value, map: &Texts) -> Result<Vec<Error>, AllocError> {
-        let all = json::all_refusals(alloc, tree, map)?;
-        all.into_iter().map(|it| it.error).collect(alloc)
-    }
-
-    fn listed_count(alloc: Global, source: &str, map: &Texts) -> Option<usize> {
-        let listed = json::refusals_in(alloc, source, map);
-        listed.ok().flatten().map(|list| list.len())
+    fn refusals(
+        alloc: Global,
+        source: &str,
+        map: &Texts,
+    ) -> Result<Option<Vec<Error>>, json::Error> {
+        let Some(all) = json::refusals_in(alloc, source, map)? else {
+            return Ok(None);
+        };
+        Ok(Some(all.into_iter().map(|it| it.error).collect(alloc)?))
     }
 }
 
@@ -170,17 +165,14 @@ impl Format for Toml {
         filled::fill_in(alloc, source, map)
     }
 
-    fn first(alloc: Global, tree: &TomlValue, map: &Texts) -> Result<Option<Error>, AllocError> {
-        Ok(filled::first_refusal(alloc, tree, map)?.map(|it| it.error))
-    }
-
-    fn all(alloc: Global, tree: &TomlValue, map: &Texts) -> Result<Vec<Error>, AllocError> {
-        let all = filled::all_refusals(alloc, tree, map)?;
-        all.into_iter().map(|it| it.error).collect(alloc)
-    }
-
-    fn listed_count(alloc: Global, source: &str, map: &Texts) -> Option<usize> {
-        let listed = filled::refusals_in(alloc, source, map);
-        listed.ok().flatten().map(|list| list.len())
+    fn refusals(
+        alloc: Global,
+        source: &str,
+        map: &Texts,
+    ) -> Result<Option<Vec<Error>>, filled::Error> {
+        let Some(all) = filled::refusals_in(alloc, source, map)? else {
+            return Ok(None);
+        };
+        Ok(Some(all.into_iter().map(|it| it.error).collect(alloc)?))
     }
 }

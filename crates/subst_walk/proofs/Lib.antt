@@ -1,7 +1,6 @@
 pub mod ChangeLemmas
 pub mod EditLemmas
 mod FillerLemmas
-pub mod FirstLemmas
-pub mod FoundLemmas
 pub mod ListedLemmas
+pub mod RefusalLemmas
 pub mod WalkLemmas

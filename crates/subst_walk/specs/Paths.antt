@@ -20,23 +20,11 @@ pub record Located : Type 0 where
   pub path : List PathStep
   pub text : List ℕ
 
--- a string that is the tree
-abbrev pub at_root : List ℕ → Located
-at_root s = record { path = []; text = s }
-
--- a string, seen from a tree from which a step leads to this one
-abbrev pub below : PathStep → Located → Located
-below step it = record { path = step ∷ it.path; text = it.text }
-
 -- a string that is refused, with its path and its fault
 pub record Refusal : Type 0 where
   pub path : List PathStep
   pub text : List ℕ
   pub fault : Option Fault
-
--- that refusal, seen from there
-abbrev pub refusal_below : PathStep → Refusal → Refusal
-refusal_below step it = record { path = step ∷ it.path; text = it.text; fault = it.fault }
 
 -- The refusals of those of these strings that are refused, in their order. Each other one gives bytes. `ask`
 -- tells which answers a string has.

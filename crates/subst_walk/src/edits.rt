@@ -23,6 +23,19 @@ pub struct StringAt {
     pub span: Range<usize>,
 }
 
+/// A string of a text that is refused, and where it stands.
+#[derive(Debug, Drop)]
+pub struct RefusalAt<P> {
+    /// The path that leads to it. Of members with equal keys each has the same path.
+    pub path: P,
+    /// The string, as it is read.
+    pub text: String,
+    /// The byte range of the text that spells it, with its quotes.
+    pub span: Range<usize>,
+    /// Why it is refused. Positions are byte offsets in the string. It is never `OutOfMemory`.
+    pub error: Error,
+}
+
 /// How a format spells its strings.
 pub trait StringFormat {
     // Whether a part of a text spells the string.

@@ -4,9 +4,6 @@
 //!
 //! `fill_in_string` fills in a string where it stands in a text, whose format is a `StringFormat`.
 //!
-//! `refused_string` and `add_below` are the steps of the walks that find refused strings, which `first_found`
-//! and `all_found` return with their paths.
-//!
 //! `subst` re-exports `PathStep` alone, by its modules `json` and `toml`.
 #![tactic(auto)]
 
@@ -19,12 +16,10 @@ ghost use Rattle.subst_walk.specs.Texts.{HasRange};
 
 pub use changes::{Change, Found, Left, change_of_text};
 pub use edits::{
-    Cut, StringAt, StringFormat, changed, cut_round, fill_in_string, slice, string_at,
+    Cut, RefusalAt, StringAt, StringFormat, changed, cut_round, fill_in_string, slice, string_at,
 };
-pub use found::{RefusalAt, RefusedString, TreePath, all_found, first_found};
 pub use path_step::PathStep;
 pub use pieces::{Pieces, Position, spans};
-pub use refused::{HowMany, PathStepRef, Refused, add_below, refused_string};
 use std::alloc::{AllocError, Global};
 use std::convert::AsStr;
 use subst_error::Error;
@@ -33,10 +28,8 @@ use subst_template::{is_plain, substitute};
 
 mod changes;
 mod edits;
-mod found;
 mod path_step;
 mod pieces;
-mod refused;
 
 /// A way to fill in texts.
 ///

@@ -2,7 +2,6 @@
 //! 0 in the order of the text. Its tree has the same shape, with the numbers in place of the strings.
 
 use crate::path::Path;
-use crate::place::string_at;
 use std::alloc::{AllocError, Global};
 use subst_walk::{PathStep, StringAt};
 use toml::Value;
@@ -34,11 +33,6 @@ pub(crate) fn with_numbers(
 fn push_number(alloc: Global, output: &mut String, number: usize) -> Result<(), AllocError> {
     let token = format!(in alloc; "'{number}'")?;
     output.push_str(token.as_str())
-}
-
-/// Returns the number that a path leads to in a tree of numbers.
-pub(crate) fn number_at(tree: &Value, steps: &[PathStep]) -> Option<usize> {
-    string_at(tree, steps)?.parse::<usize>().ok()
 }
 
 /// Returns the paths that lead to these numbers in a tree of numbers, a path for each of them. `places` has

@@ -2,7 +2,7 @@
 use Rattle.std.proofs.Common.{refl}
 use Rattle.std.proofs.lemmas.Option.{IfSome_then}
 use Rattle.subst_json.specs.Listed.{refusal_at}
-use Rattle.subst_walk.proofs.FirstLemmas.{holds_of_all}
+use Rattle.subst_walk.proofs.RefusalLemmas.{holds_of_all}
 use Rattle.subst_walk.specs.Refused.{HasRangeInText}
 use Rattle.subst_report.proofs.of_json.all_refused.Goals as goal
 
