@@ -1,12 +1,7 @@
--- Where a path leads, and ranges of a token.
-use Rattle.std.proofs.Common.{◌≡◌, ℕ, ◌+◌, ◌-◌, ◌≤◌, List, [], ◌∷◌, ◌++◌, length, take, drop, slice_range, Some, sym, ap, ◌∙◌, subst, arith}
+-- Ranges of a token.
+use Rattle.std.proofs.Common.{◌≡◌, ℕ, ◌+◌, ◌-◌, ◌≤◌, List, [], ◌∷◌, ◌++◌, length, take, drop, slice_range, sym, ap, ◌∙◌, subst, arith}
 use Rattle.std.proofs.lemmas.List.{length-take, take-take}
-use Rattle.std.proofs.lemmas.Option.{option_and_then_some}
-use Rattle.serde_json.specs.Data.{Data, string}
-use Rattle.serde_json.specs.Find.{get, at}
-use Rattle.subst_walk.specs.Paths.{PathStep, Key, Index}
-use Rattle.subst_json.specs.Paths.{Leads}
-use Rattle.subst_json.specs.Places.{value_at, IsSpelledUntil, IsTokenOf}
+use Rattle.subst_json.specs.Places.{IsSpelledUntil, IsTokenOf}
 
 -- the start of a range
 take-slice_range : (s : List ℕ) (start end len : ℕ) → len ≤ length (slice_range s start end)

@@ -1,12 +1,9 @@
 -- Spans of the text that a tree is read from.
-use Rattle.std.specs.Prelude.{◌≡◌, ◌≤◌, ◌-◌, ℕ, List, [], ◌∷◌, ◌++◌, length, take, drop, slice_index, slice_range, Option, Some, option_and_then, codes}
+use Rattle.std.specs.Prelude.{◌≡◌, ◌≤◌, ◌-◌, ℕ, List, [], ◌∷◌, ◌++◌, length, take, slice_index, slice_range, Some}
 use Rattle.std.specs.declared.ops.Range.{Range}
-use Rattle.serde_json.specs.Data.{Data, null, string}
-use Rattle.serde_json.specs.Find.{get, at}
+use Rattle.serde_json.specs.Data.{string}
 use Rattle.serde_json.specs.Read.{read}
 use Rattle.subst_error.specs.Range.{IsRangeIn}
-use Rattle.subst_walk.specs.Paths.{PathStep, Key, Index}
-use Rattle.subst_json.specs.Paths.{Leads}
 
 -- The text reads as this string, between quotes.
 abbrev pub IsTokenOf : List ℕ → List ℕ → Type 0

@@ -8,15 +8,15 @@ ghost use Rattle.serde_json.specs.Errors.{IsOfText};
 ghost use Rattle.serde_json.specs.Read.{read};
 ghost use Rattle.subst_error.specs.ErrorFault.{error_fault};
 ghost use Rattle.subst_language.specs.Calls.Clauses.{AnswersText};
-ghost use Rattle.subst_walk.specs.Edits.{AreListed, AreSpelled, text_at};
+ghost use Rattle.subst_walk.specs.Edits.{AreSpelled, text_at};
 ghost use Rattle.subst_walk.specs.Paths.{AreRefusals, step_of};
 ghost use Rattle.subst_walk.specs.Refused.{HasRangeInText};
 ghost use Rattle.subst_json.specs.Errors.{HasOwnMemory};
-ghost use Rattle.subst_json.specs.Filled.{strings_of_token, strings_in, IsStringToken};
+ghost use Rattle.subst_json.specs.Filled.{strings_in, IsStringToken};
 ghost use Rattle.subst_json.specs.Listed.{located, located_at, located_in, past_token, past_value, refusal_at, refusal_of, string_of, AreListedRefusals, RefusalAt as SpecRefusalAt};
 ghost use Rattle.subst_json.specs.Outcome.{ReadsAsTree, IfJson, OnJson, OnSubst};
 
-use crate::tokens::{JsonStrings, span_in};
+use crate::tokens::{JsonStrings, JsonTokens, span_in};
 use crate::{Error, Path};
 use json::{Reader, Scratch, Token};
 use serde_json::Value;
@@ -120,58 +120,8 @@ fn listed(alloc: Global, source: &str) -> Result<Option<Vec<StringAt>>, AllocErr
 {
     let mut scratch = Scratch::new(alloc);
     let mut format = JsonStrings::new(alloc);
-    let mut list = Vec::new(alloc);
-    let mut reader = Reader::new(source, &mut scratch)?;
-    let mut start = reader.offset();
-    let mut from = 0;
-    while let Some(token) = reader.next() {
-        let end = reader.offset();
-        let place = start..end;
-        start = end;
-        let next = list_token(alloc, source, from, place, token, &mut format, &mut list)?;
-        let Some(next) = next else {
-            return Ok(None);
-        };
-        from = next;
-    }
-    Ok(Some(list))
-}
-
-/// Adds a token to a list, if it is a string. `place` is from where it begins to where the next one does, and
-/// the strings of the list end before `from`. Returns before what the next one has to begin.
-fn list_token(
-    alloc: Global,
-    source: &str,
-    from: usize,
-    place: Range<usize>,
-    token: Token<'_>,
-    format: &mut JsonStrings,
-    list: &mut Vec<StringAt>,
-) -> Result<Option<usize>, AllocError>
-    ensures { IfOk result (λ next. IfSome next
-        (λ next. AreListed IsStringToken source.now from next
-        (strings_of_token (token_of token.entry)) list.old.items list.new.items)) }
-{
-    match token {
-        Token::String(text) => {
-            let span = span_in(source, place);
-            let end = span.end;
-            let Some(it) = string_at(alloc, source, from, span, text, format)? else {
-                return Ok(None);
-            };
-            list.push(it)?;
-            Ok(Some(end))
-        }
-        Token::BeginObject
-        | Token::EndObject
-        | Token::BeginArray
-        | Token::EndArray
-        | Token::Key(_)
-        | Token::Number(_)
-        | Token::Bool(_)
-        | Token::Null
-        | Token::Bad => Ok(Some(from)),
-    }
+    let mut strings = JsonTokens::new(source, &mut scratch)?;
+    subst_walk::listed(alloc, source, &mut strings, &mut format)
 }
 
 /// Returns the refused strings among the tokens of a text.

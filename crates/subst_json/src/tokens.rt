@@ -1,12 +1,11 @@
 //! The tokens of a JSON text, with where they stand.
 
-ghost use Rattle.std.specs.Prelude.{◌≡◌, ◌++◌, [], ◌∷◌, ◌≤◌, IfOk, IfSome, string_bytes};
+ghost use Rattle.std.specs.Prelude.{◌≡◌, [], ◌∷◌, IfOk, IfSome, MatchOption, string_bytes};
 ghost use Rattle.json.specs.Lex.{tokens};
 ghost use Rattle.json.specs.Print.{quoted};
 ghost use Rattle.json.specs.Reads.{token_of};
 ghost use Rattle.subst_error.specs.ErrorFault.{error_fault};
 ghost use Rattle.subst_language.specs.Calls.Outcome.{OnFault};
-ghost use Rattle.subst_walk.specs.Edits.{IsFilledUpTo};
 ghost use Rattle.subst_language.specs.Language.Several.{GivesBy, RefusesFirst};
 ghost use Rattle.subst_walk.specs.Texts.{HasRange};
 ghost use Rattle.subst_json.specs.Filled.{strings_of_token, strings_in, IsFilledJson, IsStringToken};
@@ -16,7 +15,7 @@ use serde_json::Value;
 use std::alloc::{AllocError, Global};
 use std::ops::Range;
 use subst_error::Error;
-use subst_walk::{Fill, StringFormat, fill_in_string};
+use subst_walk::{Fill, Spelled, StringFormat, Strings};
 
 /// How JSON spells its strings.
 #[derive(Drop)]
@@ -72,6 +71,76 @@ impl StringFormat for JsonStrings {
     }
 }
 
+/// The strings of a text, as its reader comes to them.
+#[derive(Drop)]
+pub(crate) struct JsonTokens<'t> {
+    reader: Reader<'t>,
+    source: &'t str,
+    /// The byte offset at which the next token begins.
+    start: usize,
+}
+
+impl<'t> JsonTokens<'t> {
+    /// Returns those of a text.
+    ///
+    /// # Errors
+    ///
+    /// That an allocation failed.
+    pub(crate) fn new(
+        source: &'t str,
+        scratch: &'t mut Scratch,
+    ) -> Result<JsonTokens<'t>, AllocError>
+        ensures { IfOk result (λ it. it.reader ≡ tokens source.now) }
+    {
+        let reader = Reader::new(source, scratch)?;
+        let start = reader.offset();
+        Ok(JsonTokens {
+            reader,
+            source,
+            start,
+        })
+    }
+}
+
+impl<'t> Strings<'t> for JsonTokens<'t> {
+    ghost left = { λ it. strings_in it.reader };
+
+    fn next(&mut self) -> Option<Spelled<'t>> {
+        while let Some(token) = self.reader.next() {
+            let start = self.start;
+            self.start = self.reader.offset();
+            if let Some(text) = string_of(token) {
+                let span = span_in(self.source, start..self.start);
+                return Some(Spelled {
+                    text,
+                    start: span.start,
+                    end: span.end,
+                });
+            }
+        }
+        None
+    }
+}
+
+/// Returns the string that a token is, if it is one. A key is none.
+fn string_of<'t>(token: Token<'t>) -> Option<&'t str>
+    ensures { MatchOption result (strings_of_token (token_of token.entry) ≡ [])
+        (λ text. strings_of_token (token_of token.entry) ≡ text.now ∷ []) }
+{
+    match token {
+        Token::String(text) => Some(text),
+        Token::BeginObject
+        | Token::EndObject
+        | Token::BeginArray
+        | Token::EndArray
+        | Token::Key(_)
+        | Token::Number(_)
+        | Token::Bool(_)
+        | Token::Null
+        | Token::Bad => None,
+    }
+}
+
 /// Returns a text with its strings filled in, or `None` where one isn't found in it. Whether the text is JSON
 /// isn't asked.
 ///
@@ -91,63 +160,8 @@ pub(crate) fn filled_in<F: Fill>(
 {
     let mut scratch = Scratch::new(alloc);
     let mut format = JsonStrings::new(alloc);
-    let mut output = String::with_capacity(alloc, source.len())?;
-    let mut reader = Reader::new(source, &mut scratch)?;
-    let mut rest = source;
-    let mut start = reader.offset();
-    while let Some(token) = reader.next() {
-        let end = reader.offset();
-        let passed = source.len().saturating_sub(rest.len());
-        let place = start.saturating_sub(passed)..end.saturating_sub(passed);
-        start = end;
-        let left = fill_in_token(alloc, rest, place, token, &mut format, filler, &mut output)?;
-        let Some(left) = left else {
-            return Ok(None);
-        };
-        rest = left;
-    }
-    output.push_str(rest)?;
-    Ok(Some(output))
-}
-
-/// Fills in a token of a text whose rest begins before it. `place` is from where it begins in the rest to
-/// where the next one does.
-///
-/// # Errors
-///
-/// The fault for which the token, if it is a string, is refused. `OutOfMemory` when allocation fails.
-fn fill_in_token<'t, F: Fill>(
-    alloc: Global,
-    rest: &'t str,
-    place: Range<usize>,
-    token: Token<'_>,
-    format: &mut JsonStrings,
-    filler: &F,
-    output: &mut String,
-) -> Result<Option<&'t str>, Error>
-    ensures filled { IfOk result (λ left. IfSome left
-        (λ left. IsFilledUpTo IsStringToken quoted (GivesBy (F.answers filler.now))
-        (strings_of_token (token_of token.entry)) rest.now left.now (string_bytes output.old)
-        (string_bytes output.new))) }
-    ensures err { OnFault error_fault result
-        (RefusesFirst (F.answers filler.now) (strings_of_token (token_of token.entry))) }
-    ensures range { OnFault error_fault result HasRange }
-{
-    match token {
-        Token::String(text) => {
-            let span = span_in(rest, place);
-            fill_in_string(alloc, rest, &span, text, format, filler, output)
-        }
-        Token::BeginObject
-        | Token::EndObject
-        | Token::BeginArray
-        | Token::EndArray
-        | Token::Key(_)
-        | Token::Number(_)
-        | Token::Bool(_)
-        | Token::Null
-        | Token::Bad => Ok(Some(rest)),
-    }
+    let mut strings = JsonTokens::new(source, &mut scratch)?;
+    subst_walk::filled_in(alloc, source, &mut strings, &mut format, filler)
 }
 
 /// Returns the byte range of a string of a text, which ends with the last quote before the next token: the

@@ -1,12 +1,10 @@
 -- Spans in a TOML document: of the strings of its tree, and of parts of them.
-use Rattle.std.specs.Prelude.{◌≡◌, ◌⊎◌, ℕ, ◌+◌, ◌-◌, ◌≤◌, ◌&&◌, ◌==◌, if◌then◌else◌, List, [], ◌++◌, length, take, drop, slice_index, slice_range, codes, Some}
+use Rattle.std.specs.Prelude.{◌≡◌, ◌⊎◌, ℕ, ◌+◌, ◌-◌, ◌≤◌, ◌&&◌, ◌==◌, if◌then◌else◌, List, ◌++◌, length, take, slice_index, slice_range, Some}
 use Rattle.std.specs.declared.ops.Range.{Range}
 use Rattle.toml_parser.specs.Lexical.{carriage_return, line_feed}
-use Rattle.toml.specs.Data.{string, table, Members}
-use Rattle.toml.specs.Parse.{parse_document, parse_value}
+use Rattle.toml.specs.Data.{string}
+use Rattle.toml.specs.Parse.{parse_value}
 use Rattle.subst_error.specs.Range.{IsRangeIn}
-use Rattle.subst_walk.specs.Paths.{PathStep}
-use Rattle.subst_toml.specs.Paths.{Leads}
 
 -- the part of a text at a range
 abbrev pub part_at : List ℕ → Range ℕ → List ℕ

@@ -4,17 +4,15 @@
 //! A walk over the text finds its strings, and each that changes is written anew. Then the kit's reader is
 //! asked whether the text is read as the tree with its strings filled in.
 
-ghost use Rattle.std.specs.Prelude.{◌≡◌, [], ◌∷◌, None, Some, IfErr, IfOk, IfSome, IsTrue, string_bytes};
+ghost use Rattle.std.specs.Prelude.{◌≡◌, None, Some, IfErr, IfOk, IfSome, IsTrue, string_bytes};
 ghost use Rattle.toml.specs.Errors.{IsWithin};
 ghost use Rattle.toml.specs.Parse.{parse_document};
 ghost use Rattle.toml.specs.View.{table_view};
-ghost use Rattle.toml_writer.specs.Text.{string_text};
 ghost use Rattle.subst_language.specs.Calls.Clauses.{AnswersText};
 ghost use Rattle.subst_language.specs.Language.Several.{GivesBy, RefusesFirst};
-ghost use Rattle.subst_walk.specs.Edits.{IsFilledUpTo, text_at};
 ghost use Rattle.subst_walk.specs.Texts.{HasRange};
 ghost use Rattle.subst_toml.specs.Errors.{HasOwnMemory};
-ghost use Rattle.subst_toml.specs.Filled.{IsFilledIn, IsQuotedToken};
+ghost use Rattle.subst_toml.specs.Filled.{IsFilledIn};
 ghost use Rattle.subst_toml.specs.Mapped.{strings, IsEach};
 ghost use Rattle.subst_toml.specs.Outcome.{ReadsAsTree, IfToml, OnToml, OnSubst, TellsUtf8, StatesFirst};
 
@@ -24,7 +22,7 @@ use same::is_same_table;
 use std::alloc::{AllocError, Global};
 use std::convert::AsStr;
 use subst_language::VariableMap;
-use subst_walk::{Fill, Filler, StringAt, fill_in_string};
+use subst_walk::{Fill, Filler, ListedStrings, filled_in};
 use token::Quoted;
 use toml::Table;
 
@@ -142,50 +140,11 @@ fn written<F: Fill>(alloc: Global, source: &str, filler: &F) -> Result<Option<St
     let Some(found) = tokens::strings_in(alloc, source)? else {
         return Ok(None);
     };
-    let mut output = String::with_capacity(alloc, source.len())?;
-    let mut rest = source;
-    for it in found.iter() {
-        match next(alloc, source.len(), rest, it, filler, &mut output)? {
-            Some(after) => rest = after,
-            None => return Ok(None),
-        }
-    }
-    output.push_str(rest)?;
-    Ok(Some(output))
-}
-
-/// Appends what is before a string and what it becomes to the output, and returns what follows it. A string
-/// that becomes itself stays in what follows. It is nothing where the string is refused.
-fn next<'s, F: Fill>(
-    alloc: Global,
-    source_len: usize,
-    rest: &'s str,
-    it: &StringAt,
-    filler: &F,
-    output: &mut String,
-) -> Result<Option<&'s str>, AllocError>
-    ensures { IfOk result (λ left. IfSome left (λ left.
-        IsFilledUpTo IsQuotedToken string_text (GivesBy (F.answers filler.now))
-        (text_at it.now ∷ []) rest.now left.now (string_bytes output.old)
-        (string_bytes output.new))) }
-{
-    let done = source_len.saturating_sub(rest.len());
-    let (Some(start), Some(end)) = (
-        it.span.start.checked_sub(done),
-        it.span.end.checked_sub(done),
-    ) else {
-        return Ok(None);
+    let mut strings = ListedStrings {
+        list: found.as_slice(),
     };
-    match fill_in_string(
-        alloc,
-        rest,
-        &(start..end),
-        it.text.as_str(),
-        &mut Quoted,
-        filler,
-        output,
-    ) {
-        Ok(left) => Ok(left),
+    match filled_in(alloc, source, &mut strings, &mut Quoted, filler) {
+        Ok(output) => Ok(output),
         Err(subst_error::Error::OutOfMemory(e)) => Err(e),
         Err(_) => Ok(None),
     }

@@ -22,6 +22,7 @@ pub use path_step::PathStep;
 pub use pieces::{Pieces, Position, spans};
 use std::alloc::{AllocError, Global};
 use std::convert::AsStr;
+pub use strings::{ListedStrings, Spelled, Strings, are_spelled, filled_in, listed};
 use subst_error::Error;
 use subst_language::VariableMap;
 use subst_template::{is_plain, substitute};
@@ -30,6 +31,7 @@ mod changes;
 mod edits;
 mod path_step;
 mod pieces;
+mod strings;
 
 /// A way to fill in texts.
 ///

@@ -13,7 +13,7 @@ ghost use Rattle.subst_toml.specs.Filled.{strings_in, spelled_of, refusal_in, Re
 ghost use Rattle.subst_toml.specs.Outcome.{ReadsAsTree, IfToml, OnToml, OnSubst};
 
 use super::numbered::{paths_of, with_numbers};
-use super::token::{are_spelled, is_spelled};
+use super::token::{Quoted, is_spelled};
 use super::tokens;
 use crate::error::Error;
 use crate::path::Path;
@@ -21,7 +21,7 @@ use crate::place::{string_at, table_of};
 use std::alloc::{AllocError, Global};
 use std::convert::AsStr;
 use subst_language::VariableMap;
-use subst_walk::{Fill, Filler, StringAt};
+use subst_walk::{Fill, Filler, StringAt, are_spelled};
 use toml::Value;
 
 /// A string of a document that is refused, and where it stands.
@@ -50,7 +50,7 @@ pub fn strings(alloc: Global, source: &str) -> Result<Option<Vec<StringAt>>, Err
     let Some(found) = tokens::strings_in(alloc, source)? else {
         return Ok(None);
     };
-    if are_spelled(alloc, source, &found)? {
+    if are_spelled(alloc, source, found.as_slice(), &mut Quoted)? {
         Ok(Some(found))
     } else {
         Ok(None)

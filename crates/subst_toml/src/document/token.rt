@@ -2,14 +2,13 @@
 
 ghost use Rattle.std.specs.Prelude.{Some, IfOk, IsTrue};
 ghost use Rattle.toml_writer.specs.Text.{string_text};
-ghost use Rattle.subst_walk.specs.Edits.{AreSpelled};
 ghost use Rattle.subst_toml.specs.Filled.{IsQuotedToken, IsSpelledAt};
 
 use crate::place::string_of;
 use std::alloc::{AllocError, Global};
 use std::fmt;
 use std::ops::Range;
-use subst_walk::{StringAt, StringFormat, slice};
+use subst_walk::{StringFormat, slice};
 use toml_parser::starts_string;
 use toml_writer::write_string;
 
@@ -50,25 +49,6 @@ impl fmt::Display for Spelled<'_> {
     fn fmt<W: fmt::Write>(&self, f: &mut fmt::Formatter<W>) -> fmt::Result {
         write_string(f, self.text)
     }
-}
-
-/// Returns whether each of these strings is spelled where it is, one after the other.
-pub(crate) fn are_spelled(
-    alloc: Global,
-    source: &str,
-    found: &Vec<StringAt>,
-) -> Result<bool, AllocError>
-    ensures { IfOk result
-        (λ are. IsTrue are → AreSpelled IsQuotedToken source.now 0 found.now.items) }
-{
-    let mut done = 0usize;
-    for it in found.iter() {
-        if it.span.start < done || !is_spelled(alloc, source, &it.span, it.text.as_str())? {
-            return Ok(false);
-        }
-        done = it.span.end;
-    }
-    Ok(true)
 }
 
 /// Returns whether a string is spelled at a span.
