@@ -73,4 +73,4 @@ pub use Rattle.subst_toml.proofs.MappedLemmas.{mapped_by_map as toml_mapped_by_m
 -- what the strings of a JSON tree become, of a TOML tree and of a text, said in a weaker way
 pub use Rattle.subst_json.proofs.MappedLemmas.{each_weaker}
 pub use Rattle.subst_toml.proofs.MappedLemmas.{each_weaker as toml_each_weaker}
-pub use Rattle.subst_walk.proofs.EditLemmas.{filled_weaker}
+pub use Rattle.subst_document.proofs.EditLemmas.{filled_weaker}

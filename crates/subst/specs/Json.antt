@@ -11,7 +11,7 @@ pub use Rattle.subst_json.specs.Paths
 pub use Rattle.subst_json.specs.Pieces
 pub use Rattle.subst_json.specs.Places
 pub use Rattle.subst_json.specs.Pointer
-pub use Rattle.subst_report.specs.Json as Report
-pub use Rattle.subst_walk.specs.Paths as Walk
-pub use Rattle.subst_walk.specs.Refused
-pub use Rattle.subst_walk.specs.Texts
+pub use Rattle.subst_json.specs.Report
+pub use Rattle.subst_document.specs.Paths as Walk
+pub use Rattle.subst_document.specs.Refused
+pub use Rattle.subst_document.specs.Texts

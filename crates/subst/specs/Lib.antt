@@ -21,4 +21,4 @@ pub use Rattle.subst_foreign.specs.Reading
 pub use Rattle.subst_foreign.specs.RefusedDisplay
 pub use Rattle.subst_foreign.specs.Template
 pub use Rattle.subst_foreign.specs.Text
-pub use Rattle.subst_report.specs.Report
+pub use Rattle.subst_document.specs.Report

@@ -10,7 +10,7 @@ pub use Rattle.subst_toml.specs.Outcome
 pub use Rattle.subst_toml.specs.Paths
 pub use Rattle.subst_toml.specs.Pieces
 pub use Rattle.subst_toml.specs.Places
-pub use Rattle.subst_report.specs.Toml as Report
-pub use Rattle.subst_walk.specs.Paths as Walk
-pub use Rattle.subst_walk.specs.Refused
-pub use Rattle.subst_walk.specs.Texts
+pub use Rattle.subst_toml.specs.Report
+pub use Rattle.subst_document.specs.Paths as Walk
+pub use Rattle.subst_document.specs.Refused
+pub use Rattle.subst_document.specs.Texts

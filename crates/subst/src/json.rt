@@ -20,6 +20,5 @@
 pub use subst_json::{
     Error, Fill, Filler, Path, PathStep, RangeFinder, ReaderStop, RefusalAt, StringAt, fill_in,
     fill_in_by, fill_in_slice, from_slice, from_str, place_in, places_in, reader_stop, refusals_by,
-    refusals_in, strings, substitute_string_values, value_from_slice, value_from_str,
+    refusals_in, report, strings, substitute_string_values, value_from_slice, value_from_str,
 };
-pub use subst_report::of_json::report;

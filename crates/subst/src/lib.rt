@@ -30,6 +30,7 @@
 //! has no code of its own.
 #![tactic(auto)]
 
+pub use subst_document::{Fill, RefusalAt, StringAt};
 pub use subst_error as error;
 pub use subst_error::Error;
 pub use subst_foreign::ShellMap;
@@ -41,7 +42,6 @@ pub use subst_template::{
     ByteTemplate, ByteTemplateBuf, Template, TemplateBuf, substitute, substitute_bytes,
     substitute_bytes_into, substitute_bytes_owned, substitute_into, substitute_owned,
 };
-pub use subst_walk::{Fill, RefusalAt, StringAt};
 
 pub mod escape;
 pub mod foreign;

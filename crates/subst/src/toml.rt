@@ -16,9 +16,8 @@
 //! [`report`] tells people what is wrong with a document for which a call returned an error: all strings that
 //! are refused, with line, column and path, or what the reader says.
 
-pub use subst_report::of_toml::report;
 pub use subst_toml::{
     Error, Fill, Filler, Path, PathStep, RefusalAt, StringAt, fill_in, fill_in_by, fill_in_slice,
-    from_slice, from_str, place_in, places_in, refusals_by, refusals_in, strings,
+    from_slice, from_str, place_in, places_in, refusals_by, refusals_in, report, strings,
     substitute_string_values, value_from_slice, value_from_str,
 };

@@ -15,10 +15,10 @@ use Rattle.subst_language.specs.Calls.Clauses.{AnswersText}
 use Rattle.subst_language.specs.Language.Answer.{Answer, Answers, Gives, Refuses}
 use Rattle.subst_language.specs.Language.LookUp.{LookUp}
 use Rattle.subst_language.specs.Language.Several.{GivesBy, under}
-use Rattle.subst_walk.proofs.EditLemmas.{filled_weaker}
-use Rattle.subst_walk.specs.Edits.{AreSpelled}
-use Rattle.subst_walk.specs.Paths.{AreRefusals, Located, PathStep, Refusal}
-use Rattle.subst_walk.specs.declared.edits.RefusalAt.{RefusalAt}
+use Rattle.subst_document.proofs.EditLemmas.{filled_weaker}
+use Rattle.subst_document.specs.Edits.{AreSpelled}
+use Rattle.subst_document.specs.Paths.{AreRefusals, Located, PathStep, Refusal}
+use Rattle.subst_document.specs.declared.edits.RefusalAt.{RefusalAt}
 use Rattle.subst_json.proofs.MappedLemmas.{each_weaker}
 use Rattle.subst_json.specs.Filled.{IsFilledJson, IsStringToken}
 use Rattle.subst_json.specs.Listed.{located_in, refusal_at, string_of}

@@ -10,7 +10,7 @@ use Rattle.subst_error.specs.Fault.{Fault}
 use Rattle.subst_error.specs.Range.{range_at, range_of}
 use Rattle.subst_language.specs.Language.LookUp.{LookUp}
 use Rattle.subst_language.specs.Language.Several.{GivesBy, under}
-use Rattle.subst_walk.specs.Paths.{AreRefusals, PathStep, Refusal}
+use Rattle.subst_document.specs.Paths.{AreRefusals, PathStep, Refusal}
 use Rattle.subst_json.specs.Filled as json
 use Rattle.subst_json.specs.Listed as json_listed
 use Rattle.subst_json.specs.Mapped as json_tree

@@ -20,12 +20,12 @@ use Rattle.subst.specs.Toml as toml
 use Rattle.subst.specs.Toml.Filled.{IsFound}
 use Rattle.subst.specs.declared.json.Path as json_path
 use Rattle.subst.specs.declared.toml.Path as toml_path
-use Rattle.subst_walk.specs.Edits.{text_at, AreSpelled}
-use Rattle.subst_walk.specs.Paths.{AreRefusals, Located, Refusal}
-use Rattle.subst_walk.specs.Pieces.{position, ArePiecesFrom}
-use Rattle.subst_walk.specs.declared.edits.StringAt.{StringAt}
-use Rattle.subst_walk.specs.declared.edits.RefusalAt.{RefusalAt}
-use Rattle.subst_walk.specs.declared.pieces.Position.{Position}
+use Rattle.subst_document.specs.Edits.{text_at, AreSpelled}
+use Rattle.subst_document.specs.Paths.{AreRefusals, Located, Refusal}
+use Rattle.subst_document.specs.Pieces.{position, ArePiecesFrom}
+use Rattle.subst_document.specs.declared.edits.StringAt.{StringAt}
+use Rattle.subst_document.specs.declared.edits.RefusalAt.{RefusalAt}
+use Rattle.subst_document.specs.declared.pieces.Position.{Position}
 use Rattle.subst_cli.proofs.FaultLemmas.{any_of_one, any_weaker}
 use Rattle.subst_cli.proofs.FillingLemmas.{weaker_faults}
 use Rattle.subst_cli.proofs.PartLemmas.{any_of_last, any_of_more}

@@ -19,10 +19,10 @@ use Rattle.subst.specs.Toml.Paths as toml_paths
 use Rattle.subst.specs.Toml.Pieces as toml_pieces
 use Rattle.subst.specs.Toml.Places.{IsPlaceIn}
 use Rattle.subst_language.specs.Language.Several.{RefusesFirst}
-use Rattle.subst_walk.specs.Edits.{text_at}
-use Rattle.subst_walk.specs.Paths.{PathStep}
-use Rattle.subst_walk.specs.declared.edits.StringAt.{StringAt}
-use Rattle.subst_walk.specs.declared.edits.RefusalAt.{RefusalAt}
+use Rattle.subst_document.specs.Edits.{text_at}
+use Rattle.subst_document.specs.Paths.{PathStep}
+use Rattle.subst_document.specs.declared.edits.StringAt.{StringAt}
+use Rattle.subst_document.specs.declared.edits.RefusalAt.{RefusalAt}
 use Rattle.subst_cli.specs.Faults.{IsFaultOf}
 use Rattle.subst_cli.specs.Layers.{Entry}
 use Rattle.subst_cli.specs.Strings.{AnswersBy}

@@ -2,7 +2,7 @@
 
 ghost use Rattle.std.specs.Prelude.{◌≡◌, ◌++◌, ℕ, List, IfErr, IfOk, OnOk, string_bytes};
 ghost use Rattle.std.specs.List.{All, Any};
-ghost use Rattle.subst_walk.specs.Edits.{text_at};
+ghost use Rattle.subst_document.specs.Edits.{text_at};
 ghost use Rattle.subst_cli.specs.Documents as documents;
 ghost use Rattle.subst_cli.specs.Documents.{format_of, AreTold, IsDocumentFault, IsFaultOfOne};
 ghost use Rattle.subst_cli.specs.Fill.{GivesFor, IsDocumentOutput};

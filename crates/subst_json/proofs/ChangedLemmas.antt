@@ -5,9 +5,9 @@ use Rattle.serde_json.specs.Data.{Data, null, boolean, number, string, array, ob
 use Rattle.serde_json.specs.View.{view, items_view, members_view}
 use Rattle.serde_json.specs.declared.value.Value.{Value, Object}
 use Rattle.serde_json.proofs.Views.{Entry, view-Object}
-use Rattle.subst_walk.specs.Changes.{slots, one, AreMade}
-use Rattle.subst_walk.specs.declared.changes.Change.{Change, Kept, Text, Inside, Inside'}
-use Rattle.subst_walk.proofs.ChangeLemmas.{inside-Inside}
+use Rattle.subst_document.specs.Changes.{slots, one, AreMade}
+use Rattle.subst_document.specs.declared.changes.Change.{Change, Kept, Text, Inside, Inside'}
+use Rattle.subst_document.proofs.ChangeLemmas.{inside-Inside}
 use Rattle.subst_json.specs.Changed.{changed, with_items, with_members}
 use Rattle.subst_json.specs.Mapped.{IsEach, AreEach, HasEachMember}
 

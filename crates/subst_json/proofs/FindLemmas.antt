@@ -10,7 +10,7 @@ use Rattle.std.specs.Str.Parse.{AllDigits}
 use Rattle.serde_json.specs.Data.{Data, null, boolean, number, string, array, object}
 use Rattle.serde_json.specs.Find.{get, at, unescape, index_of, step, walk, pointer}
 use Rattle.serde_json.proofs.Paths.{Lacks, walk_part, walk_last}
-use Rattle.subst_walk.specs.Paths.{PathStep, Key, Index}
+use Rattle.subst_document.specs.Paths.{PathStep, Key, Index}
 use Rattle.subst_json.specs.Paths.{Leads}
 use Rattle.subst_json.specs.Pointer.{escaped_byte, HasUsizeIndices, pointer_text}
 use Rattle.subst_json.proofs.PointerLemmas.{escaped_byte-other}

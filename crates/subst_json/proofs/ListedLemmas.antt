@@ -6,12 +6,12 @@ use Rattle.subst_error.specs.Fault.{Fault}
 use Rattle.subst_error.specs.Range.{range_of, IsRangeIn}
 use Rattle.subst_language.specs.Language.Answer.{Answer, Gives, Refuses}
 use Rattle.subst_language.proofs.Language.ListLemmas.{each_append}
-use Rattle.subst_walk.specs.Edits.{AreSpelled}
-use Rattle.subst_walk.specs.Paths.{PathStep, Located, AreRefusals, step_of}
-use Rattle.subst_walk.specs.Refused.{HasRangeInText}
-use Rattle.subst_walk.specs.declared.edits.StringAt.{StringAt}
-use Rattle.subst_walk.specs.declared.path_step.PathStep as steps
-use Rattle.subst_walk.proofs.RefusalLemmas.{pushed_step, refusals_append}
+use Rattle.subst_document.specs.Edits.{AreSpelled}
+use Rattle.subst_document.specs.Paths.{PathStep, Located, AreRefusals, step_of}
+use Rattle.subst_document.specs.Refused.{HasRangeInText}
+use Rattle.subst_document.specs.declared.edits.StringAt.{StringAt}
+use Rattle.subst_document.specs.declared.path_step.PathStep as steps
+use Rattle.subst_document.proofs.RefusalLemmas.{pushed_step, refusals_append}
 use Rattle.subst_json.specs.Filled.{IsStringToken}
 use Rattle.subst_json.specs.Listed.{located, past_value, refusal_at, refusal_of, string_of, AreListedRefusals, RefusalAt}
 

@@ -1,8 +1,8 @@
 -- A tree whose values have become others.
 use Rattle.std.specs.Prelude.{List, [], ◌∷◌}
 use Rattle.serde_json.specs.Data.{Data, null, boolean, number, string, array, object, Items, no_items, item, Members, no_members, member}
-use Rattle.subst_walk.specs.Changes.{text_after, inside}
-use Rattle.subst_walk.specs.declared.changes.Change.{Change}
+use Rattle.subst_document.specs.Changes.{text_after, inside}
+use Rattle.subst_document.specs.declared.changes.Change.{Change}
 
 -- The tree after a change. A change of what a value isn't leaves it as it is.
 abbrev mutual

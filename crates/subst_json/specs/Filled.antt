@@ -5,7 +5,7 @@ use Rattle.json.specs.Print.{quoted}
 use Rattle.json.specs.Token.{Token, begin_object, end_object, begin_array, end_array, key, string, number, boolean, null, bad}
 use Rattle.serde_json.specs.Data.{Num}
 use Rattle.serde_json.specs.Read.{number_of}
-use Rattle.subst_walk.specs.Edits.{IsFilledText}
+use Rattle.subst_document.specs.Edits.{IsFilledText}
 use Rattle.subst_json.specs.Places.{HasQuotes, IsTokenOf}
 
 -- the string that a token is, where it is one; a key is none

@@ -9,3 +9,4 @@ pub mod Paths
 pub mod Pieces
 pub mod Places
 pub mod Pointer
+pub mod Report

@@ -4,12 +4,12 @@ use Rattle.subst_error.specs.Fault.{Fault}
 use Rattle.std.specs.List.{AllByRecursion}
 use Rattle.json.specs.Token.{Token, begin_object, end_object, begin_array, end_array, key, string, number, boolean, null, bad}
 use Rattle.subst_language.specs.Language.Answer.{Answer}
-use Rattle.subst_walk.specs.Edits.{AreSpelled}
-use Rattle.subst_walk.specs.Paths.{PathStep, Key, Index, Located, Refusal, AreRefusals}
-use Rattle.subst_walk.specs.Refused.{HasRangeInText}
-use Rattle.subst_walk.specs.Refused as refused
-use Rattle.subst_walk.specs.declared.edits.StringAt.{StringAt}
-use Rattle.subst_walk.specs.declared.edits.RefusalAt as found
+use Rattle.subst_document.specs.Edits.{AreSpelled}
+use Rattle.subst_document.specs.Paths.{PathStep, Key, Index, Located, Refusal, AreRefusals}
+use Rattle.subst_document.specs.Refused.{HasRangeInText}
+use Rattle.subst_document.specs.Refused as refused
+use Rattle.subst_document.specs.declared.edits.StringAt.{StringAt}
+use Rattle.subst_document.specs.declared.edits.RefusalAt as found
 use Rattle.subst_json.specs.Filled.{strings_of_token, IsStringToken}
 use Rattle.subst_json.specs.Paths.{steps_of}
 use Rattle.subst_json.specs.declared.path.Path.{Path}

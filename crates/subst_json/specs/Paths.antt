@@ -2,7 +2,7 @@
 use Rattle.std.specs.Prelude.{◌≡◌, ℕ, List, [], ◌∷◌, Some, map}
 use Rattle.serde_json.specs.Data.{Data, string}
 use Rattle.serde_json.specs.Find.{get, at}
-use Rattle.subst_walk.specs.Paths.{PathStep, Key, Index, step_of}
+use Rattle.subst_document.specs.Paths.{PathStep, Key, Index, step_of}
 use Rattle.subst_json.specs.declared.path.Path.{Path}
 
 -- the steps of a path

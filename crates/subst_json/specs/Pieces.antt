@@ -2,8 +2,8 @@
 use Rattle.std.specs.Prelude.{◌<◌, ◌≤◌, ◌+◌, ℕ, List, [], ◌∷◌, ◌++◌, slice_range}
 use Rattle.std.specs.declared.ops.Range.{Range}
 use Rattle.subst_error.specs.Range.{IsRangeIn}
-use Rattle.subst_walk.specs.Pieces.{position, ArePiecesFrom}
-use Rattle.subst_walk.specs.declared.pieces.Position.{Position}
+use Rattle.subst_document.specs.Pieces.{position, ArePiecesFrom}
+use Rattle.subst_document.specs.declared.pieces.Position.{Position}
 use Rattle.subst_json.specs.Places.{HasQuotes, IsTokenOf}
 
 -- From one position of a token to another, its text reads between quotes as that part of its string.

@@ -2,7 +2,7 @@
 use Rattle.std.specs.Prelude.{ℕ, ◌<◌, ◌^◌, ◌==◌, ⊤, List, [], ◌∷◌, ◌++◌, codes, if◌then◌else◌}
 use Rattle.std.specs.Fmt.{decimal}
 use Rattle.std.specs.List.{flat_map}
-use Rattle.subst_walk.specs.Paths.{PathStep, Key, Index}
+use Rattle.subst_document.specs.Paths.{PathStep, Key, Index}
 
 -- a byte of a key: `~` is `~0`, and `/` is `~1`
 abbrev pub escaped_byte : ℕ → List ℕ

@@ -12,8 +12,8 @@ ghost use Rattle.subst_json.specs.Filled.{AreFilled, IsFilledToken};
 use fast_float::Numeral;
 use json::{Reader, Scratch, Token};
 use std::alloc::{AllocError, Global};
+use subst_document::{Fill, changed};
 use subst_error::Error;
-use subst_walk::{Fill, changed};
 
 /// Returns whether the tokens of `output` are those of `source`, with each string filled in, and each number
 /// is one that the reader takes.

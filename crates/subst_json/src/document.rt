@@ -8,7 +8,7 @@ ghost use Rattle.serde_json.specs.Read.{max_depth, read};
 ghost use Rattle.subst_error.specs.ErrorFault.{error_fault};
 ghost use Rattle.subst_language.specs.Calls.Clauses.{AnswersText};
 ghost use Rattle.subst_language.specs.Language.Several.{GivesBy, RefusesFirst};
-ghost use Rattle.subst_walk.specs.Texts.{HasRange};
+ghost use Rattle.subst_document.specs.Texts.{HasRange};
 ghost use Rattle.subst_json.specs.Errors.{HasOwnMemory};
 ghost use Rattle.subst_json.specs.Filled.{strings_in, IsFilledJson};
 ghost use Rattle.subst_json.specs.Mapped.{IsEach};
@@ -22,8 +22,8 @@ use serde_json::Value;
 use std::alloc::{AllocError, Global};
 use std::convert::AsStr;
 use std::str::from_utf8;
+use subst_document::{Fill, Filler};
 use subst_language::VariableMap;
-use subst_walk::{Fill, Filler};
 
 /// How deep arrays and objects may nest, as the reader of trees has it.
 const MAX_DEPTH: usize = 127;

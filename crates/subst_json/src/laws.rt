@@ -4,7 +4,7 @@ ghost use Rattle.std.specs.Prelude.{◌≡◌, ℕ, List, Some};
 ghost use Rattle.serde_json.specs.Data.{Data, string};
 ghost use Rattle.serde_json.specs.Find.{pointer};
 ghost use Rattle.subst_language.specs.Language.LookUp.{LookUp};
-ghost use Rattle.subst_walk.specs.Paths.{PathStep};
+ghost use Rattle.subst_document.specs.Paths.{PathStep};
 ghost use Rattle.subst_json.specs.Laws.{IsMappedOrRefused};
 ghost use Rattle.subst_json.specs.Paths.{Leads};
 ghost use Rattle.subst_json.specs.Pointer.{HasUsizeIndices, pointer_text};

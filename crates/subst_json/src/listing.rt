@@ -8,9 +8,9 @@ ghost use Rattle.serde_json.specs.Errors.{IsOfText};
 ghost use Rattle.serde_json.specs.Read.{read};
 ghost use Rattle.subst_error.specs.ErrorFault.{error_fault};
 ghost use Rattle.subst_language.specs.Calls.Clauses.{AnswersText};
-ghost use Rattle.subst_walk.specs.Edits.{AreSpelled, text_at};
-ghost use Rattle.subst_walk.specs.Paths.{AreRefusals, step_of};
-ghost use Rattle.subst_walk.specs.Refused.{HasRangeInText};
+ghost use Rattle.subst_document.specs.Edits.{AreSpelled, text_at};
+ghost use Rattle.subst_document.specs.Paths.{AreRefusals, step_of};
+ghost use Rattle.subst_document.specs.Refused.{HasRangeInText};
 ghost use Rattle.subst_json.specs.Errors.{HasOwnMemory};
 ghost use Rattle.subst_json.specs.Filled.{strings_in, IsStringToken};
 ghost use Rattle.subst_json.specs.Listed.{located, located_at, located_in, past_token, past_value, refusal_at, refusal_of, string_of, AreListedRefusals, RefusalAt as SpecRefusalAt};
@@ -23,11 +23,11 @@ use serde_json::Value;
 use std::alloc::{AllocError, Global};
 use std::convert::AsStr;
 use std::ops::Range;
+use subst_document::{Fill, Filler, PathStep, StringAt, string_at};
 use subst_language::VariableMap;
-use subst_walk::{Fill, Filler, PathStep, StringAt, string_at};
 
 /// A string of a text that is refused.
-pub type RefusalAt = subst_walk::RefusalAt<Path>;
+pub type RefusalAt = subst_document::RefusalAt<Path>;
 
 /// Returns the strings of `source`, a JSON text, in its order. A key is none of them, and of members with
 /// equal keys the string of each one is there. Each span is read by itself before it is returned. It is
@@ -121,7 +121,7 @@ fn listed(alloc: Global, source: &str) -> Result<Option<Vec<StringAt>>, AllocErr
     let mut scratch = Scratch::new(alloc);
     let mut format = JsonStrings::new(alloc);
     let mut strings = JsonTokens::new(source, &mut scratch)?;
-    subst_walk::listed(alloc, source, &mut strings, &mut format)
+    subst_document::listed(alloc, source, &mut strings, &mut format)
 }
 
 /// Returns the refused strings among the tokens of a text.

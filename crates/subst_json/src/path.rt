@@ -4,13 +4,13 @@ ghost use Rattle.std.specs.Prelude.{Some};
 ghost use Rattle.std.specs.Fmt.{WritesOnOk};
 ghost use Rattle.std.specs.List.{flat_map};
 ghost use Rattle.std.specs.Char.{encode_utf8};
-ghost use Rattle.subst_walk.specs.Paths.{step_of};
+ghost use Rattle.subst_document.specs.Paths.{step_of};
 ghost use Rattle.subst_json.specs.Paths.{steps_of};
 ghost use Rattle.subst_json.specs.Pointer.{escaped_byte, pointer_text, step_text};
 
 use std::fmt;
 use std::fmt::Write;
-use subst_walk::PathStep;
+use subst_document::PathStep;
 
 /// The path from a tree to a string of it. It displays as a JSON Pointer (RFC 6901), as
 /// `/server/list/0/x~1y`.

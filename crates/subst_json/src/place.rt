@@ -9,7 +9,7 @@ ghost use Rattle.subst_json.specs.Places.{IsPlaceIn, IsTokenOf};
 use serde_json::Value;
 use std::alloc::{AllocError, Global};
 use std::ops::Range;
-use subst_walk::slice;
+use subst_document::slice;
 
 /// Returns the byte range in `source`, a JSON text, that spells a range of a string of it.
 ///

@@ -9,7 +9,7 @@ use crate::place::spelling_len;
 use crate::tokens::JsonStrings;
 use std::alloc::{AllocError, Global};
 use std::ops::Range;
-use subst_walk::{Pieces, Position, StringFormat, slice, spans};
+use subst_document::{Pieces, Position, StringFormat, slice, spans};
 
 /// A token of a string.
 #[derive(Clone, Copy)]

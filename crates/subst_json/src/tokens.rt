@@ -7,15 +7,15 @@ ghost use Rattle.json.specs.Reads.{token_of};
 ghost use Rattle.subst_error.specs.ErrorFault.{error_fault};
 ghost use Rattle.subst_language.specs.Calls.Outcome.{OnFault};
 ghost use Rattle.subst_language.specs.Language.Several.{GivesBy, RefusesFirst};
-ghost use Rattle.subst_walk.specs.Texts.{HasRange};
+ghost use Rattle.subst_document.specs.Texts.{HasRange};
 ghost use Rattle.subst_json.specs.Filled.{strings_of_token, strings_in, IsFilledJson, IsStringToken};
 
 use json::{Reader, Scratch, Token};
 use serde_json::Value;
 use std::alloc::{AllocError, Global};
 use std::ops::Range;
+use subst_document::{Fill, Spelled, StringFormat, Strings};
 use subst_error::Error;
-use subst_walk::{Fill, Spelled, StringFormat, Strings};
 
 /// How JSON spells its strings.
 #[derive(Drop)]
@@ -161,7 +161,7 @@ pub(crate) fn filled_in<F: Fill>(
     let mut scratch = Scratch::new(alloc);
     let mut format = JsonStrings::new(alloc);
     let mut strings = JsonTokens::new(source, &mut scratch)?;
-    subst_walk::filled_in(alloc, source, &mut strings, &mut format, filler)
+    subst_document::filled_in(alloc, source, &mut strings, &mut format, filler)
 }
 
 /// Returns the byte range of a string of a text, which ends with the last quote before the next token: the

@@ -5,9 +5,9 @@ use Rattle.toml.specs.Data.{Data, string, integer, float, boolean, datetime, arr
 use Rattle.toml.specs.View.{view, items_view, members_view}
 use Rattle.toml.specs.declared.value.Value.{Value, Table}
 use Rattle.toml.proofs.Views.{Entry, view-Table}
-use Rattle.subst_walk.specs.Changes.{slots, one, AreMade}
-use Rattle.subst_walk.specs.declared.changes.Change.{Change, Kept, Text, Inside, Inside'}
-use Rattle.subst_walk.proofs.ChangeLemmas.{inside-Inside}
+use Rattle.subst_document.specs.Changes.{slots, one, AreMade}
+use Rattle.subst_document.specs.declared.changes.Change.{Change, Kept, Text, Inside, Inside'}
+use Rattle.subst_document.proofs.ChangeLemmas.{inside-Inside}
 use Rattle.subst_toml.specs.Changed.{changed, with_items, with_members}
 use Rattle.subst_toml.specs.Mapped.{IsEach, AreEach, HasEachMember}
 

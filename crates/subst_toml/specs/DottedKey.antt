@@ -3,7 +3,7 @@ use Rattle.std.specs.Prelude.{ℕ, List, [], ◌∷◌, ◌++◌, codes}
 use Rattle.std.specs.Fmt.{decimal}
 use Rattle.std.specs.List.{flat_map}
 use Rattle.toml_writer.specs.Text.{key_text}
-use Rattle.subst_walk.specs.Paths.{PathStep, Key, Index}
+use Rattle.subst_document.specs.Paths.{PathStep, Key, Index}
 
 -- a step: a key after this dot, bare where it can be and else quoted, or an index in brackets
 abbrev pub step_text : List ℕ → PathStep → List ℕ

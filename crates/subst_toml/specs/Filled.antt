@@ -11,9 +11,9 @@ use Rattle.subst_error.specs.ErrorFault.{error_fault}
 use Rattle.subst_error.specs.Fault.{Fault}
 use Rattle.subst_error.specs.Range.{range_of, IsRangeIn}
 use Rattle.subst_language.specs.Language.Answer.{Answer, Gives, Refuses}
-use Rattle.subst_walk.specs.Edits.{IsFilledText}
-use Rattle.subst_walk.specs.declared.edits.StringAt.{StringAt}
-use Rattle.subst_walk.specs.declared.edits.RefusalAt.{RefusalAt}
+use Rattle.subst_document.specs.Edits.{IsFilledText}
+use Rattle.subst_document.specs.declared.edits.StringAt.{StringAt}
+use Rattle.subst_document.specs.declared.edits.RefusalAt.{RefusalAt}
 use Rattle.subst_toml.specs.Paths.{steps_of, Leads}
 use Rattle.subst_toml.specs.Places.{part_at, IsTokenOf}
 use Rattle.subst_toml.specs.declared.document.tokens.Bracket.{Bracket}

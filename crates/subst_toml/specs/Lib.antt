@@ -8,3 +8,4 @@ pub mod Outcome
 pub mod Paths
 pub mod Pieces
 pub mod Places
+pub mod Report

@@ -1,7 +1,7 @@
 -- Paths into a TOML tree, and the strings that they lead to.
 use Rattle.std.specs.Prelude.{◌≡◌, ℕ, List, [], ◌∷◌, Some, map}
 use Rattle.toml.specs.Data.{Data, string, get, at}
-use Rattle.subst_walk.specs.Paths.{PathStep, Key, Index, step_of}
+use Rattle.subst_document.specs.Paths.{PathStep, Key, Index, step_of}
 use Rattle.subst_toml.specs.declared.path.Path.{Path}
 
 -- the steps of a path

@@ -3,8 +3,8 @@ use Rattle.std.specs.Prelude.{ℕ, ◌≤◌, ◌==◌, if◌then◌else◌, Lis
 use Rattle.std.specs.declared.ops.Range.{Range}
 use Rattle.toml_parser.specs.Lexical.{line_feed}
 use Rattle.subst_error.specs.Range.{IsRangeIn}
-use Rattle.subst_walk.specs.Pieces.{position, ArePiecesFrom}
-use Rattle.subst_walk.specs.declared.pieces.Position.{Position}
+use Rattle.subst_document.specs.Pieces.{position, ArePiecesFrom}
+use Rattle.subst_document.specs.declared.pieces.Position.{Position}
 use Rattle.subst_toml.specs.Places.{part_at, quotes_of, IsTokenOf, IsReadUpTo}
 
 -- the piece between these quotes; after three of them is a newline, which is left out there

@@ -7,14 +7,14 @@ ghost use Rattle.toml.specs.View.{view, items_view, members_view};
 ghost use Rattle.subst_error.specs.ErrorFault.{error_fault};
 ghost use Rattle.subst_language.specs.Calls.Outcome.{OnFault};
 ghost use Rattle.subst_language.specs.Language.Several.{GivesBy, RefusesFirst};
-ghost use Rattle.subst_walk.specs.Changes.{slots, inside, left_of, next_of, rest_of};
-ghost use Rattle.subst_walk.specs.Texts.{HasRange};
+ghost use Rattle.subst_document.specs.Changes.{slots, inside, left_of, next_of, rest_of};
+ghost use Rattle.subst_document.specs.Texts.{HasRange};
 ghost use Rattle.subst_toml.specs.Changed.{changed, with_items, with_members};
 ghost use Rattle.subst_toml.specs.Mapped.{strings, strings_of_items, strings_of_members, IsEach, AreEach, HasEachMember};
 
 use std::alloc::Global;
+use subst_document::{Change, Fill, Found, Left, change_of_text};
 use subst_error::Error;
-use subst_walk::{Change, Fill, Found, Left, change_of_text};
 use toml::{Table, Value};
 
 /// Returns the members of a table with their strings filled in.

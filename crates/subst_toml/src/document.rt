@@ -10,7 +10,7 @@ ghost use Rattle.toml.specs.Parse.{parse_document};
 ghost use Rattle.toml.specs.View.{table_view};
 ghost use Rattle.subst_language.specs.Calls.Clauses.{AnswersText};
 ghost use Rattle.subst_language.specs.Language.Several.{GivesBy, RefusesFirst};
-ghost use Rattle.subst_walk.specs.Texts.{HasRange};
+ghost use Rattle.subst_document.specs.Texts.{HasRange};
 ghost use Rattle.subst_toml.specs.Errors.{HasOwnMemory};
 ghost use Rattle.subst_toml.specs.Filled.{IsFilledIn};
 ghost use Rattle.subst_toml.specs.Mapped.{strings, IsEach};
@@ -21,8 +21,8 @@ use crate::{changes, text_of};
 use same::is_same_table;
 use std::alloc::{AllocError, Global};
 use std::convert::AsStr;
+use subst_document::{Fill, Filler, ListedStrings, filled_in};
 use subst_language::VariableMap;
-use subst_walk::{Fill, Filler, ListedStrings, filled_in};
 use token::Quoted;
 use toml::Table;
 

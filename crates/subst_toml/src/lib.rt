@@ -27,7 +27,7 @@ ghost use Rattle.subst_error.specs.ErrorFault.{error_fault};
 ghost use Rattle.subst_language.specs.Calls.Outcome.{OnFault};
 ghost use Rattle.subst_language.specs.Calls.Clauses.{AnswersText};
 ghost use Rattle.subst_language.specs.Language.Several.{GivesBy, RefusesFirst};
-ghost use Rattle.subst_walk.specs.Texts.{HasRange};
+ghost use Rattle.subst_document.specs.Texts.{HasRange};
 ghost use Rattle.subst_toml.specs.Mapped.{strings, IsEach};
 ghost use Rattle.subst_toml.specs.Errors.{HasOwnMemory};
 ghost use Rattle.subst_toml.specs.Outcome.{ReadsAsTree, IfToml, OnToml, OnSubst, TellsUtf8, ReturnsTree, ReadsType, StatesFirst, StatesReading};
@@ -38,11 +38,12 @@ pub use error::Error;
 pub use path::Path;
 pub use place::place_in;
 pub use places::places_in;
+pub use reports::report;
 use std::alloc::Global;
 use std::convert::AsStr;
 use std::str::{self, Utf8Error};
+pub use subst_document::{Fill, Filler, PathStep, StringAt};
 use subst_language::VariableMap;
-pub use subst_walk::{Fill, Filler, PathStep, StringAt};
 use toml::{Table, Value};
 use typed::FromText;
 
@@ -53,6 +54,7 @@ pub mod laws;
 mod path;
 mod place;
 mod places;
+mod reports;
 mod typed;
 
 /// Fills in the strings of a tree from `variables`, whose values are texts.

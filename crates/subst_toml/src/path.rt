@@ -2,13 +2,13 @@
 
 ghost use Rattle.std.specs.Prelude.{Some};
 ghost use Rattle.std.specs.Fmt.{WritesOnOk};
-ghost use Rattle.subst_walk.specs.Paths.{step_of};
+ghost use Rattle.subst_document.specs.Paths.{step_of};
 ghost use Rattle.subst_toml.specs.DottedKey.{dotted_text, step_text};
 ghost use Rattle.subst_toml.specs.Paths.{steps_of};
 
 use std::fmt;
 use std::fmt::Write;
-use subst_walk::PathStep;
+use subst_document::PathStep;
 use toml_writer::write_key;
 
 /// The path from a tree to a string of it. It displays as a dotted key, with indices in brackets, as

@@ -5,13 +5,13 @@ ghost use Rattle.std.specs.Prelude.{◌≡◌, ◌≤◌, ◌++◌, IfOk, IfSome
 ghost use Rattle.toml.specs.Parse.{parse_document};
 ghost use Rattle.toml.specs.View.{view, table_view};
 ghost use Rattle.subst_error.specs.Range.{IsRangeIn};
-ghost use Rattle.subst_walk.specs.Paths.{step_of};
+ghost use Rattle.subst_document.specs.Paths.{step_of};
 ghost use Rattle.subst_toml.specs.Paths.{Leads};
 ghost use Rattle.subst_toml.specs.Places.{part_at, quotes_of, IsTokenOf, IsInNewline, IsPlaceIn};
 
 use std::alloc::{AllocError, Global};
 use std::ops::Range;
-use subst_walk::{PathStep, slice};
+use subst_document::{PathStep, slice};
 use toml::{Table, Value};
 use toml_parser::bytes::byte_at;
 

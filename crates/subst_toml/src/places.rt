@@ -9,7 +9,7 @@ use crate::place::spelling::{Style, after_left_out, after_spelling, without_newl
 use crate::place::{quotes, read_up_to, string_of};
 use std::alloc::{AllocError, Global};
 use std::ops::Range;
-use subst_walk::{Pieces, Position, StringFormat, slice, spans};
+use subst_document::{Pieces, Position, StringFormat, slice, spans};
 
 /// A token of a string.
 #[derive(Clone, Copy)]

@@ -7,7 +7,7 @@ ghost use Rattle.toml.specs.Parse.{parse_document};
 ghost use Rattle.toml.specs.View.{view};
 ghost use Rattle.subst_error.specs.ErrorFault.{error_fault};
 ghost use Rattle.subst_language.specs.Calls.Clauses.{AnswersText};
-ghost use Rattle.subst_walk.specs.Edits.{AreSpelled};
+ghost use Rattle.subst_document.specs.Edits.{AreSpelled};
 ghost use Rattle.subst_toml.specs.Errors.{HasOwnMemory};
 ghost use Rattle.subst_toml.specs.Filled.{strings_in, spelled_of, refusal_in, RefusalIn, AreRefusalsIn, AreAllRefusals, HasFaultInText, IsFound, IsQuotedToken};
 ghost use Rattle.subst_toml.specs.Outcome.{ReadsAsTree, IfToml, OnToml, OnSubst};
@@ -20,12 +20,12 @@ use crate::path::Path;
 use crate::place::{string_at, table_of};
 use std::alloc::{AllocError, Global};
 use std::convert::AsStr;
+use subst_document::{Fill, Filler, StringAt, are_spelled};
 use subst_language::VariableMap;
-use subst_walk::{Fill, Filler, StringAt, are_spelled};
 use toml::Value;
 
 /// A string of a document that is refused, and where it stands.
-pub type RefusalAt = subst_walk::RefusalAt<Path>;
+pub type RefusalAt = subst_document::RefusalAt<Path>;
 
 /// Reads a TOML document, and returns its strings in the order of the text, each with the byte range that
 /// spells it. Keys are none of them.

@@ -3,7 +3,7 @@
 
 use crate::path::Path;
 use std::alloc::{AllocError, Global};
-use subst_walk::{PathStep, StringAt};
+use subst_document::{PathStep, StringAt};
 use toml::Value;
 
 /// Returns a document with their numbers in place of its strings.

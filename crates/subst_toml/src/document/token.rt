@@ -8,7 +8,7 @@ use crate::place::string_of;
 use std::alloc::{AllocError, Global};
 use std::fmt;
 use std::ops::Range;
-use subst_walk::{StringFormat, slice};
+use subst_document::{StringFormat, slice};
 use toml_parser::starts_string;
 use toml_writer::write_string;
 

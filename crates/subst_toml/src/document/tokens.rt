@@ -8,7 +8,7 @@ ghost use Rattle.subst_toml.specs.Filled as spec;
 ghost use Rattle.subst_toml.specs.Filled.{progress_of, spelled_of};
 
 use std::alloc::{AllocError, Global};
-use subst_walk::StringAt;
+use subst_document::StringAt;
 use toml_parser::text::{byte_at, first, skip, skip_blank, skip_ws};
 use toml_parser::{ErrorKind, ParseError, dotted_key, quoted, starts_string, unquoted};
 

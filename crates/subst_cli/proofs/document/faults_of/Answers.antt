@@ -1,7 +1,7 @@
 -- The faults of each string are added, which is one of these.
 use Rattle.std.proofs.Common.{◌∙◌, ℕ, List, String, subst}
 use Rattle.std.specs.Global.{Global}
-use Rattle.subst_walk.specs.declared.edits.StringAt.{StringAt}
+use Rattle.subst_document.specs.declared.edits.StringAt.{StringAt}
 use Rattle.subst_cli.specs.Faults.{IsFaultOf}
 use Rattle.subst_cli.specs.Strings.{AreFaults, GivesSome}
 use Rattle.subst_cli.proofs.DocumentLemmas.{with_string, AreOf}

@@ -10,8 +10,8 @@ use Rattle.subst_error.specs.ErrorFault.{error_fault}
 use Rattle.subst_language.specs.Calls.Outcome.{OnFault}
 use Rattle.subst_language.specs.Language.Several.{GivesBy, RefusesFirst}
 use Rattle.subst_language.proofs.Language.SeveralLemmas.{refusal_alone}
-use Rattle.subst_walk.specs.Changes.{one, inside, found_so_far, AreMade}
-use Rattle.subst_walk.proofs.ChangeLemmas.{found_more, made_up_to_kept}
+use Rattle.subst_document.specs.Changes.{one, inside, found_so_far, AreMade}
+use Rattle.subst_document.proofs.ChangeLemmas.{found_more, made_up_to_kept}
 use Rattle.subst_json.specs.Changed.{with_items}
 use Rattle.subst_json.specs.Mapped.{strings, IsEach}
 use Rattle.subst_json.proofs.ChangedLemmas.{GivesEach, changed-one, items_each, members_each}

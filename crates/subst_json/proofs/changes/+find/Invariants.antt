@@ -2,7 +2,7 @@ use Rattle.std.proofs.Common.{◌≡◌, List, ◌++◌, length, take}
 use Rattle.std.specs.Map.{values_of}
 use Rattle.serde_json.specs.declared.value.Value.{Value}
 use Rattle.subst_language.specs.Language.Several.{GivesBy}
-use Rattle.subst_walk.specs.Changes.{found_so_far, AreMade}
+use Rattle.subst_document.specs.Changes.{found_so_far, AreMade}
 use Rattle.subst_json.proofs.ChangedLemmas.{GivesEach}
 use Rattle.subst_json.proofs.changes.+find.Given as goal
 

@@ -1,7 +1,7 @@
 use Rattle.std.proofs.Common.{◌≤◌, ◌+◌, ◌*◌, List, ◌++◌, take, drop}
 use Rattle.serde_json.specs.declared.value.Value.{Value}
-use Rattle.subst_walk.specs.Changes.{slots, left_of, AreMade}
-use Rattle.subst_walk.proofs.ChangeLemmas.{change_depth, changes_depth}
+use Rattle.subst_document.specs.Changes.{slots, left_of, AreMade}
+use Rattle.subst_document.proofs.ChangeLemmas.{change_depth, changes_depth}
 use Rattle.subst_json.proofs.ChangedLemmas.{IsMade}
 use Rattle.subst_json.proofs.changes.+make.Given as goal
 

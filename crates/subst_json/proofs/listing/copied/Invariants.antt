@@ -1,5 +1,5 @@
 use Rattle.std.proofs.Common.{◌≡◌, map, take}
-use Rattle.subst_walk.specs.Paths.{step_of}
+use Rattle.subst_document.specs.Paths.{step_of}
 use Rattle.subst_json.proofs.listing.copied.Given as goal
 
 -- the steps so far are copied

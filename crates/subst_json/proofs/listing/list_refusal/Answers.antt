@@ -1,7 +1,7 @@
 -- A token that is a string.
 use Rattle.std.proofs.Common.{map}
 use Rattle.std.proofs.lemmas.List.{reverse-reverse}
-use Rattle.subst_walk.specs.Paths.{step_of}
+use Rattle.subst_document.specs.Paths.{step_of}
 use Rattle.subst_json.proofs.listing.list_refusal.Goals as goal
 
 pub returns-in-String : goal.returns-in-String

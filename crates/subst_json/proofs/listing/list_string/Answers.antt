@@ -1,6 +1,6 @@
 -- A string gives bytes, or it is refused and stands there.
 use Rattle.std.proofs.Common.{map, rules}
-use Rattle.subst_walk.specs.Paths.{step_of}
+use Rattle.subst_document.specs.Paths.{step_of}
 use Rattle.subst_json.specs.Listed.{located}
 use Rattle.subst_json.proofs.ListedLemmas.{given_listed}
 use Rattle.subst_json.proofs.listing.list_string.Goals as goal

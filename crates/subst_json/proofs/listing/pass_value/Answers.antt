@@ -1,7 +1,7 @@
 -- The last step is replaced by what comes next.
 use Rattle.std.proofs.Common.{◌≡◌, ◌+◌, ◌∷◌, sym, ap, refl, rules}
-use Rattle.subst_walk.specs.Paths.{Index}
-use Rattle.subst_walk.specs.declared.path_step.PathStep.TheVariants as steps
+use Rattle.subst_document.specs.Paths.{Index}
+use Rattle.subst_document.specs.declared.path_step.PathStep.TheVariants as steps
 use Rattle.subst_json.proofs.ListedLemmas.{nothing_popped, path_of, value_passed}
 use Rattle.subst_json.proofs.listing.pass_value.Goals as goal
 

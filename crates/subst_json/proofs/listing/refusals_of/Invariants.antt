@@ -1,6 +1,6 @@
 use Rattle.std.proofs.Common.{◌≡◌, List, [], ◌++◌, length, map, reverse}
 use Rattle.json.specs.Lex.{tokens}
-use Rattle.subst_walk.specs.Paths.{Located, step_of}
+use Rattle.subst_document.specs.Paths.{Located, step_of}
 use Rattle.subst_json.specs.Listed.{located_in, AreListedRefusals}
 use Rattle.subst_json.proofs.listing.refusals_of.Given as goal
 

@@ -4,8 +4,8 @@ use Rattle.std.proofs.Math.ListN.{drop_of_length-le}
 use Rattle.std.proofs.lemmas.List.{take_all}
 use Rattle.toml.specs.View.{view, items_view, members_view}
 use Rattle.toml.specs.declared.value.Value.{the_lemmas}
-use Rattle.subst_walk.specs.Changes.{slots, left_of, next_of, rest_of, AreMade}
-use Rattle.subst_walk.proofs.ChangeLemmas.{changes_depth, depth-slots, depth-rest, made_at, made_by_retain, callable}
+use Rattle.subst_document.specs.Changes.{slots, left_of, next_of, rest_of, AreMade}
+use Rattle.subst_document.proofs.ChangeLemmas.{changes_depth, depth-slots, depth-rest, made_at, made_by_retain, callable}
 use Rattle.subst_toml.specs.Changed.{changed, with_members}
 use Rattle.subst_toml.proofs.ChangedLemmas.{IsMade, changed-Kept, table_made, items_made, members_made}
 use Rattle.subst_toml.proofs.changes.+make.Goals as goal

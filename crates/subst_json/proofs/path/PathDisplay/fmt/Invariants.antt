@@ -1,7 +1,7 @@
 -- What is written is the text of the steps so far.
 use Rattle.std.proofs.Common.{map, take}
 use Rattle.std.specs.Fmt.{HasWritten, IsPlainFormatter}
-use Rattle.subst_walk.specs.Paths.{step_of}
+use Rattle.subst_document.specs.Paths.{step_of}
 use Rattle.subst_json.specs.Pointer.{pointer_text}
 use Rattle.subst_json.proofs.path.PathDisplay.fmt.Given as goal
 

@@ -5,7 +5,7 @@ use Rattle.subst_error.specs.ErrorFault.{error_fault}
 use Rattle.subst_error.specs.Fault.{Fault}
 use Rattle.subst_error.specs.Range.{range_of, IsRangeIn}
 use Rattle.subst_language.specs.Language.Answer.{Answer, Refuses}
-use Rattle.subst_walk.proofs.RefusalLemmas.{IsRefusal}
+use Rattle.subst_document.proofs.RefusalLemmas.{IsRefusal}
 use Rattle.subst_toml.specs.Filled.{RefusalIn, Spelled, spelled_of, refusal_in, AreRefusalsIn}
 use Rattle.subst_toml.proofs.document.listing.add_refused.Goals as goal
 

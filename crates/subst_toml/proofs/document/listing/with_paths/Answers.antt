@@ -2,7 +2,7 @@
 use Rattle.std.proofs.Common.{◌≡◌, [], ◌∷◌, ◌++◌, length, map, sym, ap, ◌∙◌, append_assoc, rules, arith}
 use Rattle.std.proofs.lemmas.List.{map-append}
 use Rattle.std.specs.Vec.Iter.{into_iter_items}
-use Rattle.subst_walk.proofs.WalkLemmas.{ended}
+use Rattle.subst_document.proofs.WalkLemmas.{ended}
 use Rattle.subst_toml.specs.Filled.{refusal_in}
 use Rattle.subst_toml.proofs.document.listing.with_paths.Goals as goal
 

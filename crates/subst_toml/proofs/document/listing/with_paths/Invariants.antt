@@ -1,6 +1,6 @@
 use Rattle.std.proofs.Common.{◌≡◌, List, ◌++◌, length, map}
 use Rattle.std.specs.Vec.Iter.{into_iter_items, into_iter_len}
-use Rattle.subst_walk.specs.declared.edits.RefusalAt.{RefusalAt}
+use Rattle.subst_document.specs.declared.edits.RefusalAt.{RefusalAt}
 use Rattle.subst_toml.specs.Filled.{refusal_in}
 use Rattle.subst_toml.specs.declared.path.Path.{Path}
 use Rattle.subst_toml.proofs.document.listing.with_paths.Given as goal

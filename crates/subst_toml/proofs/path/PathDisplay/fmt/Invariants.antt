@@ -1,7 +1,7 @@
 -- What is written is the text of the steps so far. The next key is after a dot, if there were any.
 use Rattle.std.proofs.Common.{◌≡◌, ℕ, List, [], ◌∷◌, codes, map, take}
 use Rattle.std.specs.Fmt.{HasWritten, IsPlainFormatter}
-use Rattle.subst_walk.specs.Paths.{PathStep, step_of}
+use Rattle.subst_document.specs.Paths.{PathStep, step_of}
 use Rattle.subst_toml.specs.DottedKey.{dotted_text}
 use Rattle.subst_toml.proofs.path.PathDisplay.fmt.Given as goal
 

@@ -1,0 +1,102 @@
+-- Texts whose strings are filled in, a part at a time.
+use Rattle.std.proofs.Common.{◌≡◌, ℕ, List, [], ◌∷◌, ◌++◌, inl, inr, refl, sym, ap, ◌∙◌, subst, append_assoc, append-nil}
+use Rattle.subst_language.specs.Language.Answer.{Answer}
+use Rattle.subst_language.specs.Language.Several.{AreGiven, GivesBy}
+use Rattle.subst_document.specs.Edits.{IsFilledText, IsFilledUpTo}
+
+module _ (IsToken : List ℕ → List ℕ → Type 0) (written : List ℕ → List ℕ) where
+  -- a token is passed, and in its place a value is written
+  pub edited : (Becomes : List ℕ → List ℕ → Type 0) (x value source before token rest old new : List ℕ)
+      → Becomes x value → ¬ (value ≡ x) → IsToken token x → source ≡ before ++ (token ++ rest)
+      → new ≡ old ++ (before ++ written value)
+      → IsFilledUpTo IsToken written Becomes (x ∷ []) source rest old new
+  edited Becomes x value source before token rest old new becomes other spells cut is = (
+    before ++ written value,
+    is,
+    λ more filled h. inr (
+      value,
+      becomes,
+      other,
+      record {
+        before = before;
+        token = token;
+        rest = rest;
+        filled_rest = filled;
+        spells = spells;
+        source_is = cut;
+        output_is = append_assoc before (written value) filled;
+      },
+      h,
+    ),
+  )
+
+  -- nothing is passed, and nothing appended
+  pub none_filled : (Becomes : List ℕ → List ℕ → Type 0) (text old : List ℕ)
+      → IsFilledUpTo IsToken written Becomes [] text text old old
+  none_filled Becomes text old = ([], sym (append-nil old), λ more filled h. h)
+
+  -- one part after another
+  pub filled_then : (Becomes : List ℕ → List ℕ → Type 0) (xs ys : List (List ℕ)) (a b c old mid new : List ℕ)
+      → IsFilledUpTo IsToken written Becomes xs a b old mid
+      → IsFilledUpTo IsToken written Becomes ys b c mid new
+      → IsFilledUpTo IsToken written Becomes (xs ++ ys) a c old new
+  filled_then Becomes xs ys a b c old mid new (p, is_p, before) (q, is_q, after) = (
+    p ++ q,
+    is_q ∙ ap (λ l. l ++ q) is_p ∙ append_assoc old p q,
+    λ more filled h. subst (λ strings. IsFilledText IsToken written Becomes strings a ((p ++ q) ++ filled))
+        (sym (append_assoc xs ys more))
+        (subst (IsFilledText IsToken written Becomes (xs ++ (ys ++ more)) a) (sym (append_assoc p q filled))
+        (before (ys ++ more) (q ++ filled) (after more filled h))),
+  )
+
+  -- the rest has no strings, and is appended as it is
+  pub filled_to_end : (Becomes : List ℕ → List ℕ → Type 0) (strings : List (List ℕ))
+      (source rest old output : List ℕ) → IsFilledUpTo IsToken written Becomes strings source rest [] old
+      → output ≡ old ++ rest → IsFilledText IsToken written Becomes strings source output
+  filled_to_end Becomes strings source rest old output (p, is_p, before) is =
+      subst (λ xs. IsFilledText IsToken written Becomes xs source output) (append-nil strings)
+      (subst (IsFilledText IsToken written Becomes (strings ++ []) source)
+      (sym (is ∙ ap (λ l. l ++ rest) is_p)) (before [] rest refl))
+
+  -- what a string becomes may be said in a weaker way
+  pub filled_weaker : (Becomes Stays : List ℕ → List ℕ → Type 0)
+      → ((x y : List ℕ) → Becomes x y → Stays x y) → (strings : List (List ℕ)) (source output : List ℕ)
+      → IsFilledText IsToken written Becomes strings source output
+      → IsFilledText IsToken written Stays strings source output
+  filled_weaker Becomes Stays weaker [] source output h = h
+  filled_weaker Becomes Stays weaker (x ∷ strings) source output (inl (same, h)) =
+      inl (weaker x x same, filled_weaker Becomes Stays weaker strings source output h)
+  filled_weaker Becomes Stays weaker (x ∷ strings) source output (inr (value, becomes, other, edit, h)) =
+      inr (
+        value,
+        weaker x value becomes,
+        other,
+        record {
+          before = edit.before;
+          token = edit.token;
+          rest = edit.rest;
+          filled_rest = edit.filled_rest;
+          spells = edit.spells;
+          source_is = edit.source_is;
+          output_is = edit.output_is;
+        },
+        filled_weaker Becomes Stays weaker strings edit.rest edit.filled_rest h,
+      )
+
+  module _ (ask : List ℕ → Answer → Type 0) where
+    -- where a text is filled in, its strings give bytes
+    given_where_filled : (strings : List (List ℕ)) (source output : List ℕ)
+        → IsFilledText IsToken written (GivesBy ask) strings source output → AreGiven ask strings
+    given_where_filled [] source output h = ([], tt)
+    given_where_filled (x ∷ strings) source output (inl (same, h)) =
+        let (outputs, given) = given_where_filled strings source output h in (x ∷ outputs, (same, given))
+    given_where_filled (x ∷ strings) source output (inr (value, gives, other, edit, h)) =
+        let (outputs, given) = given_where_filled strings edit.rest edit.filled_rest h in
+        (value ∷ outputs, (gives, given))
+
+    -- so do those of a part
+    pub given_so_far : (strings : List (List ℕ)) (text rest old new : List ℕ)
+        → IsFilledUpTo IsToken written (GivesBy ask) strings text rest old new → AreGiven ask strings
+    given_so_far strings text rest old new (p, is, before) =
+        subst (AreGiven ask) (append-nil strings)
+        (given_where_filled (strings ++ []) text (p ++ rest) (before [] rest refl))

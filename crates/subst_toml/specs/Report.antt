@@ -1,0 +1,58 @@
+-- What is reported of a TOML document.
+use Rattle.std.specs.Prelude.{◌≡◌, ⊤, ℕ, List, Option, None, MatchOption, map}
+use Rattle.std.specs.List.{AllByRecursion}
+use Rattle.std.specs.declared.ops.Range.{Range}
+use Rattle.toml.specs.Errors.{span_start, span_end}
+use Rattle.toml.specs.Parse.{parse_document}
+use Rattle.toml.specs.declared.de.error.Error as reading
+use Rattle.subst_error.specs.ErrorFault.{error_fault}
+use Rattle.subst_error.specs.Range.{IsRangeIn}
+use Rattle.subst_language.specs.Language.Answer.{Answer}
+use Rattle.subst_document.specs.declared.edits.RefusalAt as found
+use Rattle.subst_toml.specs.DottedKey.{dotted_text}
+use Rattle.subst_toml.specs.Filled.{refusal_in, AreAllRefusals, HasFaultInText, IsFound}
+use Rattle.subst_toml.specs.Outcome.{ReadsAsTree}
+use Rattle.subst_toml.specs.Paths.{steps_of}
+use Rattle.subst_toml.specs.Places.{IsPlaceIn}
+use Rattle.subst_toml.specs.declared.error.Error.{Error}
+use Rattle.subst_toml.specs.declared.error.Error.TheVariants.{InvalidUtf8, Toml, Subst, OutOfMemory}
+use Rattle.subst_toml.specs.declared.path.Path.{Path}
+use Rattle.subst_document.specs.Report.{lines_of, ReportsAll, ReportsFault}
+
+abbrev pub RefusalAt : Type 0
+RefusalAt = found.RefusalAt Path
+
+-- These are the strings of the document that are refused, in its order, each where it stands and where its
+-- path leads. Each other string gives bytes.
+abbrev pub AreRefused : (List ℕ → Answer → Type 0) → List ℕ → List RefusalAt → Type 0
+AreRefused ask s all =
+    AreAllRefusals ask s (map refusal_in all) × ReadsAsTree s (λ d. AllByRecursion (IsFound s d) all)
+
+-- the range of its fault is in its string
+abbrev pub HasRange : RefusalAt → Type 0
+HasRange it = HasFaultInText (refusal_in it)
+
+-- the text reports the refused string
+abbrev pub ReportsRefused : (file s : List ℕ) → RefusalAt → List ℕ → Type 0
+ReportsRefused file s it text =
+    ReportsFault IsPlaceIn file s (dotted_text (steps_of it.path)) it.span (error_fault it.error) text
+
+-- where the reader stopped
+abbrev pub span_of : reading.Error → Range ℕ
+span_of e = record { start = span_start e; end = span_end e }
+
+-- The text says what a reader says: of the text s, where that isn't a document, at a place in it, which is
+-- where the reader stopped if that is one; and else of a type.
+abbrev pub ReportsReader : reading.Error → (file s text : List ℕ) → Type 0
+ReportsReader e file s text =
+    (place : Option (Range ℕ)) × (message : List ℕ)
+    × MatchOption place (ReadsAsTree s (λ _. ⊤)) (λ place. (parse_document s ≡ None) × IsRangeIn s place
+    × (IsRangeIn s (span_of e) → place ≡ span_of e))
+    × (text ≡ lines_of file s place message)
+
+-- the text reports the error of a call that filled in the text s of a file
+abbrev pub Reports : (List ℕ → Answer → Type 0) → (file s : List ℕ) → Error → List ℕ → Type 0
+Reports ask file s (InvalidUtf8 e) text = (message : List ℕ) × (text ≡ lines_of file s None message)
+Reports ask file s (Toml e) text = ReportsReader e file s text
+Reports ask file s (Subst e) text = ReportsAll (AreRefused ask s) ReportsRefused file s (error_fault e) text
+Reports ask file s (OutOfMemory e) text = ⊥

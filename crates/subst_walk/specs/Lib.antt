@@ -1,6 +1,0 @@
-pub mod Changes
-pub mod Edits
-pub mod Paths
-pub mod Pieces
-pub mod Refused
-pub mod Texts
