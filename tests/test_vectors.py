@@ -178,7 +178,7 @@ class BySubst(Rows, Built):
 # What `rt try` runs, each with its crate: the program over all rows, and the functions that are tests.
 TRIED = {
     'rows': ('subst_vectors', '--seconds', '300', '--', *(f'data/{name}' for name in FILES)),
-    'functions of subst_vectors': ('subst_vectors', '--seconds', '600', '--test'),
+    'functions of subst_tests': ('subst_tests', '--seconds', '600', '--test'),
     'functions of subst_filter': ('subst_filter', '--seconds', '600', '--test'),
 }
 

@@ -68,9 +68,10 @@ pub fn filled_in<'t, S: Strings<'t>, T: StringFormat, F: Fill>(
     filler: &F,
 ) -> Result<Option<String>, Error>
     ensures ok { IfOk result (λ output. IfSome output (λ output.
-        IsFilledText T.is_token T.written (GivesBy (F.answers filler.now)) (S.left strings.old) source.now
-        (string_bytes output))) }
-    ensures err { OnFault error_fault result (RefusesFirst (F.answers filler.now) (S.left strings.old)) }
+        IsFilledText T.is_token T.written (GivesBy (F.answers filler.now)) (S.left strings.old)
+        source.now (string_bytes output))) }
+    ensures err { OnFault error_fault result
+        (RefusesFirst (F.answers filler.now) (S.left strings.old)) }
     ensures range { OnFault error_fault result HasRange }
 {
     let mut output = String::with_capacity(alloc, source.len())?;
