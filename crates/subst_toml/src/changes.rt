@@ -74,7 +74,11 @@ fn change_of_items<F: Fill>(alloc: Global, items: &Vec<Value>, filler: &F) -> Re
 
 /// Returns what a table with these members becomes.
 #[cycle(find)]
-fn change_of_members<F: Fill>(alloc: Global, members: &Table, filler: &F) -> Result<Change, Error>
+pub(crate) fn change_of_members<F: Fill>(
+    alloc: Global,
+    members: &Table,
+    filler: &F,
+) -> Result<Change, Error>
     ensures ok { IfOk result (λ change. HasEachMember (GivesBy (F.answers filler.now))
         (members_view members.now.entries)
         (with_members (members_view members.now.entries) (inside change))) }
@@ -132,7 +136,7 @@ fn make_items(items: &mut Vec<Value>, changes: Vec<Change>)
 
 /// Changes the members of a table.
 #[cycle(make)]
-fn make_members(members: &mut Table, changes: Vec<Change>)
+pub(crate) fn make_members(members: &mut Table, changes: Vec<Change>)
     ensures { members_view members.new.entries
         ≡ with_members (members_view members.old.entries) (slots changes.items) }
 {

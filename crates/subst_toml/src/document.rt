@@ -21,7 +21,7 @@ use crate::{changes, text_of};
 use same::is_same_table;
 use std::alloc::{AllocError, Global};
 use std::convert::AsStr;
-use subst_document::{Fill, Filler, ListedStrings, filled_in};
+use subst_document::{Change, Fill, Filler, ListedStrings, filled_in};
 use subst_language::VariableMap;
 use token::Quoted;
 use toml::Table;
@@ -120,12 +120,19 @@ pub fn fill_in_by<F: Fill>(alloc: Global, source: &str, filler: &F) -> Result<Op
     ensures range { OnSubst result HasRange }
     ensures memory { IfErr result HasOwnMemory }
 {
-    let table = toml::table_from_str(alloc, source)?;
-    let filled = changes::filled_members(alloc, table, filler)?;
+    let mut table = toml::table_from_str(alloc, source)?;
+    let change = changes::change_of_members(alloc, &table, filler)?;
     let Some(output) = written(alloc, source, filler)? else {
         return Ok(None);
     };
-    if is_read_as(alloc, output.as_str(), &filled)? {
+    let is_confirmed = match change {
+        Change::Inside(changes) => {
+            changes::make_members(&mut table, changes);
+            is_read_as(alloc, output.as_str(), &table)?
+        }
+        Change::Kept(_) | Change::Text(_) => output.as_str() == source,
+    };
+    if is_confirmed {
         Ok(Some(output))
     } else {
         Ok(None)
