@@ -7,6 +7,7 @@ test_files.Output.test_output, these alone run. The processor seconds of each pa
 """
 import argparse
 import collections
+import concurrent.futures
 import os
 import re
 import resource
@@ -84,7 +85,27 @@ def cases(suite):
     return result.passed, result.failed(), len(result.skipped)
 
 
-def suite_of(name, left_out=()):
+def files(names):
+    """Runs the tests of what is built, a file in a process of its own and several side by side."""
+    def run(name):
+        return subprocess.run([sys.executable, '-m', 'tests', '--proved', name], cwd=TOP, stdin=subprocess.DEVNULL,
+                              stdout=subprocess.PIPE, stderr=subprocess.STDOUT, check=False, encoding='utf-8',
+                              errors='replace', env={**os.environ, 'SEED': SEED})
+
+    passed, failed, skipped = 0, [], 0
+    with concurrent.futures.ThreadPoolExecutor(os.cpu_count()) as pool:
+        for name, ended in zip(names, pool.map(run, names)):
+            print(ended.stdout, end='', flush=True)
+            *_, last = ended.stdout.splitlines() or ['']
+            counts = COUNTS.match(last)
+            passed += int(counts[1]) if counts else 0
+            skipped += int(counts[3] or 0) if counts else 0
+            named = re.findall('^failed: (.*)$', ended.stdout, re.MULTILINE)
+            failed += named or [f'tests.{name}'] * (ended.returncode != 0)
+    return passed, failed, skipped
+
+
+def suite_of(name, left_out):
     """Returns the tests of a file, a class or a method, without those of the classes that are left out."""
     def flattened(suite):
         for test in suite:
@@ -108,17 +129,20 @@ def main():
     parser.add_argument('--all', action='store_true', help='tries all must-fail edits, as before a release')
     parser.add_argument('names', nargs='*', metavar='NAME', help='runs the tests of this name alone')
     options = parser.parse_args()
-    totals, left_out = Totals(), Tried if options.proved else Built
+    totals, left_out = Totals(), Tried if options.proved else () if options.names else Built
     os.environ.setdefault('RT_JOBS', str(lanes()))
     print(f'SEED={SEED}')
     if options.proved and not options.names:
         totals.run('rt ci', command, 'rt', 'ci')
         totals.run('tools/prove.py', command, sys.executable, 'tools/prove.py')
         totals.run('tools/edits.py', command, sys.executable, 'tools/edits.py', *['--all'] * options.all)
-    for name in options.names or sorted(path.stem for path in (TOP / 'tests').glob('test_*.py')):
-        suite = suite_of(name, () if options.names else left_out)
-        if suite.countTestCases():
-            totals.run(f'tests.{name.removeprefix("tests.")}', cases, suite)
+    names = options.names or sorted(path.stem for path in (TOP / 'tests').glob('test_*.py'))
+    suites = {name: suite for name in names if (suite := suite_of(name, left_out)).countTestCases()}
+    if options.proved and not options.names:
+        totals.run('tests', files, list(suites))
+        suites = {}
+    for name, suite in suites.items():
+        totals.run(f'tests.{name.removeprefix("tests.")}', cases, suite)
     if not options.names and not options.proved:
         print('\nleft out: all that is proved, and the tests of what is built, which `bash tools/test --proved` runs')
     totals.end()

@@ -48,8 +48,12 @@ WORKS = {
     'nested defaults': lambda: filled('bytes', inputs.nested_defaults(50)),
     'subst starts': lambda: command(b''),
     'subst of settings': lambda: command(1000 * inputs.CONFIGURATION.encode(), *(f'-s{it}' for it in SETTINGS)),
+    'settings as envsubst has them': lambda: command(1000 * inputs.CONFIGURATION.encode(), '--envsubst',
+                                                     *(f'-s{it}' for it in SETTINGS)),
     'JSON': lambda: filled_document('json'),
     'TOML': lambda: filled_document('toml'),
+    'TOML that stays': lambda: command(''.join(f"name_{line} = '{TEXT[:-1]}'\n" for line in range(1000)).encode(),
+                                       '--toml', '-s', SETTINGS[0]),
 }
 
 

@@ -34,6 +34,18 @@ impl Shown for Range<usize> {
     }
 }
 
+impl Shown for json::Path {
+    fn show(&self, rt: &HostRuntime, word: &str) {
+        let _ = rt.println(format_args!("{word} {self}"));
+    }
+}
+
+impl Shown for filled::Path {
+    fn show(&self, rt: &HostRuntime, word: &str) {
+        let _ = rt.println(format_args!("{word} {self}"));
+    }
+}
+
 /// Looks for the name in the first refused string of a document.
 macro_rules! calls_of_refusals {
     ($rt:ident, $format:ident, $name:literal, $source:ident) => {
