@@ -390,8 +390,12 @@ def filled(tree):
 
 
 def string_of(kind, token):
-    """The string that a token spells, with each end of a line as one character."""
-    string = read_document('json', token) if kind == 'json' else read_document('toml', f's = {token}')['s']
+    """The string that a token spells, as Python's reader has it."""
+    return read_document('json', token) if kind == 'json' else read_document('toml', f's = {token}')['s']
+
+
+def folded(string):
+    """The string with each end of a line as one character."""
     return re.sub('\r+\n', '\n', string)
 
 
@@ -401,10 +405,10 @@ def spliced(kind, text, output):
     at, readable = 0, []
     for number, piece in enumerate(TOKEN.split(text)):
         wanted, known = (without_marks(of(piece)) for of in (for_program, for_python))
-        string = string_of(kind, known) if number % 2 else ''
+        string = folded(string_of(kind, known)) if number % 2 else ''
         if filled(string) != string:
-            token = STRING.match(output, at)
-            assert token and string_of(kind, token[0]) == filled(string), f'{wanted!r} gives {output[at:at + 99]!r}'
+            token, value = STRING.match(output, at), folded(filled(string))
+            assert token and folded(string_of(kind, token[0])) == value, f'{wanted!r} gives {output[at:at + 99]!r}'
             wanted = known = token[0]
         assert output.startswith(wanted, at), f'in the place of {wanted!r} is {output[at:at + 99]!r}'
         at += len(wanted)
