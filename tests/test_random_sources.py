@@ -8,9 +8,11 @@ source from Python. Some are then given to `subst_filter` and `subst`, also many
 the first program over the rows of some sources. The seed is fixed, unless SEED gives another; each failure names it.
 """
 import functools
+import itertools
 import json
 import os
 import random
+import re
 from concurrent.futures import ProcessPoolExecutor
 
 from tests import installed
@@ -42,6 +44,12 @@ DAMAGE = ('', '', '', '$', '$', '${', '${a:', '{', '{', '}', '}', '\\', '\\', ':
 # Sources
 
 
+def is_balanced(text):
+    """Whether each brace has its other one, but for those that are escaped."""
+    depths = [0, *itertools.accumulate({'{': 1, '}': -1}.get(c, 0) for c in re.sub(r'\\.', '', text))]
+    return min(depths) == depths[-1] == 0
+
+
 def some_pieces(rng, characters):
     """Pieces that are templates by themselves: short ones, and defaults that are made of smaller pieces."""
     short = [*PLAIN, *characters, *ESCAPES, *(f'${name}-' for name in NAMES), *(f'${{{name}}}' for name in NAMES),
@@ -50,8 +58,7 @@ def some_pieces(rng, characters):
     forms = ('${%s:%s}', '${%s:%s}', '${%s:{%s}}', '${%s:$none%s}', '${%s:\\}%s}')
     while len(pieces) < PIECES:
         inner = ''.join(rng.choices(pieces, k=rng.randrange(1, 4)))
-        # A brace by itself isn't balanced.
-        if len(inner) < 20 and inner.count('{') == inner.count('}'):
+        if len(inner) < 20 and is_balanced(inner):
             pieces.append(rng.choice(forms) % (rng.choice(NAMES), inner))
     return pieces + short * (2 * PIECES // len(short))
 
