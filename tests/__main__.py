@@ -2,8 +2,9 @@
 
 Without --proved these are the tests that need no proof. With it they are the gate: `rt ci`; one more proof, over which
 all that follows is built, as `rt ci` keeps nothing; the must-fail edits of crates that have changed since all of theirs
-were refused, or all; and the tests of what is built. After names, as test_files, test_files.Output or
-test_files.Output.test_output, these alone run. The processor seconds of each part are said at the end.
+were refused, or all; and the tests of what is built, several files side by side. After names, as test_files,
+test_files.Output or test_files.Output.test_output, these alone run, with --proved those of what is built. The processor
+seconds of each part are said at the end.
 """
 import argparse
 import collections
@@ -90,7 +91,7 @@ def files(names):
     def run(name):
         return subprocess.run([sys.executable, '-m', 'tests', '--proved', name], cwd=TOP, stdin=subprocess.DEVNULL,
                               stdout=subprocess.PIPE, stderr=subprocess.STDOUT, check=False, encoding='utf-8',
-                              errors='replace', env={**os.environ, 'SEED': SEED})
+                              errors='replace')
 
     passed, failed, skipped = 0, [], 0
     with concurrent.futures.ThreadPoolExecutor(os.cpu_count()) as pool:
