@@ -44,7 +44,7 @@ fn ask_text<F: Format>(text: &str, values: &Texts, ways: &mut Ways) -> Result<()
     }
 }
 
-/// Returns whether the first of all refusals is that of the text, and that of its tree is one of them.
+/// Returns whether a string is refused where the text is, and the fault of its tree is one of theirs.
 fn are_as_refused<E>(
     refusals: &Result<Option<Vec<Error>>, E>,
     filled: &Result<Option<String>, E>,
