@@ -1,5 +1,5 @@
 -- Texts of envsubst: none is refused, and only the chosen names matter.
-use Rattle.std.proofs.Common.{◌≡◌, ◌∙◌, ◌↔◌, inl, inr, Bool, true, false, ℕ, List, [], ◌∷◌, ◌++◌, IsTrue, IfOk, Result, Ok, Err, refl, sym, subst, arith}
+use Rattle.std.proofs.Common.{rules, ◌≡◌, ◌∙◌, ◌↔◌, inl, inr, Bool, true, false, ℕ, List, [], ◌∷◌, ◌++◌, IsTrue, IfOk, Result, Ok, Err, refl, sym, subst, arith}
 use Rattle.subst_foreign.specs.Grammar.{Grammar, Head, grammar, has_operator, IsChosen, IsHead, IsRefused, OpensMessage}
 use Rattle.subst_foreign.specs.Grammar as head
 use Rattle.subst_foreign.specs.Reading.{Byte, Closing, Opening, Opens, Refused, Required, Whole, Reading}
@@ -28,12 +28,10 @@ no_operator g is op has = let e = subst (λ f. IsTrue (has_operator f op)) is ha
 nothing_refused : (g : Grammar) → IsEnvsubst g → (f : ShellForm) (s : List ℕ) → ¬ (IsRefused g false f s)
 nothing_refused g is form.Brace s refused = absurd cc
 nothing_refused g is form.Dollar s refused = let e = sym is ∙ refused.0 in absurd cc
-nothing_refused g is form.NoName s refused =
-    let e = subst (λ f. IsTrue (head.is_whole f g.all)) is refused.0 in absurd cc
+nothing_refused g is form.NoName s refused = cc
 nothing_refused g is form.Message s refused = let e = sym is ∙ refused.0 in absurd cc
 nothing_refused g is form.Unclosed s (inl refused) = no_operator g is refused.1 refused.4.0
-nothing_refused g is form.Unclosed s (inr refused) =
-    let e = subst (λ f. IsTrue (head.is_whole f g.all)) is refused.0 in absurd cc
+nothing_refused g is form.Unclosed s (inr refused) = cc
 nothing_refused g is f s refused = let e = subst (λ f. IsTrue (head.is_whole f g.all)) is refused.0 in absurd cc
 
 -- so no text is refused
@@ -68,13 +66,11 @@ same_head f all A B same head.Dollar x is = is
 same_head f all A B same (head.Short n) x is = ((is.0.0, same_chosen all A B same false n is.0.1), is.1)
 same_head f all A B same (head.Braced n) x is = (is.0, same_chosen all A B same false n is.1)
 same_head f all A B same (head.Optional n) x is = (is.0, (is.1.0, same_chosen all A B same true n is.1.1))
-same_head f all A B same (head.Opened n op) x is =
-    (is.0, (is.1.0, same_chosen all A B same true n is.1.1), is.2)
+same_head f all A B same (head.Opened n op) x is = search (rules, same_chosen)
 
 same_opens : (f : Forms) (all : Bool) (A B : Bool → List ℕ → Type 0) → AreSame A B → (P : List ℕ → Type 0)
     (s : List ℕ) → OpensMessage (grammar f all A) P s → OpensMessage (grammar f all B) P s
-same_opens f all A B same P s (n, op, x, message, is, taken, rest) =
-    (n, op, x, message, same_head f all A B same (head.Opened n op) x is, taken, rest)
+same_opens f all A B same P s (n, op, x, message, is, taken, rest) = search (rules, same_head)
 
 -- the refused forms
 same_refused : (f : Forms) (all : Bool) (A B : Bool → List ℕ → Type 0) → AreSame A B → (inside : Bool)

@@ -1,6 +1,5 @@
--- What is listed of a text and what is refused lies in it, and the names that are told of its variables are theirs.
-use Rattle.std.proofs.Common.{◌≡◌, ◌<◌, ◌≤◌, ℕ, ◌+◌, zero, suc, true, false, List, [], ◌∷◌, ◌++◌, Bool, Option, Some, None, IsTrue, length, refl, length-append, if◌then◌else◌, arith}
-use Rattle.std.specs.Char.{is_ascii_digit}
+-- Listed variables and refused forms of a text lie in it, and the names that are told of its variables are theirs.
+use Rattle.std.proofs.Common.{rules, ◌≡◌, ◌<◌, ◌≤◌, ℕ, ◌+◌, zero, suc, true, List, [], ◌∷◌, ◌++◌, Bool, Option, Some, None, length, refl, length-append, arith}
 use Rattle.std.specs.List.{AllByRecursion}
 use Rattle.subst_foreign.proofs.ReadingLemmas.{token_some}
 use Rattle.subst_foreign.specs.Foreign.{IsShellName}
@@ -25,11 +24,7 @@ use Rattle.subst_language.specs.Language.Name.{IsName}
 -- a shell's name is none that has the digit of a question
 no_digit : (n : List ℕ) → IsName n → IsShellName n → told_name of.Shell n ≡ n
 no_digit [] is shell = absurd is
-no_digit (b ∷ n) is shell = of (is_ascii_digit b) shell
-  where
-    of : (digit : Bool) → ¬ (IsTrue digit) → (if digit then n else b ∷ n) ≡ b ∷ n
-    of true none = absurd (none refl)
-    of false none = refl
+no_digit (b ∷ n) is shell = search rules
 
 -- the name that is told of one that is asked for is that of the variable
 told_of_asked : (forms : Forms) (op : Option Operator) (n : List ℕ) → IsNameOf forms n
@@ -81,22 +76,12 @@ each_weaker P Q so (x ∷ l) all = (so x all.0, each_weaker P Q so l all.1)
 token_within : (p : ℕ) (t : Token) → AllByRecursion (λ v. end_of v ≤ p + length (token_text t)) (listed_at p t)
 token_within p (tokens.Byte b) = tt
 token_within p (tokens.Whole (head.Short n)) = (omega arith, tt)
-token_within p (tokens.Whole (head.Braced n)) =
-    (omega (arith, length-append n (closing_brace ∷ [])), tt)
-token_within p (tokens.Whole (head.Optional n)) =
-    (omega (arith, length-append n (63 ∷ closing_brace ∷ [])), tt)
+token_within p (tokens.Whole (head.Braced n)) = search (rules, length-append)
+token_within p (tokens.Whole (head.Optional n)) = search (rules, length-append)
 token_within p (tokens.Whole head.Dollar) = tt
 token_within p (tokens.Whole (head.Opened n op)) = tt
 token_within p (tokens.Opens n op) = (omega (arith, length-append n (head.operator_text op)), tt)
-token_within p (tokens.Required n op m) = (
-  omega (
-    arith,
-    length-append n (head.operator_text op),
-    length-append (head_text (Opened n op)) (m ++ closing_brace ∷ []),
-    length-append m (closing_brace ∷ []),
-  ),
-  tt,
-)
+token_within p (tokens.Required n op m) = search (rules, length-append)
 token_within p tokens.Opening = tt
 token_within p tokens.Closing = tt
 token_within p (tokens.Refused form front) = tt
@@ -114,8 +99,7 @@ listed_within g p depth _ _ (token {variables = rest} t x is next) =
 
 pub listed_in_text : (g : Grammar) (s : List ℕ) (list : List VariableAt) → Listing g 0 0 s list
     → AllByRecursion (λ v. end_of v ≤ length s) list
-listed_in_text g s list listing =
-    each_weaker _ _ (λ v below. omega (arith, below)) list (listed_within g 0 0 s list listing)
+listed_in_text g s list listing = search (rules, each_weaker, listed_within)
 
 -- the form of a token is refused where that begins
 token_refused : (p end : ℕ) (t : Token) → p < end → AllByRecursion (λ at. at.position < end) (refused_at p t)
@@ -145,6 +129,4 @@ refused_within g outermost p depth _ _ before (read_token {refused = rest} t x i
 
 pub refused_in_text : (g : Grammar) (s : List ℕ) (refused : List FormAt) → Reading g 0 0 0 s refused
     → AllByRecursion (λ at. at.position < length s) refused
-refused_in_text g s refused reading =
-    each_weaker _ _ (λ at below. omega (arith, below)) refused
-    (refused_within g 0 0 0 s refused (λ more. absurd (omega (arith, more))) reading)
+refused_in_text g s refused reading = search (rules, each_weaker, refused_within)

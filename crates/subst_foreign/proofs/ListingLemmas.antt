@@ -5,7 +5,7 @@ use Rattle.subst_foreign.proofs.ReadingLemmas.{opens_one, token_some}
 use Rattle.subst_foreign.proofs.TokenLemmas.{plain_byte}
 use Rattle.subst_foreign.specs.Foreign.{is_inside}
 use Rattle.subst_foreign.specs.Grammar.{Grammar}
-use Rattle.subst_foreign.specs.Reading.{Token, Byte, IsPlainAt, IsToken, Listing, VariableAt, depth_after, listed_at, token_text}
+use Rattle.subst_foreign.specs.Reading.{Token, Byte, IsAfterPlain, IsPlainAt, IsToken, Listing, VariableAt, depth_after, listed_at, token_text}
 use Rattle.subst_foreign.specs.Reading.Listing.{ended, token}
 
 -- plain bytes before a text have no variable
@@ -28,44 +28,35 @@ pub record Lists (g : Grammar) (s rest : List ℕ) (found : List VariableAt) (de
 pub starts : (g : Grammar) (s : List ℕ) → Lists g s s [] 0
 starts g s = record { position = 0; at = omega arith; listed = λ more is. is; few = omega arith }
 
--- plain bytes more
-pub passes_plain : (g : Grammar) (s rest : List ℕ) (found : List VariableAt) (depth : ℕ) (run x : List ℕ)
-    → Lists g s rest found depth → AllByRecursion (IsPlainAt depth) run → rest ≡ run ++ x → Lists g s x found depth
-passes_plain g s rest found depth run x so_far each splits =
-    let lengths : length rest ≡ length run + length x = ap length splits ∙ length-append run x in
+-- plain bytes and a token more
+pub passes : (g : Grammar) (s rest special : List ℕ) (found more : List VariableAt) (depth after : ℕ) (t : Token)
+    (x : List ℕ) → Lists g s rest found depth → IsAfterPlain depth rest special → IsToken g depth t x
+    → special ≡ token_text t ++ x → more ≡ found ++ listed_at (length s - length special) t
+    → after ≡ depth_after depth t → Lists g s x more after
+passes g s rest special found more depth after t x so_far (run, each, splits) is taken added deeper =
+    let before : length rest ≡ length run + length special = ap length splits ∙ length-append run special in
+    let lengths : length special ≡ length (token_text t) + length x =
+    ap length taken ∙ length-append (token_text t) x in
+    let p = so_far.position + length run in
+    let here : length s - length special ≡ p = omega (arith, so_far.at, before) in
     record {
-      position = so_far.position + length run;
-      at = omega (arith, so_far.at, lengths);
-      listed = λ more later. so_far.listed more
-          (subst (λ z. Listing g so_far.position depth z more) (sym splits)
-          (list_plain g depth so_far.position run x more each later));
-      few = omega (arith, so_far.few, lengths);
-    }
-
--- a token more
-pub passes_token : (g : Grammar) (s rest : List ℕ) (found : List VariableAt) (depth : ℕ) (t : Token) (x : List ℕ)
-    (more : List VariableAt) (after : ℕ) → Lists g s rest found depth → IsToken g depth t x
-    → rest ≡ token_text t ++ x → more ≡ found ++ listed_at (length s - length rest) t → after ≡ depth_after depth t
-    → Lists g s x more after
-passes_token g s rest found depth t x more after so_far is splits added deeper =
-    let lengths : length rest ≡ length (token_text t) + length x =
-    ap length splits ∙ length-append (token_text t) x in
-    let here : length s - length rest ≡ so_far.position = omega (arith, so_far.at) in
-    record {
-      position = so_far.position + length (token_text t);
-      at = omega (arith, so_far.at, lengths);
+      position = p + length (token_text t);
+      at = omega (arith, so_far.at, before, lengths);
       listed = λ later lists. subst (Listing g 0 0 s)
           (sym (ap (λ z. z ++ later) (added ∙ ap (λ p. found ++ listed_at p t) here)
-          ∙ append_assoc found (listed_at so_far.position t) later))
-          (so_far.listed (listed_at so_far.position t ++ later)
-          (subst (λ z. Listing g so_far.position depth z (listed_at so_far.position t ++ later)) (sym splits)
-          (token t x is
-          (subst (λ d. Listing g (so_far.position + length (token_text t)) d x later) deeper lists))));
-      few = omega (arith, so_far.few, lengths, token_some g depth t x is, opens_one depth t, deeper);
+          ∙ append_assoc found (listed_at p t) later))
+          (so_far.listed (listed_at p t ++ later)
+          (subst (λ z. Listing g so_far.position depth z (listed_at p t ++ later)) (sym splits)
+          (list_plain g depth so_far.position run special (listed_at p t ++ later) each
+          (subst (λ z. Listing g p depth z (listed_at p t ++ later)) (sym taken)
+          (token t x is (subst (λ d. Listing g (p + length (token_text t)) d x later) deeper lists))))));
+      few = omega (arith, so_far.few, before, lengths, token_some g depth t x is, opens_one depth t, deeper);
     }
 
 -- the end
 pub ends : (g : Grammar) (s rest : List ℕ) (found : List VariableAt) (depth : ℕ) → Lists g s rest found depth
-    → length rest ≡ 0 → Listing g 0 0 s found
-ends g s [] found depth so_far none = subst (Listing g 0 0 s) (append-nil found) (so_far.listed [] ended)
-ends g s (b ∷ rest) found depth so_far none = absurd (omega (arith, none))
+    → IsAfterPlain depth rest [] → Listing g 0 0 s found
+ends g s rest found depth so_far (run, each, splits) =
+    subst (Listing g 0 0 s) (append-nil found)
+    (so_far.listed [] (subst (λ z. Listing g so_far.position depth z []) (sym splits)
+    (list_plain g depth so_far.position run [] [] each ended)))

@@ -1,5 +1,5 @@
 -- Names of a list, and of a set that is made of it.
-use Rattle.std.proofs.Common.{◌≡◌, ◌↔◌, ◌||◌, Bool, true, false, ℕ, List, [], ◌∷◌, IsTrue, Ordering, Less, Equal, Greater, refl, sym, ap, ◌∙◌}
+use Rattle.std.proofs.Common.{rules, ◌≡◌, ◌↔◌, ◌||◌, Bool, true, false, ℕ, List, [], ◌∷◌, IsTrue, Ordering, Less, Equal, Greater, refl, sym, ap, ◌∙◌}
 use Rattle.std.proofs.Math.Bool.{or_assoc, or_comm}
 use Rattle.std.proofs.lemmas.List.Folds.{Any-from_list_any, list_any-from_Any}
 use Rattle.std.proofs.lemmas.Map.Text.{is_eq-slice_cmp}
@@ -19,10 +19,7 @@ is_listed name = list_any (is_at (λ key. slice_cmp nat_cmp name key.now))
 -- a key is the name where it compares as equal
 key_iff : (name : List ℕ) (key : Bor (List ℕ)) → IsTrue (is_at (λ k. slice_cmp nat_cmp name k.now) key)
     ↔ (key.now ≡ name)
-key_iff name key =
-    let same = is_eq-slice_cmp name key.now in
-    let decides = bytes_eq-Decides name key.now in
-    (λ is. sym (decides.0 (sym same ∙ is)), λ is. same ∙ decides.1 (sym is))
+key_iff name key = search (rules, is_eq-slice_cmp, bytes_eq-Decides)
 
 -- a name is in the list where it compares as equal to a key of it
 pub listed_iff : (name : List ℕ) (keys : List (Bor (List ℕ))) → IsTrue (is_listed name keys) ↔ IsListed keys name
@@ -63,7 +60,4 @@ listed-insert name (x ∷ keys) key = of (slice_cmp nat_cmp key.now x.now) refl 
 -- lists that answer alike have the same names
 pub same_listed : (name : List ℕ) (x y : List (Bor (List ℕ))) → is_listed name x ≡ is_listed name y
     → IsListed x name ↔ IsListed y name
-same_listed name x y same =
-    let of_x = listed_iff name x in
-    let of_y = listed_iff name y in
-    (λ is. of_y.0 (sym same ∙ of_x.1 is), λ is. of_x.0 (same ∙ of_y.1 is))
+same_listed name x y same = search (rules, listed_iff)

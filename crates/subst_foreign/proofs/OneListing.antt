@@ -1,5 +1,5 @@
 -- A text has one listing of variables: for a text of the grammar those of its items, for which its template asks.
-use Rattle.std.proofs.Common.{◌≡◌, ℕ, ◌+◌, zero, suc, false, List, [], ◌∷◌, ◌++◌, length, map, Some, refl, sym, ap, ◌∙◌, subst, append_assoc, append-nil, arith}
+use Rattle.std.proofs.Common.{rules, ◌≡◌, ℕ, ◌+◌, zero, suc, false, List, [], ◌∷◌, ◌++◌, length, map, Some, refl, sym, ap, ◌∙◌, append_assoc, append-nil, arith}
 use Rattle.std.proofs.lemmas.List.{length-map, map-append}
 use Rattle.std.proofs.lemmas.Simd.{map-map}
 use Rattle.subst_foreign.proofs.OneReading.{some_text}
@@ -9,14 +9,13 @@ use Rattle.subst_foreign.specs.Grammar.{Grammar, Head, Short, Braced, Optional, 
 use Rattle.subst_foreign.specs.Reading.{Token, IsToken, Listing, VariableAt, depth_after, listed_at, token_text, without_place}
 use Rattle.subst_foreign.specs.Reading as tokens
 use Rattle.subst_foreign.specs.Reading.Listing.{ended, token}
-use Rattle.subst_foreign.specs.Template.{asked, asked_name, IsTemplate}
+use Rattle.subst_foreign.specs.Template.{asked_name, IsTemplate}
 use Rattle.subst_foreign.specs.Text.{Item, Text, Variable, Empty, Then, IsItem, IsText, item_spelling, item_variables, spelling, variables_of}
 use Rattle.subst_foreign.specs.Text as text
 use Rattle.subst_foreign.specs.declared.forms.Missing.{Missing}
 use Rattle.subst_language.proofs.Language.OneTreeLemmas.{tree_unique}
 use Rattle.subst_language.proofs.Language.VariablesLemmas.{variable_names}
 use Rattle.subst_language.specs.Language.Bytes.{closing_brace}
-use Rattle.subst_language.specs.Language.NamesIn.{names_in}
 use Rattle.subst_language.specs.Language.Sentence.{Spells}
 use Rattle.subst_language.specs.Language.Tree.{Tree}
 use Rattle.subst_language.specs.Language.Variables as template
@@ -25,10 +24,8 @@ use Rattle.subst_language.specs.Language.Variables as template
 listings_same : (g : Grammar) (position depth : ℕ) (s z : List ℕ) (v w : List VariableAt)
     → Listing g position depth s v → Listing g position depth z w → s ≡ z → v ≡ w
 listings_same g position depth _ _ _ _ ended ended same = refl
-listings_same g position depth _ _ _ _ ended (token u y too after) same =
-    absurd (some_text g depth u y y too same)
-listings_same g position depth _ _ _ _ (token t x is next) ended same =
-    absurd (some_text g depth t x x is (sym same))
+listings_same g position depth _ _ _ _ ended (token u y too after) same = search (rules, some_text)
+listings_same g position depth _ _ _ _ (token t x is next) ended same = search (rules, some_text)
 listings_same g position depth _ _ _ _ (token {variables = v} t x is next) (token {variables = w} u y too more)
     same =
     let tokens = same_token g depth t u x y is too same in
@@ -123,10 +120,7 @@ pub names_asked : (g : Grammar) (unset : Missing) (s source : List ℕ) → IsTe
     → map template.name_of (template.variables_of 0 tree)
     ≡ map (λ each. asked_name g.forms each.operator each.name) v
 names_asked g unset s source is tree spells v listing =
-    variable_names 0 tree ∙ ap names_in (tree_unique source tree is.tree spells is.spells) ∙ is.names
-    ∙ ap (map (asked g.forms))
-    (sym (text_is_listed g is.items is.read v (subst (λ s. Listing g 0 0 s v) is.spelled listing)))
-    ∙ map-map (asked g.forms) without_place v
+    search (rules, variable_names, tree_unique, text_is_listed, map-map, without_place)
 
 -- so there are as many
 pub as_many : (g : Grammar) (unset : Missing) (s source : List ℕ) → IsTemplate g unset s source → (tree : Tree)

@@ -1,5 +1,5 @@
 -- A text is read in one way: the forms that are refused in it are unique, and so are its items.
-use Rattle.std.proofs.Common.{◌≡◌, ℕ, ◌+◌, ◌<◌, zero, suc, true, false, List, [], ◌∷◌, ◌++◌, length, refl, sym, ap, ◌∙◌, subst, append_assoc, append-nil, arith}
+use Rattle.std.proofs.Common.{rules, ◌≡◌, ℕ, ◌+◌, zero, suc, true, false, List, [], ◌∷◌, ◌++◌, length, refl, sym, ap, ◌∙◌, subst, append_assoc, append-nil, arith}
 use Rattle.subst_foreign.proofs.OneToken.{same_token}
 use Rattle.subst_foreign.proofs.ReadingLemmas.{token_some}
 use Rattle.subst_foreign.specs.Foreign.{is_inside}
@@ -63,25 +63,17 @@ text_is_read g t is =
 -- a token is no empty text
 pub some_text : (g : Grammar) (depth : ℕ) (t : Token) (x y : List ℕ) → IsToken g depth t x
     → ¬ ([] ≡ token_text t ++ y)
-some_text g depth t x y is same = some (token_text t) (token_some g depth t x is) same
-  where
-    some : (z : List ℕ) → 0 < length z → ¬ ([] ≡ z ++ y)
-    some [] bytes none = omega (arith, bytes)
-    some (b ∷ z) bytes none = cc
+some_text g depth t x y is same = search (rules, token_some)
 
 -- two texts that are one are read in one way
 readings_same : (g : Grammar) (outermost position depth : ℕ) (s z : List ℕ) (r q : List FormAt)
     → Reading g outermost position depth s r → Reading g outermost position depth z q → s ≡ z → r ≡ q
 readings_same g outermost position _ _ _ _ _ ended ended same = refl
 readings_same g outermost position _ _ _ _ _ unclosed unclosed same = refl
-readings_same g outermost position depth _ _ _ _ ended (token u y too after) same =
-    absurd (some_text g depth u y y too same)
-readings_same g outermost position depth _ _ _ _ unclosed (token u y too after) same =
-    absurd (some_text g depth u y y too same)
-readings_same g outermost position depth _ _ _ _ (token t x is next) ended same =
-    absurd (some_text g depth t x x is (sym same))
-readings_same g outermost position depth _ _ _ _ (token t x is next) unclosed same =
-    absurd (some_text g depth t x x is (sym same))
+readings_same g outermost position depth _ _ _ _ ended (token u y too after) same = search (rules, some_text)
+readings_same g outermost position depth _ _ _ _ unclosed (token u y too after) same = search rules
+readings_same g outermost position depth _ _ _ _ (token t x is next) ended same = search (rules, some_text)
+readings_same g outermost position depth _ _ _ _ (token t x is next) unclosed same = search (rules, some_text)
 readings_same g outermost position depth _ _ _ _ (token {refused = r} t x is next) (token {refused = q} u y too w)
     same =
     let tokens = same_token g depth t u x y is too same in
@@ -94,8 +86,7 @@ readings_same g outermost position depth _ _ _ _ (token {refused = r} t x is nex
 -- a text is read in one way
 pub same_reading : (g : Grammar) (outermost position depth : ℕ) (s : List ℕ) (r q : List FormAt)
     → Reading g outermost position depth s r → Reading g outermost position depth s q → r ≡ q
-same_reading g outermost position depth s r q is other =
-    readings_same g outermost position depth s s r q is other refl
+same_reading g outermost position depth s r q is other = search (rules, readings_same)
 
 -- the token that an item begins with, and what comes after it in a text that goes on so
 abbrev first_token : Item → Token
@@ -121,9 +112,7 @@ first_is g (suc depth) (text.Group t) x is = (omega arith, is.1)
 
 first_spelled : (item : Item) (x : List ℕ)
     → item_spelling item ++ x ≡ token_text (first_token item) ++ after_first item x
-first_spelled (text.Operated n op t) x =
-    append_assoc (head_text (Opened n op)) (spelling t ++ closing_brace ∷ []) x
-    ∙ ap (λ w. head_text (Opened n op) ++ w) (append_assoc (spelling t) (closing_brace ∷ []) x)
+first_spelled (text.Operated n op t) x = search (rules, append_assoc)
 first_spelled (text.Group t) x = ap (λ w. opening_brace ∷ w) (append_assoc (spelling t) (closing_brace ∷ []) x)
 first_spelled _ x = refl
 
@@ -140,12 +129,9 @@ no_closing _ same = cc
 no_item : (g : Grammar) (depth : ℕ) (item : Item) (z x : List ℕ) → IsItem g (is_inside depth) item z
     → IsTextEnd depth x → ¬ (x ≡ item_spelling item ++ z)
 no_item g zero item z x is ends same =
-    some_text g 0 (first_token item) (after_first item z) (after_first item z) (first_is g 0 item z is)
-    (sym ends ∙ same ∙ first_spelled item z)
+    search (rules, some_text, first_is, first_spelled)
 no_item g (suc depth) item z x is (y, ends) same =
-    no_closing item
-    (same_token g (suc depth) tokens.Closing (first_token item) y (after_first item z) (omega arith)
-    (first_is g (suc depth) item z is) (sym ends ∙ same ∙ first_spelled item z)).0
+    search (rules, no_closing, same_token, first_is, first_spelled)
 
 first_same_item : (g : Grammar) (depth : ℕ) (i j : Item) (t u : Text) (x y : List ℕ)
     → IsText g (is_inside depth) (Then i t) x → IsText g (is_inside depth) (Then j u) y
@@ -164,11 +150,9 @@ same_text : (g : Grammar) (depth : ℕ) (t u : Text) (x y : List ℕ) → IsText
     → (t ≡ u) × (x ≡ y)
 same_text g depth Empty Empty x y is other ends stops same = (refl, same)
 same_text g depth Empty (Then j u) x y is other ends stops same =
-    absurd (no_item g depth j (spelling u ++ y) x other.0 ends
-    (same ∙ append_assoc (item_spelling j) (spelling u) y))
+    search (rules, no_item, append_assoc)
 same_text g depth (Then i t) Empty x y is other ends stops same =
-    absurd (no_item g depth i (spelling t ++ x) y is.0 stops
-    (sym same ∙ append_assoc (item_spelling i) (spelling t) x))
+    search (rules, no_item, append_assoc)
 same_text g depth (Then (text.Operated n op a) t) (Then (text.Operated m op' b) u) x y is other ends stops same =
     let first = first_same_item g depth (text.Operated n op a) (text.Operated m op' b) t u x y is other same in
     let inner =

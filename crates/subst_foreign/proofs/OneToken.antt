@@ -1,6 +1,6 @@
 -- A text begins with one token: one head, one message, one form that is refused, or a byte or brace that stands
 -- for itself.
-use Rattle.std.proofs.Common.{◌≡◌, ◌≢◌, ◌==◌, ◌||◌, inl, inr, ℕ, ◌<◌, zero, suc, Bool, false, cond, List, [], ◌∷◌, ◌++◌, drop, codes, IsTrue, refl, sym, ap, ◌∙◌, subst, append_assoc, append-nil, arith, ne_eqb, true≢false}
+use Rattle.std.proofs.Common.{rules, ◌≡◌, ◌≢◌, ◌==◌, ◌||◌, inl, inr, ℕ, ◌<◌, zero, suc, Bool, false, cond, List, [], ◌∷◌, ◌++◌, drop, codes, IsTrue, refl, sym, ap, ◌∙◌, subst, append_assoc, append-nil, arith, ne_eqb, true≢false}
 use Rattle.std.proofs.lemmas.List.{append_cancel_left, append_cancel_right}
 use Rattle.std.specs.List.{AllByRecursion}
 use Rattle.subst_foreign.specs.Foreign.{IsShellName, is_inside}
@@ -41,15 +41,12 @@ kind (b ∷ s) = cond (b == dollar) (after_dollar s) (Other (b ∷ s))
 -- the bytes of a name, up to a byte that is none, are those that are found
 runs : (n x : List ℕ) → AllByRecursion IsNameByte n → BeginsWithNo IsNameByte x
     → ((split (n ++ x)).0 ≡ n) × ((split (n ++ x)).1 ≡ x)
-runs n x each ends =
-    let found = split (n ++ x) in
-    split_unique found.0 n found.1 x found.2.name_part each found.2.rest_part ends (sym found.2.parts)
+runs n x each ends = search (rules, split_unique)
 
 -- after a dollar, neither another nor an opening brace
 kind-bare : (b : ℕ) (s : List ℕ) → b ≢ dollar → b ≢ opening_brace
     → kind (dollar ∷ b ∷ s) ≡ Bare (split (b ∷ s)).0 (split (b ∷ s)).1
-kind-bare b s no_dollar no_brace =
-    rw (ne_eqb b dollar no_dollar) (rw (ne_eqb b opening_brace no_brace) refl)
+kind-bare b s no_dollar no_brace = search (rules, ne_eqb)
 
 kind-short : (n x : List ℕ) → IsName n → BeginsWithNo IsNameByte x → kind (dollar ∷ n ++ x) ≡ Bare n x
 kind-short [] x named ends = absurd named
@@ -64,8 +61,7 @@ kind-named n x named ends = let found = runs n x (name_bytes n named) ends in cc
 
 kind-braces : (n end x : List ℕ) → IsName n → BeginsWithNo IsNameByte (end ++ x)
     → kind (in_braces n end ++ x) ≡ Named n (end ++ x)
-kind-braces n end x named ends =
-    ap kind (append_assoc (dollar ∷ opening_brace ∷ n) end x) ∙ kind-named n (end ++ x) named ends
+kind-braces n end x named ends = search (rules, append_assoc, kind-named)
 
 -- the kind that a head before the text makes
 abbrev head_kind : Head → List ℕ → Kind
@@ -87,12 +83,10 @@ operator_no_name _ x = λ is. cc
 kind-head : (g : Grammar) (h : Head) (x : List ℕ) → IsHead g h x → kind (head_text h ++ x) ≡ head_kind h x
 kind-head g Dollar x is = refl
 kind-head g (Short n) x is = kind-short n x (is_name g.forms n is.0.0) is.1
-kind-head g (Braced n) x is =
-    kind-braces n (closing_brace ∷ []) x (is_name g.forms n is.0) closing_no_name
+kind-head g (Braced n) x is = search (rules, kind-braces, is_name, closing_no_name)
 kind-head g (Optional n) x is =
     kind-braces n (question_mark ∷ closing_brace ∷ []) x (is_name g.forms n is.1.0) question_mark_no_name
-kind-head g (Opened n op) x is =
-    kind-braces n (operator_text op) x (is_name g.forms n is.1.0) (operator_no_name op x)
+kind-head g (Opened n op) x is = search (rules, kind-braces, is_name, operator_no_name)
 
 -- a head, and what comes after it
 pub data Start : Type 0 where
@@ -147,10 +141,7 @@ start-head g (Opened n op) x is = start-opened g.forms op n x is.0
 -- one head begins a text
 pub head_unique : (g : Grammar) (h k : Head) (x y : List ℕ) → IsHead g h x → IsHead g k y
     → head_text h ++ x ≡ head_text k ++ y → start h x ≡ start k y
-head_unique g h k x y is other same =
-    sym (start-head g h x is)
-    ∙ ap (start_of g.forms) (sym (kind-head g h x is) ∙ ap kind same ∙ kind-head g k y other)
-    ∙ start-head g k y other
+head_unique g h k x y is other same = search (rules, start-head, kind-head)
 
 -- a text from its first brace on
 abbrev first_brace : List ℕ → List ℕ
@@ -191,9 +182,7 @@ message_end _ m k x y is other same =
 
 pub message_unique : (forms : Forms) (m k x y : List ℕ) → IsMessage forms m → IsMessage forms k
     → m ++ closing_brace ∷ x ≡ k ++ closing_brace ∷ y → m ≡ k
-message_unique forms m k x y is other same =
-    append_cancel_right m k (closing_brace ∷ x)
-    (same ∙ ap (λ w. k ++ w) (sym (message_end forms m k x y is other same)))
+message_unique forms m k x y is other same = search (rules, append_cancel_right, message_end)
 
 -- a message isn't closed in one way
 endless_unique : (forms : Forms) (f h : ShellForm) (x : List ℕ) → IsEndless forms f x → IsEndless forms h x
@@ -247,15 +236,7 @@ colon_form-colon (b ∷ x) none = rw (ne_eqb b 61 none.1.1.0) (rw (ne_eqb b plus
 
 form_of-other : (x : List ℕ) → HasForm form.Other x → form_of x ≡ form.Other
 form_of-other [] has = absurd (has.0 refl)
-form_of-other (b ∷ x) has =
-    let none = has.2 in
-    rw (ne_eqb b minus none.1.1.0)
-    (rw (ne_eqb b question_mark none.1.1.1.0)
-    (rw (ne_eqb b 61 none.1.1.1.1.0)
-    (rw (ne_eqb b plus none.1.1.1.1.1.0)
-    (rw (ne_eqb b 35 none.1.1.1.1.1.1.0)
-    (rw (ne_eqb b 37 none.1.1.1.1.1.1.1.0)
-    (rw (ne_eqb b 47 none.1.1.1.1.1.1.1.1.0) (rw (ne_eqb b colon none.1.0) refl)))))))
+form_of-other (b ∷ x) has = search (rules, ne_eqb)
 
 form_of-form : (f : ShellForm) (x : List ℕ) → HasForm f x → form_of x ≡ f
 form_of-form form.Unclosed x has = ap form_of has
@@ -282,8 +263,7 @@ no_name_first : (x run rest : List ℕ) → x ≡ run ++ rest → BeginsWithNo (
     → ¬ (IsShells run)
 no_name_first x [] rest same none named = named.0
 no_name_first [] (c ∷ run) rest same none named = cc
-no_name_first (b ∷ x) (c ∷ run) rest same none named =
-    none (subst (λ d. IsShells (d ∷ [])) (sym (first_same same)) ((named.0.0, tt), named.1))
+no_name_first (b ∷ x) (c ∷ run) rest same none named = search (rules, first_same)
 
 -- a refused form of a text of the kind
 data Refusal (g : Grammar) : ShellForm → Kind → Type 0 where
@@ -331,26 +311,15 @@ EndsNever g f (start _ x) = ⊥
 -- where a head begins a text, nothing is refused but its message
 refusal_head : (g : Grammar) (f : ShellForm) (k : Kind) (h : Head) (y : List ℕ) → Refusal g f k → IsHead g h y
     → k ≡ head_kind h y → EndsNever g f (start h y)
-refusal_head g _ _ h y (endless f n op x takes is ends) other same =
-    subst (EndsNever g f)
-    (sym (start-head g (Opened n op) x is) ∙ ap (start_of g.forms) same ∙ start-head g h y other) (takes, ends)
+refusal_head g _ _ h y (endless f n op x takes is ends) other same = search (rules, start-head)
 refusal_head g _ _ Dollar y (brace x other) is same = absurd cc
-refusal_head g _ _ (Short n) y (lone m x common none) is same =
-    let whole = subst (λ f. IsTrue (is_whole f g.all)) (sym common) refl in
-    let names : n ≡ m = cc in
-    absurd (none (subst IsShells names (shell_name g.forms g.all n whole is.0.0)))
-refusal_head g _ _ (Braced n) y (nameless m x whole none) is same =
-    let names : n ≡ m = cc in absurd (none (subst IsShells names (shell_name g.forms g.all n whole is.0)))
-refusal_head g _ _ (Optional n) y (nameless m x whole none) is same =
-    let names : n ≡ m = cc in absurd (none (subst IsShells names (shell_name g.forms g.all n whole is.1.0)))
-refusal_head g _ _ (Opened n op) y (nameless m x whole none) is same =
-    let names : n ≡ m = cc in absurd (none (subst IsShells names (shell_name g.forms g.all n whole is.1.0)))
+refusal_head g _ _ (Short n) y (lone m x common none) is same = search (rules, shell_name)
+refusal_head g _ _ (Braced n) y (nameless m x whole none) is same = search (rules, shell_name)
+refusal_head g _ _ (Optional n) y (nameless m x whole none) is same = search (rules, shell_name)
+refusal_head g _ _ (Opened n op) y (nameless m x whole none) is same = search (rules, shell_name)
 refusal_head g _ _ (Braced n) y (goes_on f m x whole named unfit has) is same = absurd (unfit.0 y cc)
-refusal_head g _ _ (Optional n) y (goes_on f m x whole named unfit has) is same =
-    let own : IsTrue (is_whole of.Own g.all) = subst (λ f. IsTrue (is_whole f g.all)) is.0 whole in
-    absurd cc
-refusal_head g _ _ (Opened n op) y (goes_on f m x whole named unfit has) is same =
-    absurd (unfit.1 op y is.0 cc)
+refusal_head g _ _ (Optional n) y (goes_on f m x whole named unfit has) is same = search rules
+refusal_head g _ _ (Opened n op) y (goes_on f m x whole named unfit has) is same = search rules
 refusal_head g _ _ _ y _ is same = absurd cc
 
 -- of a kind one form is refused
@@ -362,20 +331,16 @@ refusal_unique g f _ k _ other (endless h n op x takes is ends) same =
 refusal_unique g _ _ _ _ (brace x other) (brace y too) same = refl
 refusal_unique g _ _ _ _ (lone n x common none) (lone m y too unnamed) same = refl
 refusal_unique g _ _ _ _ (nameless n x whole none) (nameless m y too unnamed) same = refl
-refusal_unique g _ _ _ _ (nameless n x whole none) (goes_on h m y too named unfit has) same =
-    let names : m ≡ n = cc in absurd (none (subst IsShells names named))
-refusal_unique g _ _ _ _ (goes_on f n x whole named unfit has) (nameless m y too none) same =
-    let names : n ≡ m = cc in absurd (none (subst IsShells names named))
+refusal_unique g _ _ _ _ (nameless n x whole none) (goes_on h m y too named unfit has) same = search rules
+refusal_unique g _ _ _ _ (goes_on f n x whole named unfit has) (nameless m y too none) same = search rules
 refusal_unique g _ _ _ _ (goes_on f n x whole named unfit has) (goes_on h m y too other none holds) same =
-    let rests : x ≡ y = cc in
-    sym (form_of-form f x has) ∙ ap form_of rests ∙ form_of-form h y holds
+    search (rules, form_of-form)
 refusal_unique g _ _ _ _ _ _ same = absurd cc
 
 -- one form of a text is refused
 pub refused_unique : (g : Grammar) (inside : Bool) (f h : ShellForm) (s : List ℕ) → IsRefused g inside f s
     → IsRefused g inside h s → f ≡ h
-refused_unique g inside f h s is other =
-    refusal_unique g f h (kind s) (kind s) (refusal g inside f s is) (refusal g inside h s other) refl
+refused_unique g inside f h s is other = search (rules, refusal_unique, refusal)
 
 -- one front of a form
 front_unique : (f : ShellForm) (front x other y : List ℕ) → IsFront f front x → IsFront f other y
@@ -383,8 +348,7 @@ front_unique : (f : ShellForm) (front x other y : List ℕ) → IsFront f front 
 front_unique form.Dollar front x other y is too same = is ∙ sym too
 front_unique form.Brace front x other y is too same = is ∙ sym too
 front_unique form.NoName front x other y is too same = is ∙ sym too
-front_unique form.Unclosed front x other y is too same =
-    sym (append-nil front) ∙ ap (λ x. front ++ x) (sym is) ∙ same ∙ ap (λ y. other ++ y) too ∙ append-nil other
+front_unique form.Unclosed front x other y is too same = search (rules, append-nil)
 front_unique _ front x other y (n, named, stops, spelled) (m, called, ends, written) same =
     let fronts = ap (λ f. kind (f ++ x)) (sym spelled) ∙ ap kind same ∙ ap (λ f. kind (f ++ y)) written in
     let kinds = sym (kind-braces n [] x named stops) ∙ fronts ∙ kind-braces m [] y called ends in
@@ -402,16 +366,12 @@ data AfterHead (g : Grammar) : Token → List ℕ → Start → Type 0 where
 after_unique : (g : Grammar) (t u : Token) (x y : List ℕ) (k l : Start) → AfterHead g t x k → AfterHead g u y l
     → k ≡ l → t ≡ u
 after_unique g _ _ _ _ _ _ (whole h x is) (whole k y too) same = cc
-after_unique g _ _ _ _ _ _ (whole h x is) (opens n op y none) same =
-    let heads : h ≡ Opened n op = cc in absurd (subst IsWhole heads is)
-after_unique g _ _ _ _ _ _ (whole h x is) (required n op m y takes each) same =
-    let heads : h ≡ Opened n op = cc in absurd (subst IsWhole heads is)
-after_unique g _ _ _ _ _ _ (opens n op x none) (whole h y is) same =
-    let heads : h ≡ Opened n op = cc in absurd (subst IsWhole heads is)
+after_unique g _ _ _ _ _ _ (whole h x is) (opens n op y none) same = search rules
+after_unique g _ _ _ _ _ _ (whole h x is) (required n op m y takes each) same = search rules
+after_unique g _ _ _ _ _ _ (opens n op x none) (whole h y is) same = search rules
 after_unique g _ _ _ _ _ _ (opens n op x none) (opens m op' y too) same = cc
 after_unique g _ _ _ _ _ _ (opens n op x none) (required m op' k y takes each) same = absurd cc
-after_unique g _ _ _ _ _ _ (required n op m x takes each) (whole h y is) same =
-    let heads : h ≡ Opened n op = cc in absurd (subst IsWhole heads is)
+after_unique g _ _ _ _ _ _ (required n op m x takes each) (whole h y is) same = search rules
 after_unique g _ _ _ _ _ _ (required n op m x takes each) (opens k op' y none) same = absurd cc
 after_unique g _ _ _ _ _ _ (required n op m x takes each) (required m' op' k y too all) same =
     cc (message_unique g.forms m k x y each all cc)
@@ -475,26 +435,16 @@ brace_refused g _ b x _ _ same = absurd cc
 
 opening_refused : (g : Grammar) (inside : Bool) (s x : List ℕ) (f : ShellForm) → g.forms ≡ of.Shell
     → s ≡ opening_brace ∷ x → ¬ (IsRefused g inside f s)
-opening_refused g inside s x f shell spelled bad =
-    (brace_refused g f opening_brace x (kind s) (refusal g inside f s bad) (ap kind spelled)).1 shell
-
-closing_refused : (g : Grammar) (inside : Bool) (s x : List ℕ) (f : ShellForm) → s ≡ closing_brace ∷ x
-    → ¬ (IsRefused g inside f s)
-closing_refused g inside s x f spelled bad =
-    omega (arith, (brace_refused g f closing_brace x (kind s) (refusal g inside f s bad) (ap kind spelled)).0)
+opening_refused g inside s x f shell spelled bad = search (rules, brace_refused, refusal)
 
 -- a byte that stands for itself is no other token
 byte_alone : (g : Grammar) (depth : ℕ) (s : List ℕ) (b : ℕ) (x : List ℕ) (u : Token) (y : List ℕ)
     → IsByte g (is_inside depth) b x → s ≡ b ∷ x → View g depth s u y → tokens.Byte b ≡ u
 byte_alone g depth s b x _ _ is spelled (a_byte c y too written) = cc
-byte_alone g depth s b x _ _ is spelled (a_head u y h z head written after) =
-    absurd (is.no_head h z (sym spelled ∙ written) head)
-byte_alone g depth s b x _ _ is spelled (an_opening y more shell written) =
-    absurd ((is.no_brace (depth_inside depth more)).0 (first_same (sym spelled ∙ written)))
-byte_alone g depth s b x _ _ is spelled (a_closing y more written) =
-    absurd ((is.no_brace (depth_inside depth more)).1 (first_same (sym spelled ∙ written)))
-byte_alone g depth s b x _ _ is spelled (refused f front y bad fronts written) =
-    absurd (is.taken f (subst (IsRefused g (is_inside depth) f) spelled bad))
+byte_alone g depth s b x _ _ is spelled (a_head u y h z head written after) = search rules
+byte_alone g depth s b x _ _ is spelled (an_opening y more shell written) = search rules
+byte_alone g depth s b x _ _ is spelled (a_closing y more written) = search (rules, depth_inside, first_same)
+byte_alone g depth s b x _ _ is spelled (refused f front y bad fronts written) = search rules
 
 view_unique : (g : Grammar) (depth : ℕ) (s : List ℕ) (t : Token) (x : List ℕ) (u : Token) (y : List ℕ)
     → View g depth s t x → View g depth s u y → t ≡ u
@@ -505,34 +455,26 @@ view_unique g depth s _ _ _ _ (a_head t x h z is spelled after) (a_head u y k w 
     after_unique g t u x y (start h z) (start k w) after next (head_unique g h k z w is too (sym spelled ∙ written))
 view_unique g depth s _ _ _ _ (a_head t x h z is spelled after) (an_opening y more shell written) =
     absurd (omega (arith, head_dollar h opening_brace y z (sym written ∙ spelled)))
-view_unique g depth s _ _ _ _ (a_head t x h z is spelled after) (a_closing y more written) =
-    absurd (omega (arith, head_dollar h closing_brace y z (sym written ∙ spelled)))
+view_unique g depth s _ _ _ _ (a_head t x h z is spelled after) (a_closing y more written) = search rules
 view_unique g depth s _ _ _ _ (a_head t x h z is spelled after) (refused f front y bad fronts written) =
     absurd (head_refused g (is_inside depth) s t x h z f is spelled after bad)
 view_unique g depth s _ _ _ _ (an_opening x more shell spelled) (a_head u y k w too written next) =
     absurd (omega (arith, head_dollar k opening_brace x w (sym spelled ∙ written)))
 view_unique g depth s _ _ _ _ (an_opening x more shell spelled) (an_opening y also too written) = refl
-view_unique g depth s _ _ _ _ (an_opening x more shell spelled) (a_closing y also written) =
-    absurd (omega (arith, first_same (sym spelled ∙ written)))
+view_unique g depth s _ _ _ _ (an_opening x more shell spelled) (a_closing y also written) = search rules
 view_unique g depth s _ _ _ _ (an_opening x more shell spelled) (refused f front y bad fronts written) =
     absurd (opening_refused g (is_inside depth) s x f shell spelled bad)
-view_unique g depth s _ _ _ _ (a_closing x more spelled) (a_head u y k w too written next) =
-    absurd (omega (arith, head_dollar k closing_brace x w (sym spelled ∙ written)))
-view_unique g depth s _ _ _ _ (a_closing x more spelled) (an_opening y also too written) =
-    absurd (omega (arith, first_same (sym spelled ∙ written)))
+view_unique g depth s _ _ _ _ (a_closing x more spelled) (a_head u y k w too written next) = search rules
+view_unique g depth s _ _ _ _ (a_closing x more spelled) (an_opening y also too written) = search rules
 view_unique g depth s _ _ _ _ (a_closing x more spelled) (a_closing y also written) = refl
-view_unique g depth s _ _ _ _ (a_closing x more spelled) (refused f front y bad fronts written) =
-    absurd (closing_refused g (is_inside depth) s x f spelled bad)
+view_unique g depth s _ _ _ _ (a_closing x more spelled) (refused f front y bad fronts written) = search rules
 view_unique g depth s _ _ _ _ (refused f front x bad fronts spelled) (a_head u y k w too written next) =
     absurd (head_refused g (is_inside depth) s u y k w f too written next bad)
 view_unique g depth s _ _ _ _ (refused f front x bad fronts spelled) (an_opening y more shell written) =
     absurd (opening_refused g (is_inside depth) s y f shell written bad)
-view_unique g depth s _ _ _ _ (refused f front x bad fronts spelled) (a_closing y more written) =
-    absurd (closing_refused g (is_inside depth) s y f written bad)
+view_unique g depth s _ _ _ _ (refused f front x bad fronts spelled) (a_closing y more written) = search rules
 view_unique g depth s _ _ _ _ (refused f front x bad fronts spelled) (refused h other y too ends written) =
-    let forms = refused_unique g (is_inside depth) f h s bad too in
-    let fits = subst (λ f. IsFront f front x) forms fronts in
-    cc (forms, front_unique h front x other y fits ends (sym spelled ∙ written))
+    search (rules, refused_unique, front_unique)
 
 -- two tokens that begin one text are one, and so is what comes after them
 pub same_token : (g : Grammar) (depth : ℕ) (t u : Token) (x y : List ℕ) → IsToken g depth t x

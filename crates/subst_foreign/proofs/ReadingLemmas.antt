@@ -1,6 +1,7 @@
 -- Texts read token by token, and the templates written meanwhile.
-use Rattle.std.proofs.Common.{◌≡◌, ◌-◌, inl, inr, Bool, true, false, ℕ, ◌+◌, ◌<◌, ◌≤◌, zero, suc, List, [], ◌∷◌, ◌++◌, length, Some, None, refl, sym, ap, ◌∙◌, subst, append_assoc, append-nil, length-append, arith}
+use Rattle.std.proofs.Common.{rules, ◌≡◌, ◌-◌, inl, inr, Bool, true, false, ℕ, ◌+◌, ◌<◌, ◌≤◌, zero, suc, List, [], ◌∷◌, ◌++◌, length, take, Some, None, refl, sym, ap, ◌∙◌, subst, append_assoc, append-nil, length-append, arith}
 use Rattle.std.proofs.lemmas.Bool.Decides.{nat_tests}
+use Rattle.std.proofs.Math.Seq.{take-append_seam}
 use Rattle.std.proofs.lemmas.Str.{IsUtf8-append, IsUtf8-nil}
 use Rattle.std.specs.List.{AllByRecursion}
 use Rattle.std.specs.Str.{IsUtf8}
@@ -9,7 +10,7 @@ use Rattle.subst_foreign.proofs.TokenLemmas.{braces_append, name_of, plain_byte}
 use Rattle.subst_foreign.specs.Foreign.{is_inside}
 use Rattle.subst_foreign.specs.Grammar.{Grammar, Head, Opened, head_text, has_operator, in_braces, is_whole, operator_text, takes_message, BeginsWithNoHead, GoesOn, IsHead, IsMessage, IsNoBrace, IsRefused}
 use Rattle.subst_foreign.specs.Grammar as head
-use Rattle.subst_foreign.specs.Reading.{Token, Byte, Closing, Opening, Opens, Refused, Required, Whole, IsConverted, IsPlainAt, IsToken, Reading, depth_after, left_open, outermost_at, part, refused_at, token_text}
+use Rattle.subst_foreign.specs.Reading.{Token, Byte, Closing, Opening, Opens, Refused, Required, Whole, IsAfterPlain, IsConverted, IsPlainAt, IsToken, Reading, depth_after, left_open, outermost_at, part, refused_at, token_text}
 use Rattle.subst_foreign.specs.Reading.Reading.{ended, token, unclosed}
 use Rattle.subst_foreign.specs.Template.{asked_name, is_escaped, item_of_byte, item_of_head, plain_item, tree_before, tree_of, IsTemplate}
 use Rattle.subst_foreign.specs.Text.{Item, Text, IsByte, IsItem, IsText, item_spelling, spelling}
@@ -31,8 +32,7 @@ use Rattle.subst_language.specs.Language.Name.{IsName, IsNameByte}
 use Rattle.subst_language.specs.Language.Tree.{Braced, Default, Empty, Optional, Plain, Short, Then, Tree, item_text, text}
 use Rattle.subst_language.specs.Language.Tree as template
 
--- What is left of a text where so many texts and braces are open, and of its template: a text that ends each of
--- them.
+-- the rest of a text where so many texts and braces are open, and of its template: a text that ends each of them
 abbrev pub IsRest : Grammar → Missing → ℕ → List ℕ → List ℕ → Type 0
 IsRest g unset zero s y =
     (t : Text) × IsText g false t [] × (s ≡ spelling t) × (y ≡ text (tree_of g.forms unset t))
@@ -111,8 +111,7 @@ rest_token g unset depth position (Byte b) x y is taken rest =
     rest_item g unset depth (foreign.Byte b) (item_text (item_of_byte (is_escaped b) b)) x y is (λ next. refl) rest
 rest_token g unset depth position (Whole h) x y is taken rest =
     rest_item g unset depth (foreign.Whole h) (item_text (item_of_head g.forms unset h)) x y is (λ next. refl) rest
-rest_token g unset depth position (Opens n op) x y is taken rest =
-    rest_opened g unset depth n op x y is.0 is.1 rest
+rest_token g unset depth position (Opens n op) x y is taken rest = search (rules, rest_opened)
 rest_token g unset depth position (Required n op m) x y is taken rest =
     rest_item g unset depth (foreign.Required n op m)
     (in_braces (asked_name g.forms (Some op) n) (closing_brace ∷ [])) x y is (λ next. refl) rest
@@ -124,15 +123,8 @@ rest_token g unset depth position (Refused f front) x y is taken rest = absurd c
 -- the whole text has a template
 pub whole_template : {g : Grammar} {unset : Missing} {s source : List ℕ} → IsRest g unset 0 s source
     → IsTemplate g unset s source
-whole_template {g} {unset} (t, read, spelled, written) = record {
-  items = t;
-  read = read;
-  spelled = spelled;
-  tree = tree_of g.forms unset t;
-  spells = record { well_formed = text_fits g unset false t [] read; spelled = written };
-  gives = λ look. text_means g unset false t [] 0 look read;
-  names = text_names g unset false t [] read;
-}
+whole_template {g} {unset} (t, read, spelled, written) =
+    search (rules, text_fits, text_means, text_names)
 
 -- where nothing is open, it doesn't matter where the outermost text begins
 pub any_outermost : {g : Grammar} {position : ℕ} {s : List ℕ} {refused : List FormAt} (o p : ℕ)
@@ -158,8 +150,7 @@ name_asciis (b ∷ n) each = (name_byte_ascii b each.0, name_asciis n each.1)
 
 -- a variable in braces
 braces_ascii : (n x : List ℕ) → IsName n → AreAscii x → AreAscii (in_braces n x)
-braces_ascii n x is each =
-    (omega arith, (omega arith, each_append (λ b. b < 128) n x (name_asciis n (name_bytes n is)) each))
+braces_ascii n x is each = search (rules, each_append, name_asciis, name_bytes)
 
 operator_ascii : (op : Operator) → AreAscii (operator_text op)
 operator_ascii operator.ColonMinus = (omega arith, (omega arith, tt))
@@ -205,9 +196,7 @@ swapped_utf8 u front written x b ascii each all is =
 head_utf8 : (g : Grammar) (unset : Missing) (h : Head) (x u : List ℕ) → IsHead g h x
     → IsUtf8 (u ++ (head_text h ++ x))
     → IsUtf8 (u ++ (item_text (item_of_head g.forms unset h) ++ x))
-head_utf8 g unset head.Dollar x u is text =
-    swapped_utf8 u (dollar ∷ []) (backslash ∷ dollar ∷ []) x dollar (omega arith) (omega arith, tt)
-    (omega arith, (omega arith, tt)) text
+head_utf8 g unset head.Dollar x u is text = search (rules, swapped_utf8)
 head_utf8 g unset (head.Short n) x u is text =
     let name = name_of g.forms n is.0.0 in
     let each = name_asciis n (name_bytes n name) in
@@ -218,10 +207,7 @@ head_utf8 g unset (head.Braced n) x u is text =
     let whole = braces_ascii n (closing_brace ∷ []) name closing_ascii in
     swapped_utf8 u (opening_brace ∷ n ++ closing_brace ∷ []) (item_text (plain_item g.forms unset (Braced n) n)) x
     dollar (omega arith) whole.1 (plain_ascii g.forms unset (Braced n) n name whole) text
-head_utf8 g unset (head.Optional n) x u is text =
-    let whole = braces_ascii n (question_mark ∷ closing_brace ∷ []) (name_of g.forms n is.1.0) optional_ascii in
-    swapped_utf8 u (opening_brace ∷ n ++ (question_mark ∷ closing_brace ∷ []))
-    (in_braces n (question_mark ∷ closing_brace ∷ [])) x dollar (omega arith) whole.1 whole text
+head_utf8 g unset (head.Optional n) x u is text = search rules
 head_utf8 g unset (head.Opened n op) x u is text =
     swapped_utf8 u (opening_brace ∷ n ++ operator_text op) (backslash ∷ dollar ∷ []) x dollar (omega arith)
     (braces_ascii n (operator_text op) (name_of g.forms n is.1.0) (operator_ascii op)).1
@@ -261,8 +247,7 @@ token_utf8 g unset depth position (Refused f front) x u is taken text = absurd c
 read_plain : (g : Grammar) (depth o p : ℕ) (run x : List ℕ) (refused : List FormAt)
     → AllByRecursion (IsPlainAt (suc depth)) run → Reading g o (p + length run) (suc depth) x refused
     → Reading g o p (suc depth) (run ++ x) refused
-read_plain g depth o p [] x refused each more =
-    subst (λ q. Reading g o q (suc depth) x refused) (omega arith) more
+read_plain g depth o p [] x refused each more = search rules
 read_plain g depth o p (b ∷ run) x refused each more =
     token (Byte b) (run ++ x) (plain_byte g true b (run ++ x) each.0.0 each.0.2)
     (read_plain g depth o (p + 1) run x refused each.1
@@ -308,19 +293,8 @@ pub record Progress (g : Grammar) (unset : Missing) (s source rest : List ℕ) (
   pub is_text : refused ≡ [] → IsUtf8 s → IsUtf8 (source ++ rest)
   pub few : depth + length rest ≤ length s
 
--- the start
-pub starts : (g : Grammar) (unset : Missing) (s : List ℕ) → Progress g unset s [] s [] 0 0
-starts g unset s = record {
-  position = 0;
-  at = omega arith;
-  read = λ more is. is;
-  written = λ none y is. is;
-  is_text = λ none is. is;
-  few = omega arith;
-}
-
 -- plain bytes more
-pub passes_plain : (g : Grammar) (unset : Missing) (s source rest : List ℕ) (refused : List FormAt)
+passes_plain : (g : Grammar) (unset : Missing) (s source rest : List ℕ) (refused : List FormAt)
     (depth outermost : ℕ) (run x new : List ℕ) (first : ℕ) → Progress g unset s source rest refused depth outermost
     → AllByRecursion (IsPlainAt depth) run → rest ≡ run ++ x → new ≡ source ++ run
     → first ≡ outermost_at depth outermost (length s - length rest)
@@ -376,7 +350,7 @@ opens_one (suc depth) Closing = omega arith
 opens_one depth _ = omega arith
 
 -- a token more
-pub passes_token : (g : Grammar) (unset : Missing) (s source rest : List ℕ) (refused : List FormAt)
+passes_token : (g : Grammar) (unset : Missing) (s source rest : List ℕ) (refused : List FormAt)
     (depth outermost : ℕ) (t : Token) (x new : List ℕ) (more : List FormAt) (after first : ℕ)
     → Progress g unset s source rest refused depth outermost → IsToken g depth t x → rest ≡ token_text t ++ x
     → new ≡ source ++ part g.forms unset t → more ≡ refused ++ refused_at (length s - length rest) t
@@ -415,8 +389,100 @@ passes_token g unset s source rest refused depth outermost t x new more after fi
       few = omega (arith, so_far.few, lengths, token_some g depth t x is, opens_one depth t, deeper);
     }
 
+-- of two positions in a row the first one counts no more
+outermost_again : (depth o p q : ℕ) → outermost_at depth (outermost_at depth o p) q ≡ outermost_at depth o q
+outermost_again zero o p q = refl
+outermost_again (suc depth) o p q = refl
+
+open_still : (depth o p : ℕ) → left_open depth (outermost_at depth o p) ≡ left_open depth o
+open_still zero o p = refl
+open_still (suc depth) o p = refl
+
+-- A text is read so far, and the template has all but a run, which is before the rest in the text that waits.
+pub record Waits (g : Grammar) (unset : Missing) (s source pending rest : List ℕ) (refused : List FormAt)
+    (depth outermost : ℕ) : Type 0 where
+  pub run : List ℕ
+  pub waits : pending ≡ run ++ rest
+  pub so_far : Progress g unset s (source ++ run) rest refused depth outermost
+
+-- what is known of the next token, after plain bytes
+pub record Passes (g : Grammar) (s rest special : List ℕ) (refused more : List FormAt)
+    (depth after outermost first : ℕ) (t : Token) (x : List ℕ) : Type 0 where
+  pub plain : IsAfterPlain depth rest special
+  pub is : IsToken g depth t x
+  pub splits : special ≡ token_text t ++ x
+  pub told : more ≡ refused ++ refused_at (length s - length special) t
+  pub deeper : after ≡ depth_after depth t
+  pub opened : first ≡ outermost_at depth outermost (length s - length special)
+
+-- plain bytes and a token more
+passes : (g : Grammar) (unset : Missing) (s source rest special : List ℕ) (refused more : List FormAt)
+    (depth after outermost first : ℕ) (t : Token) (x : List ℕ)
+    → Progress g unset s source rest refused depth outermost
+    → (passed : Passes g s rest special refused more depth after outermost first t x)
+    → Progress g unset s ((source ++ passed.plain.0) ++ part g.forms unset t) x more after first
+passes g unset s source rest special refused more depth after outermost first t x so_far passed =
+    let run = passed.plain.0 in
+    let between = outermost_at depth outermost (length s - length rest) in
+    passes_token g unset s (source ++ run) special refused depth between t x
+    ((source ++ run) ++ part g.forms unset t) more after first
+    (passes_plain g unset s source rest refused depth outermost run special (source ++ run) between so_far
+    passed.plain.1 passed.plain.2 refl refl)
+    passed.is passed.splits refl passed.told passed.deeper
+    (passed.opened ∙ sym (outermost_again depth outermost (length s - length rest) (length s - length special)))
+
+-- a token that the template has as it is in the text
+pub waits_more : (g : Grammar) (unset : Missing) (s source pending rest special : List ℕ)
+    (refused more : List FormAt) (depth after outermost first : ℕ) (t : Token) (x : List ℕ)
+    → Waits g unset s source pending rest refused depth outermost
+    → Passes g s rest special refused more depth after outermost first t x
+    → part g.forms unset t ≡ token_text t → Waits g unset s source pending x more after first
+waits_more g unset s source pending rest special refused more depth after outermost first t x waiting passed same =
+    let plain = passed.plain.0 in
+    let run = (waiting.run ++ plain) ++ token_text t in
+    let whole : source ++ run ≡ ((source ++ waiting.run) ++ plain) ++ part g.forms unset t =
+    sym (rw same (append_assoc (source ++ waiting.run) plain (token_text t)
+    ∙ append_assoc source waiting.run (plain ++ token_text t)
+    ∙ ap (λ z. source ++ z) (sym (append_assoc waiting.run plain (token_text t))))) in
+    record {
+      run = run;
+      waits = waiting.waits ∙ ap (λ z. waiting.run ++ z) (passed.plain.2 ∙ ap (λ z. plain ++ z) passed.splits)
+          ∙ sym (append_assoc waiting.run plain (token_text t ++ x))
+          ∙ sym (append_assoc (waiting.run ++ plain) (token_text t) x);
+      so_far = subst (λ z. Progress g unset s z x more after first) (sym whole)
+          (passes g unset s (source ++ waiting.run) rest special refused more depth after outermost first t x
+          waiting.so_far passed);
+    }
+
+-- a token that the template has otherwise, after all that waited
+pub waits_anew : (g : Grammar) (unset : Missing) (s source pending rest special : List ℕ)
+    (refused more : List FormAt) (depth after outermost first : ℕ) (t : Token) (x kept written new : List ℕ)
+    → Waits g unset s source pending rest refused depth outermost
+    → Passes g s rest special refused more depth after outermost first t x
+    → kept ≡ source ++ take (length pending - length special) pending → new ≡ kept ++ written
+    → part g.forms unset t ≡ written → Waits g unset s new x x more after first
+waits_anew g unset s source pending rest special refused more depth after outermost first t x kept written new
+    waiting passed begins added stands =
+    let plain = passed.plain.0 in
+    let run = waiting.run ++ plain in
+    let whole : pending ≡ run ++ special =
+    waiting.waits ∙ ap (λ z. waiting.run ++ z) passed.plain.2 ∙ sym (append_assoc waiting.run plain special) in
+    let taken : take (length pending - length special) pending ≡ run =
+    ap (λ z. take (length z - length special) z) whole
+    ∙ ap (λ n. take n (run ++ special)) (omega (arith, length-append run special)) ∙ take-append_seam run special in
+    let same : new ++ [] ≡ ((source ++ waiting.run) ++ plain) ++ part g.forms unset t =
+    append-nil new ∙ added ∙ ap (λ z. kept ++ z) (sym stands) ∙ ap (λ z. z ++ part g.forms unset t)
+    (begins ∙ ap (λ z. source ++ z) taken ∙ sym (append_assoc source waiting.run plain)) in
+    record {
+      run = [];
+      waits = refl;
+      so_far = subst (λ z. Progress g unset s z x more after first) (sym same)
+          (passes g unset s (source ++ waiting.run) rest special refused more depth after outermost first t x
+          waiting.so_far passed);
+    }
+
 -- the end
-pub ends : (g : Grammar) (unset : Missing) (s source rest : List ℕ) (refused more : List FormAt)
+ends : (g : Grammar) (unset : Missing) (s source rest : List ℕ) (refused more : List FormAt)
     (depth outermost : ℕ) → Progress g unset s source rest refused depth outermost → length rest ≡ 0
     → more ≡ refused ++ left_open depth outermost → IsConverted g unset s source more
 ends g unset s source (b ∷ rest) refused more depth outermost so_far none is = absurd (omega (arith, none))
@@ -429,10 +495,18 @@ ends g unset s source [] refused more zero outermost so_far none is =
       is_text = λ nothing text. subst IsUtf8 (append-nil source) (so_far.is_text (sym same ∙ nothing) text);
     }
 ends g unset s source [] refused more (suc depth) outermost so_far none is =
-    let last = left_open (suc depth) outermost in
-    let some : more ≡ [] → ⊥ = λ nothing. let e = (both_empty refused last (sym is ∙ nothing)).1 in absurd cc in
-    record {
-      read = subst (Reading g 0 0 0 s) (sym is) (so_far.read last unclosed);
-      template = λ nothing. absurd (some nothing);
-      is_text = λ nothing text. absurd (some nothing);
-    }
+    search (rules, both_empty, unclosed)
+
+pub waits_end : (g : Grammar) (unset : Missing) (s source pending rest : List ℕ) (refused more : List FormAt)
+    (depth outermost : ℕ) (new : List ℕ) → Waits g unset s source pending rest refused depth outermost
+    → IsAfterPlain depth rest [] → new ≡ source ++ pending → more ≡ refused ++ left_open depth outermost
+    → IsConverted g unset s new more
+waits_end g unset s source pending rest refused more depth outermost new waiting plain written is =
+    let between = outermost_at depth outermost (length s - length rest) in
+    ends g unset s new [] refused more depth between
+    (passes_plain g unset s (source ++ waiting.run) rest refused depth outermost plain.0 [] new between
+    waiting.so_far plain.1 plain.2
+    (written ∙ ap (λ z. source ++ z)
+    (waiting.waits ∙ ap (λ z. waiting.run ++ z) (plain.2 ∙ append-nil plain.0))
+    ∙ sym (append_assoc source waiting.run plain.0))
+    refl) refl (is ∙ ap (λ z. refused ++ z) (sym (open_still depth outermost (length s - length rest))))

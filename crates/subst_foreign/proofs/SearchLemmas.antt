@@ -1,7 +1,6 @@
 -- Escaping up to the first special byte.
-use Rattle.std.proofs.Common.{◌≡◌, ℕ, zero, suc, ◌+◌, ◌<◌, ◌≤◌, ◌-◌, true, false, List, [], ◌∷◌, ◌++◌, length, get_or, take, drop, Some, None, refl, sym, ap, ◌∙◌, arith, append_assoc, length-append, slice_range}
-use Rattle.std.specs.List.{position, position_or_len}
-use Rattle.std.proofs.lemmas.Grind.{common_steps}
+use Rattle.std.proofs.Common.{rules, ◌≡◌, ℕ, zero, suc, ◌+◌, ◌<◌, true, false, List, [], ◌∷◌, ◌++◌, length, get_or, take, drop, Some, None, refl, sym, ap, ◌∙◌, arith, append_assoc, length-append, slice_range}
+use Rattle.std.specs.List.{position}
 use Rattle.std.proofs.lemmas.List.Sums.{fails_before_first}
 use Rattle.std.proofs.lemmas.List.Quantifiers.{position-Some}
 use Rattle.subst_language.specs.Language.Bytes.{backslash}
@@ -37,17 +36,11 @@ escaped-all_plain (b ∷ x) plain =
 -- a text whose first special byte is at the index k
 pub escaped-found : (x : List ℕ) (k : ℕ) → position is_special x ≡ Some k
     → escaped x ≡ take k x ++ backslash ∷ get_or x k 0 ∷ escaped (drop (k + 1) x)
-escaped-found x k found =
-    let at = position-Some is_special x k 0 found in
-    let next : suc k ≡ k + 1 = omega arith in
-    escaped-at k x at.0 at.1 at.2
-    ∙ ap (λ j. take k x ++ backslash ∷ get_or x k 0 ∷ escaped (drop j x)) next
+escaped-found x k found = search (rules, position-Some, escaped-at)
 
 -- a text without special bytes
 pub escaped-none : (x : List ℕ) → position is_special x ≡ None → escaped x ≡ x
-escaped-none x none =
-    let past : length x ≤ position_or_len is_special x = grind (arith, common_steps) in
-    escaped-all_plain x (λ j below. fails_before_first is_special x j 0 (omega arith))
+escaped-none x none = search (rules, escaped-all_plain, fails_before_first)
 
 -- the byte at an index, as a text
 one_byte : (x : List ℕ) (k : ℕ) → k < length x → take 1 (drop k x) ≡ get_or x k 0 ∷ []
@@ -61,10 +54,7 @@ pub escaped_turn : (part rest text : List ℕ) (k : ℕ) → part ++ escaped res
     → ((part ++ take k rest) ++ backslash ∷ slice_range rest k (k + 1)) ++ escaped (drop (k + 1) rest)
     ≡ escaped text
 escaped_turn part rest text k so_far found =
-    let at = position-Some is_special rest k 0 found in
-    let one : k + 1 - k ≡ 1 = omega arith in
-    rw (one, one_byte rest k at.0)
-    (simp append_assoc (ap (λ y. part ++ y) (sym (escaped-found rest k found)) ∙ so_far))
+    search (rules, position-Some, one_byte, append_assoc, escaped-found)
 
 -- the length of the text escaped is that of what was written and of the rest escaped
 pub escaped_length : (part rest text : List ℕ) → part ++ escaped rest ≡ escaped text

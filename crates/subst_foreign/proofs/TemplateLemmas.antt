@@ -1,14 +1,14 @@
 -- The tree that stands for a text of another tool: it is well-formed, and gives what the text gives.
-use Rattle.std.proofs.Common.{◌≡◌, ◌==◌, Bool, true, false, ℕ, ◌+◌, List, [], ◌∷◌, ◌++◌, length, map, Option, Some, None, unwrap_or, IsTrue, Ok, Err, refl, sym, ap, ◌∙◌, subst, append_assoc, arith}
+use Rattle.std.proofs.lemmas.Grind.{common_steps}
+use Rattle.std.proofs.Common.{rules, ◌≡◌, Bool, true, false, ℕ, ◌+◌, List, [], ◌∷◌, ◌++◌, length, map, Option, Some, None, unwrap_or, IsTrue, Ok, Err, refl, sym, ap, ◌∙◌, subst, append_assoc, arith}
 use Rattle.std.proofs.lemmas.Bool.Decides.{nat_tests}
 use Rattle.std.proofs.lemmas.List.{map-append}
-use Rattle.std.specs.Char.{is_ascii_digit}
 use Rattle.subst_foreign.proofs.TokenLemmas.{name_of}
-use Rattle.subst_foreign.specs.Foreign.{Given, and_then, found, unplaced, IsShellName}
+use Rattle.subst_foreign.specs.Foreign.{Given, and_then, found, unplaced}
 use Rattle.subst_foreign.specs.Grammar.{Grammar, Head, has_operator, takes_message, IsHead, IsNameOf, IsNoBrace}
 use Rattle.subst_foreign.specs.Grammar as head
-use Rattle.subst_foreign.specs.Question.{by_question, negated, value_of, is_missing, is_empty}
-use Rattle.subst_foreign.specs.Template.{asked, asked_name, is_escaped, item_of_byte, item_of_head, plain_item, seen_by, told, told_name, tree_before, tree_of, without_question}
+use Rattle.subst_foreign.specs.Question.{negated, value_of, is_missing, is_empty}
+use Rattle.subst_foreign.specs.Template.{asked, asked_name, is_escaped, item_of_byte, item_of_head, plain_item, seen_by, told, told_name, tree_before, tree_of}
 use Rattle.subst_foreign.specs.Text.{Item, Text, IsItem, IsText, IsWhole, found_or, if_found, head_value, item_spelling, item_value, item_variables, operated_value, plain_value, required_value, spelling, text_value, variables_of}
 use Rattle.subst_foreign.specs.Text as foreign
 use Rattle.subst_foreign.specs.declared.forms.Forms.{Forms}
@@ -51,19 +51,11 @@ asked_is_name forms op n is = is
 
 -- the item of a byte is well-formed
 pub byte_item : (b : ℕ) (next : Tree) → formed.IsItem (item_of_byte (is_escaped b) b) next
-byte_item b next = of (is_escaped b) refl
-  where
-    of : (escaped : Bool) → is_escaped b ≡ escaped → formed.IsItem (item_of_byte escaped b) next
-    of true is = grind (arith, nat_tests)
-    of false is = (grind (arith, nat_tests), grind (arith, nat_tests))
+byte_item b next = search (rules, nat_tests)
 
 -- a name ends before the item of a byte, where it ends before the byte
 byte_ends : (b : ℕ) (next : Tree) → ¬ (IsNameByte b) → EndsName (Then (item_of_byte (is_escaped b) b) next)
-byte_ends b next ends = of (is_escaped b)
-  where
-    of : (escaped : Bool) → EndsName (Then (item_of_byte escaped b) next)
-    of true = tt
-    of false = ends
+byte_ends b next ends = search rules
 
 -- what holds of a variable's item as it stands, and of the others that may stand for it
 pub plain_case : (P : template.Item → Type 0) (forms : Forms) (unset : Missing) (item : template.Item) (n : List ℕ)
@@ -78,10 +70,8 @@ plain_case P _ missing.Nothing item n same optional asked optional_asked = optio
 -- and before the item of a head
 head_ends : (forms : Forms) (unset : Missing) (h : Head) (next : Tree)
     → EndsName (Then (item_of_head forms unset h) next)
-head_ends forms unset (head.Short n) next =
-    plain_case (λ item. EndsName (Then item next)) forms unset (Short n) n tt tt tt tt
-head_ends forms unset (head.Braced n) next =
-    plain_case (λ item. EndsName (Then item next)) forms unset (Braced n) n tt tt tt tt
+head_ends forms unset (head.Short n) next = search (rules, plain_case)
+head_ends forms unset (head.Braced n) next = search (rules, plain_case)
 head_ends forms unset _ next = tt
 
 -- a name ends before the tree of a text, where it ends before the text
@@ -89,8 +79,7 @@ text_ends : (forms : Forms) (unset : Missing) (t : Text) (x : List ℕ) → Begi
     → EndsName (tree_of forms unset t)
 text_ends forms unset foreign.Empty x ends = tt
 text_ends forms unset (foreign.Then (foreign.Byte b) rest) x ends = byte_ends b (tree_of forms unset rest) ends
-text_ends forms unset (foreign.Then (foreign.Whole h) rest) x ends =
-    head_ends forms unset h (tree_of forms unset rest)
+text_ends forms unset (foreign.Then (foreign.Whole h) rest) x ends = search (rules, head_ends)
 text_ends forms unset (foreign.Then (foreign.Operated n op t) rest) x ends = tt
 text_ends forms unset (foreign.Then (foreign.Required n op m) rest) x ends = tt
 text_ends forms unset (foreign.Then (foreign.Group t) rest) x ends = opening_no_name
@@ -98,28 +87,20 @@ text_ends forms unset (foreign.Then (foreign.Group t) rest) x ends = opening_no_
 -- the item of a variable without an operator
 plain_fits : (forms : Forms) (unset : Missing) (item : template.Item) (n : List ℕ) (next : Tree) → IsName n
     → formed.IsItem item next → formed.IsItem (plain_item forms unset item n) next
-plain_fits forms unset item n next is fits =
-    let asked = after_digit value_of n refl is in
-    plain_case (λ item. formed.IsItem item next) forms unset item n fits is asked asked
+plain_fits forms unset item n next is fits = search (rules, after_digit, plain_case)
 
 -- the item of a head
 head_fits : (g : Grammar) (unset : Missing) (h : Head) (x : List ℕ) (next : Tree) → IsHead g h x
     → (BeginsWithNo IsNameByte x → EndsName next) → formed.IsItem (item_of_head g.forms unset h) next
 head_fits g unset head.Dollar x next is ends = refl
-head_fits g unset (head.Short n) x next is ends =
-    plain_fits g.forms unset (Short n) n next (name_of g.forms n is.0.0) (name_of g.forms n is.0.0, ends is.1)
-head_fits g unset (head.Braced n) x next is ends =
-    plain_fits g.forms unset (Braced n) n next (name_of g.forms n is.0) (name_of g.forms n is.0)
+head_fits g unset (head.Short n) x next is ends = search (rules, plain_fits, name_of)
+head_fits g unset (head.Braced n) x next is ends = search (rules, plain_fits, name_of)
 head_fits g unset (head.Optional n) x next is ends = name_of g.forms n is.1.0
 head_fits g unset (head.Opened n op) x next is ends = refl
 
 -- a byte that is no brace is balanced, also where it is escaped
 byte_balanced : (b : ℕ) → IsNoBrace b → IsBalanced (item_text (item_of_byte (is_escaped b) b))
-byte_balanced b none = of (is_escaped b) refl
-  where
-    of : (escaped : Bool) → is_escaped b ≡ escaped → IsBalanced (item_text (item_of_byte escaped b))
-    of true is = escape_balanced b
-    of false is = byte (grind (arith, nat_tests)) none.0 none.1 empty
+byte_balanced b none = search (rules, escape_balanced, byte, nat_tests, empty)
 
 plain_balanced : (forms : Forms) (unset : Missing) (item : template.Item) (n : List ℕ) → IsName n
     → IsBalanced (item_text item) → IsBalanced (item_text (plain_item forms unset item n))
@@ -131,11 +112,8 @@ plain_balanced forms unset item n is fits =
 head_balanced : (g : Grammar) (unset : Missing) (h : Head) (x : List ℕ) → IsHead g h x
     → IsBalanced (item_text (item_of_head g.forms unset h))
 head_balanced g unset head.Dollar x is = escape_balanced dollar
-head_balanced g unset (head.Short n) x is =
-    plain_balanced g.forms unset (Short n) n (name_of g.forms n is.0.0)
-    (short_balanced n (name_of g.forms n is.0.0))
-head_balanced g unset (head.Braced n) x is =
-    plain_balanced g.forms unset (Braced n) n (name_of g.forms n is.0) (braced_balanced n (name_of g.forms n is.0))
+head_balanced g unset (head.Short n) x is = search (rules, plain_balanced, name_of, short_balanced)
+head_balanced g unset (head.Braced n) x is = search (rules, plain_balanced, name_of, braced_balanced)
 head_balanced g unset (head.Optional n) x is = optional_balanced n (name_of g.forms n is.1.0)
 head_balanced g unset (head.Opened n op) x is = escape_balanced dollar
 
@@ -198,17 +176,11 @@ mutual
 -- the names in trees joined
 names_in-join : (t u : Tree) → names_in (join t u) ≡ names_in t ++ names_in u
 names_in-join Empty u = refl
-names_in-join (Then item rest) u =
-    ap (λ z. names_in_item item ++ z) (names_in-join rest u)
-    ∙ sym (append_assoc (names_in_item item) (names_in rest) (names_in u))
+names_in-join (Then item rest) u = search (rules, names_in_item, append_assoc, names_in, names_in-join rest u)
 
 -- the item of a byte has no name
 byte_names : (b : ℕ) → names_in_item (item_of_byte (is_escaped b) b) ≡ []
-byte_names b = of (is_escaped b)
-  where
-    of : (escaped : Bool) → names_in_item (item_of_byte escaped b) ≡ []
-    of true = refl
-    of false = refl
+byte_names b = search rules
 
 plain_names : (forms : Forms) (unset : Missing) (item : template.Item) (n : List ℕ) → names_in_item item ≡ n ∷ []
     → names_in_item (plain_item forms unset item n) ≡ asked_name forms None n ∷ []
@@ -277,36 +249,7 @@ told_value forms v w = ap (told forms) (unplaced_joined v w) ∙ told_joined for
 -- the item of a byte gives the byte
 byte_gives : (forms : Forms) (p b : ℕ) (look : LookUp)
     → told forms (unplaced (valued.item_value p (item_of_byte (is_escaped b) b) look)) ≡ Ok (b ∷ [])
-byte_gives forms p b look = of (is_escaped b)
-  where
-    of : (escaped : Bool) → told forms (unplaced (valued.item_value p (item_of_byte escaped b) look)) ≡ Ok (b ∷ [])
-    of true = refl
-    of false = refl
-
--- a shell's name is no question
-no_question : (n : List ℕ) → IsShellName n → without_question n ≡ n
-no_question [] is = refl
-no_question (b ∷ n) is = of (is_ascii_digit b) refl
-  where
-    of : (digit : Bool) → is_ascii_digit b ≡ digit → without_question (b ∷ n) ≡ b ∷ n
-    of true same = absurd (is same)
-    of false same = rw same refl
-
-pub shell_look : (look : LookUp) (n : List ℕ) → IsShellName n → by_question look n ≡ without_empty look n
-shell_look look [] is = refl
-shell_look look (b ∷ n) is =
-    let one : (b == value_of) ≡ false = differs value_of refl in
-    let two : (b == is_missing) ≡ false = differs is_missing refl in
-    let three : (b == is_empty) ≡ false = differs is_empty refl in
-    rw (one, two, three) refl
-  where
-    differs : (d : ℕ) → is_ascii_digit d ≡ true → (b == d) ≡ false
-    differs d digit = of (b == d) refl
-      where
-        of : (same : Bool) → (b == d) ≡ same → (b == d) ≡ false
-        of true same = let equal : d ≡ b = grind (arith, nat_tests) in
-            absurd (is (subst (λ z. is_ascii_digit z ≡ true) equal digit))
-        of false same = same
+byte_gives forms p b look = search rules
 
 -- a variable with a default, or with what stands for it
 told_default : (forms : Forms) (o : Option (List ℕ)) (v : Value)
@@ -333,15 +276,8 @@ told_optional forms None = refl
 -- an optional variable gives the same without the empty values
 optional_gives : (look : LookUp) (n : List ℕ)
     → told of.Common (unplaced (valued.found_or (without_empty look n) (Bytes []))) ≡ Ok (unwrap_or (look n) [])
-optional_gives look n = each (look n) refl
-  where
-    each : (o : Option (List ℕ)) → look n ≡ o
-        → told of.Common (unplaced (valued.found_or (without_empty look n) (Bytes []))) ≡ Ok (unwrap_or o [])
-    each None is = rw is refl
-    each (Some []) is = rw is refl
-    each (Some (b ∷ x)) is =
-        let filled : (length (b ∷ x) == 0) ≡ false = grind (arith, nat_tests) in
-        rw (is, filled) refl
+optional_gives look n =
+    grind (arith, common_steps, told, unplaced, found_or, without_empty, unwrap_or, nat_tests)
 
 -- what a variable without an operator gives
 plain_gives : (forms : Forms) (unset : Missing) (item : template.Item) (n : List ℕ) (p q : ℕ) (look : LookUp)
@@ -352,8 +288,7 @@ plain_gives of.Own missing.Fault item n p q look is = rw (is look) (told_found o
 plain_gives of.Own missing.Nothing item n p q look is = told_optional of.Own (look n)
 plain_gives of.Envsubst missing.Fault item n p q look is = rw (is look) (told_found of.Envsubst (look n) q n n refl)
 plain_gives of.Envsubst missing.Nothing item n p q look is = told_optional of.Envsubst (look n)
-plain_gives of.Shell missing.Fault item n p q look is =
-    told_found of.Shell (look n) (p + 2) (value_of ∷ n) n refl
+plain_gives of.Shell missing.Fault item n p q look is = search (rules, told_found)
 plain_gives of.Shell missing.Nothing item n p q look is = told_optional of.Shell (look n)
 plain_gives of.Common unset item n p q look is = optional_gives look n
 
@@ -363,10 +298,8 @@ head_gives : (g : Grammar) (unset : Missing) (h : Head) (x : List ℕ) (p : ℕ)
     → told g.forms (unplaced (valued.item_value p (item_of_head g.forms unset h) (seen_by g.forms look)))
     ≡ head_value g.forms unset h look
 head_gives g unset head.Dollar x p look whole is = refl
-head_gives g unset (head.Short n) x p look whole is =
-    plain_gives g.forms unset (Short n) n p (p + 1) look (λ look. refl)
-head_gives g unset (head.Braced n) x p look whole is =
-    plain_gives g.forms unset (Braced n) n p (p + 2) look (λ look. refl)
+head_gives g unset (head.Short n) x p look whole is = grind (arith, common_steps, plain_gives)
+head_gives g unset (head.Braced n) x p look whole is = grind (arith, common_steps, plain_gives)
 head_gives g unset (head.Optional n) x p look whole is = rw is.0 (told_optional of.Own (look n))
 head_gives g unset (head.Opened n op) x p look whole is = absurd whole
 
@@ -380,8 +313,7 @@ operated_gives of.Own op n look v is has text = absurd cc
 operated_gives of.Envsubst op n look v is has text = absurd cc
 operated_gives of.Shell operator.Default n look v is has text = absurd cc
 operated_gives of.Shell operator.Minus n look v is has text = told_default of.Shell (look n) v
-operated_gives of.Shell operator.ColonMinus n look v is has text =
-    rw (shell_look look n is.1) (told_default of.Shell (without_empty look n) v)
+operated_gives of.Shell operator.ColonMinus n look v is has text = search rules
 operated_gives of.Shell operator.Plus n look v is has text = told_other of.Shell (look n) v
 operated_gives of.Shell operator.ColonPlus n look v is has text = told_other of.Shell (without_empty look n) v
 operated_gives of.Common operator.ColonMinus n look v is has text = told_default of.Common (without_empty look n) v
@@ -392,12 +324,9 @@ required_gives : (forms : Forms) (op : Operator) (n : List ℕ) (look : LookUp) 
     → IsTrue (has_operator forms op) → takes_message op ≡ true
     → told forms (unplaced (valued.found_or (seen_by forms look (asked_name forms (Some op) n))
     (Lacks position (asked_name forms (Some op) n)))) ≡ required_value op look n
-required_gives of.Shell operator.Question n look position is has message =
-    told_found of.Shell (look n) position (value_of ∷ n) n refl
-required_gives of.Shell operator.ColonQuestion n look position is has message =
-    rw (shell_look look n is.1) (told_found of.Shell (without_empty look n) position n n (no_question n is.1))
-required_gives of.Common operator.ColonQuestion n look position is has message =
-    told_found of.Common (without_empty look n) position n n refl
+required_gives of.Shell operator.Question n look position is has message = search rules
+required_gives of.Shell operator.ColonQuestion n look position is has message = search rules
+required_gives of.Common operator.ColonQuestion n look position is has message = search rules
 required_gives of.Own operator.Default n look position is has message = absurd cc
 required_gives _ op n look position is has message = absurd cc
 
@@ -406,9 +335,7 @@ after_item : (forms : Forms) (p : ℕ) (item : template.Item) (next : Tree) (loo
     → told forms (unplaced (valued.item_value p item look)) ≡ a
     → ((q : ℕ) → told forms (unplaced (value q next look)) ≡ b)
     → told forms (unplaced (value p (Then item next) look)) ≡ and_then a b
-after_item forms p item next look a b first more =
-    told_value forms (valued.item_value p item look) (value (p + length (item_text item)) next look)
-    ∙ rw (first, more (p + length (item_text item))) refl
+after_item forms p item next look a b first more = search (rules, told_value)
 
 mutual
   -- the tree gives the value of the text

@@ -1,5 +1,6 @@
 -- The token that a text begins with.
-use Rattle.std.proofs.Common.{◌≡◌, ◌≢◌, ◌↔◌, inl, inr, Bool, true, false, IsTrue, ℕ, zero, suc, ◌<◌, ◌≤◌, ◌+◌, List, [], ◌∷◌, ◌++◌, length, get_or, take, drop, length-append, refl, sym, ap, ◌∙◌, subst, append_assoc, append-nil, arith}
+use Rattle.std.proofs.lemmas.Grind.{common_steps}
+use Rattle.std.proofs.Common.{rules, ◌≡◌, ◌≢◌, ◌↔◌, inl, inr, Bool, true, false, IsTrue, ℕ, zero, suc, ◌<◌, ◌≤◌, ◌+◌, List, [], ◌∷◌, ◌++◌, length, get_or, take, drop, length-append, refl, sym, ap, ◌∙◌, subst, append_assoc, append-nil, arith}
 use Rattle.std.proofs.lemmas.List.{drop_more, take_more, take-append-drop}
 use Rattle.std.specs.List.{AllByRecursion}
 use Rattle.subst_foreign.specs.Foreign.{IsShellName, is_inside}
@@ -18,7 +19,7 @@ use Rattle.subst_foreign.specs.declared.token.End.TheVariants as ends
 use Rattle.subst_foreign.specs.declared.token.Token.{Token as SeenToken}
 use Rattle.subst_foreign.specs.declared.token.Token.TheVariants as seen
 use Rattle.subst_language.proofs.Language.ListLemmas.{each_append, first_same, rest_same, no_element}
-use Rattle.subst_language.proofs.Language.NameLemmas.{closing_no_name, opening_no_name, question_mark_no_name, name_bytes, split_unique}
+use Rattle.subst_language.proofs.Language.NameLemmas.{closing_no_name, question_mark_no_name, name_bytes, split_unique}
 use Rattle.subst_language.specs.Language.Bytes.{dollar, question_mark, opening_brace, closing_brace}
 use Rattle.subst_language.specs.Language.Name.{IsName, IsNameByte, BeginsWithNo}
 
@@ -57,38 +58,22 @@ pub record IsInMessage (forms : Forms) (depth : ℕ) (front rest text : List ℕ
 -- after a byte that is no brace
 pub message_byte : {forms : Forms} {depth : ℕ} {front rest text : List ℕ} (b : ℕ) → IsNoBrace b
     → IsInMessage forms depth front (b ∷ rest) text → IsInMessage forms depth (front ++ b ∷ []) rest text
-message_byte {depth} {front} {rest} b none so_far = record {
-  few = omega (arith, length-append front (b ∷ []), so_far.few);
-  plain = λ differs.
-      ((so_far.plain differs).0, each_append IsNoBrace front (b ∷ []) (so_far.plain differs).1 (none, tt));
-  closes = λ m is. rw append_assoc (so_far.closes (b ∷ m) (byte none is));
-  goes_on = λ m y is splits.
-      let (n, closes, left) = so_far.goes_on m y is splits in no_brace_more closes b rest y none left;
-}
+message_byte {depth} {front} {rest} b none so_far =
+    search (rules, length-append, each_append, append_assoc, byte, no_brace_more)
 
 -- after an opening brace, of a shell
 message_opening : {depth : ℕ} {front rest text : List ℕ}
     → IsInMessage of.Shell depth front (opening_brace ∷ rest) text
     → IsInMessage of.Shell (suc depth) (front ++ opening_brace ∷ []) rest text
-message_opening {depth} {front} {rest} so_far = record {
-  few = omega (arith, length-append front (opening_brace ∷ []), so_far.few);
-  plain = λ differs. absurd (differs refl);
-  closes = λ m is. rw append_assoc (so_far.closes (opening_brace ∷ m) (opening is));
-  goes_on = λ m y is splits.
-      let (n, closes, left) = so_far.goes_on m y is splits in one_more closes rest y left;
-}
+message_opening {depth} {front} {rest} so_far =
+    search (rules, length-append, append_assoc, opening, one_more)
 
 -- after a closing brace of one that was opened
 pub message_closing : {forms : Forms} {depth : ℕ} {front rest text : List ℕ}
     → IsInMessage forms (suc depth) front (closing_brace ∷ rest) text
     → IsInMessage forms depth (front ++ closing_brace ∷ []) rest text
-message_closing {depth} {front} {rest} so_far = record {
-  few = omega (arith, length-append front (closing_brace ∷ []), so_far.few);
-  plain = λ differs. absurd (omega (arith, (so_far.plain differs).0));
-  closes = λ m is. rw append_assoc (so_far.closes (closing_brace ∷ m) (closing is));
-  goes_on = λ m y is splits.
-      let (n, closes, left) = so_far.goes_on m y is splits in one_less closes rest y left;
-}
+message_closing {depth} {front} {rest} so_far =
+    search (rules, length-append, append_assoc, closing, one_less)
 
 -- whole, before the brace that closes it
 pub message_whole : (forms : Forms) {front rest text : List ℕ} → IsInMessage forms 0 front rest text
@@ -99,17 +84,14 @@ message_whole _ so_far = (so_far.plain (λ is. cc)).1
 -- or never closed
 pub message_endless : (forms : Forms) {depth : ℕ} {front text : List ℕ} → front ≡ text
     → IsInMessage forms depth front [] text → NeverCloses forms text
-message_endless of.Shell same so_far = λ (m, y, is, splits).
-    let (n, closes, left) = so_far.goes_on m y is splits in no_element closing_brace n y left
+message_endless of.Shell same so_far = search (rules, no_element)
 message_endless _ same so_far = subst (AllByRecursion IsNoBrace) same (so_far.plain (λ is. cc)).1
 
 -- the byte at which a message goes on
 pub byte_next : (text : List ℕ) (at b : ℕ) {forms : Forms} {depth : ℕ} → at < length text → get_or text at 0 ≡ b
     → IsInMessage forms depth (take at text) (drop at text) text
     → IsInMessage forms depth (take at text) (b ∷ drop (at + 1) text) text
-byte_next text at b {forms} {depth} below is =
-    subst (λ x. IsInMessage forms depth (take at text) x text)
-    (drop_more text at 0 below ∙ ap (λ (c : ℕ). c ∷ drop (at + 1) text) is)
+byte_next text at b {forms} {depth} below is = search (rules, drop_more)
 
 -- from the message up to one byte of a text to that up to the next
 pub message_turn : (text : List ℕ) (at b : ℕ) {forms : Forms} {depth next : ℕ} → at < length text
@@ -119,10 +101,7 @@ pub message_turn : (text : List ℕ) (at b : ℕ) {forms : Forms} {depth next : 
     → IsInMessage forms depth (take at text) (drop at text) text
     → IsInMessage forms next (take (at + 1) text) (drop (at + 1) text) text
 message_turn text at b {forms} {depth} {next} below is step so_far =
-    let more : take (at + 1) text ≡ take at text ++ b ∷ [] =
-    take_more text at 0 below ∙ ap (λ (c : ℕ). take at text ++ c ∷ []) is in
-    subst (λ x. IsInMessage forms next x (drop (at + 1) text) text) (sym more)
-    (step (byte_next text at b below is so_far))
+    grind (arith, common_steps, take_more, byte_next)
 
 -- over an opening brace of a shell's message
 pub message_more : (text : List ℕ) (at : ℕ) {forms : Forms} {depth next : ℕ} → next ≡ depth + 1
@@ -139,10 +118,7 @@ message_more text at {depth} {next} counts below is shell so_far =
 -- the text around a byte
 pub around_byte : (text : List ℕ) (at b : ℕ) → at < length text → get_or text at 0 ≡ b
     → text ≡ take at text ++ b ∷ drop (at + 1) text
-around_byte text at b below is =
-    sym (take-append-drop at text)
-    ∙ ap (λ x. take at text ++ x)
-    (drop_more text at 0 below ∙ ap (λ (c : ℕ). c ∷ drop (at + 1) text) is)
+around_byte text at b below is = search (rules, take-append-drop, drop_more)
 
 -- a message up to an opening brace, of no shell
 pub message_opens : (forms : Forms) {depth : ℕ} {front text : List ℕ} (rest : List ℕ) → forms ≢ of.Shell
@@ -179,13 +155,7 @@ same_braced n m x y each all ended ends is = split_unique n m x y each all ended
 name_refused : (g : Grammar) (depth : ℕ) (f : ShellForm) (n x : List ℕ)
     → IsRefused g (is_inside depth) f (in_braces n x) → IsFront f (in_braces n []) x
     → IsStep g depth (in_braces n x) (seen.Refused f) x
-name_refused g depth f n x refused front =
-    let taken : in_braces n x ≡ in_braces n [] ++ x = sym (braces_append n [] x) in
-    record {
-      front = in_braces n [];
-      is = (subst (IsRefused g (is_inside depth) f) taken refused, front);
-      taken = taken;
-    }
+name_refused g depth f n x refused front = search (rules, braces_append)
 
 -- what never closes goes to the end of the text
 never_closed : (g : Grammar) (depth : ℕ) (s : List ℕ) → IsRefused g (is_inside depth) form.Unclosed s
@@ -271,18 +241,12 @@ not_operated g n after (ends.Optional y) at none op x has start is named = none 
 not_operated g n after (ends.Operated other y) at none op x has start is named = none named
 not_operated g n after ends.Unfit at none op x has start is named = at.2 op x has start is
 
--- a name begins with no opening brace
-name_differs : (n x y : List ℕ) → IsName n → ¬ (opening_brace ∷ y ≡ n ++ x)
-name_differs [] x y named is = named
-name_differs (b ∷ n) x y named is = opening_no_name (subst IsNameByte (sym (first_same is)) named.0)
-
 -- no head begins with name bytes in braces that are no variable's with what is after them
 pub no_braced_head : (g : Grammar) (n after : List ℕ) (end : SeenEnd) → AllByRecursion IsNameByte n
     → BeginsWithNo IsNameByte after → IsEnd g.forms after end → IsNotOf g n end
     → BeginsWithNoHead g (in_braces n after)
 no_braced_head g n after end run ended at none Dollar x is head = omega (arith, first_same (rest_same is))
-no_braced_head g n after end run ended at none (Short m) x is head =
-    name_differs m x (n ++ after) (name_of g.forms m head.0.0) (rest_same is)
+no_braced_head g n after end run ended at none (Short m) x is head = search rules
 no_braced_head g n after end run ended at none (Braced m) x is head =
     let (same, rest) = same_braced n m after (closing_brace ∷ x) run (name_bytes m (name_of g.forms m head.0))
     ended closing_no_name (is ∙ braces_append m (closing_brace ∷ []) x) in
@@ -324,11 +288,7 @@ none_refused g inside x none dollars names goes_on = of
 dollar_byte : (g : Grammar) (depth : ℕ) (x : List ℕ) → BeginsWithNoHead g (dollar ∷ x)
     → ((f : ShellForm) → ¬ (IsRefused g (is_inside depth) f (dollar ∷ x)))
     → IsStep g depth (dollar ∷ x) (seen.Byte dollar) x
-dollar_byte g depth x none taken = record {
-  front = [];
-  is = record { no_head = none; taken = taken; no_brace = λ within. ((λ is. omega arith), (λ is. omega arith)) };
-  taken = refl;
-}
+dollar_byte g depth x none taken = search rules
 
 -- texts of common forms are read as a whole
 common_whole : (forms : Forms) (all : Bool) → forms ≡ of.Common → IsTrue (is_whole forms all)
@@ -338,10 +298,7 @@ common_whole forms all common = subst (λ f. IsTrue (is_whole f all)) (sym commo
 pub unread_dollar : (g : Grammar) (depth : ℕ) (x : List ℕ) → is_whole g.forms g.all ≡ false
     → BeginsWithNoHead g (dollar ∷ x) → IsStep g depth (dollar ∷ x) (seen.Byte dollar) x
 unread_dollar g depth x unread none =
-    let part : ¬ (IsTrue (is_whole g.forms g.all)) = λ whole. cc in
-    dollar_byte g depth x none (none_refused g (is_inside depth) x none
-    (λ common. absurd (part (common_whole g.forms g.all common))) (λ whole. absurd (part whole))
-    (λ f goes. part goes.0))
+    search (rules, dollar_byte, none_refused, common_whole)
 
 -- where a text is read as a whole it isn't of own forms
 whole_differs : (forms : Forms) (all : Bool) → IsTrue (is_whole forms all) → forms ≢ of.Own
@@ -359,14 +316,7 @@ started _ _ x differs has = tt
 -- so what may not follow a name is all that is no end of a variable
 unfit_end : (forms : Forms) (all : Bool) (x : List ℕ) → IsTrue (is_whole forms all)
     → IsUnfit forms x ↔ IsEnd forms x ends.Unfit
-unfit_end forms all x whole = (
-  λ unfit. (
-    unfit.0,
-    λ own. absurd (whole_differs forms all whole own),
-    λ op y has start. unfit.1 op y has,
-  ),
-  λ end. (end.0, λ op y has. end.2 op y has (started forms op y (whole_differs forms all whole) has)),
-)
+unfit_end forms all x whole = search (rules, whole_differs, started)
 
 -- no name of a shell begins with name bytes that are none
 no_shell_name : (n x : List ℕ) → AllByRecursion IsNameByte n → BeginsWithNo IsNameByte x
@@ -385,11 +335,7 @@ shell_name (b ∷ n) x named shell = λ none. none ((named.0, tt), shell)
 pub nameless : (g : Grammar) (depth : ℕ) (n x : List ℕ) → IsTrue (is_whole g.forms g.all)
     → AllByRecursion IsNameByte n → BeginsWithNo IsNameByte x → ¬ (IsName n × IsShellName n)
     → IsStep g depth (in_braces n x) (seen.Refused form.NoName) (n ++ x)
-nameless g depth n x whole run ended none = record {
-  front = dollar ∷ opening_brace ∷ [];
-  is = ((whole, (n ++ x, refl, no_shell_name n x run ended none)), refl);
-  taken = refl;
-}
+nameless g depth n x whole run ended none = search (rules, no_shell_name)
 
 -- a dollar before a brace, a name and an end of a variable that isn't chosen
 pub fit_dollar : (g : Grammar) (depth : ℕ) (n x : List ℕ) → IsTrue (is_whole g.forms g.all) → IsName n
@@ -438,30 +384,16 @@ no_lone_head : (g : Grammar) (n x : List ℕ) → AllByRecursion IsNameByte n �
     → ((y : List ℕ) → ¬ (n ++ x ≡ opening_brace ∷ y)) → BeginsWithNoHead g (dollar ∷ n ++ x)
 no_lone_head g n x run ended one none brace Dollar y is head = one head y (rest_same is)
 no_lone_head g n x run ended one none brace (Short m) y is head =
-    let same = split_unique n m x y run (name_bytes m (name_of g.forms m head.0.0)) ended head.1 (rest_same is) in
-    none (subst (IsVariable g false) (sym same.0) head.0)
-no_lone_head g n x run ended one none brace (Braced m) y is head =
-    brace ((m ++ closing_brace ∷ []) ++ y) (rest_same is)
-no_lone_head g n x run ended one none brace (Optional m) y is head =
-    brace ((m ++ question_mark ∷ closing_brace ∷ []) ++ y) (rest_same is)
-no_lone_head g n x run ended one none brace (Opened m op) y is head =
-    brace ((m ++ operator_text op) ++ y) (rest_same is)
+    search (rules, split_unique, name_bytes, name_of, rest_same)
+no_lone_head g n x run ended one none brace (Braced m) y is head = search (rules, rest_same)
+no_lone_head g n x run ended one none brace (Optional m) y is head = search rules
+no_lone_head g n x run ended one none brace (Opened m op) y is head = search (rules, rest_same)
 
 -- what follows a dollar that begins nothing
 no_follower : (n x : List ℕ) → ((y : List ℕ) → ¬ (n ++ x ≡ dollar ∷ y))
     → ((y : List ℕ) → ¬ (n ++ x ≡ opening_brace ∷ y))
     → BeginsWithNo (λ b. IsName (b ∷ []) × IsShellName (b ∷ [])) (n ++ x) → BeginsWithNo FollowsDollar (n ++ x)
-no_follower n x = of (n ++ x)
-  where
-    of : (s : List ℕ) → ((y : List ℕ) → ¬ (s ≡ dollar ∷ y)) → ((y : List ℕ) → ¬ (s ≡ opening_brace ∷ y))
-        → BeginsWithNo (λ b. IsName (b ∷ []) × IsShellName (b ∷ [])) s → BeginsWithNo FollowsDollar s
-    of [] one brace nameless = tt
-    of (b ∷ s) one brace nameless = of_first
-      where
-        of_first : ¬ (FollowsDollar b)
-        of_first (inl is) = one s (ap (λ c. c ∷ s) is)
-        of_first (inr (inl is)) = brace s (ap (λ c. c ∷ s) is)
-        of_first (inr (inr named)) = nameless named
+no_follower n x = search rules
 
 -- a shell's name follows a dollar
 follows : (n x : List ℕ) → IsName n × IsShellName n → ¬ (BeginsWithNo FollowsDollar (n ++ x))
@@ -505,26 +437,7 @@ head_first _ b x y is = first_same is
 -- a byte that is no dollar, and in a text after an operator no brace, stands for itself
 pub plain_byte : (g : Grammar) (inside : Bool) (b : ℕ) (x : List ℕ) → b ≢ dollar → (IsTrue inside → IsNoBrace b)
     → IsByte g inside b x
-plain_byte g inside b x differs none = record {
-  no_head = λ h y is head. differs (head_first h b x y is);
-  taken = of;
-  no_brace = none;
-}
-  where
-    opens : (P : List ℕ → Type 0) → ¬ (OpensMessage g P (b ∷ x))
-    opens P (n, op, y, takes, head, is, holds) = differs (first_same is)
-
-    goes_on : (f : ShellForm) → ¬ (GoesOn g f (b ∷ x))
-    goes_on f (_, (n, y, _, _, is, _, _, _)) = differs (first_same is)
-
-    of : (f : ShellForm) → ¬ (IsRefused g inside f (b ∷ x))
-    of form.Brace (within, other, (y, is)) = (none within).0 (first_same is)
-    of form.Dollar (common, (y, is, follows)) = differs (first_same is)
-    of form.NoName (whole, (y, is, nameless)) = differs (first_same is)
-    of form.Message (common, message) = opens _ message
-    of form.Unclosed (inl message) = opens _ message
-    of form.Unclosed (inr goes) = goes_on form.Unclosed goes
-    of f goes = goes_on f goes
+plain_byte g inside b x differs none = search (rules, head_first, first_same)
 
 -- a text is open
 pub depth_inside : (depth : ℕ) → 0 < depth → IsTrue (is_inside depth)
@@ -539,22 +452,15 @@ outside (suc depth) closed is = absurd (omega (arith, closed))
 -- a byte that is no dollar, where no text is open
 pub outer_step : (g : Grammar) (depth b : ℕ) (x : List ℕ) → b ≢ dollar → depth ≡ 0
     → IsStep g depth (b ∷ x) (seen.Byte b) x
-outer_step g depth b x differs closed = record {
-  front = [];
-  is = plain_byte g (is_inside depth) b x differs (λ within. absurd (outside depth closed within));
-  taken = refl;
-}
+outer_step g depth b x differs closed = search (rules, plain_byte, outside)
 
 -- where one is open
 pub inner_step : (g : Grammar) (depth b : ℕ) (x : List ℕ) (t : SeenToken) → b ≢ dollar → 0 < depth
     → IsInner g.forms b t → IsStep g depth (b ∷ x) t x
 inner_step g depth b x (seen.Byte c) differs more (is, none) =
-    subst (λ d. IsStep g depth (b ∷ x) (seen.Byte d) x) (sym is)
-    (record { front = []; is = plain_byte g (is_inside depth) b x differs (λ within. none); taken = refl })
-inner_step g depth b x seen.Opening differs more (is, shell) =
-    record { front = []; is = (more, shell); taken = ap (λ c. c ∷ x) is }
-inner_step g depth b x seen.Closing differs more is =
-    record { front = []; is = more; taken = ap (λ c. c ∷ x) is }
+    grind (arith, common_steps, plain_byte g (is_inside depth) b x differs (λ within. none), is_inside depth)
+inner_step g depth b x seen.Opening differs more (is, shell) = search rules
+inner_step g depth b x seen.Closing differs more is = search rules
 inner_step g depth b x (seen.Refused f) differs more (is, other, brace) =
     subst (λ r. IsStep g depth (b ∷ x) (seen.Refused r) x) (sym brace) (record {
       front = opening_brace ∷ [];

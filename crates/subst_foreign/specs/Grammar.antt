@@ -1,4 +1,4 @@
--- What begins a variable in a text of another tool, and what is refused there.
+-- The beginnings of variables in a text of another tool, and the forms that are refused there.
 use Rattle.std.specs.Prelude.{◌≡◌, ◌≢◌, ◌⊎◌, ℕ, Bool, true, false, suc, List, [], ◌∷◌, ◌++◌, codes, IsTrue}
 use Rattle.std.specs.List.{AllByRecursion}
 use Rattle.subst_foreign.specs.Foreign.{IsShellName}
@@ -13,8 +13,8 @@ use Rattle.subst_foreign.specs.declared.refused.ShellForm.TheVariants as form
 use Rattle.subst_language.specs.Language.Bytes.{dollar, colon, question_mark, opening_brace, closing_brace}
 use Rattle.subst_language.specs.Language.Name.{IsName, IsNameByte, BeginsWithNo}
 
--- What is read as variables: their forms, and whether all names are chosen, or which: the choice is asked for
--- a name with an operator, or without one.
+-- The forms of variables, and whether all names are chosen, or which: the choice is asked for a name with an
+-- operator, or without one.
 pub record Grammar : Type 1 where
   pub forms : Forms
   pub all : Bool
@@ -88,8 +88,8 @@ abbrev pub IsStart : Operator → List ℕ → Type 0
 IsStart operator.Default x = BeginsWithNone (codes "-=?+") x
 IsStart _ x = Unit {0}
 
--- what a dollar begins: a dollar that is written twice, or a name, without braces, in braces, in braces with a
--- question mark, or in braces up to its operator
+-- what a dollar begins: a dollar that is written twice, or a name, without braces, in braces, in braces with
+-- a question mark, or in braces up to its operator
 pub data Head : Type 0 where
   Dollar : Head
   Short : List ℕ → Head
@@ -146,8 +146,7 @@ abbrev pub NeverCloses : Forms → List ℕ → Type 0
 NeverCloses of.Shell x = ¬ (ClosesMessage of.Shell x)
 NeverCloses _ x = AllByRecursion IsNoBrace x
 
--- The text begins with the byte that goes on with a dollar: another dollar, an opening brace or a shell name's
--- first byte.
+-- a byte that goes on with a dollar: another dollar, an opening brace or a shell name's first byte
 abbrev pub FollowsDollar : ℕ → Type 0
 FollowsDollar b = (b ≡ dollar) ⊎ (b ≡ opening_brace) ⊎ (IsName (b ∷ []) × IsShellName (b ∷ []))
 
@@ -224,4 +223,5 @@ IsEnd forms s (seen.Operated op x) =
     IsTrue (has_operator forms op) × IsStart op x.now × (s ≡ operator_text op ++ x.now)
 IsEnd forms s seen.Unfit = ((x : List ℕ) → ¬ (s ≡ closing_brace ∷ x))
     × (forms ≡ of.Own → (x : List ℕ) → ¬ (s ≡ question_mark ∷ closing_brace ∷ x))
-    × ((op : Operator) (x : List ℕ) → IsTrue (has_operator forms op) → IsStart op x → ¬ (s ≡ operator_text op ++ x))
+    × ((op : Operator) (x : List ℕ) → IsTrue (has_operator forms op) → IsStart op x
+    → ¬ (s ≡ operator_text op ++ x))

@@ -1,4 +1,4 @@
--- What a map answers of names that begin with a digit, as those of a shell don't: a digit is a question about the
+-- Answers for names that begin with a digit, as those of a shell don't: a digit is a question about the
 -- variable whose name comes after it.
 use Rattle.std.specs.Prelude.{◌==◌, if◌then◌else◌, ℕ, List, [], ◌∷◌, Option, Some, None}
 use Rattle.subst_language.specs.Language.LookUp.{LookUp}

@@ -1,14 +1,16 @@
 -- How a text is read, token by token from the left, with the forms that are refused.
+use Rattle.std.specs.List.{AllByRecursion}
 use Rattle.std.specs.Str.{IsUtf8}
 use Rattle.std.specs.Prelude.{◌≡◌, ◌≢◌, ◌==◌, ◌||◌, ◌+◌, ◌<◌, ℕ, Bool, true, false, zero, suc, List, [], ◌∷◌, ◌++◌, length, map, Option, Some, None, IsTrue}
 use Rattle.subst_foreign.specs.Foreign.{IsShellName, is_inside}
-use Rattle.subst_foreign.specs.Grammar.{Grammar, Head, Dollar, Short, Braced, Optional, Opened, head_text, in_braces, operator_text, takes_message, IsHead, IsMessage, IsNoBrace, IsRefused}
+use Rattle.subst_foreign.specs.Grammar.{Grammar, grammar, Head, Dollar, Short, Braced, Optional, Opened, head_text, in_braces, operator_text, takes_message, IsHead, IsMessage, IsNoBrace, IsRefused}
 use Rattle.subst_foreign.specs.Template.{asked_name, is_escaped, item_of_byte, item_of_head, IsTemplate}
 use Rattle.subst_foreign.specs.Text.{Variable, IsByte, IsWhole}
 use Rattle.subst_foreign.specs.declared.forms.Forms.{Forms}
 use Rattle.subst_foreign.specs.declared.forms.Forms.TheVariants as of
 use Rattle.subst_foreign.specs.declared.forms.Missing.{Missing}
 use Rattle.subst_foreign.specs.declared.forms.Operator.{Operator}
+use Rattle.subst_foreign.specs.declared.style.Style.{Style}
 use Rattle.subst_foreign.specs.declared.variables.TextVariable.{TextVariable as SeenVariable}
 use Rattle.subst_foreign.specs.declared.token.Token.{Token as SeenToken}
 use Rattle.subst_foreign.specs.declared.token.Token.TheVariants as seen
@@ -21,7 +23,11 @@ use Rattle.subst_language.specs.Language.Bytes.{dollar, colon, backslash, openin
 use Rattle.subst_language.specs.Language.Name.{IsName, IsNameByte, BeginsWithNo}
 use Rattle.subst_language.specs.Language.Tree.{item_text}
 
--- What is read at once: a byte, a head that is whole or opens a text, one with its message, a brace that is
+-- the grammar of a style, whose names are chosen so
+abbrev pub grammar_of : {N : Type 0} → (N → Bool) → (N → Bool → List ℕ → Type 0) → Style N → Grammar
+grammar_of all Has style = grammar style.forms (all style.names.now) (Has style.names.now)
+
+-- A token: a byte, a head that is whole or opens a text, one with its message, a brace that is
 -- opened or closed in a text after an operator, or the beginning of a form that is refused.
 pub data Token : Type 0 where
   Byte : ℕ → Token
@@ -85,17 +91,18 @@ abbrev pub outermost_at : (depth outermost position : ℕ) → ℕ
 outermost_at zero outermost position = position
 outermost_at (suc depth) outermost position = outermost
 
--- A text from a position on is read, where so many texts are open, of which the outermost begins at a position:
--- these are the positions and forms that are refused, in order. What never closes comes last.
+-- A text from a position on is read, where so many texts are open, of which the outermost begins at a
+-- position: these are the positions and forms that are refused, in order. An unclosed text comes last.
 pub data Reading (g : Grammar) : (outermost position depth : ℕ) → (s : List ℕ) → List FormAt
     → Type 0 where
   ended : {outermost position : ℕ} → Reading g outermost position 0 [] []
   unclosed : {outermost position depth : ℕ}
-      → Reading g outermost position (suc depth) [] (record { position = outermost; form = form.Unclosed } ∷ [])
+      → Reading g outermost position (suc depth) []
+      (record { position = outermost; form = form.Unclosed } ∷ [])
   token : {outermost position depth : ℕ} {refused : List FormAt} (t : Token) (x : List ℕ)
       → IsToken g depth t x
-      → Reading g (outermost_at depth outermost position) (position + length (token_text t)) (depth_after depth t) x
-      refused
+      → Reading g (outermost_at depth outermost position) (position + length (token_text t))
+      (depth_after depth t) x refused
       → Reading g outermost position depth (token_text t ++ x) (refused_at position t ++ refused)
 
 -- the text of a template for a token
@@ -131,6 +138,10 @@ pub record IsStep (g : Grammar) (depth : ℕ) (s : List ℕ) (token : SeenToken)
 abbrev pub IsPlainAt : ℕ → ℕ → Type 0
 IsPlainAt depth b = (b ≢ dollar) × (b ≢ backslash) × (IsTrue (is_inside depth) → IsNoBrace b)
 
+-- plain bytes are before x in the text
+abbrev pub IsAfterPlain : (depth : ℕ) → (s x : List ℕ) → Type 0
+IsAfterPlain depth s x = (run : List ℕ) × AllByRecursion (IsPlainAt depth) run × (s ≡ run ++ x)
+
 -- a byte that doesn't stand for itself there, or is escaped
 abbrev pub is_special_inside : ℕ → Bool
 is_special_inside b = b == dollar || b == backslash || b == opening_brace || b == closing_brace
@@ -150,7 +161,8 @@ IsRefusalOf g s (error.Refused first) = (others : List FormAt) × IsReading g s 
 IsRefusalOf g s (error.OutOfMemory e) = Unit {0}
 
 -- a text was read: what is refused, or else a template for it, which is UTF-8 where the text is
-pub record IsConverted (g : Grammar) (unset : Missing) (s source : List ℕ) (refused : List FormAt) : Type 0 where
+pub record IsConverted (g : Grammar) (unset : Missing) (s source : List ℕ) (refused : List FormAt)
+    : Type 0 where
   pub read : IsReading g s refused
   pub template : refused ≡ [] → IsTemplate g unset s source
   pub is_text : refused ≡ [] → IsUtf8 s → IsUtf8 source
@@ -163,8 +175,8 @@ IsInner forms b seen.Closing = b ≡ closing_brace
 IsInner forms b (seen.Refused f) = (b ≡ opening_brace) × (forms ≢ of.Shell) × (f ≡ form.Brace)
 IsInner forms b _ = ⊥
 
--- what the code sees of a dollar that begins nothing, before these name bytes: where a dollar that begins nothing
--- is refused, it is a byte before the name of a variable that isn't chosen
+-- what the code sees of a dollar that begins nothing, before these name bytes: where a dollar that begins
+-- nothing is refused, it is a byte before the name of a variable that isn't chosen
 abbrev pub IsLone : Forms → List ℕ → SeenToken → Type 0
 IsLone forms n (seen.Byte b) = (b ≡ dollar) × (forms ≡ of.Common → IsName n × IsShellName n)
 IsLone forms n (seen.Refused f) = (forms ≡ of.Common) × (f ≡ form.Dollar) × (¬ (IsName n × IsShellName n))

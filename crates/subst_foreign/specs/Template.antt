@@ -31,8 +31,8 @@ abbrev pub item_of_byte : Bool → ℕ → Item
 item_of_byte true b = Escaped b
 item_of_byte false b = Plain b
 
--- under which name a template asks for a variable, with an operator or without one: of a shell's forms it is a
--- question where an empty value counts otherwise than a missing one
+-- the name under which a template asks for a variable, with an operator or without one: of a shell's forms
+-- it is a question where an empty value counts otherwise than a missing one
 abbrev pub asked_name : Forms → Option Operator → List ℕ → List ℕ
 asked_name of.Shell None n = value_of ∷ n
 asked_name of.Shell (Some operator.Minus) n = value_of ∷ n
@@ -102,9 +102,9 @@ told forms (Err n) = Err (told_name forms n)
 abbrev pub asked : Forms → Variable → List ℕ
 asked forms variable = asked_name forms variable.operator variable.name
 
--- A source is a template for a text: the text is read as items, the template is a sentence, under each look-up
--- it gives the value of the text, or the name that is missing there, and its variables are those of the text, in
--- one order.
+-- A source is a template for a text: the text is read as items, the template is a sentence, under each
+-- look-up it gives the value of the text, or the name that is missing there, and its variables are those of
+-- the text, in one order.
 pub record IsTemplate (g : Grammar) (unset : Missing) (s source : List ℕ) : Type 0 where
   pub items : Text
   pub read : IsText g false items []

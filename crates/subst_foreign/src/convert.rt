@@ -1,18 +1,17 @@
 //! Writing a template for a text.
 
-ghost use Rattle.std.specs.Prelude.{◌≡◌, ◌+◌, ◌^◌, ◌<◌, ◌++◌, ◌≤◌, ◌∷◌, ◌⊎◌, ℕ, List, length, string_bytes, take, IfErr, IfOk, OnOk};
+ghost use Rattle.std.specs.Prelude.{◌≡◌, ◌+◌, ◌^◌, ◌<◌, ◌++◌, ◌≤◌, ℕ, List, [], length, string_bytes, take, IfOk, IfNone, IfSome, OnOk};
 ghost use Rattle.std.specs.List.{position, AllByRecursion};
 ghost use Rattle.std.specs.Str.{IsUtf8};
-ghost use Rattle.subst_language.specs.Language.Bytes.{dollar, opening_brace};
 ghost use Rattle.std.specs.Prelude.{Some};
-ghost use Rattle.subst_language.specs.Language.Tree.{item_text};
-ghost use Rattle.subst_foreign.specs.Grammar.{grammar, in_braces};
-ghost use Rattle.subst_foreign.specs.Reading.{depth_after, left_open, outermost_at as spec_outermost, part, refused_at, token_of, IsConverted, IsPlainAt, IsRefusalOf, is_special_inside};
-ghost use Rattle.subst_foreign.specs.Template.{asked_name, is_escaped, item_of_byte, item_of_name, plain_item, IsTemplate};
+ghost use Rattle.subst_language.specs.Language.Tree.{Item, item_text};
+ghost use Rattle.subst_foreign.specs.Grammar.{in_braces};
+ghost use Rattle.subst_foreign.specs.Reading.{depth_after, grammar_of, left_open, outermost_at as spec_outermost, part, refused_at, token_of, token_text, IsAfterPlain, IsConverted, IsPlainAt, IsStep, is_special_inside};
+ghost use Rattle.subst_foreign.specs.Template.{asked_name, plain_item};
 
 use crate::forms::{Forms, Missing, Operator};
 use crate::names::Names;
-use crate::refused::{FormAt, ShellForm, TextError};
+use crate::refused::{FormAt, ShellForm};
 use crate::style::Style;
 use crate::token::{Step, Token, step_at};
 use memchr::memchr2;
@@ -25,30 +24,6 @@ pub(crate) struct Converted {
     pub refused: Vec<FormAt>,
 }
 
-/// Returns a template for a text.
-///
-/// # Errors
-///
-/// The first form that is refused, and when allocation fails.
-pub(crate) fn template_for<N: Names>(
-    alloc: Global,
-    text: &[u8],
-    style: Style<'_, N>,
-) -> Result<Vec<u8>, TextError>
-    ensures template { let g = grammar style.entry.forms (N.all style.entry.names.now)
-        (N.counts style.entry.names.now) in
-        IfOk result (λ template. IsTemplate g style.entry.missing text.now template.items) }
-    ensures is_text { IfOk result (λ template. IsUtf8 text.now → IsUtf8 template.items) }
-    ensures refused { IfErr result (IsRefusalOf (grammar style.entry.forms
-        (N.all style.entry.names.now) (N.counts style.entry.names.now)) text.now) }
-{
-    let converted = convert(alloc, text, style)?;
-    match converted.refused.first() {
-        Some(first) => Err(TextError::Refused(*first)),
-        None => Ok(converted.template),
-    }
-}
-
 /// Reads a text, and writes a template for it.
 ///
 /// # Errors
@@ -59,33 +34,30 @@ pub(crate) fn convert<N: Names>(
     text: &[u8],
     style: Style<'_, N>,
 ) -> Result<Converted, AllocError>
-    ensures { let g = grammar style.entry.forms (N.all style.entry.names.now)
-        (N.counts style.entry.names.now) in
-        IfOk result (λ converted. IsConverted g style.entry.missing text.now
-        converted.template.items converted.refused.items) }
+    ensures { IfOk result (λ converted. IsConverted (grammar_of N.all N.counts style.entry)
+        style.entry.missing text.now converted.template.items converted.refused.items) }
 {
     let mut template = Vec::with_capacity(alloc, text.len())?;
     let mut refused = Vec::new(alloc);
+    // The text from the first byte on that the template hasn't yet.
+    let mut pending = text;
     let mut rest = text;
     let mut depth = 0;
     // The position of the outermost text after an operator that is open.
     let mut outermost = 0;
-    while !rest.is_empty() {
-        let position = text.len() - rest.len();
+    while let Some((special, (token, after))) = next_step(rest, depth, style) {
+        let position = text.len() - special.len();
         outermost = outermost_at(depth, outermost, position);
-        let plain = plain_len(rest, depth);
-        if plain > 0 {
-            let (run, after) = rest.split_at(plain);
-            template.extend_from_slice(run)?;
-            rest = after;
-        } else {
-            let step = step_at(rest, depth, style);
-            append_token(&mut template, step.token, style.forms, style.missing)?;
-            append_refused(&mut refused, step.token, position)?;
-            depth = next_depth(depth, step.token);
-            rest = step.rest;
+        if let Some(written) = rewritten(token, style.forms, style.missing) {
+            template.extend_from_slice(&pending[..pending.len() - special.len()])?;
+            append(&mut template, written)?;
+            pending = after;
         }
+        append_refused(&mut refused, token, position)?;
+        depth = next_depth(depth, token);
+        rest = after;
     }
+    template.extend_from_slice(pending)?;
     append_unclosed(&mut refused, depth, outermost)?;
     Ok(Converted { template, refused })
 }
@@ -97,42 +69,37 @@ fn outermost_at(depth: usize, outermost: usize, position: usize) -> usize
     if depth == 0 { position } else { outermost }
 }
 
-/// Returns how many bytes a text begins with that stand for themselves and aren't escaped.
-pub(crate) fn plain_len(text: &[u8], depth: usize) -> usize
-    ensures plain { AllByRecursion (IsPlainAt depth) (take result text.now) }
-    ensures within { result ≤ length text.now }
+/// Skips plain bytes. Returns the text from the first other byte on, with its token, or `None` if every byte
+/// is plain.
+pub(crate) fn next_step<'t, N: Names>(
+    text: &'t [u8],
+    depth: usize,
+    style: Style<'_, N>,
+) -> Option<(&'t [u8], Step<'t>)>
+    ensures some { IfSome result (λ found. IsAfterPlain depth text.now found.0.now
+        × IsStep (grammar_of N.all N.counts style.entry) depth found.0.now found.1.0
+        found.1.1.now) }
+    ensures none { IfNone result (IsAfterPlain depth text.now []) }
+{
+    let special = &text[find_special(text, depth)?..];
+    Some((special, step_at(special, depth, style)))
+}
+
+/// Returns the index of the first byte that isn't plain, or `None` if every byte is.
+fn find_special(text: &[u8], depth: usize) -> Option<usize>
+    ensures some { IfSome result (λ at. AllByRecursion (IsPlainAt depth) (take at text.now)) }
+    ensures within { IfSome result (λ at. at < length text.now) }
+    ensures none { IfNone result (AllByRecursion (IsPlainAt depth) text.now) }
 {
     if depth == 0 {
-        plain_outside(text)
+        memchr2(b'$', b'\\', text)
     } else {
-        plain_inside(text)
-    }
-}
-
-/// Returns how many bytes a text begins with that are no dollar and no backslash.
-fn plain_outside(text: &[u8]) -> usize
-    ensures plain { AllByRecursion (IsPlainAt 0) (take result text.now) }
-    ensures within { result ≤ length text.now }
-{
-    match memchr2(b'$', b'\\', text) {
-        Some(at) => at,
-        None => text.len(),
-    }
-}
-
-/// Returns how many bytes a text begins with that are no dollar, no backslash and no brace.
-fn plain_inside(text: &[u8]) -> usize
-    ensures plain { AllByRecursion (IsPlainAt 1) (take result text.now) }
-    ensures within { result ≤ length text.now }
-{
-    match first_special(text) {
-        Some(at) => at,
-        None => text.len(),
+        find_inner(text)
     }
 }
 
 /// Returns the index of the first byte that doesn't stand for itself in the text after an operator.
-fn first_special(text: &[u8]) -> Option<usize>
+fn find_inner(text: &[u8]) -> Option<usize>
     ensures { result ≡ position is_special_inside text.now }
 {
     text.iter().position(|byte| is_special(*byte))
@@ -197,99 +164,83 @@ fn append_unclosed(
     Ok(())
 }
 
-/// Appends what stands for a token.
+/// How a template has a token that it doesn't have as the text does.
+#[derive(Clone, Copy)]
+struct Replacement<'t> {
+    /// All before a name, with the digit of a question.
+    front: &'static [u8],
+    /// The name, or nothing.
+    name: &'t [u8],
+    /// All after the name.
+    end: &'static [u8],
+}
+
+/// Appends a replacement.
 ///
 /// # Errors
 ///
 /// When allocation fails. A part may have been appended then.
-fn append_token(
-    template: &mut Vec<u8>,
-    token: Token<'_>,
-    forms: Forms,
-    missing: Missing,
-) -> Result<(), AllocError>
-    ensures { OnOk result ((front : List ℕ) → (template.new.items
-        ≡ template.old.items ++ part forms missing (token_of front token.entry))) }
-{
-    match token {
-        Token::Byte(byte) => append_byte(template, byte),
-        Token::Dollars => append_byte(template, b'$'),
-        Token::Short(name) => append_plain(template, name, false, forms, missing),
-        Token::Braced(name) => append_plain(template, name, true, forms, missing),
-        Token::Optional(name) => append_named(template, b"", name, b"?}"),
-        Token::Opens(name, operator) => {
-            append_named(template, question(forms, operator), name, b":")
-        }
-        Token::Required(name, operator, _) => {
-            append_named(template, question(forms, operator), name, b"}")
-        }
-        Token::Opening => Ok(template.push(b'{')?),
-        Token::Closing => Ok(template.push(b'}')?),
-        Token::Refused(_) => Ok(()),
-    }
-}
-
-/// Appends a byte that stands for itself.
-fn append_byte(template: &mut Vec<u8>, byte: u8) -> Result<(), AllocError>
+fn append(template: &mut Vec<u8>, written: Replacement<'_>) -> Result<(), AllocError>
     ensures { OnOk result (template.new.items
-        ≡ template.old.items ++ item_text (item_of_byte (is_escaped byte) byte)) }
+        ≡ template.old.items
+        ++ (written.entry.front.now ++ written.entry.name.now ++ written.entry.end.now)) }
 {
-    if byte == b'$' || byte == b'\\' {
-        template.push(b'\\')?;
-    }
-    Ok(template.push(byte)?)
+    template.extend_from_slice(written.front)?;
+    template.extend_from_slice(written.name)?;
+    template.extend_from_slice(written.end)
 }
 
-/// Appends a variable without an operator, which is in braces or isn't.
-fn append_plain(
-    template: &mut Vec<u8>,
-    name: &[u8],
-    in_braces: bool,
-    forms: Forms,
-    missing: Missing,
-) -> Result<(), AllocError>
-    ensures { OnOk result (template.new.items ≡ template.old.items
-        ++ item_text (plain_item forms missing (item_of_name in_braces name.now) name.now)) }
+/// Returns how a template has a token, or `None` if it has the token as the text does.
+fn rewritten<'t>(token: Token<'t>, forms: Forms, missing: Missing) -> Option<Replacement<'t>>
+    ensures some { IfSome result (λ written. (front : List ℕ)
+        → (part forms missing (token_of front token.entry)
+        ≡ written.front.now ++ written.name.now ++ written.end.now)) }
+    ensures none { IfNone result ((front : List ℕ)
+        → (part forms missing (token_of front token.entry)
+        ≡ token_text (token_of front token.entry))) }
+{
+    let (front, name, end): (&'static [u8], &'t [u8], &'static [u8]) = match token {
+        Token::Byte(b'$') | Token::Dollars => (b"\\$", b"", b""),
+        Token::Byte(b'\\') => (b"\\\\", b"", b""),
+        Token::Refused(_) => (b"", b"", b""),
+        Token::Short(name) | Token::Braced(name) => {
+            let (front, end) = plain_ends(forms, missing)?;
+            (front, name, end)
+        }
+        Token::Opens(name, operator) => (opening(forms, operator), name, b":"),
+        Token::Required(name, operator, _) => (opening(forms, operator), name, b"}"),
+        Token::Byte(_) | Token::Optional(_) | Token::Opening | Token::Closing => return None,
+    };
+    Some(Replacement { front, name, end })
+}
+
+/// Returns all before and after the name of a variable without an operator, or `None` if it stays as it is.
+fn plain_ends(forms: Forms, missing: Missing) -> Option<(&'static [u8], &'static [u8])>
+    ensures some { IfSome result (λ ends. (item : Item) (n : List ℕ)
+        → (item_text (plain_item forms missing item n) ≡ ends.0.now ++ n ++ ends.1.now)) }
+    ensures none { IfNone result ((item : Item) (n : List ℕ)
+        → (plain_item forms missing item n ≡ item)) }
 {
     match (forms, missing) {
-        (Forms::Common, _) => append_named(template, b"", name, b"?}"),
-        (Forms::Shell, Missing::Fault) => append_named(template, b"1", name, b"}"),
-        (Forms::Shell, Missing::Nothing) => append_named(template, b"1", name, b"?}"),
-        (_, Missing::Nothing) => append_named(template, b"", name, b"?}"),
-        (_, Missing::Fault) if in_braces => append_named(template, b"", name, b"}"),
-        (_, Missing::Fault) => {
-            template.push(b'$')?;
-            template.extend_from_slice(name)
-        }
+        (Forms::Common, _) => Some((b"${", b"?}")),
+        (Forms::Shell, Missing::Fault) => Some((b"${1", b"}")),
+        (Forms::Shell, Missing::Nothing) => Some((b"${1", b"?}")),
+        (_, Missing::Nothing) => Some((b"${", b"?}")),
+        (_, Missing::Fault) => None,
     }
 }
 
-/// Returns the digit before the name of a variable with an operator, which asks a `ShellMap` a question.
-fn question(forms: Forms, operator: Operator) -> &'static [u8]
-    ensures { (n : List ℕ) → (asked_name forms (Some operator) n ≡ result.now ++ n) }
+/// Returns all before the name of a variable with an operator: the digit asks a `ShellMap` a question.
+fn opening(forms: Forms, operator: Operator) -> &'static [u8]
+    ensures { (n end : List ℕ)
+        → (in_braces (asked_name forms (Some operator) n) end ≡ result.now ++ n ++ end) }
 {
     match (forms, operator) {
-        (Forms::Shell, Operator::Minus | Operator::Question) => b"1",
-        (Forms::Shell, Operator::Plus) => b"2",
-        (Forms::Shell, Operator::ColonPlus) => b"3",
-        _ => b"",
+        (Forms::Shell, Operator::Minus | Operator::Question) => b"${1",
+        (Forms::Shell, Operator::Plus) => b"${2",
+        (Forms::Shell, Operator::ColonPlus) => b"${3",
+        _ => b"${",
     }
-}
-
-/// Appends a dollar, an opening brace, a question, a name and what comes after that.
-fn append_named(
-    template: &mut Vec<u8>,
-    question: &[u8],
-    name: &[u8],
-    end: &[u8],
-) -> Result<(), AllocError>
-    ensures { OnOk result (template.new.items
-        ≡ template.old.items ++ in_braces (question.now ++ name.now) end.now) }
-{
-    template.extend_from_slice(b"${")?;
-    template.extend_from_slice(question)?;
-    template.extend_from_slice(name)?;
-    template.extend_from_slice(end)
 }
 
 /// Returns the text that the bytes are, without a check.

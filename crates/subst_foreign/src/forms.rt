@@ -1,4 +1,4 @@
-//! What in a text is a variable: the forms, the operators, and how an unset variable expands.
+//! The forms and operators of variables, and how an unset variable expands.
 
 ghost use Rattle.std.specs.Prelude.{◌≡◌};
 ghost use Rattle.subst_foreign.specs.Grammar.{has_operator, operator_text, takes_message};
@@ -9,13 +9,13 @@ pub enum Forms {
     /// The template language's own, without its escapes: `$NAME`, `${NAME}`, `${NAME?}`, `${NAME:default}`. A
     /// default that begins with `-`, `=`, `?` or `+` makes it no variable.
     Own,
-    /// Those of GNU envsubst: `$NAME`, `${NAME}`.
+    /// The forms of GNU envsubst: `$NAME`, `${NAME}`.
     Envsubst,
-    /// Those of a shell: `$NAME`, `${NAME}`, `${NAME:-default}`, `${NAME-default}`, `${NAME:+other}`,
+    /// The forms of a shell: `$NAME`, `${NAME}`, `${NAME:-default}`, `${NAME-default}`, `${NAME:+other}`,
     /// `${NAME+other}`, `${NAME:?message}`, `${NAME?message}`. Of all names they are the whole language of
     /// Docker Compose: `$$` is a dollar, and every other form after `${` is refused.
     Shell,
-    /// Those that shells and Docker Compose read alike and that need no `ShellMap`: `$NAME`, `${NAME}`,
+    /// The forms that shells and Docker Compose read alike and that need no `ShellMap`: `$NAME`, `${NAME}`,
     /// `${NAME:-default}`, `${NAME:?message}`, `$$`. Every other form is refused. The template is for a map
     /// without its empty values, a `NoEmpty`.
     Common,
@@ -30,7 +30,7 @@ pub enum Missing {
     Nothing,
 }
 
-/// What comes after a name in braces, where a text follows it.
+/// The operator after a name in braces, which a text or a message follows.
 #[derive(Clone, Copy, Debug, PartialEq, Eq)]
 pub enum Operator {
     /// `:` of own forms: the default of an unset variable.

@@ -1,5 +1,5 @@
-//! Templates for texts that were written for another tool, in which some forms of chosen names are variables and
-//! all else is text.
+//! Templates for texts that were written for another tool: some forms of chosen names are variables there,
+//! and all else is text.
 #![tactic(auto)]
 
 ghost use Rattle.std.specs.Prelude.{false, string_bytes, true, IfOk};

@@ -8,8 +8,8 @@ use std::alloc::{AllocError, Global};
 use std::collections::BTreeSet;
 use subst_language::VariableMap;
 
-/// A choice of names: those of variables. An implementation gives two ghost members: `all`, whether every name
-/// is chosen, and `counts`, which names are, with an operator or without one.
+/// A choice of names: those of variables. An implementation gives two ghost members: `all`, whether every
+/// name is chosen, and `counts`, which names are, with an operator or without one.
 pub trait Names {
     ghost all: { Self → Bool };
 

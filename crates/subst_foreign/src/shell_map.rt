@@ -8,8 +8,8 @@ ghost use Rattle.subst_language.specs.Maps.{of_one, without_empty};
 use std::convert::AsSlice;
 use subst_language::{BytesMap, OneOf, VariableMap};
 
-/// A map for the templates of shell-style texts: a name that begins with the digit 1, 2 or 3 is a question about
-/// the variable whose name comes after it.
+/// A map for the templates of shell-style texts: a name that begins with the digit 1, 2 or 3 is a question
+/// about the variable whose name comes after it.
 ///
 /// - `1X` has the value of `X`, also an empty one.
 /// - `2X` has the empty text if `X` is missing, and nothing if it is there.

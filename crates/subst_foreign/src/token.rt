@@ -5,8 +5,8 @@ ghost use Rattle.std.specs.List.{AllByRecursion};
 ghost use Rattle.subst_language.specs.Language.Bytes.{closing_brace, colon, dollar, opening_brace, question_mark};
 ghost use Rattle.subst_language.specs.Language.Name.{BeginsWithNo, IsName, IsNameByte};
 ghost use Rattle.subst_foreign.specs.Foreign.{IsShellName};
-ghost use Rattle.subst_foreign.specs.Grammar.{grammar, has_operator, in_braces, minus, operator_text, BeginsWithNoHead, BeginsWithNone, HasForm, IsEnd, IsEndless, IsHead, IsMessage, IsUnfit, Opened};
-ghost use Rattle.subst_foreign.specs.Reading.{after_message, IsInner, IsLone, IsStep};
+ghost use Rattle.subst_foreign.specs.Grammar.{has_operator, in_braces, minus, operator_text, BeginsWithNoHead, BeginsWithNone, HasForm, IsEnd, IsEndless, IsHead, IsMessage, IsUnfit, Opened};
+ghost use Rattle.subst_foreign.specs.Reading.{after_message, grammar_of, IsInner, IsLone, IsStep};
 ghost use Rattle.subst_foreign.specs.declared.forms.Forms.TheVariants.{Common, Own, Shell};
 ghost use Rattle.subst_foreign.specs.declared.token.End.TheVariants.{Unfit};
 ghost use Rattle.subst_foreign.specs.declared.forms.Operator.{Operator as SpecOperator};
@@ -14,7 +14,7 @@ ghost use Rattle.subst_foreign.specs.declared.forms.Operator.{Operator as SpecOp
 use crate::forms::{Forms, Operator};
 use crate::names::Names;
 use crate::refused::ShellForm;
-use crate::style::Style;
+use crate::style::{Style, is_name_of};
 use subst_language::name_len;
 
 /// A token of a text.
@@ -43,11 +43,7 @@ pub(crate) enum Token<'t> {
 }
 
 /// A token, and the text after it.
-#[derive(Clone, Copy)]
-pub(crate) struct Step<'t> {
-    pub token: Token<'t>,
-    pub rest: &'t [u8],
-}
+pub(crate) type Step<'t> = (Token<'t>, &'t [u8]);
 
 /// How a variable goes on after its name in braces, with the rest of the text.
 #[derive(Clone, Copy)]
@@ -62,11 +58,10 @@ enum End<'t> {
     Unfit,
 }
 
-/// Returns the token that a text begins with, where so many texts after operators and braces in them are open.
+/// Returns the token that a text begins with, if so many texts after operators and braces in them are open.
 pub(crate) fn step_at<'t, N: Names>(text: &'t [u8], depth: usize, style: Style<'_, N>) -> Step<'t>
     requires { 0 < length text.now }
-    ensures { IsStep (grammar style.entry.forms (N.all style.entry.names.now)
-        (N.counts style.entry.names.now)) depth text.now result.token result.rest.now }
+    ensures { IsStep (grammar_of N.all N.counts style.entry) depth text.now result.0 result.1.now }
 {
     let (first, rest) = (text[0], &text[1..]);
     if first == b'$' {
@@ -77,7 +72,7 @@ pub(crate) fn step_at<'t, N: Names>(text: &'t [u8], depth: usize, style: Style<'
     } else {
         inner_token(first, style.forms)
     };
-    Step { token, rest }
+    (token, rest)
 }
 
 /// Returns the token of a byte that is no dollar, in the text after an operator.
@@ -94,28 +89,19 @@ fn inner_token<'t>(first: u8, forms: Forms) -> Token<'t>
 
 /// Returns the token that begins with a dollar, which is before the text.
 fn dollar_step<'t, N: Names>(text: &'t [u8], style: Style<'_, N>) -> Step<'t>
-    ensures { (depth : ℕ) → IsStep (grammar style.entry.forms (N.all style.entry.names.now)
-        (N.counts style.entry.names.now)) depth (dollar ∷ text.now) result.token result.rest.now }
+    ensures { (depth : ℕ) → IsStep (grammar_of N.all N.counts style.entry) depth (dollar ∷ text.now)
+        result.0 result.1.now }
 {
     if let Some(rest) = second_dollar(text, style.is_whole()) {
-        return Step {
-            token: Token::Dollars,
-            rest,
-        };
+        return (Token::Dollars, rest);
     }
     let (name, rest) = text.split_at(name_len(text));
     if style.has(name, false) {
-        return Step {
-            token: Token::Short(name),
-            rest,
-        };
+        return (Token::Short(name), rest);
     }
-    match after_byte(text, b'{') {
+    match text.strip_prefix(b"{") {
         Some(braced) => braced_step(text, braced, style),
-        None => Step {
-            token: lone_dollar(name, style.forms),
-            rest: text,
-        },
+        None => (lone_dollar(name, style.forms), text),
     }
 }
 
@@ -125,10 +111,9 @@ fn second_dollar(text: &[u8], is_whole: bool) -> Option<&[u8]>
     ensures none { IfNone result (IsTrue is_whole → (rest : List ℕ)
         → ¬ (text.now ≡ dollar ∷ rest)) }
 {
-    if is_whole {
-        after_byte(text, b'$')
-    } else {
-        None
+    match text {
+        [b'$', rest @ ..] if is_whole => Some(rest),
+        _ => None,
     }
 }
 
@@ -137,19 +122,19 @@ fn lone_dollar<'t>(name: &[u8], forms: Forms) -> Token<'t>
     requires { AllByRecursion IsNameByte name.now }
     ensures { IsLone forms name.now result }
 {
-    if matches!(forms, Forms::Common) && !begins_shell_name(name) {
+    if matches!(forms, Forms::Common) && !is_name_of(name, forms) {
         Token::Refused(ShellForm::Dollar)
     } else {
         Token::Byte(b'$')
     }
 }
 
-/// Returns the token that begins with a dollar and an opening brace. The text is after the dollar, and goes on
-/// after the brace with this.
+/// Returns the token that begins with a dollar and an opening brace. The text is after the dollar, and
+/// `braced` after the brace.
 fn braced_step<'t, N: Names>(text: &'t [u8], braced: &'t [u8], style: Style<'_, N>) -> Step<'t>
     requires { text.now ≡ opening_brace ∷ braced.now }
-    ensures { (depth : ℕ) → IsStep (grammar style.entry.forms (N.all style.entry.names.now)
-        (N.counts style.entry.names.now)) depth (dollar ∷ text.now) result.token result.rest.now }
+    ensures { (depth : ℕ) → IsStep (grammar_of N.all N.counts style.entry) depth (dollar ∷ text.now)
+        result.0 result.1.now }
 {
     let (name, after) = braced.split_at(name_len(braced));
     let end = end_at(after, style.forms);
@@ -159,7 +144,7 @@ fn braced_step<'t, N: Names>(text: &'t [u8], braced: &'t [u8], style: Style<'_, 
     }
 }
 
-/// Returns the token of a name in braces, if it is a variable's: this comes after the name.
+/// Returns the token of a name in braces that ends so, or `None` if it is no variable's.
 fn head_step<'t, N: Names>(
     name: &'t [u8],
     after: &'t [u8],
@@ -169,22 +154,15 @@ fn head_step<'t, N: Names>(
     requires run { AllByRecursion IsNameByte name.now }
     requires ended { BeginsWithNo IsNameByte after.now }
     requires end { IsEnd style.forms after.now end }
-    ensures some { IfSome result (λ step. (depth : ℕ) → IsStep (grammar style.entry.forms
-        (N.all style.entry.names.now) (N.counts style.entry.names.now)) depth
-        (in_braces name.now after.now) step.token step.rest.now) }
-    ensures none { IfNone result (BeginsWithNoHead (grammar style.entry.forms
-        (N.all style.entry.names.now) (N.counts style.entry.names.now))
+    ensures some { IfSome result (λ step. (depth : ℕ)
+        → IsStep (grammar_of N.all N.counts style.entry) depth (in_braces name.now after.now) step.0
+        step.1.now) }
+    ensures none { IfNone result (BeginsWithNoHead (grammar_of N.all N.counts style.entry)
         (in_braces name.now after.now)) }
 {
     match end {
-        End::Closed(rest) if style.has(name, false) => Some(Step {
-            token: Token::Braced(name),
-            rest,
-        }),
-        End::Optional(rest) if style.has(name, true) => Some(Step {
-            token: Token::Optional(name),
-            rest,
-        }),
+        End::Closed(rest) if style.has(name, false) => Some((Token::Braced(name), rest)),
+        End::Optional(rest) if style.has(name, true) => Some((Token::Optional(name), rest)),
         End::Operated(operator, rest) if style.has(name, true) => {
             Some(operated_step(name, operator, after, rest, style))
         }
@@ -192,8 +170,8 @@ fn head_step<'t, N: Names>(
     }
 }
 
-/// Returns the token of a dollar, an opening brace, a name, which may be empty, and what comes after it, which
-/// begin no variable. The text is after the dollar.
+/// Returns the token of a dollar and an opening brace that begin no variable. The text is after the dollar,
+/// and goes on after the brace with a name, which may be empty.
 fn unfit_step<'t, N: Names>(
     text: &'t [u8],
     name: &'t [u8],
@@ -204,49 +182,26 @@ fn unfit_step<'t, N: Names>(
     requires text { text.now ≡ opening_brace ∷ name.now ++ after.now }
     requires run { AllByRecursion IsNameByte name.now }
     requires ended { BeginsWithNo IsNameByte after.now }
-    requires no_head { BeginsWithNoHead (grammar style.forms (N.all style.names.now)
-        (N.counts style.names.now)) (dollar ∷ text.now) }
+    requires no_head { BeginsWithNoHead (grammar_of N.all N.counts style) (dollar ∷ text.now) }
     requires unfit { IsTrue is_unfit ↔ IsEnd style.forms after.now Unfit }
-    ensures { (depth : ℕ) → IsStep (grammar style.entry.forms (N.all style.entry.names.now)
-        (N.counts style.entry.names.now)) depth (dollar ∷ text.now) result.token result.rest.now }
+    ensures { (depth : ℕ) → IsStep (grammar_of N.all N.counts style.entry) depth (dollar ∷ text.now)
+        result.0 result.1.now }
 {
     if !style.is_whole() {
-        return Step {
-            token: Token::Byte(b'$'),
-            rest: text,
-        };
+        return (Token::Byte(b'$'), text);
     }
-    if !begins_shell_name(name) {
-        return Step {
-            token: Token::Refused(ShellForm::NoName),
-            rest: &text[1..],
-        };
+    if !is_name_of(name, Forms::Shell) {
+        return (Token::Refused(ShellForm::NoName), &text[1..]);
     }
-    if !is_unfit {
-        return Step {
-            token: Token::Byte(b'$'),
-            rest: text,
-        };
-    }
-    Step {
-        token: Token::Refused(form_at(after)),
-        rest: after,
+    if is_unfit {
+        (Token::Refused(form_at(after)), after)
+    } else {
+        (Token::Byte(b'$'), text)
     }
 }
 
-/// Returns whether name bytes are a name of a shell's variable.
-fn begins_shell_name(name: &[u8]) -> bool
-    requires { AllByRecursion IsNameByte name.now }
-    ensures { IsTrue result ↔ (IsName name.now × IsShellName name.now) }
-{
-    match name.first() {
-        None => false,
-        Some(first) => !first.is_ascii_digit(),
-    }
-}
-
-/// Returns the token of a name in braces with an operator: the rest comes after the operator, and the operator
-/// begins what comes after the name.
+/// Returns the token of a name in braces with an operator. The operator begins the text after the name, and
+/// the rest comes after it.
 fn operated_step<'t, N: Names>(
     name: &'t [u8],
     operator: Operator,
@@ -254,28 +209,17 @@ fn operated_step<'t, N: Names>(
     rest: &'t [u8],
     style: Style<'_, N>,
 ) -> Step<'t>
-    requires head { IsHead (grammar style.forms (N.all style.names.now) (N.counts style.names.now))
-        (Opened name.now operator) rest.now }
+    requires head { IsHead (grammar_of N.all N.counts style) (Opened name.now operator) rest.now }
     requires after { after.now ≡ operator_text operator ++ rest.now }
-    ensures { (depth : ℕ) → IsStep (grammar style.entry.forms (N.all style.entry.names.now)
-        (N.counts style.entry.names.now)) depth (in_braces name.now after.now) result.token
-        result.rest.now }
+    ensures { (depth : ℕ) → IsStep (grammar_of N.all N.counts style.entry) depth
+        (in_braces name.now after.now) result.0 result.1.now }
 {
     if !operator.takes_message() {
-        return Step {
-            token: Token::Opens(name, operator),
-            rest,
-        };
+        return (Token::Opens(name, operator), rest);
     }
     match message_at(rest, style.forms) {
-        Ok((message, rest)) => Step {
-            token: Token::Required(name, operator, message),
-            rest,
-        },
-        Err(form) => Step {
-            token: Token::Refused(form),
-            rest: rest_of_message(form, after),
-        },
+        Ok((message, rest)) => (Token::Required(name, operator, message), rest),
+        Err(form) => (Token::Refused(form), rest_of_message(form, after)),
     }
 }
 
@@ -318,7 +262,7 @@ fn message_at(text: &[u8], forms: Forms) -> Result<(&[u8], &[u8]), ShellForm>
 fn end_at(text: &[u8], forms: Forms) -> End<'_>
     ensures { IsEnd forms text.now result }
 {
-    if let Some(rest) = after_byte(text, b'}') {
+    if let [b'}', rest @ ..] = text {
         return End::Closed(rest);
     }
     if let Some((operator, rest)) = operator_at(text)
@@ -338,20 +282,12 @@ fn own_end_at(text: &[u8]) -> End<'_>
     requires { (x : List ℕ) → ¬ (text.now ≡ closing_brace ∷ x) }
     ensures { IsEnd Own text.now result }
 {
-    if let Some(rest) = text.strip_prefix(b"?}") {
-        return End::Optional(rest);
-    }
-    match after_byte(text, b':') {
-        Some(rest) if !is_of_a_shell(rest) => End::Operated(Operator::Default, rest),
+    match text {
+        [b'?', b'}', rest @ ..] => End::Optional(rest),
+        [b':', b'-' | b'=' | b'?' | b'+', ..] => End::Unfit,
+        [b':', rest @ ..] => End::Operated(Operator::Default, rest),
         _ => End::Unfit,
     }
-}
-
-/// Returns whether what comes after a name in braces and a colon is an operator of a shell.
-fn is_of_a_shell(text: &[u8]) -> bool
-    ensures { (result ≡ false) ↔ BeginsWithNone (codes "-=?+") text.now }
-{
-    matches!(text.first(), Some(b'-' | b'=' | b'?' | b'+'))
 }
 
 /// Returns the operator of a shell that a text begins with, and what comes after it.
@@ -361,29 +297,13 @@ fn operator_at(text: &[u8]) -> Option<(Operator, &[u8])>
     ensures none { IfNone result ((operator : SpecOperator) (rest : List ℕ)
         → IsTrue (has_operator Shell operator) → ¬ (text.now ≡ operator_text operator ++ rest)) }
 {
-    let (first, rest) = text.split_first()?;
-    match *first {
-        b'-' => Some((Operator::Minus, rest)),
-        b'+' => Some((Operator::Plus, rest)),
-        b'?' => Some((Operator::Question, rest)),
-        b':' => colon_operator_at(rest),
-        _ => None,
-    }
-}
-
-/// Returns the operator of a shell whose colon is before the text, and what comes after it.
-fn colon_operator_at(text: &[u8]) -> Option<(Operator, &[u8])>
-    ensures some { IfSome result (λ found. IsTrue (has_operator Shell found.0)
-        × (colon ∷ text.now ≡ operator_text found.0 ++ found.1.now)) }
-    ensures none { IfNone result ((operator : SpecOperator) (rest : List ℕ)
-        → IsTrue (has_operator Shell operator)
-        → ¬ (colon ∷ text.now ≡ operator_text operator ++ rest)) }
-{
-    let (first, rest) = text.split_first()?;
-    match *first {
-        b'-' => Some((Operator::ColonMinus, rest)),
-        b'+' => Some((Operator::ColonPlus, rest)),
-        b'?' => Some((Operator::ColonQuestion, rest)),
+    match text {
+        [b'-', rest @ ..] => Some((Operator::Minus, rest)),
+        [b'+', rest @ ..] => Some((Operator::Plus, rest)),
+        [b'?', rest @ ..] => Some((Operator::Question, rest)),
+        [b':', b'-', rest @ ..] => Some((Operator::ColonMinus, rest)),
+        [b':', b'+', rest @ ..] => Some((Operator::ColonPlus, rest)),
+        [b':', b'?', rest @ ..] => Some((Operator::ColonQuestion, rest)),
         _ => None,
     }
 }
@@ -420,16 +340,5 @@ fn colon_form_at(text: &[u8]) -> ShellForm
         Some(b'=') => ShellForm::ColonEquals,
         Some(b'+') => ShellForm::ColonPlus,
         _ => ShellForm::Colon,
-    }
-}
-
-/// Returns the text after its first byte, or `None` if that isn't `byte`.
-fn after_byte(text: &[u8], byte: u8) -> Option<&[u8]>
-    ensures some { IfSome result (λ rest. text.now ≡ byte ∷ rest.now) }
-    ensures none { IfNone result ((rest : List ℕ) → ¬ (text.now ≡ byte ∷ rest)) }
-{
-    match text.split_first() {
-        Some((first, rest)) if *first == byte => Some(rest),
-        _ => None,
     }
 }

@@ -1,14 +1,13 @@
 //! The variables of a text.
 
 ghost use Rattle.std.specs.Prelude.{◌≡◌, ◌++◌, ◌+◌, ◌<◌, ◌^◌, ℕ, List, IfOk, OnOk, map};
-ghost use Rattle.subst_foreign.specs.Grammar.{grammar};
-ghost use Rattle.subst_foreign.specs.Reading.{listed_at, token_of, variable_of, IsListing};
+ghost use Rattle.subst_foreign.specs.Reading.{grammar_of, listed_at, token_of, variable_of, IsListing};
 
-use crate::convert::{next_depth, plain_len};
+use crate::convert::{next_depth, next_step};
 use crate::forms::Operator;
 use crate::names::Names;
 use crate::style::Style;
-use crate::token::{Token, step_at};
+use crate::token::Token;
 use std::alloc::{AllocError, Global};
 
 /// A variable of a text.
@@ -24,36 +23,31 @@ pub struct TextVariable<'t> {
     pub message: &'t [u8],
 }
 
-/// Lists the variables of a text.
-///
-/// # Errors
-///
-/// When allocation fails.
-pub(crate) fn variables_of<'t, N: Names>(
-    alloc: Global,
-    text: &'t [u8],
-    style: Style<'_, N>,
-) -> Result<Vec<TextVariable<'t>>, AllocError>
-    ensures { IfOk result (λ variables. IsListing (grammar style.entry.forms
-        (N.all style.entry.names.now) (N.counts style.entry.names.now)) text.now variables.items) }
-{
-    let mut variables = Vec::new(alloc);
-    let mut rest = text;
-    let mut depth = 0;
-    while !rest.is_empty() {
-        let plain = plain_len(rest, depth);
-        if plain > 0 {
-            let (_, after) = rest.split_at(plain);
+impl<N: Names> Style<'_, N> {
+    /// Lists the variables of a text in its order, also those in defaults. If the text isn't refused, the
+    /// first of these is the first one of its template, and so on.
+    ///
+    /// # Errors
+    ///
+    /// When allocation fails.
+    pub fn variables<'t>(
+        &self,
+        alloc: Global,
+        source: &'t [u8],
+    ) -> Result<Vec<TextVariable<'t>>, AllocError>
+        ensures listed { IfOk result (λ variables. IsListing (grammar_of N.all N.counts self.now)
+            source.now variables.items) }
+    {
+        let mut variables = Vec::new(alloc);
+        let mut rest = source;
+        let mut depth = 0;
+        while let Some((special, (token, after))) = next_step(rest, depth, *self) {
+            append_variable(&mut variables, token, source.len() - special.len())?;
+            depth = next_depth(depth, token);
             rest = after;
-        } else {
-            let position = text.len() - rest.len();
-            let step = step_at(rest, depth, style);
-            append_variable(&mut variables, step.token, position)?;
-            depth = next_depth(depth, step.token);
-            rest = step.rest;
         }
+        Ok(variables)
     }
-    Ok(variables)
 }
 
 /// Appends the variable of a token at this position.

@@ -1,13 +1,13 @@
--- What is written and refused so far is so for the text up to the rest.
+-- The template, with the run that waits, and the refused forms are those of the text up to the rest.
 use Rattle.std.proofs.Common.{length}
-use Rattle.subst_foreign.proofs.ReadingLemmas.{Progress}
-use Rattle.subst_foreign.specs.Grammar.{grammar}
+use Rattle.subst_foreign.proofs.ReadingLemmas.{Waits}
+use Rattle.subst_foreign.specs.Reading.{grammar_of}
 use Rattle.subst_foreign.proofs.convert.convert.Given as goal
 
-abbrev pub invariant-loop-rest : goal.invariant-loop-rest
-invariant-loop-rest g l =
-    Progress (grammar l.fn.style.forms (g.N.Names.all l.fn.style.names.now) (g.N.Names.counts l.fn.style.names.now))
-    l.fn.style.missing l.fn.text l.template.items l.rest l.refused.items l.depth l.outermost
+abbrev pub invariant-loop-special : goal.invariant-loop-special
+invariant-loop-special g l =
+    Waits (grammar_of g.N.Names.all g.N.Names.counts l.fn.style) l.fn.style.missing l.fn.text l.template.items
+    l.pending l.rest l.refused.items l.depth l.outermost
 
-abbrev pub decreases-loop-rest : goal.decreases-loop-rest
-decreases-loop-rest g l = length l.rest
+abbrev pub decreases-loop-special : goal.decreases-loop-special
+decreases-loop-special g l = length l.rest

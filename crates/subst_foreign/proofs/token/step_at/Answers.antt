@@ -3,13 +3,12 @@ use Rattle.std.proofs.lemmas.List.{drop_more, take_rest}
 use Rattle.subst_foreign.proofs.TokenLemmas.{inner_step, outer_step}
 use Rattle.subst_foreign.proofs.token.step_at.Goals as goal
 use Rattle.subst_foreign.proofs.token.step_at.Goals.{then-depth-eq0, else-depth-eq0}
-use Rattle.subst_foreign.specs.Grammar.{grammar}
-use Rattle.subst_foreign.specs.Reading.{IsStep}
+use Rattle.subst_foreign.specs.Reading.{grammar_of, IsStep}
 
 pub returns : goal.returns
 returns g c =
     let style = c.args.style in
-    let grammar = grammar style.forms (g.N.Names.all style.names.now) (g.N.Names.counts style.names.now) in
+    let grammar = grammar_of g.N.Names.all g.N.Names.counts style in
     let text = c.args.text.now in
     let depth = c.args.depth in
     let first = get_or text 0 0 in

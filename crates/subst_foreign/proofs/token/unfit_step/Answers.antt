@@ -8,23 +8,23 @@ pub returns-then-not-is_whole : goal.returns-then-not-is_whole
 returns-then-not-is_whole g c depth =
     unread_dollar _ depth c.args.text.now (sym c.is_whole.ensures ∙ c.if-not-is_whole.true) c.requires.no_head
 
-pub returns-then-not-begins_shell_name : goal.returns-then-not-begins_shell_name
-returns-then-not-begins_shell_name g c depth =
+pub returns-then-not-is_name_of : goal.returns-then-not-is_name_of
+returns-then-not-is_name_of g c depth =
     rw (take_rest, c.requires.text)
     (nameless _ depth c.args.name.now c.args.after.now (sym c.if-not-is_whole.ensures) c.requires.run
-    c.requires.ended (λ named. false≢true (c.if-not-begins_shell_name.ensures.1 named)))
+    c.requires.ended (λ named. false≢true (c.if-not-is_name_of.ensures.1 named)))
 
-pub returns-then-not-is_unfit : goal.returns-then-not-is_unfit
-returns-then-not-is_unfit g c depth =
-    let (named, shell) = c.begins_shell_name.ensures.0 c.if-not-begins_shell_name.false in
+pub returns-else-is_unfit : goal.returns-else-is_unfit
+returns-else-is_unfit g c depth =
+    let (named, shell) = c.is_name_of.ensures.0 c.if-not-is_name_of.false in
     rw (c.requires.text)
     (fit_dollar _ depth c.args.name.now c.args.after.now (sym c.if-not-is_whole.ensures) named shell
-    c.requires.ended (λ end. false≢true (sym c.if-not-is_unfit.true ∙ c.requires.unfit.1 end))
+    c.requires.ended (λ end. false≢true (sym c.if-is_unfit.false ∙ c.requires.unfit.1 end))
     (rw c.requires.text at c.requires.no_head))
 
-pub returns : goal.returns
-returns g c depth =
-    let (named, shell) = c.begins_shell_name.ensures.0 c.if-not-begins_shell_name.false in
+pub returns-then-is_unfit : goal.returns-then-is_unfit
+returns-then-is_unfit g c depth =
+    let (named, shell) = c.is_name_of.ensures.0 c.if-not-is_name_of.false in
     rw (c.requires.text)
     (unfit_refused _ depth c.args.name.now c.args.after.now c.form_at.result (sym c.if-not-is_whole.ensures) named
-    shell c.requires.ended (c.requires.unfit.0 c.if-not-is_unfit.false) c.form_at.ensures)
+    shell c.requires.ended (c.requires.unfit.0 c.if-is_unfit.true) c.form_at.ensures)
