@@ -488,16 +488,16 @@ class Documents(Case):
         variables = {'a': 'x"\\é', 'b': '$a', 'name': 'world', 'quote': 'a"b'}
         for call, text, wanted in (
                 (subst.fill_in_json, '{ "$a":1.50,"é": "${b} \\u0041", "c":["\\u0041"] }\r\n',
-                 '{ "$a":1.50,"é": "$a A", "c":["\\u0041"] }\r\n'),
+                 '{ "$a":1.50,"é": "$a \\u0041", "c":["\\u0041"] }\r\n'),
                 (subst.fill_in_json, '"$a"', '"x\\"\\\\é"'),
                 (subst.fill_in_json, '[null , -0, 1E2]', '[null , -0, 1E2]'),
                 (subst.fill_in_json, '{ "$name" : "${name}\\u0041","b":[1.50, -0,"\\u0041"],\r\n"c":"$quote"}\n',
-                 '{ "$name" : "worldA","b":[1.50, -0,"\\u0041"],\r\n"c":"a\\"b"}\n'),
+                 '{ "$name" : "world\\u0041","b":[1.50, -0,"\\u0041"],\r\n"c":"a\\"b"}\n'),
                 (subst.fill_in_json, f'["$a"{" " * MIB}]', f'["x\\"\\\\é"{" " * MIB}]'),
                 (subst.fill_in_toml, '# $a\r\n"é".x = "$b"  # é\r\nc = 1_0', '# $a\r\n"é".x = "$a"  # é\r\nc = 1_0'),
                 (subst.fill_in_toml,
                  '# $name\r\n"$name" = \'\'\'${name}\'\'\' # $name\r\nb = [ 1_0, "\\u0041" ]\r\nc = "$quote"',
-                 '# $name\r\n"$name" = "world" # $name\r\nb = [ 1_0, "\\u0041" ]\r\nc = \'a"b\''),
+                 '# $name\r\n"$name" = \'\'\'world\'\'\' # $name\r\nb = [ 1_0, "\\u0041" ]\r\nc = "a\\"b"'),
                 (subst.fill_in_toml, '', '')):
             self.assertEqual(call(text, variables), wanted)
 

@@ -49,6 +49,7 @@ NOT_SOURCE = re.compile('[\ufdd0-\ufdd2\ufdd6\ufdd7]')
 TOKEN = re.compile(f'{BEGIN}(.*?){END}', re.DOTALL)
 # A string as a writer spells it.
 STRING = re.compile('"""(?:[^\\\\]|\\\\.)*?"{3,5}(?!")|\'{3}.*?\'{3,5}(?!\')|"(?:[^"\\\\]|\\\\.)*"|\'[^\']*\'', re.DOTALL)
+NEW_ESCAPE = re.compile(r'\\(x[0-9A-Fa-f]{2}|.)', re.DOTALL)
 # What is there for the program, and what for Python's reader, which knows no TOML 1.1.
 EITHER = re.compile('\ufdd3(.*?)\ufdd4(.*?)\ufdd5', re.DOTALL)
 PLAIN = 'abz09 _-.,:;#=[]()/?~\u00e9\u0416\u20ac\u4e2d\U0001f600\u200b'
@@ -399,6 +400,14 @@ def folded(string):
     return re.sub('\r+\n', '\n', string)
 
 
+def known_escapes(token):
+    """Returns a token with escapes that Python's reader knows in place of those of TOML 1.1."""
+    def known(escape):
+        return {'x': f'\\u00{escape[0][2:]}', 'e': '\\u001b'}.get(escape[1][0], escape[0])
+
+    return NEW_ESCAPE.sub(known, token) if token[0] == '"' else token
+
+
 def spliced(kind, text, output):
     """Checks that an output has the bytes of a document, with another token for each string that isn't what it gives.
     Returns it as Python's reader can read it."""
@@ -408,8 +417,9 @@ def spliced(kind, text, output):
         string = folded(string_of(kind, known)) if number % 2 else ''
         if filled(string) != string:
             token, value = STRING.match(output, at), folded(filled(string))
-            assert token and folded(string_of(kind, token[0])) == value, f'{wanted!r} gives {output[at:at + 99]!r}'
-            wanted = known = token[0]
+            known = known_escapes(token[0]) if token else ''
+            assert token and folded(string_of(kind, known)) == value, f'{wanted!r} gives {output[at:at + 99]!r}'
+            wanted = token[0]
         assert output.startswith(wanted, at), f'in the place of {wanted!r} is {output[at:at + 99]!r}'
         at += len(wanted)
         readable.append(known)

@@ -67,7 +67,7 @@ NO_TOML = (
 # A TOML document, and what it gives where A is 1.
 TOML = (b'# "$A"\r\nb   =\t\'$A\' # $A\r\n"$A" = +1_000\n[t]\nd = 1979-05-27\nn = ["${A}", 1.50,\n  """\n$A""",]\n'
         b'\'a\' = """\nb\\\n  c"""\n')
-FILLED_TOML = (b'# "$A"\r\nb   =\t"1" # $A\r\n"$A" = +1_000\n[t]\nd = 1979-05-27\nn = ["1", 1.50,\n  "1",]\n'
+FILLED_TOML = (b'# "$A"\r\nb   =\t\'1\' # $A\r\n"$A" = +1_000\n[t]\nd = 1979-05-27\nn = ["1", 1.50,\n  """\n1""",]\n'
                b'\'a\' = """\nb\\\n  c"""\n')
 ALL = b'$A ${A} \\$A \\. $B ${B} ${A:x} ${A?} $AB $1 $$ ${ $(A) $'
 

@@ -5,6 +5,7 @@ pub use Rattle.subst_toml.specs.Errors
 pub use Rattle.subst_toml.specs.DottedKey
 pub use Rattle.subst_toml.specs.Filled
 pub use Rattle.subst_toml.specs.Laws
+pub use Rattle.subst_toml.specs.Listed
 pub use Rattle.subst_toml.specs.Mapped
 pub use Rattle.subst_toml.specs.Outcome
 pub use Rattle.subst_toml.specs.Paths
@@ -12,5 +13,6 @@ pub use Rattle.subst_toml.specs.Pieces
 pub use Rattle.subst_toml.specs.Places
 pub use Rattle.subst_toml.specs.Report
 pub use Rattle.subst_document.specs.Paths as Walk
+pub use Rattle.subst_document.specs.Plain
 pub use Rattle.subst_document.specs.Refused
 pub use Rattle.subst_document.specs.Texts

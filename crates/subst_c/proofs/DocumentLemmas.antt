@@ -54,20 +54,31 @@ module _ (known : List ℕ → Answer → Type 0) (look : LookUp)
       → IsFilledJson (GivesBy known) s x → IsFilledIn Json look s x
   json_filled s x (d, read, (e, read_as, each)) kept = (
     (d, read, (e, read_as, each_weaker _ (GivesBy (under look)) (λ y z. so y (Gives z)) d e each)),
-    filled_weaker _ _ _ (GivesBy (under look)) (λ y z. so y (Gives z)) _ s x kept,
+    filled_weaker _ _ _ _ (GivesBy (under look)) (λ y z. so y (Gives z)) _ s x kept,
+  )
+
+  toml_read : (s x : List ℕ)
+      → toml_outcome.ReadsAsTree s (λ d. toml_outcome.ReadsAsTree x (toml_tree.IsEach (GivesBy known) d))
+      → toml_outcome.ReadsAsTree s (λ d. toml_outcome.ReadsAsTree x (toml_tree.IsEach (GivesBy (under look)) d))
+  toml_read s x (ms, read, (ns, read_as, each)) = (
+    ms,
+    read,
+    (ns, read_as, toml_each_weaker _ (GivesBy (under look)) (λ y z. so y (Gives z)) (table ms) (table ns) each),
+  )
+
+  toml_kept : (s x : List ℕ) → toml_text.IsFilledOrSame (GivesBy known) s x
+      → toml_text.IsFilledOrSame (GivesBy (under look)) s x
+  toml_kept s x (inl (found, strings, kept)) =
+      inl (found, strings, filled_weaker _ _ _ _ (GivesBy (under look)) (λ y z. so y (Gives z)) _ s x kept)
+  toml_kept s x (inr (same, (ms, read, each))) = inr (
+    same,
+    (ms, read, toml_each_weaker _ (GivesBy (under look)) (λ y z. so y (Gives z)) (table ms) (table ms) each),
   )
 
   pub toml_filled : (s x : List ℕ)
       → toml_outcome.ReadsAsTree s (λ d. toml_outcome.ReadsAsTree x (toml_tree.IsEach (GivesBy known) d))
-      → toml_text.IsFilledIn (GivesBy known) s x → IsFilledIn Toml look s x
-  toml_filled s x (ms, read, (ns, read_as, each)) (found, strings, kept) = (
-    (
-      ms,
-      read,
-      (ns, read_as, toml_each_weaker _ (GivesBy (under look)) (λ y z. so y (Gives z)) (table ms) (table ns) each),
-    ),
-    (found, strings, filled_weaker _ _ _ (GivesBy (under look)) (λ y z. so y (Gives z)) _ s x kept),
-  )
+      → toml_text.IsFilledOrSame (GivesBy known) s x → IsFilledIn Toml look s x
+  toml_filled s x tree kept = (toml_read s x tree, toml_kept s x kept)
 
   -- whose strings are refused
   pub refusals : (strings : List Located) (list : List Refusal) → AreRefusals known strings list

@@ -47,7 +47,7 @@ IsFilledIn Json look s x =
     × json.IsFilledJson (GivesBy (under look)) s x
 IsFilledIn Toml look s x =
     toml_outcome.ReadsAsTree s (λ d. toml_outcome.ReadsAsTree x (toml_tree.IsMapped look d))
-    × toml.IsFilledIn (GivesBy (under look)) s x
+    × toml.IsFilledOrSame (GivesBy (under look)) s x
 
 -- the span of the text is where the token spells this range of its string
 abbrev pub IsPlaceIn : Format → List ℕ → (token range place : Range ℕ) → Type 0

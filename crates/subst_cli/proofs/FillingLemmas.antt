@@ -82,18 +82,28 @@ module _ (Becomes Stays : List ℕ → List ℕ → Type 0)
       → json_text.IsFilledJson Becomes source output → IsDocumentOutput Json Stays source output
   json_weaker source output (d, read, (e, read_as, each)) kept = (
     (d, read, (e, read_as, each_weaker Becomes Stays weaker d e each)),
-    filled_weaker _ _ Becomes Stays weaker _ source output kept,
+    filled_weaker _ _ _ Becomes Stays weaker _ source output kept,
+  )
+
+  toml_kept : (source output : List ℕ) → toml_text.IsFilledOrSame Becomes source output
+      → toml_text.IsFilledOrSame Stays source output
+  toml_kept source output (inl (found, strings, kept)) =
+      inl (found, strings, filled_weaker _ _ _ Becomes Stays weaker _ source output kept)
+  toml_kept source output (inr (same, tree)) = inr (
+    same,
+    read_weaker source (λ d. toml_tree.IsEach Becomes d d) (λ d. toml_tree.IsEach Stays d d)
+        (λ d. toml_each_weaker Becomes Stays weaker d d) tree,
   )
 
   pub toml_weaker : (source output : List ℕ)
       → toml.ReadsAsTree source (λ d. toml.ReadsAsTree output (toml_tree.IsEach Becomes d))
-      → toml_text.IsFilledIn Becomes source output → IsDocumentOutput Toml Stays source output
-  toml_weaker source output tree (found, strings, kept) = (
+      → toml_text.IsFilledOrSame Becomes source output → IsDocumentOutput Toml Stays source output
+  toml_weaker source output tree kept = (
     read_weaker source (λ d. toml.ReadsAsTree output (toml_tree.IsEach Becomes d))
         (λ d. toml.ReadsAsTree output (toml_tree.IsEach Stays d))
         (λ d. read_weaker output (toml_tree.IsEach Becomes d) (toml_tree.IsEach Stays d)
         (toml_each_weaker Becomes Stays weaker d)) tree,
-    (found, strings, filled_weaker _ _ Becomes Stays weaker _ source output kept),
+    toml_kept source output kept,
   )
 
 -- what is said of what the library returns of a text, of what is returned of that

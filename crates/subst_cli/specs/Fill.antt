@@ -125,7 +125,7 @@ IsDocumentOutput Json Becomes source output =
     × json_text.IsFilledJson Becomes source output
 IsDocumentOutput Toml Becomes source output =
     toml.ReadsAsTree source (λ d. toml.ReadsAsTree output (toml_tree.IsEach Becomes d))
-    × toml_text.IsFilledIn Becomes source output
+    × toml_text.IsFilledOrSame Becomes source output
 
 -- what the bytes of a source give that are filled in
 abbrev pub IsFilled : InputFormat → Placeholders → List Entry → List ℕ → List ℕ → Type 0

@@ -2,5 +2,8 @@ pub mod ChangeLemmas
 pub mod EditLemmas
 mod FillerLemmas
 pub mod ListedLemmas
+mod PlaceholderLemmas
 pub mod RefusalLemmas
-pub mod WalkLemmas
+mod SpliceLemmas
+pub mod StaysLemmas
+pub mod RefusedLemmas

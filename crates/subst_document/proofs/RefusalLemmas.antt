@@ -33,11 +33,10 @@ pub pushed_step : (kept : List steps.PathStep) (step : steps.PathStep)
     → reverse (map step_of (kept ++ step ∷ [])) ≡ step_of step ∷ reverse (map step_of kept)
 pushed_step kept step = search (rules, map-append, step_of, reverse-append)
 
--- what holds of each refusal of a list, holds of what they are of
-pub holds_of_all : {X : Type 0} (f : X → Refusal) (P : Refusal → Type 0) (found : List Refusal) (xs : List X)
-    → map f xs ≡ found → AllByRecursion P found → All (λ x. P (f x)) xs
-holds_of_all {X} f P found xs same h =
-    All-from_recursion (λ x. P (f x)) xs (each xs (subst (AllByRecursion P) (sym same) h))
+-- what holds of what each element of a list is made, holds of each
+pub holds_of_all : {X Y : Type 0} (f : X → Y) (P : Y → Type 0) (xs : List X) → AllByRecursion P (map f xs)
+    → All (λ x. P (f x)) xs
+holds_of_all {X} f P xs h = All-from_recursion (λ x. P (f x)) xs (each xs h)
   where
     each : (xs : List X) → AllByRecursion P (map f xs) → AllByRecursion (λ x. P (f x)) xs
     each [] h = tt

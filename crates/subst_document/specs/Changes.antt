@@ -1,10 +1,16 @@
 -- What the values of a tree become.
-use Rattle.std.specs.Prelude.{◌≡◌, ⊤, ℕ, suc, List, [], ◌∷◌, ◌++◌, replicate, string_bytes}
+use Rattle.std.specs.Prelude.{◌≡◌, ⊤, ℕ, suc, Bool, true, false, List, [], ◌∷◌, ◌++◌, replicate, string_bytes}
 use Rattle.std.specs.Vec.Iter.{into_iter_items}
 use Rattle.subst_document.specs.declared.changes.Change.{Change, Kept, Text, Inside', out-Change}
 use Rattle.subst_document.specs.declared.changes.Change.TheOpen.{Change-F}
 use Rattle.subst_document.specs.declared.changes.Found.{Found}
 use Rattle.subst_document.specs.declared.changes.Left.{Left}
+
+-- whether a value becomes another one by this change
+abbrev pub is_other : Change → Bool
+is_other (Kept n) = false
+is_other (Text x) = true
+is_other (Inside' shape all) = true
 
 -- the change of one value alone
 abbrev pub one : Change → Change
@@ -58,6 +64,14 @@ AreMade Made _ changes _ = ⊥
 -- the second list of changes has more at its end, by which values stay
 abbrev pub IsUpToKept : List Change → List Change → Type 0
 IsUpToKept changes all = (n : ℕ) × (all ≡ changes ++ replicate n (Kept 0))
+
+-- whether some value becomes another one by what was found
+abbrev any_other : List Change → Bool
+any_other [] = false
+any_other (change ∷ changes) = true
+
+abbrev pub has_other : Found → Bool
+has_other found = any_other found.changes.items
 
 -- the changes that were found so far, and those that are left
 abbrev pub found_so_far : Found → List Change

@@ -2,6 +2,9 @@ pub mod Changes
 pub mod Edits
 pub mod Paths
 pub mod Pieces
+pub mod Plain
 pub mod Refused
 pub mod Report
+pub mod Splice
+pub mod Stays
 pub mod Texts

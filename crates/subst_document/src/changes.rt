@@ -1,12 +1,13 @@
 //! What the values of a tree become: a walk over the borrowed tree finds it, and a second one moves the texts
 //! in. So memory is taken for what changes alone, and before anything has changed.
 
-ghost use Rattle.std.specs.Prelude.{◌≡◌, ◌<◌, ◌+◌, ◌^◌, ◌++◌, ◌∷◌, [], IfOk, OnOk, length};
+ghost use Rattle.std.specs.Prelude.{◌≡◌, ◌<◌, ◌+◌, ◌^◌, ◌++◌, ◌∷◌, ◌||◌, [], false, IfOk, IsTrue, OnOk, length};
 ghost use Rattle.subst_error.specs.ErrorFault.{error_fault};
 ghost use Rattle.subst_language.specs.Calls.Outcome.{OnFault};
 ghost use Rattle.subst_language.specs.Language.Answer.{Refuses};
 ghost use Rattle.subst_language.specs.Language.Several.{GivesBy};
-ghost use Rattle.subst_document.specs.Changes.{text_after, inside, slots, one, found_so_far, left_of, next_of, rest_of, IsUpToKept};
+ghost use Rattle.subst_document.specs.Changes.{text_after, inside, slots, one, is_other, has_other, found_so_far, left_of, next_of, rest_of, IsUpToKept};
+ghost use Rattle.subst_document.specs.Stays.{BecomesOther};
 ghost use Rattle.subst_document.specs.Texts.{HasRange};
 
 use crate::{Fill, changed};
@@ -33,6 +34,8 @@ pub enum Change {
 pub fn change_of_text<F: Fill>(alloc: Global, text: &str, filler: &F) -> Result<Change, Error>
     ensures ok { IfOk result
         (λ change. GivesBy (F.answers filler.now) text.now (text_after text.now change)) }
+    ensures other { IfOk result (λ change. IsTrue (is_other change)
+        → BecomesOther (GivesBy (F.answers filler.now)) text.now) }
     ensures err { OnFault error_fault result (λ f. F.answers filler.now text.now (Refuses f)) }
     ensures range { OnFault error_fault result HasRange }
 {
@@ -53,7 +56,8 @@ pub struct Found {
 impl Found {
     /// Returns those of no values.
     pub fn new(alloc: Global) -> Found
-        ensures { found_so_far result ≡ [] }
+        ensures none { found_so_far result ≡ [] }
+        ensures other { has_other result ≡ false }
     {
         Found {
             changes: Vec::new(alloc),
@@ -68,8 +72,10 @@ impl Found {
     /// When allocation fails, and for nothing else.
     pub fn add(&mut self, change: Change) -> Result<(), AllocError>
         requires { length (found_so_far self.old) + 1 < 2 ^ 64 }
-        ensures { OnOk result
+        ensures found { OnOk result
             (found_so_far self.new ≡ found_so_far self.old ++ one change ∷ []) }
+        ensures other { OnOk result
+            (has_other self.new ≡ (has_other self.old || is_other change)) }
     {
         if let Change::Kept(_) = change {
             self.kept += 1;
@@ -98,7 +104,8 @@ impl Found {
 
     /// Returns what the value becomes that these are inside of.
     pub fn into_change(self) -> Change
-        ensures { IsUpToKept (inside result) (found_so_far self) }
+        ensures kept { IsUpToKept (inside result) (found_so_far self) }
+        ensures other { is_other result ≡ has_other self }
     {
         if self.changes.is_empty() {
             return Change::Kept(0);

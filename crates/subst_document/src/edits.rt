@@ -5,11 +5,12 @@ ghost use Rattle.subst_error.specs.ErrorFault.{error_fault};
 ghost use Rattle.subst_language.specs.Calls.Outcome.{OnFault};
 ghost use Rattle.subst_language.specs.Language.Answer.{Refuses};
 ghost use Rattle.subst_language.specs.Language.Several.{GivesBy};
-ghost use Rattle.subst_document.specs.Edits.{IsChanged, IsFilledUpTo, AreSpelled};
+ghost use Rattle.subst_document.specs.Edits.{IsChanged, IsPassed, AreSpelled};
 ghost use Rattle.subst_error.specs.Range.{IsRangeIn};
 ghost use Rattle.subst_document.specs.Texts.{HasRange};
 
 use crate::Fill;
+use crate::splice::{Change, Content, Part, new_token};
 use std::alloc::{AllocError, Global};
 use std::ops::Range;
 use subst_error::Error;
@@ -41,16 +42,65 @@ pub trait StringFormat {
     // Whether a part of a text spells the string.
     ghost is_token: { List ℕ → List ℕ → Type 0 };
 
-    // How the string is written.
-    ghost written: { List ℕ → List ℕ };
+    // Whether a token has a piece that is read as a part of its string.
+    ghost is_part: { List ℕ → List ℕ → List ℕ → Type 0 };
+
+    // Whether a value fits into the kind of a token.
+    ghost is_fit: { List ℕ → List ℕ → Type 0 };
 
     /// Returns whether a part of a text spells a string.
     fn spells(&mut self, alloc: Global, token: &str, text: &str) -> Result<bool, AllocError>
         ensures { IfOk result (λ is. IsTrue is → is_token token.now text.now) };
 
-    /// Returns how a string is written.
-    fn write(&mut self, alloc: Global, value: String) -> Result<String, AllocError>
-        ensures { IfOk result (λ token. string_bytes token ≡ written (string_bytes value)) };
+    /// Returns whether a piece of a token is read as this part of its string.
+    fn spells_part(
+        &mut self,
+        alloc: Global,
+        token: &str,
+        piece: &str,
+        part: &str,
+    ) -> Result<bool, AllocError>
+        ensures { IfOk result (λ is. IsTrue is → is_part token.now piece.now part.now) };
+
+    /// Returns whether a value fits into the kind of a token.
+    fn fits(&self, token: &str, value: &str) -> bool
+        ensures { is_fit token.now value.now → IsTrue result };
+
+    /// Returns where the content of a token is, and where these parts of its string are spelled, or `None` if
+    /// one isn't found.
+    fn content(
+        &mut self,
+        alloc: Global,
+        token: &str,
+        text: &str,
+        parts: &[Range<usize>],
+    ) -> Result<Option<Content>, AllocError>;
+
+    /// Appends a value as it is spelled in the kind of a token, or returns `false` if it can't be.
+    fn write_value(
+        &mut self,
+        alloc: Global,
+        token: &str,
+        value: &str,
+        output: &mut String,
+    ) -> Result<bool, AllocError>
+        ensures { IfOk result (λ is. IsTrue is → (spelled : List ℕ)
+            × (string_bytes output.new ≡ string_bytes output.old ++ spelled)) };
+
+    /// Appends a line end that is no part of the string after the opening quotes of a token, or returns `false` if
+    /// the format has none.
+    fn write_line_end(&mut self, output: &mut String) -> Result<bool, AllocError>
+        ensures { IfOk result (λ is. IsTrue is → (spelled : List ℕ)
+            × (string_bytes output.new ≡ string_bytes output.old ++ spelled)) };
+
+    /// Returns a token of the string that these parts make, in place of an old token, of a kind that takes
+    /// every value.
+    fn write(
+        &mut self,
+        alloc: Global,
+        token: &str,
+        parts: &[Part<'_>],
+    ) -> Result<String, AllocError>;
 }
 
 /// A text that is cut round a part of it.
@@ -102,9 +152,20 @@ pub fn changed<F: Fill>(alloc: Global, text: &str, filler: &F) -> Result<Option<
     }
 }
 
-/// Fills in a string of a text whose rest begins before it, at `token` in bytes of that rest: appends to
-/// `output` what stands before the string and what it becomes, and returns the rest after it. A string that
-/// becomes itself stays in the rest. It is `None` where `token` doesn't spell the string.
+/// The outcome of filling in a string of a text.
+#[derive(Clone, Copy)]
+pub enum Passed<'t> {
+    /// It becomes itself, and is still in the rest.
+    Stays,
+    /// It became another one, and this is the rest after it.
+    Changed(&'t str),
+    /// It becomes another one, and isn't where it should be.
+    NotFound,
+}
+
+/// Fills in a string of a text whose rest begins before it, at `token` in bytes of that rest: if it becomes
+/// another one, appends to `output` what stands before the string and what it becomes. It isn't found if
+/// `token` doesn't spell it.
 ///
 /// # Errors
 ///
@@ -117,45 +178,45 @@ pub fn fill_in_string<'t, S: StringFormat, F: Fill>(
     format: &mut S,
     filler: &F,
     output: &mut String,
-) -> Result<Option<&'t str>, Error>
-    ensures filled { IfOk result (λ left. IfSome left
-        (λ left. IsFilledUpTo S.is_token S.written (GivesBy (F.answers filler.now))
-        (text.now ∷ []) rest.now left.now (string_bytes output.old) (string_bytes output.new))) }
+) -> Result<Passed<'t>, Error>
+    ensures passed { IfOk result (λ passed. IsPassed S.is_token S.is_part S.is_fit
+        (GivesBy (F.answers filler.now)) text.now rest.now (string_bytes output.old)
+        (string_bytes output.new) passed) }
     ensures err { OnFault error_fault result (λ f. F.answers filler.now text.now (Refuses f)) }
     ensures range { OnFault error_fault result HasRange }
 {
     let Some(value) = changed(alloc, text, filler)? else {
-        return Ok(Some(rest));
+        return Ok(Passed::Stays);
     };
     let Some(cut) = cut_round(rest, token) else {
-        return Ok(None);
+        return Ok(Passed::NotFound);
     };
     if !format.spells(alloc, cut.token, text)? {
-        return Ok(None);
+        return Ok(Passed::NotFound);
     }
-    write_value(alloc, cut, value, format, output)?;
-    Ok(Some(cut.rest))
+    let change = Change {
+        token: cut.token,
+        text,
+        value: value.as_str(),
+    };
+    let Some(token) = new_token(alloc, change, format, filler)? else {
+        return Ok(Passed::NotFound);
+    };
+    push_both(output, cut.before, token.as_str())?;
+    Ok(Passed::Changed(cut.rest))
 }
 
-/// Appends what stands before a string, and what it becomes.
+/// Appends two texts.
 ///
 /// # Errors
 ///
 /// When allocation fails, and for nothing else.
-fn write_value<S: StringFormat>(
-    alloc: Global,
-    cut: Cut<'_>,
-    value: String,
-    format: &mut S,
-    output: &mut String,
-) -> Result<(), AllocError>
-    ensures { OnOk result (string_bytes output.new
-        ≡ string_bytes output.old
-        ++ (cut.entry.before.now ++ S.written (string_bytes value))) }
+fn push_both(output: &mut String, before: &str, token: &str) -> Result<(), AllocError>
+    ensures { OnOk result
+        (string_bytes output.new ≡ string_bytes output.old ++ (before.now ++ token.now)) }
 {
-    let written = format.write(alloc, value)?;
-    output.push_str(cut.before)?;
-    output.push_str(written.as_str())
+    output.push_str(before)?;
+    output.push_str(token)
 }
 
 /// Returns a string of `source` with where it stands, or `None` where `span` doesn't spell it, or begins

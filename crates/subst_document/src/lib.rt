@@ -17,13 +17,17 @@ ghost use Rattle.subst_document.specs.Texts.{HasRange};
 
 pub use changes::{Change, Found, Left, change_of_text};
 pub use edits::{
-    Cut, RefusalAt, StringAt, StringFormat, changed, cut_round, fill_in_string, slice, string_at,
+    Cut, Passed, RefusalAt, StringAt, StringFormat, changed, cut_round, fill_in_string, slice,
+    string_at,
 };
 pub use path_step::PathStep;
 pub use pieces::{Pieces, Position, spans};
+pub use plain::{Plain, with_plain};
+pub use refused::{Paths, refusals};
+pub use splice::{Content, Part};
 use std::alloc::{AllocError, Global};
 use std::convert::AsStr;
-pub use strings::{ListedStrings, Spelled, Strings, are_spelled, filled_in, listed};
+pub use strings::{Filled, ListedStrings, Spelled, Strings, are_spelled, filled_in, listed};
 use subst_error::Error;
 use subst_language::VariableMap;
 use subst_template::{is_plain, substitute};
@@ -32,7 +36,11 @@ mod changes;
 mod edits;
 mod path_step;
 mod pieces;
+mod placeholder;
+mod plain;
+mod refused;
 pub mod report;
+mod splice;
 mod strings;
 
 /// A way to fill in texts.

@@ -15,7 +15,7 @@ use std::ops::Range;
 use subst_error::{Error, line_and_column, underline};
 
 /// How a format reports a refused string.
-pub trait Reports {
+pub trait ReportFormat {
     /// A string of a document that is refused.
     type Refusal: Drop;
 
@@ -46,7 +46,7 @@ pub trait Reports {
 /// # Errors
 ///
 /// When allocation fails, and for nothing else.
-pub fn refusals<R: Reports>(
+pub fn refusals<R: ReportFormat>(
     alloc: Global,
     file: &str,
     source: &str,
@@ -67,7 +67,7 @@ pub fn refusals<R: Reports>(
 }
 
 /// Returns the reports of refused strings, one after the other.
-fn each_refusal<R: Reports>(
+fn each_refusal<R: ReportFormat>(
     alloc: Global,
     file: &str,
     source: &str,

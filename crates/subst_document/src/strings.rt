@@ -5,10 +5,11 @@ ghost use Rattle.subst_error.specs.ErrorFault.{error_fault};
 ghost use Rattle.subst_language.specs.Calls.Outcome.{OnFault};
 ghost use Rattle.subst_language.specs.Language.Several.{GivesBy, RefusesFirst};
 ghost use Rattle.subst_document.specs.Edits.{text_at, AreSpelled, IsFilledText};
+ghost use Rattle.subst_document.specs.Stays.{SomeChanges, TellsChange};
 ghost use Rattle.subst_document.specs.Texts.{HasRange};
 
 use crate::Fill;
-use crate::edits::{StringAt, StringFormat, fill_in_string, slice, string_at};
+use crate::edits::{Passed, StringAt, StringFormat, fill_in_string, slice, string_at};
 use std::alloc::{AllocError, Global};
 use subst_error::Error;
 
@@ -55,6 +56,15 @@ impl<'t> Strings<'t> for ListedStrings<'t> {
     }
 }
 
+/// A text whose strings are filled in.
+#[derive(Debug, Drop)]
+pub struct Filled {
+    /// The text.
+    pub text: String,
+    /// Whether some string became another one. If none did, the text is as it was.
+    pub is_changed: bool,
+}
+
 /// Returns a text with its strings filled in, or `None` where one isn't found in it.
 ///
 /// # Errors
@@ -66,27 +76,38 @@ pub fn filled_in<'t, S: Strings<'t>, T: StringFormat, F: Fill>(
     strings: &mut S,
     format: &mut T,
     filler: &F,
-) -> Result<Option<String>, Error>
-    ensures ok { IfOk result (λ output. IfSome output (λ output.
-        IsFilledText T.is_token T.written (GivesBy (F.answers filler.now)) (S.left strings.old)
-        source.now (string_bytes output))) }
+) -> Result<Option<Filled>, Error>
+    ensures ok { IfOk result (λ filled. IfSome filled (λ filled.
+        IsFilledText T.is_token T.is_part T.is_fit (GivesBy (F.answers filler.now))
+        (S.left strings.old) source.now (string_bytes filled.text))) }
+    ensures changed { IfOk result (λ filled. MatchOption filled
+        (SomeChanges (GivesBy (F.answers filler.now)) (S.left strings.old))
+        (λ filled. TellsChange (GivesBy (F.answers filler.now)) (S.left strings.old) source.now
+        (string_bytes filled.text) filled.is_changed)) }
     ensures err { OnFault error_fault result
         (RefusesFirst (F.answers filler.now) (S.left strings.old)) }
     ensures range { OnFault error_fault result HasRange }
 {
     let mut output = String::with_capacity(alloc, source.len())?;
     let mut rest = source;
+    let mut is_changed = false;
     while let Some(it) = strings.next() {
         let passed = source.len().saturating_sub(rest.len());
         let token = it.start.saturating_sub(passed)..it.end.saturating_sub(passed);
-        let left = fill_in_string(alloc, rest, &token, it.text, format, filler, &mut output)?;
-        let Some(left) = left else {
-            return Ok(None);
-        };
-        rest = left;
+        match fill_in_string(alloc, rest, &token, it.text, format, filler, &mut output)? {
+            Passed::Stays => {}
+            Passed::Changed(left) => {
+                rest = left;
+                is_changed = true;
+            }
+            Passed::NotFound => return Ok(None),
+        }
     }
     output.push_str(rest)?;
-    Ok(Some(output))
+    Ok(Some(Filled {
+        text: output,
+        is_changed,
+    }))
 }
 
 /// Returns the strings as a list, or `None` where one isn't spelled where it stands, after the one before it.

@@ -1,5 +1,5 @@
 -- Tokens that are filled in, and the trees that they are read as.
-use Rattle.std.proofs.Common.{◌≡◌, ℕ, suc, ◌≤◌, max, List, [], ◌∷◌, ◌++◌, Option, Some, None, Ordering, Less, Equal, Greater, option_map, option_and_then, refl, sym, ap, ap₂, ◌∙◌, subst, arith, append_assoc}
+use Rattle.std.proofs.Common.{◌≡◌, ℕ, suc, ◌≤◌, max, List, [], ◌∷◌, ◌++◌, Option, Some, None, Ordering, Less, Equal, Greater, option_map, option_and_then, refl, sym, ap, ap₂, ◌∙◌, subst, arith, append_assoc, append-nil}
 use Rattle.std.specs.Cmp.Lexicographic.{slice_cmp}
 use Rattle.std.specs.Ordering.{match_ordering, nat_cmp}
 use Rattle.json.specs.Json as json
@@ -7,13 +7,12 @@ use Rattle.json.specs.Lex.{tokens}
 use Rattle.json.specs.Token.{Token}
 use Rattle.json.specs.Tree as tree
 use Rattle.json.specs.Tree.{json_tokens, items_tokens, members_tokens}
-use Rattle.json.proofs.Nesting.{value-depth}
 use Rattle.json.proofs.Printed.Trees.{value-json_tokens}
-use Rattle.json.proofs.Unique.Spelling.{value-json_tokens_back}
 use Rattle.serde_json.specs.Data.{Data, null, boolean, number, string, array, object, Items, no_items, item, Members, no_members, member, put}
 use Rattle.serde_json.specs.Read.{of_json, of_items, of_members, max_depth, read}
 use Rattle.subst_json.specs.Filled.{AreFilled}
 use Rattle.subst_json.specs.Mapped.{IsEach, AreEach, HasEachMember}
+use Rattle.subst_json.specs.Nesting.{AreOfValue}
 use Rattle.subst_json.specs.Outcome.{ReadsAsTree}
 use Rattle.subst_json.specs.Places.{IsTokenOf}
 
@@ -37,7 +36,7 @@ by_order Becomes Equal a b c d e f p q r = q
 by_order Becomes Greater a b c d e f p q r = r
 
 -- members that are filled in stay so with one more of them
-put_each : (Becomes : List ℕ → List ℕ → Type 0) (k : List ℕ) (d e : Data) (ms ns : Members)
+pub put_each : (Becomes : List ℕ → List ℕ → Type 0) (k : List ℕ) (d e : Data) (ms ns : Members)
     → IsEach Becomes d e → HasEachMember Becomes ms ns
     → HasEachMember Becomes (put k d ms) (put k e ns)
 put_each Becomes k d e no_members no_members p h = (refl, p, tt)
@@ -90,12 +89,6 @@ record FilledMembers (Becomes : List ℕ → List ℕ → Type 0) (ms : json.Mem
   reads_filled : of_members filled found_filled ≡ Some after
   each : HasEachMember Becomes before after
   rest_filled : AreFilled Becomes rest more
-
--- a value that the reader passes is one that it reads
-passed : (o : Option (json.Json × List Token)) (rest : List Token) → option_map (λ p. p.1) o ≡ Some rest
-    → (j : json.Json) × (o ≡ Some (j, rest))
-passed None rest e = absurd cc
-passed (Some (j, ts)) rest e = let same : ts ≡ rest = cc in (j, ap (λ r. Some (j, r)) same)
 
 module _ (Becomes : List ℕ → List ℕ → Type 0) where
   -- a value of one token
@@ -209,18 +202,23 @@ module _ (Becomes : List ℕ → List ℕ → Type 0) where
         }
 
   -- a text is read, and so is a text whose tokens are those of the first one, filled in
-  pub filled_document : (source output : List ℕ) → json.skip_value max_depth (tokens source) ≡ Some []
+  pub filled_document : (source output : List ℕ) → AreOfValue (tokens source)
       → AreFilled Becomes (tokens source) (tokens output)
       → ReadsAsTree source (λ d. ReadsAsTree output (IsEach Becomes d))
-  filled_document source output e h =
-      let (j, is) = passed (json.value max_depth (tokens source)) [] e in
-      let v = filled_value j [] (tokens output) (subst (λ ts. AreFilled Becomes ts (tokens output))
-      (value-json_tokens_back max_depth (tokens source) [] j is) h) in
-      let nests : tree.depth v.filled ≤ max_depth =
-      subst (λ n. n ≤ max_depth) (sym v.deep) (value-depth max_depth (tokens source) [] j is) in
-      let filled_is = ap (json.value max_depth) (v.is ∙ ap (λ ts. json_tokens v.filled ++ ts) v.rest_filled)
-      ∙ value-json_tokens v.filled max_depth [] nests in (
+  filled_document source output (j, is, nests) h =
+      let alone : tokens source ≡ json_tokens j ++ [] = is ∙ sym (append-nil (json_tokens j)) in
+      let v = filled_value j [] (tokens output) (subst (λ ts. AreFilled Becomes ts (tokens output)) alone h) in
+      let filled_nests : tree.depth v.filled ≤ max_depth = omega (arith, v.deep) in
+      let filled_alone : tokens output ≡ json_tokens v.filled ++ [] =
+      v.is ∙ ap (λ ts. json_tokens v.filled ++ ts) v.rest_filled in (
         v.before,
-        read_as source j v.before is v.reads,
-        (v.after, read_as output v.filled v.after filled_is v.reads_filled, v.each),
+        read_as source j v.before
+            (ap (json.value max_depth) alone ∙ value-json_tokens j max_depth [] nests) v.reads,
+        (
+          v.after,
+          read_as output v.filled v.after
+              (ap (json.value max_depth) filled_alone ∙ value-json_tokens v.filled max_depth [] filled_nests)
+              v.reads_filled,
+          v.each,
+        ),
       )

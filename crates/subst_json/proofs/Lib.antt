@@ -4,8 +4,10 @@ pub mod FindLemmas
 pub mod JsonTreeLemmas
 pub mod ListedLemmas
 pub mod MappedLemmas
+pub mod NestingLemmas
 pub mod NumberLemmas
 pub mod OneOutcomeLemmas
 pub mod PlaceLemmas
 pub mod PointerLemmas
 pub mod ReadingLemmas
+pub mod StaysLemmas

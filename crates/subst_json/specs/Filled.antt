@@ -1,7 +1,6 @@
 -- JSON texts whose strings are filled in where they stand.
 use Rattle.std.specs.Prelude.{◌≡◌, ℕ, List, [], ◌∷◌, ◌++◌, Some}
 use Rattle.json.specs.Lex.{tokens}
-use Rattle.json.specs.Print.{quoted}
 use Rattle.json.specs.Token.{Token, begin_object, end_object, begin_array, end_array, key, string, number, boolean, null, bad}
 use Rattle.serde_json.specs.Data.{Num}
 use Rattle.serde_json.specs.Read.{number_of}
@@ -30,11 +29,15 @@ strings_in (t ∷ ts) = strings_of_token t ++ strings_in ts
 abbrev pub IsStringToken : List ℕ → List ℕ → Type 0
 IsStringToken token x = HasQuotes token × IsTokenOf token x
 
--- The text filled in, where its strings stand: all of its strings that are values, in its order. A new one is
--- `quoted`, as the reader's own values are written.
+-- the piece of a token is read between quotes as this part of its string
+abbrev pub IsPartOf : List ℕ → List ℕ → List ℕ → Type 0
+IsPartOf token piece part = IsTokenOf (34 ∷ piece ++ 34 ∷ []) part
+
+-- The text filled in, where its strings stand: all of its strings that are values, in its order. Every value
+-- fits into a token, with escapes.
 abbrev pub IsFilledJson : (List ℕ → List ℕ → Type 0) → List ℕ → List ℕ → Type 0
 IsFilledJson Becomes source output =
-    IsFilledText IsStringToken quoted Becomes (strings_in (tokens source)) source output
+    IsFilledText IsStringToken IsPartOf (λ _ _. Unit {0}) Becomes (strings_in (tokens source)) source output
 
 -- The second token is the first one; or they are strings, and the first one becomes the second one. A number
 -- is one that the reader takes.

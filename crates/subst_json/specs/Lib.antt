@@ -4,6 +4,7 @@ pub mod Filled
 pub mod Laws
 pub mod Listed
 pub mod Mapped
+pub mod Nesting
 pub mod Outcome
 pub mod Paths
 pub mod Pieces

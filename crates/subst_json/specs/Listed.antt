@@ -1,16 +1,17 @@
 -- The strings of a JSON text that are refused, with their paths and where they stand.
-use Rattle.std.specs.Prelude.{◌≡◌, ℕ, ◌+◌, List, [], ◌∷◌, ◌++◌, Option, drop, map, reverse}
-use Rattle.subst_error.specs.Fault.{Fault}
-use Rattle.std.specs.List.{AllByRecursion}
+use Rattle.std.specs.Prelude.{◌≡◌, ◌⊎◌, ℕ, ◌+◌, List, [], ◌∷◌, ◌++◌, Some, codes, drop, map, reverse}
+use Rattle.std.specs.List.{slice_get}
+use Rattle.json.specs.Lex.{tokens}
 use Rattle.json.specs.Token.{Token, begin_object, end_object, begin_array, end_array, key, string, number, boolean, null, bad}
 use Rattle.subst_language.specs.Language.Answer.{Answer}
-use Rattle.subst_document.specs.Edits.{AreSpelled}
-use Rattle.subst_document.specs.Paths.{PathStep, Key, Index, Located, Refusal, AreRefusals}
-use Rattle.subst_document.specs.Refused.{HasRangeInText}
+use Rattle.subst_document.specs.Edits.{text_at, AreSpelled}
+use Rattle.subst_document.specs.Paths.{PathStep, Key, Index, Located, Refusal}
+use Rattle.subst_document.specs.Plain.{with_plain}
+use Rattle.subst_document.specs.Refused.{AreRefusedOf}
 use Rattle.subst_document.specs.Refused as refused
 use Rattle.subst_document.specs.declared.edits.StringAt.{StringAt}
 use Rattle.subst_document.specs.declared.edits.RefusalAt as found
-use Rattle.subst_json.specs.Filled.{strings_of_token, IsStringToken}
+use Rattle.subst_json.specs.Filled.{strings_of_token, strings_in, IsStringToken}
 use Rattle.subst_json.specs.Paths.{steps_of}
 use Rattle.subst_json.specs.declared.path.Path.{Path}
 
@@ -39,10 +40,6 @@ past_token bad path = past_value path
 abbrev pub located : List PathStep → List ℕ → Located
 located path s = record { path = path; text = s }
 
--- the refusal for this fault
-abbrev pub refusal_of : List PathStep → List ℕ → Option Fault → Refusal
-refusal_of path s fault = record { path = path; text = s; fault = fault }
-
 -- the string that a token is, where it is one, with its path
 abbrev pub located_at : List PathStep → Token → List Located
 located_at path t = map (located (reverse path)) (strings_of_token t)
@@ -63,13 +60,47 @@ refusal_at = refused.refusal_at steps_of
 abbrev pub string_of : RefusalAt → StringAt
 string_of it = record { text = it.text; span = it.span }
 
--- What was appended to a list are the refusals of these strings, each spelled where it stands in a text from
--- one position up to another one: whatever are spelled after it.
-abbrev pub AreListedRefusals : (List ℕ → Answer → Type 0) → (source : List ℕ) → ℕ → ℕ → List Located
-    → (old : List RefusalAt) → (new : List RefusalAt) → Type 0
-AreListedRefusals ask source from next strings old new =
-    (items : List RefusalAt) × (new ≡ old ++ items)
-    × AreRefusals ask strings (map refusal_at items)
-    × ((more : List StringAt) → AreSpelled IsStringToken source next more
-    → AreSpelled IsStringToken source from (map string_of items ++ more))
-    × AllByRecursion HasRangeInText (map refusal_at items)
+-- a token of a text that has `null` in place of each string
+abbrev pub plain_token : Token → Token
+plain_token (string s) = null
+plain_token begin_object = begin_object
+plain_token end_object = end_object
+plain_token begin_array = begin_array
+plain_token end_array = end_array
+plain_token (key s) = key s
+plain_token (number s) = number s
+plain_token (boolean b) = boolean b
+plain_token null = null
+plain_token bad = bad
+
+-- The spans of these strings are those of the text's strings, and of nothing else: with `null` in place of the
+-- spans the text has its tokens, with `null` for each string.
+abbrev pub AreApart : (source : List ℕ) → List StringAt → Type 0
+AreApart source list =
+    tokens (with_plain (λ _. codes "null") source 0 0 list) ≡ map plain_token (tokens source)
+
+-- These are all strings of the text, each where it stands.
+pub record IsListing (source : List ℕ) (list : List StringAt) : Type 0 where
+  pub all : map text_at list ≡ strings_in (tokens source)
+  pub spelled : AreSpelled IsStringToken source 0 list
+  pub apart : AreApart source list
+
+-- the path leads to the string of this index
+abbrev pub IsPathTo : (source : List ℕ) → ℕ → Path → Type 0
+IsPathTo source index path =
+    slice_get (map (λ it. it.path) (located_in [] (tokens source))) index ≡ Some (steps_of path)
+
+-- After these strings, of which the first one has this index and these steps, the same refusals are still to
+-- come; or their first one is the first string, and its path was appended to those that were found.
+abbrev pub IsSeen : List PathStep → List (List ℕ) → ℕ → (rest left : List (found.RefusalAt ℕ))
+    → (paths with : List Path) → Type 0
+IsSeen steps strings index rest left paths with =
+    ((left ≡ rest) × (with ≡ paths))
+    ⊎ ((x : List ℕ) × (it : found.RefusalAt ℕ) × (path : Path) × (strings ≡ x ∷ []) × (it.path ≡ index)
+    × (rest ≡ it ∷ left) × (with ≡ paths ++ path ∷ []) × (steps_of path ≡ steps))
+
+-- These are the refused strings of the text, in its order, each where it stands. Its path is that of the string
+-- of the same index. Each other string gives bytes.
+abbrev pub AreRefused : (List ℕ → Answer → Type 0) → (source : List ℕ) → List RefusalAt → Type 0
+AreRefused ask source all =
+    (list : List StringAt) × IsListing source list × AreRefusedOf ask (IsPathTo source) 0 list all

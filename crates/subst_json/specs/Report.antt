@@ -1,16 +1,12 @@
 -- What is reported of a JSON text.
-use Rattle.std.specs.Prelude.{◌≡◌, ⊤, ℕ, List, [], Option, None, MatchOption, map}
+use Rattle.std.specs.Prelude.{◌≡◌, ⊤, ℕ, List, Option, None, MatchOption}
 use Rattle.std.specs.declared.ops.Range.{Range}
-use Rattle.json.specs.Lex.{tokens}
 use Rattle.serde_json.specs.Read.{read}
 use Rattle.subst_error.specs.ErrorFault.{error_fault}
 use Rattle.subst_error.specs.Range.{IsRangeIn}
 use Rattle.subst_language.specs.Language.Answer.{Answer}
-use Rattle.subst_document.specs.Edits.{AreSpelled}
-use Rattle.subst_document.specs.Paths.{AreRefusals}
 use Rattle.subst_document.specs.Refused.{HasRangeInText}
-use Rattle.subst_json.specs.Filled.{IsStringToken}
-use Rattle.subst_json.specs.Listed.{located_in, refusal_at, string_of, RefusalAt}
+use Rattle.subst_json.specs.Listed.{refusal_at, AreRefused, RefusalAt}
 use Rattle.subst_json.specs.Outcome.{ReadsAsTree}
 use Rattle.subst_json.specs.Paths.{steps_of}
 use Rattle.subst_json.specs.Places.{IsPlaceIn}
@@ -18,13 +14,6 @@ use Rattle.subst_json.specs.Pointer.{pointer_text}
 use Rattle.subst_json.specs.declared.error.Error.{Error}
 use Rattle.subst_json.specs.declared.error.Error.TheVariants.{Json, Subst, OutOfMemory}
 use Rattle.subst_document.specs.Report.{lines_of, ReportsAll, ReportsFault}
-
--- These are the strings of the text that are refused, in its order, each where it stands. Each other string
--- gives bytes.
-abbrev pub AreRefused : (List ℕ → Answer → Type 0) → List ℕ → List RefusalAt → Type 0
-AreRefused ask s all =
-    AreRefusals ask (located_in [] (tokens s)) (map refusal_at all)
-    × AreSpelled IsStringToken s 0 (map string_of all)
 
 -- the range of its fault is in its string
 abbrev pub HasRange : RefusalAt → Type 0

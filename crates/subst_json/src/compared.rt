@@ -8,25 +8,29 @@ ghost use Rattle.fast_float.specs.Text.{scan};
 ghost use Rattle.serde_json.specs.Read.{number_of, number_from};
 ghost use Rattle.subst_language.specs.Language.Several.{GivesBy};
 ghost use Rattle.subst_json.specs.Filled.{AreFilled, IsFilledToken};
+ghost use Rattle.subst_json.specs.Nesting.{AreOfValue};
 
+use crate::nesting::Nesting;
 use fast_float::Numeral;
 use json::{Reader, Scratch, Token};
 use std::alloc::{AllocError, Global};
 use subst_document::{Fill, changed};
 use subst_error::Error;
 
-/// Returns whether the tokens of `output` are those of `source`, with each string filled in, and each number
-/// is one that the reader takes.
+/// Returns whether `source` is one value, which nests no deeper than the reader of trees allows, and the tokens
+/// of `output` are those of `source`, with each string filled in, and each number is one that the reader takes.
 pub(crate) fn is_filled<F: Fill>(
     alloc: Global,
     source: &str,
     output: &str,
     filler: &F,
 ) -> Result<bool, AllocError>
-    ensures { IfOk result (λ is. IsTrue is
+    ensures value { IfOk result (λ is. IsTrue is → AreOfValue (tokens source.now)) }
+    ensures filled { IfOk result (λ is. IsTrue is
         → AreFilled (GivesBy (F.answers filler.now)) (tokens source.now)
         (tokens output.now)) }
 {
+    let mut nesting = Nesting::new(alloc);
     let mut scratch = Scratch::new(alloc);
     let mut scratch_of_output = Scratch::new(alloc);
     let mut reader = Reader::new(source, &mut scratch)?;
@@ -35,11 +39,11 @@ pub(crate) fn is_filled<F: Fill>(
         let Some(filled) = reader_of_output.next() else {
             return Ok(false);
         };
-        if !is_filled_token(alloc, token, filled, filler)? {
+        if !nesting.takes(token)? || !is_filled_token(alloc, token, filled, filler)? {
             return Ok(false);
         }
     }
-    Ok(reader_of_output.next().is_none())
+    Ok(nesting.is_at_end() && reader_of_output.next().is_none())
 }
 
 /// Returns whether a token is another one, filled in.
@@ -76,7 +80,7 @@ fn gives<F: Fill>(alloc: Global, text: &str, value: &str, filler: &F) -> Result<
 }
 
 /// Returns whether two tokens are the same, and no strings. A number has to be one that the reader takes.
-fn is_same(token: Token<'_>, other: Token<'_>) -> bool
+pub(crate) fn is_same(token: Token<'_>, other: Token<'_>) -> bool
     ensures { IsTrue result
         → IsFilledToken (λ _ _. ⊥) (token_of token.entry) (token_of other.entry) }
 {

@@ -1,13 +1,13 @@
 //! JSON texts whose strings are filled in where they stand: each other byte stays.
 
-ghost use Rattle.std.specs.Prelude.{◌≡◌, ⊤, [], IfErr, IfOk, IfSome, IsTrue, IsUtf8, None, OnOk, Some, string_bytes};
-ghost use Rattle.json.specs.Json.{skip_value};
+ghost use Rattle.std.specs.Prelude.{◌≡◌, ⊤, IfErr, IfNone, IfOk, IfSome, IsUtf8, None, OnOk, Some, string_bytes};
 ghost use Rattle.json.specs.Lex.{tokens};
 ghost use Rattle.serde_json.specs.Errors.{IsOfText};
-ghost use Rattle.serde_json.specs.Read.{max_depth, read};
+ghost use Rattle.serde_json.specs.Read.{read};
 ghost use Rattle.subst_error.specs.ErrorFault.{error_fault};
 ghost use Rattle.subst_language.specs.Calls.Clauses.{AnswersText};
 ghost use Rattle.subst_language.specs.Language.Several.{GivesBy, RefusesFirst};
+ghost use Rattle.subst_document.specs.Stays.{SomeChanges};
 ghost use Rattle.subst_document.specs.Texts.{HasRange};
 ghost use Rattle.subst_json.specs.Errors.{HasOwnMemory};
 ghost use Rattle.subst_json.specs.Filled.{strings_in, IsFilledJson};
@@ -17,21 +17,17 @@ ghost use Rattle.subst_json.specs.Outcome.{ReadsAsTree, IfJson, OnJson, OnSubst}
 use crate::Error;
 use crate::compared::is_filled;
 use crate::tokens::filled_in;
-use json::{Reader, Scratch};
 use serde_json::Value;
-use std::alloc::{AllocError, Global};
+use std::alloc::Global;
 use std::convert::AsStr;
 use std::str::from_utf8;
 use subst_document::{Fill, Filler};
 use subst_language::VariableMap;
 
-/// How deep arrays and objects may nest, as the reader of trees has it.
-const MAX_DEPTH: usize = 127;
-
 /// Returns a JSON text with its strings filled in from `variables`, whose values are texts. Each other byte
 /// stays: white space, keys and their order, equal keys, the form of numbers, and the spelling of each string
-/// that gives itself. A string that changes is written as `serde_json` writes it. Of members with equal keys
-/// the string of each one is filled in.
+/// that gives itself. In a string that changes, all but its placeholders stays as it is spelled. Of members with
+/// equal keys the string of each one is filled in.
 ///
 /// ```rust
 /// let source = r#"{ "$home": "${home:/root}/.config", "scale": 1.50 }"#;
@@ -39,8 +35,8 @@ const MAX_DEPTH: usize = 127;
 /// // Some("{ \"$home\": \"/root/.config\", \"scale\": 1.50 }")
 /// ```
 ///
-/// The output is read and compared with the source before it is returned. It is `None` where it isn't
-/// confirmed so; no text is known for which that happens.
+/// If a string changes, the output is read and compared with the source before it is returned. It is `None`
+/// where it isn't confirmed so; no text is known for which that happens.
 ///
 /// # Errors
 ///
@@ -64,6 +60,11 @@ where
     ensures kept { IfOk result (λ output. IfSome output
         (λ output. IsFilledJson (GivesBy (AnswersText M.Value.text M.see (M.look_up variables.now)))
         source.now (string_bytes output))) }
+
+    // Nothing is returned only where some string changes.
+    ensures unconfirmed { IfOk result (λ output. IfNone output (ReadsAsTree source.now
+        (λ _. SomeChanges (GivesBy (AnswersText M.Value.text M.see (M.look_up variables.now)))
+        (strings_in (tokens source.now))))) }
     ensures json { OnJson result (read source.now ≡ None) }
 
     // What the error says is of a text that is no tree, and not of a type.
@@ -97,6 +98,9 @@ where
     ensures kept { IfOk result (λ output. IfSome output
         (λ output. IsFilledJson (GivesBy (AnswersText M.Value.text M.see (M.look_up variables.now)))
         source.now (string_bytes output))) }
+    ensures unconfirmed { IfOk result (λ output. IfNone output (ReadsAsTree source.now
+        (λ _. SomeChanges (GivesBy (AnswersText M.Value.text M.see (M.look_up variables.now)))
+        (strings_in (tokens source.now))))) }
 
     // The strings are filled in only where the bytes are UTF-8, and one is refused only there.
     ensures utf8 { OnOk result (IsUtf8 source.now) }
@@ -129,6 +133,8 @@ pub fn fill_in_by<F: Fill>(alloc: Global, source: &str, filler: &F) -> Result<Op
         (λ d. ReadsAsTree (string_bytes output) (IsEach (GivesBy (F.answers filler.now)) d)))) }
     ensures kept { IfOk result (λ output. IfSome output (λ output.
         IsFilledJson (GivesBy (F.answers filler.now)) source.now (string_bytes output))) }
+    ensures unconfirmed { IfOk result (λ output. IfNone output (ReadsAsTree source.now
+        (λ _. SomeChanges (GivesBy (F.answers filler.now)) (strings_in (tokens source.now))))) }
     ensures json { OnJson result (read source.now ≡ None) }
     ensures kind { IfJson result IsOfText }
     ensures subst { OnSubst result (λ f. ReadsAsTree source.now
@@ -137,7 +143,8 @@ pub fn fill_in_by<F: Fill>(alloc: Global, source: &str, filler: &F) -> Result<Op
     ensures memory { IfErr result HasOwnMemory }
 {
     match filled_in(alloc, source, filler) {
-        Ok(Some(output)) => confirmed(alloc, source, output, filler),
+        Ok(Some(filled)) if filled.is_changed => confirmed(alloc, source, filled.text, filler),
+        Ok(Some(filled)) => unchanged(alloc, source, filled.text),
         Ok(None) => unconfirmed(alloc, source),
         Err(e) => refused(alloc, source, e),
     }
@@ -155,6 +162,7 @@ fn confirmed<F: Fill>(
     filler: &F,
 ) -> Result<Option<String>, Error>
     ensures same { IfOk result (λ confirmed. IfSome confirmed (λ confirmed. confirmed ≡ output)) }
+    ensures none { IfOk result (λ confirmed. IfNone confirmed (ReadsAsTree source.now (λ _. ⊤))) }
     ensures each { IfOk result (λ output. IfSome output (λ output. ReadsAsTree source.now
         (λ d. ReadsAsTree (string_bytes output) (IsEach (GivesBy (F.answers filler.now)) d)))) }
     ensures json { OnJson result (read source.now ≡ None) }
@@ -162,21 +170,28 @@ fn confirmed<F: Fill>(
     ensures subst { OnSubst result (λ _. ⊥) }
     ensures memory { IfErr result HasOwnMemory }
 {
-    if nests(alloc, source)? && is_filled(alloc, source, output.as_str(), filler)? {
+    if is_filled(alloc, source, output.as_str(), filler)? {
         Ok(Some(output))
     } else {
         unconfirmed(alloc, source)
     }
 }
 
-/// Returns whether the values of a text nest as deep as the reader allows, and it ends after one.
-fn nests(alloc: Global, source: &str) -> Result<bool, AllocError>
-    ensures { IfOk result
-        (λ is. IsTrue is → skip_value max_depth (tokens source.now) ≡ Some []) }
+/// Returns a text in which no string changes, if it is JSON.
+///
+/// # Errors
+///
+/// `Json` where the source isn't JSON. `OutOfMemory` when allocation fails.
+fn unchanged(alloc: Global, source: &str, output: String) -> Result<Option<String>, Error>
+    ensures same { IfOk result
+        (λ confirmed. (confirmed ≡ Some output) × ReadsAsTree source.now (λ _. ⊤)) }
+    ensures json { OnJson result (read source.now ≡ None) }
+    ensures kind { IfJson result IsOfText }
+    ensures subst { OnSubst result (λ _. ⊥) }
+    ensures memory { IfErr result HasOwnMemory }
 {
-    let mut scratch = Scratch::new(alloc);
-    let mut reader = Reader::new(source, &mut scratch)?;
-    Ok(reader.skip_value(MAX_DEPTH).is_ok() && reader.next().is_none())
+    Value::from_str(alloc, source)?;
+    Ok(Some(output))
 }
 
 /// Returns nothing for a text that isn't confirmed.
@@ -185,7 +200,7 @@ fn nests(alloc: Global, source: &str) -> Result<bool, AllocError>
 ///
 /// `Json` where the source isn't JSON. `OutOfMemory` when allocation fails.
 fn unconfirmed(alloc: Global, source: &str) -> Result<Option<String>, Error>
-    ensures none { IfOk result (λ output. output ≡ None) }
+    ensures none { IfOk result (λ output. (output ≡ None) × ReadsAsTree source.now (λ _. ⊤)) }
     ensures json { OnJson result (read source.now ≡ None) }
     ensures kind { IfJson result IsOfText }
     ensures subst { OnSubst result (λ _. ⊥) }

@@ -42,13 +42,16 @@ pub use subst_document::{Fill, Filler, PathStep, StringAt};
 use subst_language::VariableMap;
 use typed::FromTree;
 
+mod apart;
 mod changes;
 mod compared;
 mod document;
 mod error;
 pub mod laws;
 mod listing;
+mod nesting;
 mod path;
+mod paths;
 mod place;
 mod places;
 mod reports;

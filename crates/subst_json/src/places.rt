@@ -128,8 +128,33 @@ pub fn places_in(
     RangeFinder::new(alloc).find(alloc, source, token, ranges)
 }
 
+/// Returns the spans in a token of these ranges of its string, or `None` if one isn't found.
+///
+/// # Errors
+///
+/// That an allocation failed.
+pub(crate) fn spans_of(
+    alloc: Global,
+    format: &mut JsonStrings,
+    token: &str,
+    string: &str,
+    ranges: &[Range<usize>],
+) -> Result<Option<Vec<Range<usize>>>, AllocError> {
+    let first = Position {
+        place: 1,
+        offset: 0,
+    };
+    let whole = Token {
+        source: token,
+        span: &(0..token.len()),
+        string,
+    };
+    let found = spans(alloc, &whole, format, first, ranges)?;
+    Ok(found)
+}
+
 /// Returns whether a text between quotes is read as this string.
-fn reads_as(
+pub(crate) fn reads_as(
     alloc: Global,
     format: &mut JsonStrings,
     text: &str,

@@ -1,15 +1,16 @@
 //! Reports of what is wrong with a JSON text.
 
-ghost use Rattle.std.specs.Prelude.{IfOk, IfSome, string_bytes};
-ghost use Rattle.std.specs.List.{All};
+ghost use Rattle.std.specs.Prelude.{IfOk, string_bytes};
 ghost use Rattle.subst_language.specs.Calls.Clauses.{AnswersText};
-ghost use Rattle.subst_json.specs.Report.{AreRefused, HasRange, Reports, ReportsReader, ReportsRefused};
+ghost use Rattle.subst_json.specs.Report.{HasRange, Reports, ReportsReader, ReportsRefused};
 
-use crate::{Error, RefusalAt, place_in, reader_stop, refusals_in};
+use crate::listing::refusals_of;
+use crate::{Error, RefusalAt, place_in, reader_stop};
 use serde_json::Value;
 use std::alloc::{AllocError, Global};
 use std::convert::AsStr;
-use subst_document::report::{Reports, fault, lines, refusals};
+use subst_document::Filler;
+use subst_document::report::{ReportFormat, fault, lines, refusals};
 use subst_language::VariableMap;
 
 /// Returns what is wrong with `source`, the text of a file, for which a call of this crate returned the
@@ -48,7 +49,7 @@ where
     match e {
         Error::Json(e) => unread(alloc, file, source, e),
         Error::Subst(e) => {
-            let all = all_refused(alloc, source, variables)?;
+            let all = refusals_of(alloc, source, &Filler { variables })?;
             refusals::<JsonReports>(alloc, file, source, all, e)
         }
         Error::OutOfMemory(_) => Err(AllocError),
@@ -58,7 +59,7 @@ where
 /// How a refused string of a JSON text is reported.
 struct JsonReports;
 
-impl Reports for JsonReports {
+impl ReportFormat for JsonReports {
     type Refusal = RefusalAt;
 
     ghost has_range = { HasRange };
@@ -75,30 +76,6 @@ impl Reports for JsonReports {
         let place = place_in(alloc, source, token, it.error.source_range())?;
         let path = format!(in alloc; "{}", it.path)?;
         fault(alloc, file, source, place, &path, &it.error)
-    }
-}
-
-/// Returns the strings that are refused, where they are known.
-///
-/// # Errors
-///
-/// When allocation fails, and for nothing else.
-fn all_refused<'a, M: VariableMap<'a>>(
-    alloc: Global,
-    source: &str,
-    variables: &'a M,
-) -> Result<Option<Vec<RefusalAt>>, AllocError>
-where
-    M::Value: AsStr + Drop,
-    ensures all { IfOk result (λ all. IfSome all (λ all.
-        AreRefused (AnswersText M.Value.text M.see (M.look_up variables.now)) source.now
-        all.items)) }
-    ensures range { IfOk result (λ all. IfSome all (λ all. All HasRange all.items)) }
-{
-    match refusals_in(alloc, source, variables) {
-        Ok(all) => Ok(all),
-        Err(Error::OutOfMemory(e)) => Err(e),
-        Err(_) => Ok(None),
     }
 }
 

@@ -2,19 +2,20 @@
 
 ghost use Rattle.std.specs.Prelude.{◌≡◌, [], ◌∷◌, IfOk, IfSome, MatchOption, string_bytes};
 ghost use Rattle.json.specs.Lex.{tokens};
-ghost use Rattle.json.specs.Print.{quoted};
 ghost use Rattle.json.specs.Reads.{token_of};
 ghost use Rattle.subst_error.specs.ErrorFault.{error_fault};
 ghost use Rattle.subst_language.specs.Calls.Outcome.{OnFault};
 ghost use Rattle.subst_language.specs.Language.Several.{GivesBy, RefusesFirst};
+ghost use Rattle.subst_document.specs.Stays.{SomeChanges, TellsChange};
 ghost use Rattle.subst_document.specs.Texts.{HasRange};
-ghost use Rattle.subst_json.specs.Filled.{strings_of_token, strings_in, IsFilledJson, IsStringToken};
+ghost use Rattle.subst_json.specs.Filled.{strings_of_token, strings_in, IsFilledJson, IsPartOf, IsStringToken};
 
+use crate::places::{reads_as, spans_of};
 use json::{Reader, Scratch, Token};
 use serde_json::Value;
 use std::alloc::{AllocError, Global};
 use std::ops::Range;
-use subst_document::{Fill, Spelled, StringFormat, Strings};
+use subst_document::{Content, Fill, Filled, Part, Spelled, StringFormat, Strings};
 use subst_error::Error;
 
 /// How JSON spells its strings.
@@ -57,7 +58,10 @@ impl JsonStrings {
 impl StringFormat for JsonStrings {
     ghost is_token = { IsStringToken };
 
-    ghost written = { quoted };
+    ghost is_part = { IsPartOf };
+
+    // Every value does, with escapes.
+    ghost is_fit = { λ _ _. Unit {0} };
 
     fn spells(&mut self, alloc: Global, token: &str, text: &str) -> Result<bool, AllocError> {
         match self.read(token)? {
@@ -66,9 +70,82 @@ impl StringFormat for JsonStrings {
         }
     }
 
-    fn write(&mut self, alloc: Global, value: String) -> Result<String, AllocError> {
+    fn spells_part(
+        &mut self,
+        alloc: Global,
+        token: &str,
+        piece: &str,
+        part: &str,
+    ) -> Result<bool, AllocError> {
+        reads_as(alloc, self, piece, part)
+    }
+
+    fn fits(&self, token: &str, value: &str) -> bool {
+        true
+    }
+
+    fn content(
+        &mut self,
+        alloc: Global,
+        token: &str,
+        text: &str,
+        parts: &[Range<usize>],
+    ) -> Result<Option<Content>, AllocError> {
+        let end = token.len().saturating_sub(1);
+        let spans = if token.get(1..end) == Some(text) {
+            Some(Content::shifted(alloc, parts, 1)?)
+        } else {
+            spans_of(alloc, self, token, text, parts)?
+        };
+        Ok(spans.map(|spans| Content {
+            start: 1,
+            end,
+            spans,
+        }))
+    }
+
+    fn write_value(
+        &mut self,
+        alloc: Global,
+        token: &str,
+        value: &str,
+        output: &mut String,
+    ) -> Result<bool, AllocError> {
+        if value.as_bytes().iter().all(|byte| is_unescaped(*byte)) {
+            output.push_str(value)?;
+            return Ok(true);
+        }
+        let quoted = Value::String(String::from_str(alloc, value)?).to_string(alloc)?;
+        let Some(spelled) = quoted.get(1..quoted.len().saturating_sub(1)) else {
+            return Ok(false);
+        };
+        output.push_str(spelled)?;
+        Ok(true)
+    }
+
+    fn write_line_end(&mut self, output: &mut String) -> Result<bool, AllocError> {
+        Ok(false)
+    }
+
+    fn write(
+        &mut self,
+        alloc: Global,
+        token: &str,
+        parts: &[Part<'_>],
+    ) -> Result<String, AllocError> {
+        let mut value = String::new(alloc);
+        for part in parts {
+            match part {
+                Part::Own(text) | Part::Value(text) => value.push_str(text)?,
+            }
+        }
         Value::String(value).to_string(alloc)
     }
+}
+
+/// Returns whether a string has the byte as it is.
+fn is_unescaped(byte: u8) -> bool {
+    byte >= b' ' && byte != b'"' && byte != b'\\'
 }
 
 /// The strings of a text, as its reader comes to them.
@@ -151,9 +228,13 @@ pub(crate) fn filled_in<F: Fill>(
     alloc: Global,
     source: &str,
     filler: &F,
-) -> Result<Option<String>, Error>
-    ensures ok { IfOk result (λ output. IfSome output (λ output.
-        IsFilledJson (GivesBy (F.answers filler.now)) source.now (string_bytes output))) }
+) -> Result<Option<Filled>, Error>
+    ensures ok { IfOk result (λ filled. IfSome filled (λ filled. IsFilledJson
+        (GivesBy (F.answers filler.now)) source.now (string_bytes filled.text))) }
+    ensures changed { IfOk result (λ filled. MatchOption filled
+        (SomeChanges (GivesBy (F.answers filler.now)) (strings_in (tokens source.now)))
+        (λ filled. TellsChange (GivesBy (F.answers filler.now)) (strings_in (tokens source.now))
+        source.now (string_bytes filled.text) filled.is_changed)) }
     ensures err { OnFault error_fault result
         (RefusesFirst (F.answers filler.now) (strings_in (tokens source.now))) }
     ensures range { OnFault error_fault result HasRange }

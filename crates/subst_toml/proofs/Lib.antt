@@ -1,4 +1,5 @@
 pub mod ChangedLemmas
+pub mod ListedLemmas
 pub mod MappedLemmas
 pub mod OneOutcomeLemmas
 pub mod ReadingLemmas

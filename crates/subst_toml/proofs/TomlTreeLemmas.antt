@@ -9,6 +9,8 @@ use Rattle.subst_error.specs.Fault.{Fault}
 use Rattle.subst_language.specs.Language.Answer.{Answer}
 use Rattle.subst_language.specs.Language.Several.{GivesBy, RefusesFirst}
 use Rattle.subst_language.proofs.Language.SeveralLemmas.{refusal_before, refusal_after}
+use Rattle.subst_document.specs.Stays.{SomeChanges}
+use Rattle.subst_document.proofs.StaysLemmas.{some_before, some_after}
 use Rattle.subst_toml.specs.Mapped.{strings, strings_of_items, strings_of_members, AreEach}
 use Rattle.subst_toml.proofs.MappedLemmas.{given}
 
@@ -17,6 +19,27 @@ strings_of_values : (es : List Entry)
     → strings_of_members (members_view es) ≡ strings_of_items (items_view (values_of es))
 strings_of_values [] = refl
 strings_of_values (e ∷ es) = ap (λ ss. strings (view e.1) ++ ss) (strings_of_values es)
+
+-- where some string of a value becomes another one, so does some string of what the value is in
+module _ (Becomes : List ℕ → List ℕ → Type 0) where
+  item_changes : (done more : List Value) (v : Value) → SomeChanges Becomes (strings (view v))
+      → SomeChanges Becomes (strings_of_items (items_view (done ++ v ∷ more)))
+  item_changes [] more v h = some_before Becomes (strings (view v)) (strings_of_items (items_view more)) h
+  item_changes (x ∷ done) more v h =
+      some_after Becomes (strings (view x)) (strings_of_items (items_view (done ++ v ∷ more)))
+      (item_changes done more v h)
+
+  pub array_changes : (all done more : List Value) (v : Value) → all ≡ done ++ v ∷ more
+      → SomeChanges Becomes (strings (view v)) → SomeChanges Becomes (strings_of_items (items_view all))
+  array_changes all done more v is h =
+      subst (λ vs. SomeChanges Becomes (strings_of_items (items_view vs))) (sym is)
+      (item_changes done more v h)
+
+  pub table_changes : (es : List Entry) (done more : List Value) (v : Value)
+      → values_of es ≡ done ++ v ∷ more → SomeChanges Becomes (strings (view v))
+      → SomeChanges Becomes (strings_of_members (members_view es))
+  table_changes es done more v is h =
+      subst (SomeChanges Becomes) (sym (strings_of_values es)) (array_changes (values_of es) done more v is h)
 
 -- `ask` tells which answers a string has
 module _ (ask : List ℕ → Answer → Type 0) where

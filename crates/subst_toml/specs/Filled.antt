@@ -1,12 +1,11 @@
 -- The strings of a TOML text that are values, and the text with its strings filled in.
-use Rattle.std.specs.Prelude.{◌≡◌, ◌≤◌, ◌⊎◌, true, ℕ, zero, suc, ◌-◌, ◌==◌, if◌then◌else◌, List, [], ◌∷◌, ◌++◌, length, take, drop, map, slice_get, Option, Some, None, option_map, option_and_then, string_bytes}
+use Rattle.std.specs.Prelude.{◌≡◌, ◌≤◌, ◌⊎◌, true, ℕ, zero, suc, ◌-◌, ◌==◌, if◌then◌else◌, List, [], ◌∷◌, ◌++◌, length, take, drop, map, slice_get, Option, Some, None, option_map, option_and_then, string_bytes, IsTrue}
 use Rattle.std.specs.declared.ops.Range.{Range}
 use Rattle.toml_parser.specs.Lexical.{Read, left_bracket, right_bracket, left_brace, right_brace, comma, first, skip_blank}
 use Rattle.toml_parser.specs.Numbers.{unquoted}
 use Rattle.toml_parser.specs.Strings.{quoted, starts_string}
 use Rattle.toml.specs.Data.{Data}
 use Rattle.toml.specs.Parse.{after_byte, header_key, key_equals, skip_bom}
-use Rattle.toml_writer.specs.Text.{string_text}
 use Rattle.subst_error.specs.ErrorFault.{error_fault}
 use Rattle.subst_error.specs.Fault.{Fault}
 use Rattle.subst_error.specs.Range.{range_of, IsRangeIn}
@@ -14,8 +13,12 @@ use Rattle.subst_language.specs.Language.Answer.{Answer, Gives, Refuses}
 use Rattle.subst_document.specs.Edits.{IsFilledText}
 use Rattle.subst_document.specs.declared.edits.StringAt.{StringAt}
 use Rattle.subst_document.specs.declared.edits.RefusalAt.{RefusalAt}
+use Rattle.subst_toml.specs.Mapped.{IsEach}
+use Rattle.subst_toml.specs.Outcome.{ReadsAsTree}
 use Rattle.subst_toml.specs.Paths.{steps_of, Leads}
-use Rattle.subst_toml.specs.Places.{part_at, IsTokenOf}
+use Rattle.subst_toml.specs.Kinds.{fits}
+use Rattle.subst_toml.specs.Pieces.{between}
+use Rattle.subst_toml.specs.Places.{part_at, quotes_of, IsTokenOf}
 use Rattle.subst_toml.specs.declared.document.tokens.Bracket.{Bracket}
 use Rattle.subst_toml.specs.declared.document.tokens.Bracket.TheVariants.{Array, InlineTable}
 use Rattle.subst_toml.specs.declared.document.tokens.Progress as code
@@ -24,6 +27,14 @@ use Rattle.subst_toml.specs.declared.path.Path.{Path}
 -- the text alone is read as this string, and begins with its quote
 abbrev pub IsQuotedToken : List ℕ → List ℕ → Type 0
 IsQuotedToken token x = (starts_string token ≡ true) × IsTokenOf token x
+
+-- the piece of a token is read between its quotes as this part of its string
+abbrev pub IsPartOf : List ℕ → List ℕ → List ℕ → Type 0
+IsPartOf token piece part = IsTokenOf (between (quotes_of token) piece) part
+
+-- the value fits into the kind of the token
+abbrev pub IsFit : List ℕ → List ℕ → Type 0
+IsFit token value = IsTrue (fits token value)
 
 -- a string of a text, and the range that spells it
 pub record Spelled : Type 0 where
@@ -121,7 +132,12 @@ progress_of p = record {
 abbrev pub IsFilledIn : (List ℕ → List ℕ → Type 0) → List ℕ → List ℕ → Type 0
 IsFilledIn Becomes source output =
     (found : List Spelled) × (strings_in source ≡ Some found)
-    × IsFilledText IsQuotedToken string_text Becomes (map (λ it. it.text) found) source output
+    × IsFilledText IsQuotedToken IsPartOf IsFit Becomes (map (λ it. it.text) found) source output
+
+-- so, or it is the first one itself, where each string of its tree becomes itself
+abbrev pub IsFilledOrSame : (List ℕ → List ℕ → Type 0) → List ℕ → List ℕ → Type 0
+IsFilledOrSame Becomes source output = IsFilledIn Becomes source output
+    ⊎ ((output ≡ source) × ReadsAsTree source (λ d. IsEach Becomes d d))
 
 -- the part of the text at this span is the string's token
 abbrev pub IsSpelledAt : List ℕ → Range ℕ → List ℕ → Type 0

@@ -2,7 +2,9 @@ pub mod Changed
 pub mod DottedKey
 pub mod Errors
 pub mod Filled
+pub mod Kinds
 pub mod Laws
+pub mod Listed
 pub mod Mapped
 pub mod Outcome
 pub mod Paths

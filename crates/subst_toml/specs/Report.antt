@@ -1,5 +1,5 @@
 -- What is reported of a TOML document.
-use Rattle.std.specs.Prelude.{◌≡◌, ⊤, ℕ, List, Option, None, MatchOption, map}
+use Rattle.std.specs.Prelude.{◌≡◌, ⊤, ℕ, List, Option, None, MatchOption}
 use Rattle.std.specs.List.{AllByRecursion}
 use Rattle.std.specs.declared.ops.Range.{Range}
 use Rattle.toml.specs.Errors.{span_start, span_end}
@@ -10,7 +10,8 @@ use Rattle.subst_error.specs.Range.{IsRangeIn}
 use Rattle.subst_language.specs.Language.Answer.{Answer}
 use Rattle.subst_document.specs.declared.edits.RefusalAt as found
 use Rattle.subst_toml.specs.DottedKey.{dotted_text}
-use Rattle.subst_toml.specs.Filled.{refusal_in, AreAllRefusals, HasFaultInText, IsFound}
+use Rattle.subst_toml.specs.Filled.{refusal_in, HasFaultInText, IsFound}
+use Rattle.subst_toml.specs.Listed.{AreRefusedIn}
 use Rattle.subst_toml.specs.Outcome.{ReadsAsTree}
 use Rattle.subst_toml.specs.Paths.{steps_of}
 use Rattle.subst_toml.specs.Places.{IsPlaceIn}
@@ -26,7 +27,7 @@ RefusalAt = found.RefusalAt Path
 -- path leads. Each other string gives bytes.
 abbrev pub AreRefused : (List ℕ → Answer → Type 0) → List ℕ → List RefusalAt → Type 0
 AreRefused ask s all =
-    AreAllRefusals ask s (map refusal_in all) × ReadsAsTree s (λ d. AllByRecursion (IsFound s d) all)
+    AreRefusedIn ask s all × ReadsAsTree s (λ d. AllByRecursion (IsFound s d) all)
 
 -- the range of its fault is in its string
 abbrev pub HasRange : RefusalAt → Type 0

@@ -7,7 +7,8 @@ ghost use Rattle.toml.specs.View.{view, items_view, members_view};
 ghost use Rattle.subst_error.specs.ErrorFault.{error_fault};
 ghost use Rattle.subst_language.specs.Calls.Outcome.{OnFault};
 ghost use Rattle.subst_language.specs.Language.Several.{GivesBy, RefusesFirst};
-ghost use Rattle.subst_document.specs.Changes.{slots, inside, left_of, next_of, rest_of};
+ghost use Rattle.subst_document.specs.Changes.{slots, inside, is_other, left_of, next_of, rest_of};
+ghost use Rattle.subst_document.specs.Stays.{SomeChanges};
 ghost use Rattle.subst_document.specs.Texts.{HasRange};
 ghost use Rattle.subst_toml.specs.Changed.{changed, with_items, with_members};
 ghost use Rattle.subst_toml.specs.Mapped.{strings, strings_of_items, strings_of_members, IsEach, AreEach, HasEachMember};
@@ -41,6 +42,8 @@ pub(crate) fn change_of<F: Fill>(alloc: Global, value: &Value, filler: &F) -> Re
     ensures ok { IfOk result (λ change.
         IsEach (GivesBy (F.answers filler.now)) (view value.now)
         (changed (view value.now) change)) }
+    ensures other { IfOk result (λ change. IsTrue (is_other change)
+        → SomeChanges (GivesBy (F.answers filler.now)) (strings (view value.now))) }
     ensures err { OnFault error_fault result
         (RefusesFirst (F.answers filler.now) (strings (view value.now))) }
     ensures range { OnFault error_fault result HasRange }
@@ -61,6 +64,9 @@ fn change_of_items<F: Fill>(alloc: Global, items: &Vec<Value>, filler: &F) -> Re
     ensures ok { IfOk result (λ change. AreEach (GivesBy (F.answers filler.now))
         (items_view items.now.items)
         (with_items (items_view items.now.items) (inside change))) }
+    ensures other { IfOk result (λ change. IsTrue (is_other change)
+        → SomeChanges (GivesBy (F.answers filler.now))
+        (strings_of_items (items_view items.now.items))) }
     ensures err { OnFault error_fault result
         (RefusesFirst (F.answers filler.now) (strings_of_items (items_view items.now.items))) }
     ensures range { OnFault error_fault result HasRange }
@@ -82,6 +88,9 @@ pub(crate) fn change_of_members<F: Fill>(
     ensures ok { IfOk result (λ change. HasEachMember (GivesBy (F.answers filler.now))
         (members_view members.now.entries)
         (with_members (members_view members.now.entries) (inside change))) }
+    ensures other { IfOk result (λ change. IsTrue (is_other change)
+        → SomeChanges (GivesBy (F.answers filler.now))
+        (strings_of_members (members_view members.now.entries))) }
     ensures err { OnFault error_fault result
         (RefusesFirst (F.answers filler.now)
         (strings_of_members (members_view members.now.entries))) }

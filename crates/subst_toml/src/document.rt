@@ -4,15 +4,16 @@
 //! A walk over the text finds its strings, and each that changes is written anew. Then the kit's reader is
 //! asked whether the text is read as the tree with its strings filled in.
 
-ghost use Rattle.std.specs.Prelude.{◌≡◌, None, Some, IfErr, IfOk, IfSome, IsTrue, string_bytes};
+ghost use Rattle.std.specs.Prelude.{◌≡◌, None, Some, IfErr, IfNone, IfOk, IfSome, IsTrue, string_bytes};
 ghost use Rattle.toml.specs.Errors.{IsWithin};
 ghost use Rattle.toml.specs.Parse.{parse_document};
 ghost use Rattle.toml.specs.View.{table_view};
 ghost use Rattle.subst_language.specs.Calls.Clauses.{AnswersText};
 ghost use Rattle.subst_language.specs.Language.Several.{GivesBy, RefusesFirst};
+ghost use Rattle.subst_document.specs.Stays.{SomeChanges};
 ghost use Rattle.subst_document.specs.Texts.{HasRange};
 ghost use Rattle.subst_toml.specs.Errors.{HasOwnMemory};
-ghost use Rattle.subst_toml.specs.Filled.{IsFilledIn};
+ghost use Rattle.subst_toml.specs.Filled.{IsFilledIn, IsFilledOrSame};
 ghost use Rattle.subst_toml.specs.Mapped.{strings, IsEach};
 ghost use Rattle.subst_toml.specs.Outcome.{ReadsAsTree, IfToml, OnToml, OnSubst, TellsUtf8, StatesFirst};
 
@@ -26,6 +27,7 @@ use subst_language::VariableMap;
 use token::Quoted;
 use toml::Table;
 
+mod kind;
 pub(crate) mod listing;
 pub(crate) mod numbered;
 mod same;
@@ -33,16 +35,16 @@ pub(crate) mod token;
 pub(crate) mod tokens;
 
 /// Reads a TOML document, and returns its text with its strings filled in from `variables`, whose values are
-/// texts. Each other byte of the text stays. So does a string that becomes itself; another one is written as
-/// `toml` prints it.
+/// texts. Each other byte of the text stays. So does a string that becomes itself, and in another one all but
+/// its placeholders, with the quotes. If a value doesn't fit into single quotes, the string gets double ones.
 ///
 /// ```rust
 /// let output = toml::fill_in(alloc, "home = '${home:/root}' # where it is\n", &NoSubstitution)?;
-/// // Some("home = \"/root\" # where it is\n")
+/// // Some("home = '/root' # where it is\n")
 /// ```
 ///
-/// The result is `None` where the text with its strings filled in isn't read as the tree with its strings
-/// filled in, which was never seen.
+/// The result is `None` if some string changes and the text with its strings filled in isn't read as the tree
+/// with its strings filled in, which was never seen. A document in which no string changes is its own output.
 ///
 /// # Errors
 ///
@@ -62,8 +64,14 @@ where
 
     // It is the source, but for the strings that change.
     ensures kept { IfOk result (λ output. IfSome output
-        (λ output. IsFilledIn (GivesBy (AnswersText M.Value.text M.see (M.look_up variables.now)))
+        (λ output. IsFilledOrSame
+        (GivesBy (AnswersText M.Value.text M.see (M.look_up variables.now)))
         source.now (string_bytes output))) }
+
+    // Nothing is returned only where some string changes.
+    ensures unconfirmed { IfOk result (λ output. IfNone output (ReadsAsTree source.now
+        (λ d. SomeChanges (GivesBy (AnswersText M.Value.text M.see (M.look_up variables.now)))
+        (strings d)))) }
     ensures utf8 { TellsUtf8 source.now result }
     ensures toml { OnToml result (parse_document source.now ≡ None) }
     ensures span { IfToml result (IsWithin source.now) }
@@ -90,8 +98,12 @@ where
         (λ d. ReadsAsTree (string_bytes output)
         (IsEach (GivesBy (AnswersText M.Value.text M.see (M.look_up variables.now))) d)))) }
     ensures kept { IfOk result (λ output. IfSome output
-        (λ output. IsFilledIn (GivesBy (AnswersText M.Value.text M.see (M.look_up variables.now)))
+        (λ output. IsFilledOrSame
+        (GivesBy (AnswersText M.Value.text M.see (M.look_up variables.now)))
         source.now (string_bytes output))) }
+    ensures unconfirmed { IfOk result (λ output. IfNone output (ReadsAsTree source.now
+        (λ d. SomeChanges (GivesBy (AnswersText M.Value.text M.see (M.look_up variables.now)))
+        (strings d)))) }
     ensures utf8 { TellsUtf8 source.now result }
     ensures toml { OnToml result (parse_document source.now ≡ None) }
     ensures span { IfToml result (IsWithin source.now) }
@@ -111,7 +123,9 @@ pub fn fill_in_by<F: Fill>(alloc: Global, source: &str, filler: &F) -> Result<Op
     ensures each { IfOk result (λ output. IfSome output (λ output. ReadsAsTree source.now
         (λ d. ReadsAsTree (string_bytes output) (IsEach (GivesBy (F.answers filler.now)) d)))) }
     ensures kept { IfOk result (λ output. IfSome output (λ output.
-        IsFilledIn (GivesBy (F.answers filler.now)) source.now (string_bytes output))) }
+        IsFilledOrSame (GivesBy (F.answers filler.now)) source.now (string_bytes output))) }
+    ensures unconfirmed { IfOk result (λ output. IfNone output (ReadsAsTree source.now
+        (λ d. SomeChanges (GivesBy (F.answers filler.now)) (strings d)))) }
     ensures utf8 { TellsUtf8 source.now result }
     ensures toml { OnToml result (parse_document source.now ≡ None) }
     ensures span { IfToml result (IsWithin source.now) }
@@ -121,18 +135,16 @@ pub fn fill_in_by<F: Fill>(alloc: Global, source: &str, filler: &F) -> Result<Op
     ensures memory { IfErr result HasOwnMemory }
 {
     let mut table = toml::table_from_str(alloc, source)?;
-    let change = changes::change_of_members(alloc, &table, filler)?;
+    let changes = match changes::change_of_members(alloc, &table, filler)? {
+        Change::Kept(_) => return Ok(Some(String::from_str(alloc, source)?)),
+        Change::Text(_) => return Ok(None),
+        Change::Inside(changes) => changes,
+    };
     let Some(output) = written(alloc, source, filler)? else {
         return Ok(None);
     };
-    let is_confirmed = match change {
-        Change::Inside(changes) => {
-            changes::make_members(&mut table, changes);
-            is_read_as(alloc, output.as_str(), &table)?
-        }
-        Change::Kept(_) | Change::Text(_) => output.as_str() == source,
-    };
-    if is_confirmed {
+    changes::make_members(&mut table, changes);
+    if is_read_as(alloc, output.as_str(), &table)? {
         Ok(Some(output))
     } else {
         Ok(None)
@@ -150,10 +162,10 @@ fn written<F: Fill>(alloc: Global, source: &str, filler: &F) -> Result<Option<St
     let mut strings = ListedStrings {
         list: found.as_slice(),
     };
-    match filled_in(alloc, source, &mut strings, &mut Quoted, filler) {
-        Ok(output) => Ok(output),
+    match filled_in(alloc, source, &mut strings, &mut Quoted::of(source), filler) {
+        Ok(Some(filled)) => Ok(Some(filled.text)),
         Err(subst_error::Error::OutOfMemory(e)) => Err(e),
-        Err(_) => Ok(None),
+        Ok(None) | Err(_) => Ok(None),
     }
 }
 

@@ -1,7 +1,8 @@
 //! Spans of many ranges of one string: each piece of its token is read alone between its quotes, and what the
 //! reader doesn't confirm is never returned.
 
-ghost use Rattle.std.specs.Prelude.{◌≡◌, ◌++◌, ◌∷◌, [], IfOk, IfSome, string_bytes};
+ghost use Rattle.std.specs.Prelude.{◌≡◌, ◌++◌, ◌∷◌, [], IfOk, IfSome, IsTrue, string_bytes};
+ghost use Rattle.subst_toml.specs.Places.{IsTokenOf};
 ghost use Rattle.subst_toml.specs.Pieces.{ArePlacesIn, between};
 
 use crate::document::token::Quoted;
@@ -9,7 +10,7 @@ use crate::place::spelling::{Style, after_left_out, after_spelling, without_newl
 use crate::place::{quotes, read_up_to, string_of};
 use std::alloc::{AllocError, Global};
 use std::ops::Range;
-use subst_document::{Pieces, Position, StringFormat, slice, spans};
+use subst_document::{Content, Pieces, Position, slice, spans};
 
 /// A token of a string.
 #[derive(Clone, Copy)]
@@ -68,7 +69,7 @@ impl Pieces for Token<'_> {
     fn piece_end(
         &self,
         alloc: Global,
-        reader: &mut Quoted,
+        _reader: &mut Quoted,
         from: Position,
         offset: usize,
         is_start: bool,
@@ -82,8 +83,7 @@ impl Pieces for Token<'_> {
         let Some(spelled) = slice(self.source, &(from.place..place)) else {
             return Ok(None);
         };
-        let token = quoted(alloc, self.quotes, spelled)?;
-        if place <= self.span.end && reader.spells(alloc, token.as_str(), string)? {
+        if place <= self.span.end && reads_as(alloc, self.quotes, spelled, string)? {
             Ok(Some(Position { place, offset }))
         } else {
             Ok(None)
@@ -139,10 +139,67 @@ pub fn places_in(
         place: start,
         offset: 0,
     };
-    let Some(places) = spans(alloc, &token, &mut Quoted, first, ranges)? else {
+    let Some(places) = spans(alloc, &token, &mut Quoted::new(), first, ranges)? else {
         return Ok(None);
     };
     Ok(Some(places))
+}
+
+/// Returns where the content of a token is, and the spans of these ranges of its string in it, or `None` if one
+/// isn't found.
+///
+/// # Errors
+///
+/// An allocation failed.
+pub(crate) fn content_of(
+    alloc: Global,
+    token: &str,
+    string: &str,
+    ranges: &[Range<usize>],
+) -> Result<Option<Content>, AllocError> {
+    let Some(quotes) = quotes(token) else {
+        return Ok(None);
+    };
+    let whole = Token {
+        source: token,
+        span: &(0..token.len()),
+        quotes,
+        string,
+    };
+    let Some(start) = whole.start() else {
+        return Ok(None);
+    };
+    let end = token.len().saturating_sub(quotes.len());
+    let spans = if token.get(start..end) == Some(string) {
+        Some(Content::shifted(alloc, ranges, start)?)
+    } else {
+        let first = Position {
+            place: start,
+            offset: 0,
+        };
+        spans(alloc, &whole, &mut Quoted::new(), first, ranges)?
+    };
+    Ok(spans.map(|spans| Content { start, end, spans }))
+}
+
+/// Returns whether a text between these quotes is read as this string.
+///
+/// # Errors
+///
+/// An allocation failed.
+pub(crate) fn reads_as(
+    alloc: Global,
+    quotes: &str,
+    text: &str,
+    string: &str,
+) -> Result<bool, AllocError>
+    ensures { IfOk result (λ is. IsTrue is → IsTokenOf (between quotes.now text.now) string.now) }
+{
+    let token = quoted(alloc, quotes, text)?;
+    match string_of(alloc, &token)? {
+        Some(read) => Ok(read.as_str() == string),
+        None => Ok(false),
+    }
 }
 
 /// Returns a text between quotes; after three of them is a newline, which is left out there.

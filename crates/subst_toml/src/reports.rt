@@ -10,7 +10,7 @@ use crate::{Error, RefusalAt, place_in, refusals_in};
 use std::alloc::{AllocError, Global};
 use std::convert::AsStr;
 use std::ops::Range;
-use subst_document::report::{Reports, fault, lines, refusals};
+use subst_document::report::{ReportFormat, fault, lines, refusals};
 use subst_language::VariableMap;
 use toml::de;
 
@@ -58,7 +58,7 @@ where
 /// How a refused string of a TOML document is reported.
 struct TomlReports;
 
-impl Reports for TomlReports {
+impl ReportFormat for TomlReports {
     type Refusal = RefusalAt;
 
     ghost has_range = { HasRange };

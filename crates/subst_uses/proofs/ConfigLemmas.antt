@@ -10,7 +10,8 @@ use Rattle.subst.specs.Json.error.{Json, Subst, OutOfMemory}
 use Rattle.subst.specs.Json.Errors.{HasOwnMemory}
 use Rattle.subst.specs.Json.Mapped.{strings, IsEach}
 use Rattle.subst.specs.Json.Outcome.{ReadsAsTree, IfJson, OnSubst}
-use Rattle.subst.specs.Json.Report.{AreRefused, Reports, ReportsRefused}
+use Rattle.subst.specs.Json.Listed.{AreRefused}
+use Rattle.subst.specs.Json.Report.{Reports, ReportsRefused}
 use Rattle.subst.specs.Language.Answer.{Answer}
 use Rattle.subst.specs.Language.Several.{GivesBy, RefusesFirst}
 use Rattle.subst.specs.Report.{ReportsAll}

@@ -7,7 +7,8 @@ use Rattle.serde_json.specs.declared.value.Value.{Value}
 use Rattle.subst.specs.Fault.{Fault}
 use Rattle.subst.specs.Json.Mapped.{strings, IsEach}
 use Rattle.subst.specs.Json.Outcome.{ReadsAsTree}
-use Rattle.subst.specs.Json.Report.{AreRefused, ReportsReader, ReportsRefused}
+use Rattle.subst.specs.Json.Listed.{AreRefused}
+use Rattle.subst.specs.Json.Report.{ReportsReader, ReportsRefused}
 use Rattle.subst.specs.Language.Answer.{Answer}
 use Rattle.subst.specs.Language.Several.{GivesBy, RefusesFirst}
 use Rattle.subst.specs.Report.{ReportsAll}

@@ -1,26 +1,26 @@
 //! The strings of a document with their spans, and those that are refused.
 
-ghost use Rattle.std.specs.Prelude.{◌≡◌, ◌++◌, ◌∷◌, [], ⊤, List, None, Some, IfErr, IfOk, IfSome, IsTrue, OnOk, map, string_bytes};
+ghost use Rattle.std.specs.Prelude.{◌≡◌, ⊤, None, Some, IfErr, IfOk, IfSome, IsTrue, map};
 ghost use Rattle.std.specs.List.{AllByRecursion};
 ghost use Rattle.toml.specs.Errors.{IsWithin};
 ghost use Rattle.toml.specs.Parse.{parse_document};
 ghost use Rattle.toml.specs.View.{view};
-ghost use Rattle.subst_error.specs.ErrorFault.{error_fault};
 ghost use Rattle.subst_language.specs.Calls.Clauses.{AnswersText};
 ghost use Rattle.subst_document.specs.Edits.{AreSpelled};
 ghost use Rattle.subst_toml.specs.Errors.{HasOwnMemory};
-ghost use Rattle.subst_toml.specs.Filled.{strings_in, spelled_of, refusal_in, RefusalIn, AreRefusalsIn, AreAllRefusals, HasFaultInText, IsFound, IsQuotedToken};
+ghost use Rattle.subst_toml.specs.Filled.{strings_in, spelled_of, refusal_in, AreAllRefusals, HasFaultInText, IsFound, IsQuotedToken};
+ghost use Rattle.subst_toml.specs.Listed.{AreRefusedIn};
 ghost use Rattle.subst_toml.specs.Outcome.{ReadsAsTree, IfToml, OnToml, OnSubst};
 
-use super::numbered::{paths_of, with_numbers};
+use super::numbered::TomlPaths;
 use super::token::{Quoted, is_spelled};
 use super::tokens;
 use crate::error::Error;
 use crate::path::Path;
-use crate::place::{string_at, table_of};
+use crate::place::string_at;
 use std::alloc::{AllocError, Global};
 use std::convert::AsStr;
-use subst_document::{Fill, Filler, StringAt, are_spelled};
+use subst_document::{Fill, Filler, StringAt, are_spelled, refusals};
 use subst_language::VariableMap;
 use toml::Value;
 
@@ -50,7 +50,7 @@ pub fn strings(alloc: Global, source: &str) -> Result<Option<Vec<StringAt>>, Err
     let Some(found) = tokens::strings_in(alloc, source)? else {
         return Ok(None);
     };
-    if are_spelled(alloc, source, found.as_slice(), &mut Quoted)? {
+    if are_spelled(alloc, source, found.as_slice(), &mut Quoted::new())? {
         Ok(Some(found))
     } else {
         Ok(None)
@@ -71,6 +71,11 @@ pub fn refusals_in<'a, M: VariableMap<'a>>(
 ) -> Result<Option<Vec<RefusalAt>>, Error>
 where
     M::Value: AsStr + Drop,
+
+    // Each has the span and the path of the string of the text that it is.
+    ensures each { IfOk result (λ all. IfSome all (λ all.
+        AreRefusedIn (AnswersText M.Value.text M.see (M.look_up variables.now)) source.now
+        all.items)) }
 
     // They are the refusals of all strings of the text, in its order, and each other string gives bytes.
     ensures refused { IfOk result (λ all. IfSome all
@@ -101,6 +106,8 @@ pub fn refusals_by<F: Fill>(
     source: &str,
     filler: &F,
 ) -> Result<Option<Vec<RefusalAt>>, Error>
+    ensures each { IfOk result (λ all. IfSome all
+        (λ all. AreRefusedIn (F.answers filler.now) source.now all.items)) }
     ensures refused { IfOk result (λ all. IfSome all
         (λ all. AreAllRefusals (F.answers filler.now) source.now (map refusal_in all.items))) }
     ensures found { IfOk result (λ all. IfSome all (λ all. ReadsAsTree source.now
@@ -124,6 +131,8 @@ fn refusals_of<F: Fill>(
     tree: &Value,
     filler: &F,
 ) -> Result<Option<Vec<RefusalAt>>, AllocError>
+    ensures each { IfOk result (λ all. IfSome all
+        (λ all. AreRefusedIn (F.answers filler.now) source.now all.items)) }
     ensures refused { IfOk result (λ all. IfSome all
         (λ all. AreAllRefusals (F.answers filler.now) source.now (map refusal_in all.items))) }
     ensures range { IfOk result (λ all. IfSome all
@@ -134,176 +143,14 @@ fn refusals_of<F: Fill>(
     let Some(found) = tokens::strings_in(alloc, source)? else {
         return Ok(None);
     };
-    let refused = refused_of(alloc, &found, filler)?;
-    let paths = paths_in(alloc, source, &found, &refused)?;
-    confirmed(alloc, source, tree, refused, paths)
-}
-
-/// Returns those of these strings that are refused, each with an empty path.
-fn refused_of<F: Fill>(
-    alloc: Global,
-    found: &Vec<StringAt>,
-    filler: &F,
-) -> Result<Vec<RefusalAt>, AllocError>
-    ensures all { IfOk result (λ refused. AreRefusalsIn (F.answers filler.now)
-        (map spelled_of found.now.items) (map refusal_in refused.items)) }
-    ensures range { IfOk result
-        (λ refused. AllByRecursion HasFaultInText (map refusal_in refused.items)) }
-{
-    let mut refused = Vec::new(alloc);
-    for it in found.iter() {
-        add_refused(alloc, it, filler, &mut refused)?;
-    }
-    Ok(refused)
-}
-
-/// Adds a string to those that are refused, if it is, with an empty path.
-fn add_refused<F: Fill>(
-    alloc: Global,
-    it: &StringAt,
-    filler: &F,
-    refused: &mut Vec<RefusalAt>,
-) -> Result<(), AllocError>
-    ensures { OnOk result ((part : List RefusalIn)
-        × AreRefusalsIn (F.answers filler.now) (spelled_of it.now ∷ []) part
-        × AllByRecursion HasFaultInText part
-        × (map refusal_in refused.new.items ≡ map refusal_in refused.old.items ++ part)) }
-{
-    match filler.refusal(alloc, it.text.as_str())? {
-        None => Ok(()),
-        Some(error) => {
-            refused.push(refused_at(alloc, it, error)?)?;
-            Ok(())
-        }
-    }
-}
-
-/// Returns a string that is refused, with an empty path.
-fn refused_at(
-    alloc: Global,
-    it: &StringAt,
-    error: subst_error::Error,
-) -> Result<RefusalAt, AllocError>
-    ensures { IfOk result (λ refused. refusal_in refused
-        ≡ record {
-          text = string_bytes it.now.text;
-          span = it.now.span;
-          fault = error_fault error;
-        }) }
-{
-    Ok(RefusalAt {
-        path: Path {
-            steps: Vec::new(alloc),
-        },
-        text: String::from_str(alloc, it.text.as_str())?,
-        span: it.span.start..it.span.end,
-        error,
-    })
-}
-
-/// Returns the paths to those strings of a document that are refused, in their order.
-fn paths_in(
-    alloc: Global,
-    source: &str,
-    found: &Vec<StringAt>,
-    refused: &Vec<RefusalAt>,
-) -> Result<Vec<Option<Path>>, AllocError> {
-    if refused.is_empty() {
-        return Ok(Vec::new(alloc));
-    }
-    let Some(numbered) = with_numbers(alloc, source, found)? else {
-        return Ok(Vec::new(alloc));
-    };
-    let Some(members) = table_of(alloc, numbered.as_str())? else {
-        return Ok(Vec::new(alloc));
-    };
-    let places = places_of(alloc, found, refused)?;
-    paths_of(
-        alloc,
-        &Value::Table(members),
-        places.as_slice(),
-        refused.len(),
-    )
-}
-
-/// Returns for each string its index among those that are refused, if it is one.
-fn places_of(
-    alloc: Global,
-    found: &Vec<StringAt>,
-    refused: &Vec<RefusalAt>,
-) -> Result<Vec<Option<usize>>, AllocError> {
-    let mut places = Vec::with_capacity(alloc, found.len())?;
-    let mut next = 0usize;
-    for it in found.iter() {
-        match refused.get(next) {
-            Some(refusal) if refusal.span.start == it.span.start => {
-                places.push(Some(next))?;
-                next = next.saturating_add(1);
-            }
-            _ => places.push(None)?,
-        }
-    }
-    Ok(places)
-}
-
-/// Returns strings that are refused with these paths, or nothing where one isn't there.
-fn confirmed(
-    alloc: Global,
-    source: &str,
-    tree: &Value,
-    refused: Vec<RefusalAt>,
-    paths: Vec<Option<Path>>,
-) -> Result<Option<Vec<RefusalAt>>, AllocError>
-    ensures same { IfOk result (λ all. IfSome all
-        (λ all. map refusal_in all.items ≡ map refusal_in refused.items)) }
-    ensures found { IfOk result (λ all. IfSome all
-        (λ all. AllByRecursion (IsFound source.now (view tree.now)) all.items)) }
-{
-    let Some(all) = with_paths(alloc, refused, paths)? else {
+    let list = found.as_slice();
+    let Some(all) = refusals(alloc, list, &TomlPaths { source, list }, filler)? else {
         return Ok(None);
     };
     if are_found(alloc, source, tree, &all)? {
         Ok(Some(all))
     } else {
         Ok(None)
-    }
-}
-
-/// Returns strings that are refused with these paths, or nothing where there are fewer paths.
-fn with_paths(
-    alloc: Global,
-    refused: Vec<RefusalAt>,
-    paths: Vec<Option<Path>>,
-) -> Result<Option<Vec<RefusalAt>>, AllocError>
-    ensures { IfOk result (λ all. IfSome all
-        (λ all. map refusal_in all.items ≡ map refusal_in refused.items)) }
-{
-    let mut all = Vec::with_capacity(alloc, refused.len())?;
-    let mut rest = paths.into_iter();
-    for it in refused {
-        let Some(Some(path)) = rest.next() else {
-            return Ok(None);
-        };
-        all.push(with_path(it, path))?;
-    }
-    Ok(Some(all))
-}
-
-/// Returns a string that is refused, with this path.
-fn with_path(it: RefusalAt, path: Path) -> RefusalAt
-    ensures { refusal_in result ≡ refusal_in it }
-{
-    let RefusalAt {
-        path: _,
-        text,
-        span,
-        error,
-    } = it;
-    RefusalAt {
-        path,
-        text,
-        span,
-        error,
     }
 }
 

@@ -1,54 +1,111 @@
 //! The paths to the strings of a document, by a copy of it that has in place of each string its number, from
 //! 0 in the order of the text. Its tree has the same shape, with the numbers in place of the strings.
 
+ghost use Rattle.std.specs.Prelude.{IfOk, IfSome, IsTrue};
+ghost use Rattle.std.specs.Fmt.{decimal};
+ghost use Rattle.toml.specs.View.{view};
+ghost use Rattle.subst_document.specs.Refused.{ArePathsTo};
+ghost use Rattle.subst_toml.specs.Listed.{number_token, IsPathTo};
+ghost use Rattle.subst_toml.specs.Paths.{steps_of, Leads};
+
 use crate::path::Path;
+use crate::place::{string_at, table_of};
 use std::alloc::{AllocError, Global};
-use subst_document::{PathStep, StringAt};
+use subst_document::{PathStep, Paths, Plain, RefusalAt, StringAt, with_plain};
 use toml::Value;
 
-/// Returns a document with their numbers in place of its strings.
-pub(crate) fn with_numbers(
-    alloc: Global,
-    source: &str,
-    found: &Vec<StringAt>,
-) -> Result<Option<String>, AllocError> {
-    let mut output = String::with_capacity(alloc, source.len())?;
-    let mut done = 0usize;
-    for (number, it) in found.iter().enumerate() {
-        let Some(before) = source.get(done..it.span.start) else {
+/// The number of each string in place of it.
+#[derive(Clone, Copy)]
+struct Numbers;
+
+impl Plain for Numbers {
+    ghost bytes = { λ _. number_token };
+
+    fn push(&self, alloc: Global, index: usize, output: &mut String) -> Result<(), AllocError> {
+        let token = format!(in alloc; "'{index}'")?;
+        output.push_str(token.as_str())
+    }
+}
+
+/// The paths to the strings of a document.
+#[derive(Clone, Copy)]
+pub(crate) struct TomlPaths<'t> {
+    pub(crate) source: &'t str,
+    /// All strings of the document.
+    pub(crate) list: &'t [StringAt],
+}
+
+impl Paths for TomlPaths<'_> {
+    type Path = Path;
+
+    ghost leads_to = { λ it. IsPathTo it.source.now it.list.now };
+
+    fn paths_to(
+        &self,
+        alloc: Global,
+        refused: &[RefusalAt<usize>],
+    ) -> Result<Option<Vec<Path>>, AllocError> {
+        let Some(numbered) = with_plain(alloc, self.source, self.list, &Numbers)? else {
             return Ok(None);
         };
-        output.push_str(before)?;
-        push_number(alloc, &mut output, number)?;
-        done = it.span.end;
+        let Some(members) = table_of(alloc, numbered.as_str())? else {
+            return Ok(None);
+        };
+        let tree = Value::Table(members);
+        let found = paths_of(alloc, &tree, refused)?;
+        confirmed(alloc, &tree, refused, found)
     }
-    let Some(after) = source.get(done..) else {
-        return Ok(None);
-    };
-    output.push_str(after)?;
-    Ok(Some(output))
 }
 
-/// Appends a string that is a number.
-fn push_number(alloc: Global, output: &mut String, number: usize) -> Result<(), AllocError> {
-    let token = format!(in alloc; "'{number}'")?;
-    output.push_str(token.as_str())
-}
-
-/// Returns the paths that lead to these numbers in a tree of numbers, a path for each of them. `places` has
-/// for each number where its path comes in the result, if it is one of these.
-pub(crate) fn paths_of(
+/// Returns paths in a tree of numbers, or `None` where one of them doesn't lead to the number of its string.
+fn confirmed(
     alloc: Global,
     tree: &Value,
-    places: &[Option<usize>],
-    count: usize,
+    refused: &[RefusalAt<usize>],
+    found: Vec<Option<Path>>,
+) -> Result<Option<Vec<Path>>, AllocError>
+    ensures { IfOk result (λ paths. IfSome paths (λ paths. ArePathsTo
+        (λ index path. Leads (steps_of path) (view tree.now) (decimal index)) refused.now
+        paths.items)) }
+{
+    let mut paths = Vec::with_capacity(alloc, refused.len())?;
+    let mut rest = found.into_iter();
+    for it in refused {
+        let Some(Some(path)) = rest.next() else {
+            return Ok(None);
+        };
+        if !leads_to(alloc, tree, &path, it.path)? {
+            return Ok(None);
+        }
+        paths.push(path)?;
+    }
+    Ok(Some(paths))
+}
+
+/// Returns whether a path leads to this number in a tree of numbers.
+fn leads_to(alloc: Global, tree: &Value, path: &Path, number: usize) -> Result<bool, AllocError>
+    ensures { IfOk result (λ leads. IsTrue leads
+        → Leads (steps_of path.now) (view tree.now) (decimal number)) }
+{
+    let Some(text) = string_at(tree, path.steps.as_slice()) else {
+        return Ok(false);
+    };
+    let number = format!(in alloc; "{number}")?;
+    Ok(text == number.as_str())
+}
+
+/// Returns the paths to the numbers of these strings in a tree of numbers, as far as they are there.
+fn paths_of(
+    alloc: Global,
+    tree: &Value,
+    refused: &[RefusalAt<usize>],
 ) -> Result<Vec<Option<Path>>, AllocError> {
-    let mut paths = Vec::with_capacity(alloc, count)?;
-    for _ in 0..count {
+    let mut paths = Vec::with_capacity(alloc, refused.len())?;
+    for _ in refused {
         paths.push(None)?;
     }
     let mut steps = Vec::new(alloc);
-    add_paths(alloc, tree, places, &mut steps, &mut paths)?;
+    add_paths(alloc, tree, refused, &mut steps, &mut paths)?;
     Ok(paths)
 }
 
@@ -57,16 +114,16 @@ pub(crate) fn paths_of(
 fn add_paths(
     alloc: Global,
     part: &Value,
-    places: &[Option<usize>],
+    refused: &[RefusalAt<usize>],
     steps: &mut Vec<PathStep>,
     paths: &mut Vec<Option<Path>>,
 ) -> Result<(), AllocError> {
     match part {
-        Value::String(number) => add_path(number.as_str(), places, steps, paths),
+        Value::String(number) => add_path(number.as_str(), refused, steps, paths),
         Value::Array(items) => {
             for (index, item) in items.iter().enumerate() {
                 steps.push(PathStep::Index(index))?;
-                add_paths(alloc, item, places, steps, paths)?;
+                add_paths(alloc, item, refused, steps, paths)?;
                 let _ = steps.pop();
             }
             Ok(())
@@ -75,7 +132,7 @@ fn add_paths(
             for (key, member) in members.iter() {
                 let key = String::from_str(alloc, key.as_str())?;
                 steps.push(PathStep::Key(key))?;
-                add_paths(alloc, member, places, steps, paths)?;
+                add_paths(alloc, member, refused, steps, paths)?;
                 let _ = steps.pop();
             }
             Ok(())
@@ -87,15 +144,15 @@ fn add_paths(
 /// Puts in the path to a number, if it is wanted.
 fn add_path(
     number: &str,
-    places: &[Option<usize>],
+    refused: &[RefusalAt<usize>],
     steps: &Vec<PathStep>,
     paths: &mut Vec<Option<Path>>,
 ) -> Result<(), AllocError> {
     let Ok(number) = number.parse::<usize>() else {
         return Ok(());
     };
-    if let Some(Some(place)) = places.get(number)
-        && let Some(path) = paths.get_mut(*place)
+    if let Ok(place) = refused.binary_search_by(|it| it.path.cmp(&number))
+        && let Some(path) = paths.get_mut(place)
     {
         *path = Some(Path {
             steps: steps.clone()?,

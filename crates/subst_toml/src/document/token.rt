@@ -1,25 +1,43 @@
 //! How TOML spells strings.
 
-ghost use Rattle.std.specs.Prelude.{Some, IfOk, IsTrue};
-ghost use Rattle.toml_writer.specs.Text.{string_text};
-ghost use Rattle.subst_toml.specs.Filled.{IsQuotedToken, IsSpelledAt};
+ghost use Rattle.std.specs.Prelude.{IfOk, IsTrue};
+ghost use Rattle.subst_toml.specs.Filled.{IsFit, IsPartOf, IsQuotedToken, IsSpelledAt};
 
-use crate::place::string_of;
+use super::kind;
+use crate::place::{quotes, string_of};
+use crate::places::{content_of, reads_as};
 use std::alloc::{AllocError, Global};
-use std::fmt;
 use std::ops::Range;
-use subst_document::{StringFormat, slice};
+use subst_document::{Content, Part, StringFormat, slice};
 use toml_parser::starts_string;
-use toml_writer::write_string;
 
 /// Strings between the quotes of TOML.
 #[derive(Clone, Copy)]
-pub(crate) struct Quoted;
+pub(crate) struct Quoted {
+    /// Whether the lines of their document end with a carriage return and a line feed.
+    has_crlf: bool,
+}
+
+impl Quoted {
+    /// Returns those of a document whose lines end with a line feed, or that isn't filled in.
+    pub(crate) fn new() -> Quoted {
+        Quoted { has_crlf: false }
+    }
+
+    /// Returns those of this document.
+    pub(super) fn of(source: &str) -> Quoted {
+        Quoted {
+            has_crlf: source.contains("\r\n"),
+        }
+    }
+}
 
 impl StringFormat for Quoted {
     ghost is_token = { IsQuotedToken };
 
-    ghost written = { string_text };
+    ghost is_part = { IsPartOf };
+
+    ghost is_fit = { IsFit };
 
     fn spells(&mut self, alloc: Global, token: &str, text: &str) -> Result<bool, AllocError> {
         if !starts_string(token) {
@@ -31,23 +49,54 @@ impl StringFormat for Quoted {
         }
     }
 
-    fn write(&mut self, alloc: Global, value: String) -> Result<String, AllocError> {
-        let text = value.as_str();
-        Spelled { text }.to_string(alloc)
+    fn spells_part(
+        &mut self,
+        alloc: Global,
+        token: &str,
+        piece: &str,
+        part: &str,
+    ) -> Result<bool, AllocError> {
+        let Some(quotes) = quotes(token) else {
+            return Ok(false);
+        };
+        reads_as(alloc, quotes, piece, part)
     }
-}
 
-/// A string, which is displayed as `toml` prints it.
-#[derive(Clone, Copy)]
-struct Spelled<'t> {
-    text: &'t str,
-}
+    fn fits(&self, token: &str, value: &str) -> bool {
+        kind::fits(token, value)
+    }
 
-impl fmt::Display for Spelled<'_> {
-    ghost output = { λ it. Some (string_text it.text.now) };
+    fn content(
+        &mut self,
+        alloc: Global,
+        token: &str,
+        text: &str,
+        parts: &[Range<usize>],
+    ) -> Result<Option<Content>, AllocError> {
+        content_of(alloc, token, text, parts)
+    }
 
-    fn fmt<W: fmt::Write>(&self, f: &mut fmt::Formatter<W>) -> fmt::Result {
-        write_string(f, self.text)
+    fn write_value(
+        &mut self,
+        alloc: Global,
+        token: &str,
+        value: &str,
+        output: &mut String,
+    ) -> Result<bool, AllocError> {
+        kind::write_value(token, value, self.has_crlf, output)
+    }
+
+    fn write_line_end(&mut self, output: &mut String) -> Result<bool, AllocError> {
+        kind::write_line_end(self.has_crlf, output)
+    }
+
+    fn write(
+        &mut self,
+        alloc: Global,
+        token: &str,
+        parts: &[Part<'_>],
+    ) -> Result<String, AllocError> {
+        kind::respelled(alloc, token, parts, self.has_crlf)
     }
 }
 
@@ -61,7 +110,7 @@ pub(crate) fn is_spelled(
     ensures { IfOk result (λ is. IsTrue is → IsSpelledAt source.now span.now text.now) }
 {
     match slice(source, span) {
-        Some(token) => Quoted.spells(alloc, token, text),
+        Some(token) => Quoted::new().spells(alloc, token, text),
         None => Ok(false),
     }
 }

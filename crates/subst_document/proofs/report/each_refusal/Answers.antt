@@ -6,7 +6,7 @@ use Rattle.subst_document.proofs.report.each_refusal.Goals as goal
 
 pub loop-it-preserved : goal.loop-it-preserved
 loop-it-preserved g c more h =
-    let Reports = g.R.Reports.reports c.args.file.now c.args.source.now in
+    let Reports = g.R.ReportFormat.reports c.args.file.now c.args.source.now in
     let all = c.deref-it-items.result.now in
     let l = c.loop-it in
     let it = c.it-item.result in
@@ -29,7 +29,7 @@ loop-it-preserved g c more h =
 
 pub returns : goal.returns
 returns g c =
-    let Reports = g.R.Reports.reports c.args.file.now c.args.source.now in
+    let Reports = g.R.ReportFormat.reports c.args.file.now c.args.source.now in
     let all = c.deref-it-items.result.now in
     let l = c.loop-it in
     let none : drop l.it-index all ≡ [] = drop_of_length-le all c.loop-it-test.false in

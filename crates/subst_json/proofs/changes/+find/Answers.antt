@@ -58,7 +58,7 @@ change_of_items-loop-item-preserved g t c =
     take_more vs l.item-index v (omega arith) ∙ ap (λ x. done ++ x ∷ []) (sym c.item-item.is) in
     let was = length-take-le l.item-index vs (omega arith) in
     let more = found_more (GivesEach Becomes) done found (found_so_far c.add.new.self) v (one change)
-    c.in_ok-add.ensures (l.invariant.0 ∙ sym was) l.invariant.1
+    c.in_ok-add.ensures.found (l.invariant.0 ∙ sym was) l.invariant.1
     (subst (IsEach Becomes (view v)) (sym (changed-one (view v) change)) c.in_ok-change_of.ensures.ok) in (
       more.0 ∙ length-append done (v ∷ []) ∙ ap (λ n. n + 1) was,
       subst (λ xs. AreMade (GivesEach Becomes) xs (found_so_far c.add.new.self) xs) (sym cut) more.1,
@@ -70,7 +70,7 @@ change_of_items-returns-clause-ok g t c =
     let l = c.loop-item in
     let items = c.args.items.now.items in
     let changes = inside c.into_change.result in
-    let kept = c.into_change.ensures in
+    let kept = c.into_change.ensures.kept in
     let all : take l.item-index c.deref-item-items.result.now ≡ items =
     take_all l.item-index c.deref-item-items.result.now (omega arith) ∙ c.deref-item-items.ensures.value in
     items_each Becomes items changes (made_up_to_kept (GivesEach Becomes) items changes kept.0 items
@@ -102,7 +102,7 @@ change_of_members-loop-member-preserved g t c =
     let found = found_so_far l.found in
     let change = c.in_ok-change_of.field-0 in
     let more = found_more (GivesEach Becomes) done found (found_so_far c.add.new.self) v (one change)
-    c.in_ok-add.ensures l.invariant.2 l.invariant.3
+    c.in_ok-add.ensures.found l.invariant.2 l.invariant.3
     (subst (IsEach Becomes (view v)) (sym (changed-one (view v) change)) c.in_ok-change_of.ensures.ok) in (
       done ++ v ∷ [],
       l.invariant.1 ∙ ap (λ vs. done ++ vs) c.in-Some.ensures.steps ∙ sym (append_assoc done (v ∷ []) left),
@@ -117,7 +117,7 @@ change_of_members-returns-clause-ok g t c =
     let done = l.invariant.0 in
     let es = c.args.members.now.entries in
     let changes = inside c.into_change.result in
-    let kept = c.into_change.ensures in
+    let kept = c.into_change.ensures.kept in
     let all : values_of es ≡ done =
     l.invariant.1 ∙ ap (λ vs. done ++ vs) c.in-None.ensures.steps.0 ∙ append-nil done in
     members_each Becomes es changes (made_up_to_kept (GivesEach Becomes) (values_of es) changes kept.0

@@ -6,8 +6,8 @@ use Rattle.subst_json.specs.Filled.{AreFilled}
 use Rattle.subst_json.proofs.FilledLemmas.{filled_document}
 use Rattle.subst_json.proofs.document.confirmed.Goals as goal
 
-pub returns-then-branch-2-clause-each : goal.returns-then-branch-2-clause-each
-returns-then-branch-2-clause-each g c =
+pub returns-then-branch-clause-each : goal.returns-then-branch-clause-each
+returns-then-branch-clause-each g c =
     let Becomes = GivesBy (g.F.Fill.answers c.args.filler.now) in
     let filled : AreFilled Becomes (tokens c.args.source.now) (tokens (string_bytes c.args.output)) =
     search rules in

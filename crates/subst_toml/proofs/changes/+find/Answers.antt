@@ -1,8 +1,8 @@
 -- At each step of the walk: what was found, with what the string, item or member becomes that comes next.
-use Rattle.std.proofs.Common.{◌≡◌, ◌+◌, [], ◌∷◌, ◌++◌, take, drop, sym, ap, ◌∙◌, subst, append_assoc, append-nil, arith}
+use Rattle.std.proofs.Common.{◌≡◌, ◌+◌, IfOk, IsTrue, inl, [], ◌∷◌, ◌++◌, take, drop, sym, ap, ◌∙◌, subst, append_assoc, append-nil, arith}
 use Rattle.std.proofs.lemmas.List.{take_all, take_more, drop_more, take-append-drop, length-append, length-take-le}
 use Rattle.std.proofs.lemmas.Option.{IfSome_then}
-use Rattle.std.proofs.lemmas.Result.{err_from_is_err_and, IfErr-weaker}
+use Rattle.std.proofs.lemmas.Result.{err_from_is_err_and, IfErr-weaker, IfOk-weaker}
 use Rattle.std.specs.Map.{values_of}
 use Rattle.toml.specs.Data.{string}
 use Rattle.toml.specs.View.{view, items_view}
@@ -10,13 +10,15 @@ use Rattle.subst_error.specs.ErrorFault.{error_fault}
 use Rattle.subst_language.specs.Calls.Outcome.{OnFault}
 use Rattle.subst_language.specs.Language.Several.{GivesBy, RefusesFirst}
 use Rattle.subst_language.proofs.Language.SeveralLemmas.{refusal_alone}
-use Rattle.subst_document.specs.Changes.{one, inside, found_so_far, AreMade}
+use Rattle.subst_document.specs.Changes.{one, inside, is_other, has_other, found_so_far, AreMade}
+use Rattle.subst_document.specs.Stays.{SomeChanges}
+use Rattle.subst_document.proofs.StaysLemmas.{either_test}
 use Rattle.subst_document.proofs.ChangeLemmas.{found_more, made_up_to_kept}
 use Rattle.subst_toml.specs.Changed.{with_items}
 use Rattle.subst_toml.specs.Mapped.{strings, IsEach}
 use Rattle.subst_toml.proofs.ChangedLemmas.{GivesEach, changed-one, items_each, members_each}
 use Rattle.toml.proofs.Views.{view-String}
-use Rattle.subst_toml.proofs.TomlTreeLemmas.{array_refused, table_refused}
+use Rattle.subst_toml.proofs.TomlTreeLemmas.{array_changes, table_changes, array_refused, table_refused}
 use Rattle.subst_toml.proofs.changes.+find.Goals as goal
 
 pub change_of-returns-in-String-clause-err : goal.change_of-returns-in-String-clause-err
@@ -27,6 +29,16 @@ change_of-returns-in-String-clause-err g t c =
     subst (λ d. OnFault error_fault c.change_of_text.result (RefusesFirst ask (strings d))) (sym seen)
     (IfErr-weaker c.change_of_text.result _ _ (λ e h. IfSome_then (error_fault e) h
     (refusal_alone ask c.as_str.result.now)) c.change_of_text.ensures.err)
+
+pub change_of-returns-in-String-clause-other : goal.change_of-returns-in-String-clause-other
+change_of-returns-in-String-clause-other g t c =
+    let Becomes = GivesBy (g.F.Fill.answers c.args.filler.now) in
+    let seen : view c.args.value.now ≡ string c.as_str.result.now =
+    ap view c.in-String.is ∙ view-String c.in-String.text ∙ ap string (sym c.as_str.ensures.value) in
+    subst (λ d. IfOk c.change_of_text.result
+    (λ change. IsTrue (is_other change) → SomeChanges Becomes (strings d))) (sym seen)
+    (IfOk-weaker c.change_of_text.result _ _ (λ change other some. inl (other some))
+    c.change_of_text.ensures.other)
 
 pub change_of_items-returns-in_err-change_of-clause-err : goal.change_of_items-returns-in_err-change_of-clause-err
 change_of_items-returns-in_err-change_of-clause-err g t c =
@@ -57,12 +69,19 @@ change_of_items-loop-item-preserved g t c =
     let change = c.in_ok-change_of.field-0 in
     let cut : take (l.item-index + 1) vs ≡ done ++ v ∷ [] =
     take_more vs l.item-index v (omega arith) ∙ ap (λ x. done ++ x ∷ []) (sym c.item-item.is) in
+    let all : vs ≡ done ++ v ∷ drop (l.item-index + 1) vs =
+    sym (take-append-drop l.item-index vs)
+    ∙ ap (λ rest. done ++ rest) (drop_more vs l.item-index v (omega arith)
+    ∙ ap (λ x. x ∷ drop (l.item-index + 1) vs) (sym c.item-item.is)) in
     let was = length-take-le l.item-index vs (omega arith) in
     let more = found_more (GivesEach Becomes) done found (found_so_far c.add.new.self) v (one change)
-    c.in_ok-add.ensures (l.invariant.0 ∙ sym was) l.invariant.1
+    c.in_ok-add.ensures.found (l.invariant.0 ∙ sym was) l.invariant.1
     (subst (IsEach Becomes (view v)) (sym (changed-one (view v) change)) c.in_ok-change_of.ensures.ok) in (
       more.0 ∙ length-append done (v ∷ []) ∙ ap (λ n. n + 1) was,
       subst (λ xs. AreMade (GivesEach Becomes) xs (found_so_far c.add.new.self) xs) (sym cut) more.1,
+      either_test _ (has_other l.found) (is_other change) _ c.in_ok-add.ensures.other l.invariant.2
+          (λ some. array_changes Becomes vs done (drop (l.item-index + 1) vs) v all
+          (c.in_ok-change_of.ensures.other some)),
     )
 
 pub change_of_items-returns-clause-ok : goal.change_of_items-returns-clause-ok
@@ -71,7 +90,7 @@ change_of_items-returns-clause-ok g t c =
     let l = c.loop-item in
     let items = c.args.items.now.items in
     let changes = inside c.into_change.result in
-    let kept = c.into_change.ensures in
+    let kept = c.into_change.ensures.kept in
     let all : take l.item-index c.deref-item-items.result.now ≡ items =
     take_all l.item-index c.deref-item-items.result.now (omega arith) ∙ c.deref-item-items.ensures.value in
     items_each Becomes items changes (made_up_to_kept (GivesEach Becomes) items changes kept.0 items
@@ -103,12 +122,16 @@ change_of_members-loop-member-preserved g t c =
     let found = found_so_far l.found in
     let change = c.in_ok-change_of.field-0 in
     let more = found_more (GivesEach Becomes) done found (found_so_far c.add.new.self) v (one change)
-    c.in_ok-add.ensures l.invariant.2 l.invariant.3
+    c.in_ok-add.ensures.found l.invariant.2 l.invariant.3
     (subst (IsEach Becomes (view v)) (sym (changed-one (view v) change)) c.in_ok-change_of.ensures.ok) in (
       done ++ v ∷ [],
       l.invariant.1 ∙ ap (λ vs. done ++ vs) c.in-Some.ensures.steps ∙ sym (append_assoc done (v ∷ []) left),
       more.0,
       more.1,
+      either_test _ (has_other l.found) (is_other change) _ c.in_ok-add.ensures.other l.invariant.4
+          (λ some. table_changes Becomes c.args.members.now.entries done left v
+          (l.invariant.1 ∙ ap (λ vs. done ++ vs) c.in-Some.ensures.steps)
+          (c.in_ok-change_of.ensures.other some)),
     )
 
 pub change_of_members-returns-clause-ok : goal.change_of_members-returns-clause-ok
@@ -118,7 +141,7 @@ change_of_members-returns-clause-ok g t c =
     let done = l.invariant.0 in
     let es = c.args.members.now.entries in
     let changes = inside c.into_change.result in
-    let kept = c.into_change.ensures in
+    let kept = c.into_change.ensures.kept in
     let all : values_of es ≡ done =
     l.invariant.1 ∙ ap (λ vs. done ++ vs) c.in-None.ensures.steps.0 ∙ append-nil done in
     members_each Becomes es changes (made_up_to_kept (GivesEach Becomes) (values_of es) changes kept.0

@@ -4,5 +4,5 @@ use Rattle.subst_document.specs.Changes.{slots, one, found_so_far}
 use Rattle.subst_document.proofs.ChangeLemmas.{slots-append, alone}
 use Rattle.subst_document.proofs.changes.Found.add.Goals as goal
 
-pub returns : goal.returns
-returns c = search (rules, found_so_far, slots, append-nil, replicate, slots-append, alone, one)
+pub returns-clause-found : goal.returns-clause-found
+returns-clause-found c = search (rules, found_so_far, slots, append-nil, replicate, slots-append, alone, one)

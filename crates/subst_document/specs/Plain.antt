@@ -1,0 +1,10 @@
+-- A text with other bytes in place of its strings.
+use Rattle.std.specs.Prelude.{ℕ, ◌+◌, List, [], ◌∷◌, ◌++◌, drop, slice_range}
+use Rattle.subst_document.specs.declared.edits.StringAt.{StringAt}
+
+-- The text from a position on with other bytes in place of each of these strings, of which the first one has
+-- this index. `bytes` tells those of an index.
+abbrev pub with_plain : (ℕ → List ℕ) → (source : List ℕ) → ℕ → ℕ → List StringAt → List ℕ
+with_plain bytes source from index [] = drop from source
+with_plain bytes source from index (it ∷ rest) =
+    slice_range source from it.span.start ++ bytes index ++ with_plain bytes source it.span.end (index + 1) rest

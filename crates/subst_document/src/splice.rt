@@ -1,0 +1,576 @@
+//! Tokens of strings that change: placeholders alone are spelled anew, and all else in a token stays, if the new
+//! value fits into its kind.
+
+ghost use Rattle.std.specs.Prelude.{◌≡◌, ◌⊎◌, ◌++◌, ℕ, List, IfOk, IfSome, IsTrue, string_bytes};
+ghost use Rattle.subst_language.specs.Language.Several.{GivesBy};
+ghost use Rattle.subst_document.specs.Splice.{AppendsPieces, DoesntFit, IsMoreThanParts, IsRespelled, IsSpliced};
+ghost use Rattle.subst_document.specs.declared.splice.Values.TheVariants.{Joined};
+
+use crate::Fill;
+use crate::edits::{Cut, StringFormat, changed, cut_round};
+use crate::placeholder::{is_placeholder, placeholders};
+use std::alloc::{AllocError, Global};
+use std::ops::Range;
+use subst_error::Error;
+
+/// A string that changes.
+#[derive(Clone, Copy)]
+pub(crate) struct Change<'s> {
+    /// The token that spells it.
+    pub token: &'s str,
+    /// The string, as it is read.
+    pub text: &'s str,
+    /// The string that it becomes.
+    pub value: &'s str,
+}
+
+/// Where the content of a token is, and placeholders in it, by byte offsets of the token.
+#[derive(Drop)]
+pub struct Content {
+    /// Where the content begins, after the opening quotes.
+    pub start: usize,
+    /// Where it ends, before the closing quotes.
+    pub end: usize,
+    /// The spans of the placeholders.
+    pub spans: Vec<Range<usize>>,
+}
+
+impl Content {
+    /// Returns ranges that begin so many bytes later: the spans of parts of a string in a token that has its bytes
+    /// as they are.
+    ///
+    /// # Errors
+    ///
+    /// When allocation fails, and for nothing else.
+    pub fn shifted(
+        alloc: Global,
+        ranges: &[Range<usize>],
+        by: usize,
+    ) -> Result<Vec<Range<usize>>, AllocError> {
+        let mut spans = Vec::with_capacity(alloc, ranges.len())?;
+        for range in ranges {
+            spans.push(range.start.saturating_add(by)..range.end.saturating_add(by))?;
+        }
+        Ok(spans)
+    }
+}
+
+/// A part of a string that is spelled in another kind.
+#[derive(Clone, Copy)]
+pub enum Part<'s> {
+    /// The string's own text.
+    Own(&'s str),
+    /// The value of a placeholder.
+    Value(&'s str),
+}
+
+/// The values of the placeholders of a string.
+#[derive(Drop)]
+enum Values {
+    /// Each is that of the placeholder at its span.
+    Each(Vec<Range<usize>>, Vec<String>),
+    /// The string's value isn't that of its parts.
+    Joined,
+    /// A part is refused by itself, or changes and is no placeholder.
+    Unknown,
+}
+
+/// Returns the token of a string that changes, or `None` if none is found that is read as its value. Backslashes
+/// escape braces, or, as in texts of other tools, they don't.
+///
+/// # Errors
+///
+/// When allocation fails, and for nothing else.
+pub(crate) fn new_token<S: StringFormat, F: Fill>(
+    alloc: Global,
+    change: Change<'_>,
+    format: &mut S,
+    filler: &F,
+) -> Result<Option<String>, AllocError>
+    ensures token { IfOk result (λ new. IfSome new
+        (λ new. S.is_token (string_bytes new) change.entry.value.now)) }
+    ensures respelled { IfOk result (λ new. IfSome new
+        (λ new. IsRespelled S.is_part S.is_fit (GivesBy (F.answers filler.now))
+        change.entry.text.now change.entry.value.now change.entry.token.now
+        (string_bytes new))) }
+{
+    match values_of(alloc, change, true, filler)? {
+        Values::Each(spans, values) => token_of(alloc, change, &spans, &values, format, filler),
+        Values::Joined => match values_of(alloc, change, false, filler)? {
+            Values::Each(spans, values) => token_of(alloc, change, &spans, &values, format, filler),
+            Values::Joined | Values::Unknown => whole(alloc, change, format),
+        },
+        Values::Unknown => match values_of(alloc, change, false, filler)? {
+            Values::Each(spans, values) => token_of(alloc, change, &spans, &values, format, filler),
+            Values::Joined => whole(alloc, change, format),
+            Values::Unknown => Ok(None),
+        },
+    }
+}
+
+/// Returns a token of a string that changes, in which the placeholders at these spans alone are spelled anew if
+/// their values fit, as [`new_token`].
+///
+/// # Errors
+///
+/// When allocation fails, and for nothing else.
+fn token_of<S: StringFormat, F: Fill>(
+    alloc: Global,
+    change: Change<'_>,
+    spans: &[Range<usize>],
+    values: &Vec<String>,
+    format: &mut S,
+    filler: &F,
+) -> Result<Option<String>, AllocError>
+    ensures token { IfOk result (λ new. IfSome new
+        (λ new. S.is_token (string_bytes new) change.entry.value.now)) }
+    ensures respelled { IfOk result (λ new. IfSome new
+        (λ new. IsRespelled S.is_part S.is_fit (GivesBy (F.answers filler.now))
+        change.entry.text.now change.entry.value.now change.entry.token.now
+        (string_bytes new))) }
+{
+    if let Some(new) = spliced(alloc, change, spans, values, false, format)?
+        && format.spells(alloc, &new, change.value)?
+    {
+        return Ok(Some(new));
+    }
+    // A line end that comes first may be left out after the opening quotes.
+    if let Some(new) = spliced(alloc, change, spans, values, true, format)?
+        && format.spells(alloc, new.as_str(), change.value)?
+    {
+        return Ok(Some(new));
+    }
+    if !has_misfit(alloc, change, spans, format, filler)? {
+        return Ok(None);
+    }
+    let parts = parts_of(alloc, change.text, spans, values)?;
+    respelled(alloc, change, &parts, format)
+}
+
+/// Returns the values of the placeholders of a string.
+///
+/// # Errors
+///
+/// When allocation fails, and for nothing else.
+fn values_of<F: Fill>(
+    alloc: Global,
+    change: Change<'_>,
+    has_escapes: bool,
+    filler: &F,
+) -> Result<Values, AllocError>
+    ensures { IfOk result (λ values. values ≡ Joined → IsMoreThanParts
+        (GivesBy (F.answers filler.now)) change.entry.text.now change.entry.value.now) }
+{
+    let spans = placeholders(alloc, change.text, has_escapes)?;
+    if let [only] = spans.as_slice()
+        && let Some(value) = between(change, only)
+    {
+        let mut values = Vec::with_capacity(alloc, 1)?;
+        values.push(String::from_str(alloc, value)?)?;
+        return Ok(Values::Each(spans, values));
+    }
+    values_of_each(alloc, change, spans, filler)
+}
+
+/// Returns the value of the only placeholder of a string: what the new string has in its place.
+fn between<'s>(change: Change<'s>, span: &Range<usize>) -> Option<&'s str> {
+    let after = change.text.get(span.end..)?;
+    let value = change.value.strip_prefix(change.text.get(..span.start)?)?;
+    value.strip_suffix(after)
+}
+
+/// Returns the values of placeholders, each of which is filled in by itself, as [`values_of`].
+fn values_of_each<F: Fill>(
+    alloc: Global,
+    change: Change<'_>,
+    spans: Vec<Range<usize>>,
+    filler: &F,
+) -> Result<Values, AllocError>
+    ensures { IfOk result (λ values. values ≡ Joined → IsMoreThanParts
+        (GivesBy (F.answers filler.now)) change.entry.text.now change.entry.value.now) }
+{
+    let mut values = Vec::with_capacity(alloc, spans.len())?;
+    let mut joined = String::with_capacity(alloc, change.value.len())?;
+    let mut rest = change.text;
+    let mut stays = true;
+    for span in spans.iter() {
+        let Some(cut) = cut_round(rest, &moved(span, passed(change.text, rest))) else {
+            return Ok(Values::Unknown);
+        };
+        let Some(before) = append_output(alloc, cut.before, filler, &mut joined)? else {
+            return Ok(Values::Unknown);
+        };
+        let Some(value) = append_output(alloc, cut.token, filler, &mut joined)? else {
+            return Ok(Values::Unknown);
+        };
+        stays = stays && before.as_str() == cut.before;
+        values.push(value)?;
+        rest = cut.rest;
+    }
+    let Some(last) = append_output(alloc, rest, filler, &mut joined)? else {
+        return Ok(Values::Unknown);
+    };
+    if joined.as_str() != change.value {
+        Ok(Values::Joined)
+    } else if stays && last.as_str() == rest {
+        Ok(Values::Each(spans, values))
+    } else {
+        Ok(Values::Unknown)
+    }
+}
+
+/// Returns how long a text is before this rest of it.
+fn passed(text: &str, rest: &str) -> usize {
+    text.len().saturating_sub(rest.len())
+}
+
+/// Appends the output of a part of a string by itself, and returns it, or `None` if the part is refused.
+///
+/// # Errors
+///
+/// When allocation fails, and for nothing else.
+fn append_output<F: Fill>(
+    alloc: Global,
+    part: &str,
+    filler: &F,
+    joined: &mut String,
+) -> Result<Option<String>, AllocError>
+    ensures { IfOk result (λ output. IfSome output
+        (λ output. GivesBy (F.answers filler.now) part.now (string_bytes output)
+        × (string_bytes joined.new ≡ string_bytes joined.old ++ string_bytes output))) }
+{
+    let Some(output) = output_of(alloc, part, filler)? else {
+        return Ok(None);
+    };
+    joined.push_str(&output)?;
+    Ok(Some(output))
+}
+
+/// Returns the output of a part of a string by itself, or `None` if the part is refused.
+///
+/// # Errors
+///
+/// When allocation fails, and for nothing else.
+fn output_of<F: Fill>(alloc: Global, part: &str, filler: &F) -> Result<Option<String>, AllocError>
+    ensures { IfOk result (λ output. IfSome output
+        (λ output. GivesBy (F.answers filler.now) part.now (string_bytes output))) }
+{
+    match changed(alloc, part, filler) {
+        Ok(Some(output)) => Ok(Some(output)),
+        Ok(None) => Ok(Some(String::from_str(alloc, part)?)),
+        Err(Error::OutOfMemory(e)) => Err(e),
+        Err(_) => Ok(None),
+    }
+}
+
+/// The value of a placeholder.
+#[derive(Clone, Copy)]
+struct Value<'s> {
+    text: &'s str,
+    /// Whether a line end comes before it that is no part of the string.
+    begins_line: bool,
+}
+
+/// The rests of a string and of the content of its token.
+#[derive(Clone, Copy)]
+struct Rest<'s> {
+    text: &'s str,
+    token: &'s str,
+}
+
+/// Returns the token with its placeholders spelled anew, the first one after a line end if it begins one. It is
+/// `None` if a value can't be spelled in the token's kind, or a piece of it isn't read as that of the string.
+///
+/// # Errors
+///
+/// When allocation fails, and for nothing else.
+fn spliced<S: StringFormat>(
+    alloc: Global,
+    change: Change<'_>,
+    spans: &[Range<usize>],
+    values: &Vec<String>,
+    begins_line: bool,
+    format: &mut S,
+) -> Result<Option<String>, AllocError>
+    ensures { IfOk result (λ new. IfSome new
+        (λ new. IsSpliced (S.is_part change.entry.token.now) change.entry.text.now
+        change.entry.token.now (string_bytes new))) }
+{
+    let Some(content) = format.content(alloc, change.token, change.text, spans)? else {
+        return Ok(None);
+    };
+    let Some(cut) = cut_round(change.token, &(content.start..content.end)) else {
+        return Ok(None);
+    };
+    let capacity = change.token.len().saturating_add(change.value.len());
+    let mut output = String::with_capacity(alloc, capacity)?;
+    output.push_str(cut.before)?;
+    let mut begins_line = begins_line;
+    let mut rest = Rest {
+        text: change.text,
+        token: cut.token,
+    };
+    for ((range, span), value) in spans.iter().zip(content.spans.iter()).zip(values.iter()) {
+        let left = content.end.saturating_sub(rest.token.len());
+        let text = cut_round(rest.text, &moved(range, passed(change.text, rest.text)));
+        let token = cut_round(rest.token, &moved(span, left));
+        let (Some(text), Some(token)) = (text, token) else {
+            return Ok(None);
+        };
+        let value = Value {
+            text: value.as_str(),
+            begins_line,
+        };
+        if !append_placeholder(alloc, change.token, text, token, value, format, &mut output)? {
+            return Ok(None);
+        }
+        begins_line = false;
+        rest = Rest {
+            text: text.rest,
+            token: token.rest,
+        };
+    }
+    if !append_piece(
+        alloc,
+        change.token,
+        rest.text,
+        rest.token,
+        None,
+        format,
+        &mut output,
+    )? {
+        return Ok(None);
+    }
+    output.push_str(cut.rest)?;
+    Ok(Some(output))
+}
+
+/// Returns a range that begins so many bytes earlier.
+fn moved(range: &Range<usize>, by: usize) -> Range<usize> {
+    range.start.saturating_sub(by)..range.end.saturating_sub(by)
+}
+
+/// Appends what comes before a placeholder in a token and its value, spelled in the token's kind, or returns
+/// `false` as [`append_piece`].
+///
+/// # Errors
+///
+/// When allocation fails, and for nothing else.
+fn append_placeholder<S: StringFormat>(
+    alloc: Global,
+    whole: &str,
+    text: Cut<'_>,
+    token: Cut<'_>,
+    value: Value<'_>,
+    format: &mut S,
+    output: &mut String,
+) -> Result<bool, AllocError>
+    ensures { IfOk result (λ is. IsTrue is → AppendsPieces (S.is_part whole.now)
+        (text.entry.before.now ++ text.entry.token.now)
+        (token.entry.before.now ++ token.entry.token.now) (string_bytes output.old)
+        (string_bytes output.new)) }
+{
+    if !append_piece(
+        alloc,
+        whole,
+        text.before,
+        token.before,
+        None,
+        format,
+        output,
+    )? {
+        return Ok(false);
+    }
+    append_piece(
+        alloc,
+        whole,
+        text.token,
+        token.token,
+        Some(value),
+        format,
+        output,
+    )
+}
+
+/// Appends a piece of a token, or a value in its place, which has to be that of a placeholder. Returns `false`
+/// if the value can't be spelled in the token's kind, or if the piece isn't read as that of the string.
+///
+/// # Errors
+///
+/// When allocation fails, and for nothing else.
+fn append_piece<S: StringFormat>(
+    alloc: Global,
+    whole: &str,
+    text: &str,
+    before: &str,
+    value: Option<Value<'_>>,
+    format: &mut S,
+    output: &mut String,
+) -> Result<bool, AllocError>
+    ensures { IfOk result (λ is. IsTrue is → AppendsPieces (S.is_part whole.now) text.now before.now
+        (string_bytes output.old) (string_bytes output.new)) }
+{
+    if !is_read_as(alloc, whole, before, text, format)? {
+        return Ok(false);
+    }
+    let Some(value) = value else {
+        output.push_str(before)?;
+        return Ok(true);
+    };
+    if !is_placeholder(text) {
+        return Ok(false);
+    }
+    let is_written = append_value(alloc, whole, value, format, output)?;
+    Ok(is_written)
+}
+
+/// Appends a value as it is spelled in the kind of a token, or returns `false` if it can't be.
+///
+/// # Errors
+///
+/// When allocation fails, and for nothing else.
+fn append_value<S: StringFormat>(
+    alloc: Global,
+    whole: &str,
+    value: Value<'_>,
+    format: &mut S,
+    output: &mut String,
+) -> Result<bool, AllocError>
+    ensures { IfOk result (λ is. IsTrue is → (spelled : List ℕ)
+        × (string_bytes output.new ≡ string_bytes output.old ++ spelled)) }
+{
+    if !value.begins_line {
+        return format.write_value(alloc, whole, value.text, output);
+    }
+    if !format.write_line_end(output)? {
+        return Ok(false);
+    }
+    let is_written = format.write_value(alloc, whole, value.text, output)?;
+    Ok(is_written)
+}
+
+/// Returns whether a piece of a token is this text, or is read as it.
+///
+/// # Errors
+///
+/// When allocation fails, and for nothing else.
+fn is_read_as<S: StringFormat>(
+    alloc: Global,
+    whole: &str,
+    before: &str,
+    text: &str,
+    format: &mut S,
+) -> Result<bool, AllocError>
+    ensures { IfOk result (λ is. IsTrue is
+        → (before.now ≡ text.now) ⊎ S.is_part whole.now before.now text.now) }
+{
+    if before == text {
+        return Ok(true);
+    }
+    format.spells_part(alloc, whole, before, text)
+}
+
+/// Returns whether the value of a placeholder, as it is by itself, doesn't fit into the token's kind.
+///
+/// # Errors
+///
+/// When allocation fails, and for nothing else.
+fn has_misfit<S: StringFormat, F: Fill>(
+    alloc: Global,
+    change: Change<'_>,
+    spans: &[Range<usize>],
+    format: &S,
+    filler: &F,
+) -> Result<bool, AllocError>
+    ensures { IfOk result (λ has. IsTrue has → DoesntFit (S.is_fit change.entry.token.now)
+        (GivesBy (F.answers filler.now)) change.entry.text.now) }
+{
+    for span in spans {
+        if is_misfit(alloc, change, span, format, filler)? {
+            return Ok(true);
+        }
+    }
+    Ok(false)
+}
+
+/// Returns whether the value of the placeholder at a span doesn't fit, as [`has_misfit`].
+fn is_misfit<S: StringFormat, F: Fill>(
+    alloc: Global,
+    change: Change<'_>,
+    span: &Range<usize>,
+    format: &S,
+    filler: &F,
+) -> Result<bool, AllocError>
+    ensures { IfOk result (λ has. IsTrue has → DoesntFit (S.is_fit change.entry.token.now)
+        (GivesBy (F.answers filler.now)) change.entry.text.now) }
+{
+    let Some(cut) = cut_round(change.text, span) else {
+        return Ok(false);
+    };
+    let Some(value) = output_of(alloc, cut.token, filler)? else {
+        return Ok(false);
+    };
+    Ok(is_placeholder(cut.token) && !format.fits(change.token, value.as_str()))
+}
+
+/// Returns the parts of a string, with the values of its placeholders.
+///
+/// # Errors
+///
+/// When allocation fails, and for nothing else.
+fn parts_of<'s>(
+    alloc: Global,
+    text: &'s str,
+    spans: &[Range<usize>],
+    values: &'s Vec<String>,
+) -> Result<Vec<Part<'s>>, AllocError> {
+    let mut parts = Vec::new(alloc);
+    let mut passed = 0;
+    for (span, value) in spans.iter().zip(values.iter()) {
+        parts.push(Part::Own(text.get(passed..span.start).unwrap_or("")))?;
+        parts.push(Part::Value(value.as_str()))?;
+        passed = span.end;
+    }
+    parts.push(Part::Own(text.get(passed..).unwrap_or("")))?;
+    Ok(parts)
+}
+
+/// Returns a token of the new string that has nothing of the old one, as [`respelled`].
+///
+/// # Errors
+///
+/// When allocation fails, and for nothing else.
+fn whole<S: StringFormat>(
+    alloc: Global,
+    change: Change<'_>,
+    format: &mut S,
+) -> Result<Option<String>, AllocError>
+    ensures { IfOk result (λ new. IfSome new
+        (λ new. S.is_token (string_bytes new) change.entry.value.now)) }
+{
+    let parts = [Part::Value(change.value)];
+    respelled(alloc, change, &parts, format)
+}
+
+/// Returns a token of the new string with these parts, of whatever kind these fit into, or `None` if it isn't
+/// read as that string.
+///
+/// # Errors
+///
+/// When allocation fails, and for nothing else.
+fn respelled<S: StringFormat>(
+    alloc: Global,
+    change: Change<'_>,
+    parts: &[Part<'_>],
+    format: &mut S,
+) -> Result<Option<String>, AllocError>
+    ensures { IfOk result (λ new. IfSome new
+        (λ new. S.is_token (string_bytes new) change.entry.value.now)) }
+{
+    let new = format.write(alloc, change.token, parts)?;
+    if format.spells(alloc, &new, change.value)? {
+        Ok(Some(new))
+    } else {
+        Ok(None)
+    }
+}

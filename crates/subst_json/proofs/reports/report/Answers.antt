@@ -1,0 +1,11 @@
+-- What holds of each refusal holds of all.
+use Rattle.std.proofs.lemmas.Option.{IfSome_then}
+use Rattle.subst_json.specs.Listed.{refusal_at}
+use Rattle.subst_document.proofs.RefusalLemmas.{holds_of_all}
+use Rattle.subst_document.specs.Refused.{HasRangeInText}
+use Rattle.subst_json.proofs.reports.report.Goals as goal
+
+pub refusals-requires : goal.refusals-requires
+refusals-requires g c =
+    IfSome_then c.in_ok-all-in-Subst.all c.in_ok-all-in-Subst.ensures.range
+    (λ all range. holds_of_all refusal_at HasRangeInText all.items range)

@@ -1,0 +1,33 @@
+-- Refused strings of a document with their spans.
+use Rattle.std.proofs.Common.{ℕ, ◌+◌, List, [], ◌∷◌, map, inl, inr, ap, ◌∙◌}
+use Rattle.std.specs.List.{AllZip}
+use Rattle.subst_language.specs.Language.Answer.{Answer}
+use Rattle.subst_document.specs.Refused.{AreRefusedOf}
+use Rattle.subst_document.specs.declared.edits.RefusalAt.{RefusalAt}
+use Rattle.subst_document.specs.declared.edits.StringAt.{StringAt}
+use Rattle.subst_toml.specs.Filled.{spelled_of, refusal_in, AreRefusalsIn}
+use Rattle.subst_toml.specs.declared.path.Path.{Path}
+
+-- the refused strings of a list are so without their paths
+pub refusals_of_listed : (ask : List ℕ → Answer → Type 0) (LeadsTo : ℕ → Path → Type 0) (index : ℕ)
+    (list : List StringAt) (all : List (RefusalAt Path)) → AreRefusedOf ask LeadsTo index list all
+    → AreRefusalsIn ask (map spelled_of list) (map refusal_in all)
+refusals_of_listed ask LeadsTo index [] all none = ap (map refusal_in) none
+refusals_of_listed ask LeadsTo index (it ∷ list) all (inl (gives, h)) =
+    inl (gives, refusals_of_listed ask LeadsTo (index + 1) list all h)
+refusals_of_listed ask LeadsTo index (it ∷ list) all (inr (refusal, more, is, r, h)) =
+    inr (
+      r.fault,
+      map refusal_in more,
+      r.refused,
+      ap (map refusal_in) is ∙ cc (r.text, r.span, r.fault_is),
+      refusals_of_listed ask LeadsTo (index + 1) list more h,
+    )
+
+-- what two lists are place by place may be said in a weaker way
+pub AllZip-weaker : {A B : Type 0} (R S : A → B → Type 0) → ((x : A) (y : B) → R x y → S x y) → (xs : List A)
+    (ys : List B) → AllZip R xs ys → AllZip S xs ys
+AllZip-weaker R S weaker [] [] h = h
+AllZip-weaker R S weaker [] (y ∷ ys) h = absurd h
+AllZip-weaker R S weaker (x ∷ xs) [] h = absurd h
+AllZip-weaker R S weaker (x ∷ xs) (y ∷ ys) h = (weaker x y h.0, AllZip-weaker R S weaker xs ys h.1)
