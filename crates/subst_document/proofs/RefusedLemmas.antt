@@ -3,7 +3,8 @@ use Rattle.std.proofs.Common.{◌≡◌, ℕ, ◌+◌, List, [], ◌∷◌, map,
 use Rattle.std.specs.List.{zip, AllByRecursion}
 use Rattle.subst_error.specs.ErrorFault.{error_fault}
 use Rattle.subst_error.specs.Range.{range_of, IsRangeIn}
-use Rattle.subst_language.specs.Language.Answer.{Answer}
+use Rattle.subst_language.specs.Language.Answer.{Answer, Gives, Refuses}
+use Rattle.subst_document.specs.Edits.{text_at}
 use Rattle.subst_document.specs.Refused.{with_path, ArePathsTo, AreRefusedOf}
 use Rattle.subst_document.specs.declared.edits.RefusalAt.{RefusalAt}
 use Rattle.subst_document.specs.declared.edits.StringAt.{StringAt}
@@ -50,4 +51,28 @@ module _ {P : Type 0} (ask : List ℕ → Answer → Type 0) (LeadsTo : ℕ → 
         holds refusal
             (subst (λ x. IsRangeIn x (range_of (error_fault refusal.error))) (sym r.text) r.range),
         ranges_within f Q holds (index + 1) list more h,
+      )
+
+  -- what is known of the answers of strings may be said in a weaker way
+  pub refused_weaker : (other : List ℕ → Answer → Type 0) → ((s : List ℕ) (a : Answer) → ask s a → other s a)
+      → (index : ℕ) (list : List StringAt) (all : List (RefusalAt P)) → AreRefusedOf ask LeadsTo index list all
+      → AreRefusedOf other LeadsTo index list all
+  refused_weaker other weaker index [] all none = none
+  refused_weaker other weaker index (it ∷ list) all (inl ((x, gives), h)) =
+      inl ((x, weaker (text_at it) (Gives x) gives), refused_weaker other weaker (index + 1) list all h)
+  refused_weaker other weaker index (it ∷ list) all (inr (refusal, more, is, r, h)) =
+      inr (
+        refusal,
+        more,
+        is,
+        record {
+          path = r.path;
+          text = r.text;
+          span = r.span;
+          fault = r.fault;
+          fault_is = r.fault_is;
+          refused = weaker (text_at it) (Refuses r.fault) r.refused;
+          range = r.range;
+        },
+        refused_weaker other weaker (index + 1) list more h,
       )

@@ -9,13 +9,14 @@ use Rattle.subst_error.specs.Range.{IsRangeIn}
 use Rattle.subst_language.specs.Language.Answer.{Answer, Gives, Refuses}
 use Rattle.subst_document.specs.Edits.{text_at, AreSpelled}
 use Rattle.subst_document.specs.Paths.{PathStep, Located, AreRefusals, step_of}
-use Rattle.subst_document.specs.Refused.{AreRefusedOf, ArePathsTo}
+use Rattle.subst_document.specs.Refused.{AreRefusedOf, ArePathsTo, HasRangeInText}
 use Rattle.subst_document.specs.declared.edits.RefusalAt as found
 use Rattle.subst_document.specs.declared.edits.StringAt.{StringAt}
 use Rattle.subst_document.specs.declared.path_step.PathStep as steps
 use Rattle.subst_document.proofs.RefusalLemmas.{pushed_step}
+use Rattle.subst_document.proofs.RefusedLemmas.{ranges_within}
 use Rattle.subst_json.specs.Filled.{strings_in, strings_of_token, IsStringToken}
-use Rattle.subst_json.specs.Listed.{located, located_at, located_in, past_token, past_value, refusal_at, string_of, IsPathTo, IsSeen, RefusalAt}
+use Rattle.subst_json.specs.Listed.{located, located_at, located_in, past_token, past_value, refusal_at, string_of, AreAllRefused, AreRefused, IsPathTo, IsSeen, RefusalAt}
 use Rattle.subst_json.specs.Paths.{steps_of}
 use Rattle.subst_json.specs.declared.path.Path.{Path}
 
@@ -49,7 +50,7 @@ texts_at path (boolean b) = refl
 texts_at path null = refl
 texts_at path bad = refl
 
-pub located_texts : (path : List PathStep) (ts : List Token)
+located_texts : (path : List PathStep) (ts : List Token)
     → map (λ it. it.text) (located_in path ts) ≡ strings_in ts
 located_texts path [] = refl
 located_texts path (t ∷ ts) =
@@ -92,7 +93,7 @@ seen_more source done left path strings index refused rest to_come paths with al
 
 module _ (ask : List ℕ → Answer → Type 0) where
   -- refusals with the paths of their indices are those of the strings with these paths
-  pub refusals_of_listed : (paths done : List (List PathStep)) (index : ℕ) (list : List StringAt)
+  refusals_of_listed : (paths done : List (List PathStep)) (index : ℕ) (list : List StringAt)
       (strings : List Located) (all : List RefusalAt) → paths ≡ done ++ map (λ it. it.path) strings
       → index ≡ length done → map text_at list ≡ map (λ it. it.text) strings
       → AreRefusedOf ask (λ i path. slice_get paths i ≡ Some (steps_of path)) index list all
@@ -132,7 +133,7 @@ module _ (ask : List ℕ → Answer → Type 0) where
         (within, omega arith, forwards, spells, h)
 
     -- refused strings of a list that is spelled are spelled
-    pub refused_spelled : (LeadsTo : ℕ → Path → Type 0) (index from : ℕ) (list : List StringAt)
+    refused_spelled : (LeadsTo : ℕ → Path → Type 0) (index from : ℕ) (list : List StringAt)
         (all : List RefusalAt) → AreSpelled IsStringToken source from list
         → AreRefusedOf ask LeadsTo index list all → AreSpelled IsStringToken source from (map string_of all)
     refused_spelled LeadsTo index from [] all spelled none =
@@ -154,3 +155,14 @@ module _ (ask : List ℕ → Answer → Type 0) where
           spells,
           refused_spelled LeadsTo (index + 1) it.span.end list more rest h,
         )))
+
+    -- refused strings of the text, each where it stands, are all that are refused
+    pub all_refused : (all : List RefusalAt) → AreRefused ask source all → AreAllRefused ask source all
+    all_refused all (list, listing, h) =
+        let strings = located_in [] (tokens source) in record {
+          each = (list, listing, h);
+          refused = refusals_of_listed (map (λ it. it.path) strings) [] 0 list strings all refl refl
+              (listing.all ∙ sym (located_texts [] (tokens source))) h;
+          spelled = refused_spelled (IsPathTo source) 0 0 list all listing.spelled h;
+          range = ranges_within ask (IsPathTo source) refusal_at HasRangeInText (λ it within. within) 0 list all h;
+        }

@@ -1,4 +1,4 @@
--- Trees whose strings are filled in, apart from how they are kept.
+-- Trees and texts whose strings are filled in, apart from how they are kept.
 use Rattle.std.proofs.Common.{ℕ, List, [], ◌∷◌, Option, refl}
 use Rattle.serde_json.specs.Data.{Data, null, boolean, number, string, array, object, Items, no_items, item, Members, no_members, member}
 use Rattle.subst_language.specs.Calls.Clauses.{AnswersText}
@@ -7,6 +7,11 @@ use Rattle.subst_language.specs.Language.Answer.{Answer, Gives}
 use Rattle.subst_language.specs.Language.Several.{AreGiven, GivesBy, under}
 use Rattle.subst_language.proofs.CallingLemmas.{answer_by_map}
 use Rattle.subst_language.proofs.Language.SeveralLemmas.{given_append, given_apart}
+use Rattle.subst_document.proofs.EditLemmas.{filled_weaker}
+use Rattle.subst_document.proofs.RefusedLemmas.{refused_weaker}
+use Rattle.subst_json.proofs.ListedLemmas.{all_refused}
+use Rattle.subst_json.specs.InPlace.{IsFilledDocument}
+use Rattle.subst_json.specs.Listed.{AreAllRefused, IsPathTo, RefusalAt}
 use Rattle.subst_json.specs.Mapped.{strings, strings_of_items, strings_of_members, IsEach, AreEach, HasEachMember, IsMapped}
 
 -- `ask` tells which answers a string has
@@ -88,6 +93,15 @@ module _ (Becomes Stays : List ℕ → List ℕ → Type 0)
         (h.0, each_weaker d e h.1, members_weaker ms ns h.2)
     members_weaker _ _ h = absurd h
 
+  -- so may those of a document
+  pub document_weaker : (source output : List ℕ) → IsFilledDocument Becomes source output
+      → IsFilledDocument Stays source output
+  document_weaker source output h =
+      let (d, read, (e, read_as, each)) = h.mapped in record {
+        mapped = (d, read, (e, read_as, each_weaker d e each));
+        kept = filled_weaker _ _ _ Becomes Stays weaker _ source output h.kept;
+      }
+
 -- a tree that is filled in from a map is mapped under the map's look-up
 pub mapped_by_map : {V Seen : Type 0} (items : V → List ℕ) (see : V → Seen) (look_up : List ℕ → Option Seen)
     (d e : Data) → IsEach (GivesBy (AnswersText items see look_up)) d e
@@ -95,3 +109,24 @@ pub mapped_by_map : {V Seen : Type 0} (items : V → List ℕ) (see : V → Seen
 mapped_by_map items see look_up d e h = λ bytes reads.
     each_weaker (GivesBy (AnswersText items see look_up)) (GivesBy (under (look_up_of bytes look_up)))
     (λ s x gives. answer_by_map items see look_up s (Gives x) gives bytes reads) d e h
+
+-- so is a document
+pub filled_by_map : {V Seen : Type 0} (items : V → List ℕ) (see : V → Seen) (look_up : List ℕ → Option Seen)
+    (source output : List ℕ) → IsFilledDocument (GivesBy (AnswersText items see look_up)) source output
+    → ByLookUp items see look_up (λ look. IsFilledDocument (GivesBy (under look)) source output)
+filled_by_map items see look_up source output h = λ bytes reads.
+    document_weaker (GivesBy (AnswersText items see look_up)) (GivesBy (under (look_up_of bytes look_up)))
+    (λ s x gives. answer_by_map items see look_up s (Gives x) gives bytes reads) source output h
+
+-- and its strings that are refused are so under the map's look-up
+pub refusals_by_map : {V Seen : Type 0} (items : V → List ℕ) (see : V → Seen) (look_up : List ℕ → Option Seen)
+    (source : List ℕ) (all : List RefusalAt) → AreAllRefused (AnswersText items see look_up) source all
+    → ByLookUp items see look_up (λ look. AreAllRefused (under look) source all)
+refusals_by_map items see look_up source all h = λ bytes reads.
+    let (list, listing, are) = h.each in
+    all_refused _ source all (
+      list,
+      listing,
+      refused_weaker _ (IsPathTo source) (under (look_up_of bytes look_up))
+          (λ s a known. answer_by_map items see look_up s a known bytes reads) 0 list all are,
+    )

@@ -11,7 +11,8 @@ use Rattle.serde_json.specs.Data.{Data, array, object, Items, item, Members, no_
 use Rattle.serde_json.specs.Data as tree
 use Rattle.serde_json.specs.Read.{number_of, of_json, of_items, of_members, max_depth, read}
 use Rattle.subst_document.specs.Stays.{AllStay}
-use Rattle.subst_json.specs.Filled.{strings_of_token, strings_in}
+use Rattle.subst_json.specs.Filled.{strings_of_token, strings_in, IsFilledJson}
+use Rattle.subst_json.specs.InPlace.{IsFilledDocument}
 use Rattle.subst_json.specs.Mapped.{IsEach, AreEach, HasEachMember}
 use Rattle.subst_json.specs.Outcome.{ReadsAsTree}
 use Rattle.subst_json.proofs.FilledLemmas.{put_each}
@@ -101,11 +102,11 @@ module _ (Becomes : List ℕ → List ℕ → Type 0) where
       (value_stays j (subst (λ ts. AllStay Becomes (strings_in ts)) spelled h))))
 
   -- so is one that is its own output
-  pub unchanged_each : (source : List ℕ) (text : String Global) → AllStay Becomes (strings_in (tokens source))
-      → string_bytes text ≡ source → (output : Option (String Global))
+  pub unchanged_document : (source : List ℕ) (text : String Global)
+      → AllStay Becomes (strings_in (tokens source)) → string_bytes text ≡ source
+      → IsFilledJson Becomes source (string_bytes text) → (output : Option (String Global))
       → (output ≡ Some text) × ReadsAsTree source (λ _. ⊤)
-      → IfSome output (λ it. ReadsAsTree source (λ d. ReadsAsTree (string_bytes it) (IsEach Becomes d)))
-  unchanged_each source text stay same output (is, (d, reads, _)) =
-      subst (λ o. IfSome o (λ it. ReadsAsTree source (λ d. ReadsAsTree (string_bytes it) (IsEach Becomes d))))
-      (sym is)
-      (d, reads, (d, ap read same ∙ reads, document_stays source d reads stay))
+      → IfSome output (λ it. IsFilledDocument Becomes source (string_bytes it))
+  unchanged_document source text stay same kept output (is, (d, reads, _)) =
+      subst (λ o. IfSome o (λ it. IsFilledDocument Becomes source (string_bytes it))) (sym is)
+      (record { mapped = (d, reads, (d, ap read same ∙ reads, document_stays source d reads stay)); kept = kept })

@@ -1,6 +1,7 @@
 pub mod Changed
 pub mod Errors
 pub mod Filled
+pub mod InPlace
 pub mod Laws
 pub mod Listed
 pub mod Mapped

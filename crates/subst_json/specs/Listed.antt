@@ -1,13 +1,13 @@
 -- The strings of a JSON text that are refused, with their paths and where they stand.
 use Rattle.std.specs.Prelude.{◌≡◌, ◌⊎◌, ℕ, ◌+◌, List, [], ◌∷◌, ◌++◌, Some, codes, drop, map, reverse}
-use Rattle.std.specs.List.{slice_get}
+use Rattle.std.specs.List.{slice_get, AllByRecursion}
 use Rattle.json.specs.Lex.{tokens}
 use Rattle.json.specs.Token.{Token, begin_object, end_object, begin_array, end_array, key, string, number, boolean, null, bad}
 use Rattle.subst_language.specs.Language.Answer.{Answer}
 use Rattle.subst_document.specs.Edits.{text_at, AreSpelled}
-use Rattle.subst_document.specs.Paths.{PathStep, Key, Index, Located, Refusal}
+use Rattle.subst_document.specs.Paths.{PathStep, Key, Index, Located, Refusal, AreRefusals}
 use Rattle.subst_document.specs.Plain.{with_plain}
-use Rattle.subst_document.specs.Refused.{AreRefusedOf}
+use Rattle.subst_document.specs.Refused.{AreRefusedOf, HasRangeInText}
 use Rattle.subst_document.specs.Refused as refused
 use Rattle.subst_document.specs.declared.edits.StringAt.{StringAt}
 use Rattle.subst_document.specs.declared.edits.RefusalAt as found
@@ -83,6 +83,7 @@ AreApart source list =
 pub record IsListing (source : List ℕ) (list : List StringAt) : Type 0 where
   pub all : map text_at list ≡ strings_in (tokens source)
   pub spelled : AreSpelled IsStringToken source 0 list
+  -- no span is that of anything else, as of a key
   pub apart : AreApart source list
 
 -- the path leads to the string of this index
@@ -104,3 +105,12 @@ IsSeen steps strings index rest left paths with =
 abbrev pub AreRefused : (List ℕ → Answer → Type 0) → (source : List ℕ) → List RefusalAt → Type 0
 AreRefused ask source all =
     (list : List StringAt) × IsListing source list × AreRefusedOf ask (IsPathTo source) 0 list all
+
+-- These are all refused strings of the text, each where it stands.
+pub record AreAllRefused (ask : List ℕ → Answer → Type 0) (source : List ℕ) (all : List RefusalAt) : Type 0 where
+  -- each has the span and the path of the string of the text that it is
+  pub each : AreRefused ask source all
+  -- they are the refusals of all strings, and each other string gives a text
+  pub refused : AreRefusals ask (located_in [] (tokens source)) (map refusal_at all)
+  pub spelled : AreSpelled IsStringToken source 0 (map string_of all)
+  pub range : AllByRecursion HasRangeInText (map refusal_at all)

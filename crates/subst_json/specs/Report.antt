@@ -6,7 +6,7 @@ use Rattle.subst_error.specs.ErrorFault.{error_fault}
 use Rattle.subst_error.specs.Range.{IsRangeIn}
 use Rattle.subst_language.specs.Language.Answer.{Answer}
 use Rattle.subst_document.specs.Refused.{HasRangeInText}
-use Rattle.subst_json.specs.Listed.{refusal_at, AreRefused, RefusalAt}
+use Rattle.subst_json.specs.Listed.{refusal_at, AreAllRefused, RefusalAt}
 use Rattle.subst_json.specs.Outcome.{ReadsAsTree}
 use Rattle.subst_json.specs.Paths.{steps_of}
 use Rattle.subst_json.specs.Places.{IsPlaceIn}
@@ -34,5 +34,5 @@ ReportsReader file s text =
 -- the text reports the error of a call that filled in the text s of a file
 abbrev pub Reports : (List ℕ → Answer → Type 0) → (file s : List ℕ) → Error → List ℕ → Type 0
 Reports ask file s (Json e) text = ReportsReader file s text
-Reports ask file s (Subst e) text = ReportsAll (AreRefused ask s) ReportsRefused file s (error_fault e) text
+Reports ask file s (Subst e) text = ReportsAll (AreAllRefused ask s) ReportsRefused file s (error_fault e) text
 Reports ask file s (OutOfMemory e) text = ⊥

@@ -1,16 +1,13 @@
 //! JSON texts whose strings are filled in where they stand: each other byte stays.
 
-ghost use Rattle.std.specs.Prelude.{◌≡◌, ⊤, IfErr, IfNone, IfOk, IfSome, IsUtf8, None, OnOk, Some, string_bytes};
-ghost use Rattle.json.specs.Lex.{tokens};
+ghost use Rattle.std.specs.Prelude.{◌≡◌, ⊤, IfErr, IfNone, IfOk, IfSome, None, Some, string_bytes};
 ghost use Rattle.serde_json.specs.Errors.{IsOfText};
 ghost use Rattle.serde_json.specs.Read.{read};
 ghost use Rattle.subst_error.specs.ErrorFault.{error_fault};
 ghost use Rattle.subst_language.specs.Calls.Clauses.{AnswersText};
-ghost use Rattle.subst_language.specs.Language.Several.{GivesBy, RefusesFirst};
-ghost use Rattle.subst_document.specs.Stays.{SomeChanges};
-ghost use Rattle.subst_document.specs.Texts.{HasRange};
+ghost use Rattle.subst_language.specs.Language.Several.{GivesBy};
 ghost use Rattle.subst_json.specs.Errors.{HasOwnMemory};
-ghost use Rattle.subst_json.specs.Filled.{strings_in, IsFilledJson};
+ghost use Rattle.subst_json.specs.InPlace.{FillsIn, FillsInBytes};
 ghost use Rattle.subst_json.specs.Mapped.{IsEach};
 ghost use Rattle.subst_json.specs.Outcome.{ReadsAsTree, IfJson, OnJson, OnSubst};
 
@@ -50,32 +47,8 @@ pub fn fill_in<'a, M: VariableMap<'a>>(
 ) -> Result<Option<String>, Error>
 where
     M::Value: AsStr + Drop,
-
-    // It reads as the tree that the source is read as, with its strings filled in.
-    ensures mapped { IfOk result (λ output. IfSome output (λ output. ReadsAsTree source.now
-        (λ d. ReadsAsTree (string_bytes output)
-        (IsEach (GivesBy (AnswersText M.Value.text M.see (M.look_up variables.now))) d)))) }
-
-    // It is the source, but for the strings that change.
-    ensures kept { IfOk result (λ output. IfSome output
-        (λ output. IsFilledJson (GivesBy (AnswersText M.Value.text M.see (M.look_up variables.now)))
-        source.now (string_bytes output))) }
-
-    // Nothing is returned only where some string changes.
-    ensures unconfirmed { IfOk result (λ output. IfNone output (ReadsAsTree source.now
-        (λ _. SomeChanges (GivesBy (AnswersText M.Value.text M.see (M.look_up variables.now)))
-        (strings_in (tokens source.now))))) }
-    ensures json { OnJson result (read source.now ≡ None) }
-
-    // What the error says is of a text that is no tree, and not of a type.
-    ensures kind { IfJson result IsOfText }
-    ensures subst { OnSubst result (λ f. ReadsAsTree source.now
-        (λ _. RefusesFirst (AnswersText M.Value.text M.see (M.look_up variables.now))
-        (strings_in (tokens source.now)) f)) }
-    ensures range { OnSubst result HasRange }
-
-    // Neither `Json` nor `Subst` says that memory ran out.
-    ensures memory { IfErr result HasOwnMemory }
+    ensures filled { FillsIn
+        (AnswersText M.Value.text M.see (M.look_up variables.now)) source.now result }
 {
     fill_in_by(alloc, source, &Filler { variables })
 }
@@ -92,26 +65,8 @@ pub fn fill_in_slice<'a, M: VariableMap<'a>>(
 ) -> Result<Option<String>, Error>
 where
     M::Value: AsStr + Drop,
-    ensures mapped { IfOk result (λ output. IfSome output (λ output. ReadsAsTree source.now
-        (λ d. ReadsAsTree (string_bytes output)
-        (IsEach (GivesBy (AnswersText M.Value.text M.see (M.look_up variables.now))) d)))) }
-    ensures kept { IfOk result (λ output. IfSome output
-        (λ output. IsFilledJson (GivesBy (AnswersText M.Value.text M.see (M.look_up variables.now)))
-        source.now (string_bytes output))) }
-    ensures unconfirmed { IfOk result (λ output. IfNone output (ReadsAsTree source.now
-        (λ _. SomeChanges (GivesBy (AnswersText M.Value.text M.see (M.look_up variables.now)))
-        (strings_in (tokens source.now))))) }
-
-    // The strings are filled in only where the bytes are UTF-8, and one is refused only there.
-    ensures utf8 { OnOk result (IsUtf8 source.now) }
-    ensures refused_utf8 { OnSubst result (λ f. IsUtf8 source.now) }
-    ensures json { OnJson result (IsUtf8 source.now → read source.now ≡ None) }
-    ensures kind { IfJson result IsOfText }
-    ensures subst { OnSubst result (λ f. ReadsAsTree source.now
-        (λ _. RefusesFirst (AnswersText M.Value.text M.see (M.look_up variables.now))
-        (strings_in (tokens source.now)) f)) }
-    ensures range { OnSubst result HasRange }
-    ensures memory { IfErr result HasOwnMemory }
+    ensures filled { FillsInBytes
+        (AnswersText M.Value.text M.see (M.look_up variables.now)) source.now result }
 {
     match from_utf8(source) {
         Ok(text) => fill_in(alloc, text, variables),
@@ -129,18 +84,7 @@ where
 ///
 /// As [`fill_in`].
 pub fn fill_in_by<F: Fill>(alloc: Global, source: &str, filler: &F) -> Result<Option<String>, Error>
-    ensures each { IfOk result (λ output. IfSome output (λ output. ReadsAsTree source.now
-        (λ d. ReadsAsTree (string_bytes output) (IsEach (GivesBy (F.answers filler.now)) d)))) }
-    ensures kept { IfOk result (λ output. IfSome output (λ output.
-        IsFilledJson (GivesBy (F.answers filler.now)) source.now (string_bytes output))) }
-    ensures unconfirmed { IfOk result (λ output. IfNone output (ReadsAsTree source.now
-        (λ _. SomeChanges (GivesBy (F.answers filler.now)) (strings_in (tokens source.now))))) }
-    ensures json { OnJson result (read source.now ≡ None) }
-    ensures kind { IfJson result IsOfText }
-    ensures subst { OnSubst result (λ f. ReadsAsTree source.now
-        (λ _. RefusesFirst (F.answers filler.now) (strings_in (tokens source.now)) f)) }
-    ensures range { OnSubst result HasRange }
-    ensures memory { IfErr result HasOwnMemory }
+    ensures filled { FillsIn (F.answers filler.now) source.now result }
 {
     match filled_in(alloc, source, filler) {
         Ok(Some(filled)) if filled.is_changed => confirmed(alloc, source, filled.text, filler),

@@ -1,15 +1,18 @@
 -- Refused strings of a document with their spans.
 use Rattle.std.proofs.Common.{ℕ, ◌+◌, List, [], ◌∷◌, map, inl, inr, ap, ◌∙◌}
-use Rattle.std.specs.List.{AllZip}
+use Rattle.std.specs.List.{AllByRecursion, AllZip}
 use Rattle.subst_language.specs.Language.Answer.{Answer}
 use Rattle.subst_document.specs.Refused.{AreRefusedOf}
 use Rattle.subst_document.specs.declared.edits.RefusalAt.{RefusalAt}
 use Rattle.subst_document.specs.declared.edits.StringAt.{StringAt}
-use Rattle.subst_toml.specs.Filled.{spelled_of, refusal_in, AreRefusalsIn}
+use Rattle.subst_document.proofs.RefusedLemmas.{ranges_within}
+use Rattle.subst_toml.specs.Filled.{spelled_of, refusal_in, AreRefusalsIn, HasFaultInText, IsFound}
+use Rattle.subst_toml.specs.Listed.{AreAllRefused, AreRefusedIn, IsPathTo}
+use Rattle.subst_toml.specs.Outcome.{ReadsAsTree}
 use Rattle.subst_toml.specs.declared.path.Path.{Path}
 
 -- the refused strings of a list are so without their paths
-pub refusals_of_listed : (ask : List ℕ → Answer → Type 0) (LeadsTo : ℕ → Path → Type 0) (index : ℕ)
+refusals_of_listed : (ask : List ℕ → Answer → Type 0) (LeadsTo : ℕ → Path → Type 0) (index : ℕ)
     (list : List StringAt) (all : List (RefusalAt Path)) → AreRefusedOf ask LeadsTo index list all
     → AreRefusalsIn ask (map spelled_of list) (map refusal_in all)
 refusals_of_listed ask LeadsTo index [] all none = ap (map refusal_in) none
@@ -23,6 +26,17 @@ refusals_of_listed ask LeadsTo index (it ∷ list) all (inr (refusal, more, is, 
       ap (map refusal_in) is ∙ cc (r.text, r.span, r.fault_is),
       refusals_of_listed ask LeadsTo (index + 1) list more h,
     )
+
+-- refused strings of the document, each at its span and where its path leads, are all that are refused
+pub all_refused : (ask : List ℕ → Answer → Type 0) (source : List ℕ) (all : List (RefusalAt Path))
+    → AreRefusedIn ask source all → ReadsAsTree source (λ d. AllByRecursion (IsFound source d) all)
+    → AreAllRefused ask source all
+all_refused ask source all (list, strings, h) found = record {
+  each = (list, strings, h);
+  refused = (map spelled_of list, strings, refusals_of_listed ask (IsPathTo source list) 0 list all h);
+  found = found;
+  range = ranges_within ask (IsPathTo source list) refusal_in HasFaultInText (λ it within. within) 0 list all h;
+}
 
 -- what two lists are place by place may be said in a weaker way
 pub AllZip-weaker : {A B : Type 0} (R S : A → B → Type 0) → ((x : A) (y : B) → R x y → S x y) → (xs : List A)

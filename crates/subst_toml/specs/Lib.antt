@@ -2,6 +2,7 @@ pub mod Changed
 pub mod DottedKey
 pub mod Errors
 pub mod Filled
+pub mod InPlace
 pub mod Kinds
 pub mod Laws
 pub mod Listed

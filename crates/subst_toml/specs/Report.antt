@@ -1,6 +1,5 @@
 -- What is reported of a TOML document.
 use Rattle.std.specs.Prelude.{◌≡◌, ⊤, ℕ, List, Option, None, MatchOption}
-use Rattle.std.specs.List.{AllByRecursion}
 use Rattle.std.specs.declared.ops.Range.{Range}
 use Rattle.toml.specs.Errors.{span_start, span_end}
 use Rattle.toml.specs.Parse.{parse_document}
@@ -10,8 +9,8 @@ use Rattle.subst_error.specs.Range.{IsRangeIn}
 use Rattle.subst_language.specs.Language.Answer.{Answer}
 use Rattle.subst_document.specs.declared.edits.RefusalAt as found
 use Rattle.subst_toml.specs.DottedKey.{dotted_text}
-use Rattle.subst_toml.specs.Filled.{refusal_in, HasFaultInText, IsFound}
-use Rattle.subst_toml.specs.Listed.{AreRefusedIn}
+use Rattle.subst_toml.specs.Filled.{refusal_in, HasFaultInText}
+use Rattle.subst_toml.specs.Listed.{AreAllRefused}
 use Rattle.subst_toml.specs.Outcome.{ReadsAsTree}
 use Rattle.subst_toml.specs.Paths.{steps_of}
 use Rattle.subst_toml.specs.Places.{IsPlaceIn}
@@ -22,12 +21,6 @@ use Rattle.subst_document.specs.Report.{lines_of, ReportsAll, ReportsFault}
 
 abbrev pub RefusalAt : Type 0
 RefusalAt = found.RefusalAt Path
-
--- These are the strings of the document that are refused, in its order, each where it stands and where its
--- path leads. Each other string gives bytes.
-abbrev pub AreRefused : (List ℕ → Answer → Type 0) → List ℕ → List RefusalAt → Type 0
-AreRefused ask s all =
-    AreRefusedIn ask s all × ReadsAsTree s (λ d. AllByRecursion (IsFound s d) all)
 
 -- the range of its fault is in its string
 abbrev pub HasRange : RefusalAt → Type 0
@@ -55,5 +48,5 @@ ReportsReader e file s text =
 abbrev pub Reports : (List ℕ → Answer → Type 0) → (file s : List ℕ) → Error → List ℕ → Type 0
 Reports ask file s (InvalidUtf8 e) text = (message : List ℕ) × (text ≡ lines_of file s None message)
 Reports ask file s (Toml e) text = ReportsReader e file s text
-Reports ask file s (Subst e) text = ReportsAll (AreRefused ask s) ReportsRefused file s (error_fault e) text
+Reports ask file s (Subst e) text = ReportsAll (AreAllRefused ask s) ReportsRefused file s (error_fault e) text
 Reports ask file s (OutOfMemory e) text = ⊥

@@ -4,18 +4,13 @@
 //! A walk over the text finds its strings, and each that changes is written anew. Then the kit's reader is
 //! asked whether the text is read as the tree with its strings filled in.
 
-ghost use Rattle.std.specs.Prelude.{◌≡◌, None, Some, IfErr, IfNone, IfOk, IfSome, IsTrue, string_bytes};
-ghost use Rattle.toml.specs.Errors.{IsWithin};
+ghost use Rattle.std.specs.Prelude.{◌≡◌, Some, IfOk, IfSome, IsTrue, string_bytes};
 ghost use Rattle.toml.specs.Parse.{parse_document};
 ghost use Rattle.toml.specs.View.{table_view};
 ghost use Rattle.subst_language.specs.Calls.Clauses.{AnswersText};
-ghost use Rattle.subst_language.specs.Language.Several.{GivesBy, RefusesFirst};
-ghost use Rattle.subst_document.specs.Stays.{SomeChanges};
-ghost use Rattle.subst_document.specs.Texts.{HasRange};
-ghost use Rattle.subst_toml.specs.Errors.{HasOwnMemory};
-ghost use Rattle.subst_toml.specs.Filled.{IsFilledIn, IsFilledOrSame};
-ghost use Rattle.subst_toml.specs.Mapped.{strings, IsEach};
-ghost use Rattle.subst_toml.specs.Outcome.{ReadsAsTree, IfToml, OnToml, OnSubst, TellsUtf8, StatesFirst};
+ghost use Rattle.subst_language.specs.Language.Several.{GivesBy};
+ghost use Rattle.subst_toml.specs.Filled.{IsFilledIn};
+ghost use Rattle.subst_toml.specs.InPlace.{FillsIn};
 
 use crate::error::Error;
 use crate::{changes, text_of};
@@ -56,28 +51,8 @@ pub fn fill_in<'a, M: VariableMap<'a>>(
 ) -> Result<Option<String>, Error>
 where
     M::Value: AsStr + Drop,
-
-    // It is read as the tree that the source is read as, with its strings filled in.
-    ensures mapped { IfOk result (λ output. IfSome output (λ output. ReadsAsTree source.now
-        (λ d. ReadsAsTree (string_bytes output)
-        (IsEach (GivesBy (AnswersText M.Value.text M.see (M.look_up variables.now))) d)))) }
-
-    // It is the source, but for the strings that change.
-    ensures kept { IfOk result (λ output. IfSome output
-        (λ output. IsFilledOrSame
-        (GivesBy (AnswersText M.Value.text M.see (M.look_up variables.now)))
-        source.now (string_bytes output))) }
-
-    // Nothing is returned only where some string changes.
-    ensures unconfirmed { IfOk result (λ output. IfNone output (ReadsAsTree source.now
-        (λ d. SomeChanges (GivesBy (AnswersText M.Value.text M.see (M.look_up variables.now)))
-        (strings d)))) }
-    ensures utf8 { TellsUtf8 source.now result }
-    ensures toml { OnToml result (parse_document source.now ≡ None) }
-    ensures span { IfToml result (IsWithin source.now) }
-    ensures subst { StatesFirst M.Value.text M.see (M.look_up variables.now) source.now result }
-    ensures range { OnSubst result HasRange }
-    ensures memory { IfErr result HasOwnMemory }
+    ensures filled { FillsIn
+        (AnswersText M.Value.text M.see (M.look_up variables.now)) source.now result }
 {
     fill_in_by(alloc, source, &Filler { variables })
 }
@@ -94,22 +69,8 @@ pub fn fill_in_slice<'a, M: VariableMap<'a>>(
 ) -> Result<Option<String>, Error>
 where
     M::Value: AsStr + Drop,
-    ensures mapped { IfOk result (λ output. IfSome output (λ output. ReadsAsTree source.now
-        (λ d. ReadsAsTree (string_bytes output)
-        (IsEach (GivesBy (AnswersText M.Value.text M.see (M.look_up variables.now))) d)))) }
-    ensures kept { IfOk result (λ output. IfSome output
-        (λ output. IsFilledOrSame
-        (GivesBy (AnswersText M.Value.text M.see (M.look_up variables.now)))
-        source.now (string_bytes output))) }
-    ensures unconfirmed { IfOk result (λ output. IfNone output (ReadsAsTree source.now
-        (λ d. SomeChanges (GivesBy (AnswersText M.Value.text M.see (M.look_up variables.now)))
-        (strings d)))) }
-    ensures utf8 { TellsUtf8 source.now result }
-    ensures toml { OnToml result (parse_document source.now ≡ None) }
-    ensures span { IfToml result (IsWithin source.now) }
-    ensures subst { StatesFirst M.Value.text M.see (M.look_up variables.now) source.now result }
-    ensures range { OnSubst result HasRange }
-    ensures memory { IfErr result HasOwnMemory }
+    ensures filled { FillsIn
+        (AnswersText M.Value.text M.see (M.look_up variables.now)) source.now result }
 {
     fill_in(alloc, text_of(source)?, variables)
 }
@@ -120,19 +81,7 @@ where
 ///
 /// As [`fill_in`].
 pub fn fill_in_by<F: Fill>(alloc: Global, source: &str, filler: &F) -> Result<Option<String>, Error>
-    ensures each { IfOk result (λ output. IfSome output (λ output. ReadsAsTree source.now
-        (λ d. ReadsAsTree (string_bytes output) (IsEach (GivesBy (F.answers filler.now)) d)))) }
-    ensures kept { IfOk result (λ output. IfSome output (λ output.
-        IsFilledOrSame (GivesBy (F.answers filler.now)) source.now (string_bytes output))) }
-    ensures unconfirmed { IfOk result (λ output. IfNone output (ReadsAsTree source.now
-        (λ d. SomeChanges (GivesBy (F.answers filler.now)) (strings d)))) }
-    ensures utf8 { TellsUtf8 source.now result }
-    ensures toml { OnToml result (parse_document source.now ≡ None) }
-    ensures span { IfToml result (IsWithin source.now) }
-    ensures subst { OnSubst result (λ f. ReadsAsTree source.now
-        (λ d. RefusesFirst (F.answers filler.now) (strings d) f)) }
-    ensures range { OnSubst result HasRange }
-    ensures memory { IfErr result HasOwnMemory }
+    ensures filled { FillsIn (F.answers filler.now) source.now result }
 {
     let mut table = toml::table_from_str(alloc, source)?;
     let changes = match changes::change_of_members(alloc, &table, filler)? {

@@ -1,10 +1,10 @@
 //! Reports of what is wrong with a TOML document.
 
 ghost use Rattle.std.specs.Prelude.{◌≡◌, IfOk, IfSome, string_bytes};
-ghost use Rattle.std.specs.List.{All};
 ghost use Rattle.subst_error.specs.Range.{IsRangeIn};
 ghost use Rattle.subst_language.specs.Calls.Clauses.{AnswersText};
-ghost use Rattle.subst_toml.specs.Report.{AreRefused, HasRange, Reports, ReportsReader, ReportsRefused};
+ghost use Rattle.subst_toml.specs.Listed.{AreAllRefused};
+ghost use Rattle.subst_toml.specs.Report.{HasRange, Reports, ReportsReader, ReportsRefused};
 
 use crate::{Error, RefusalAt, place_in, refusals_in};
 use std::alloc::{AllocError, Global};
@@ -90,10 +90,9 @@ fn all_refused<'a, M: VariableMap<'a>>(
 ) -> Result<Option<Vec<RefusalAt>>, AllocError>
 where
     M::Value: AsStr + Drop,
-    ensures all { IfOk result (λ all. IfSome all (λ all.
-        AreRefused (AnswersText M.Value.text M.see (M.look_up variables.now)) source.now
+    ensures { IfOk result (λ all. IfSome all (λ all.
+        AreAllRefused (AnswersText M.Value.text M.see (M.look_up variables.now)) source.now
         all.items)) }
-    ensures range { IfOk result (λ all. IfSome all (λ all. All HasRange all.items)) }
 {
     match refusals_in(alloc, source, variables) {
         Ok(all) => Ok(all),

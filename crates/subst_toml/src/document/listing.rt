@@ -1,16 +1,12 @@
 //! The strings of a document with their spans, and those that are refused.
 
-ghost use Rattle.std.specs.Prelude.{◌≡◌, ⊤, None, Some, IfErr, IfOk, IfSome, IsTrue, map};
+ghost use Rattle.std.specs.Prelude.{IfOk, IfSome, IsTrue};
 ghost use Rattle.std.specs.List.{AllByRecursion};
-ghost use Rattle.toml.specs.Errors.{IsWithin};
-ghost use Rattle.toml.specs.Parse.{parse_document};
 ghost use Rattle.toml.specs.View.{view};
 ghost use Rattle.subst_language.specs.Calls.Clauses.{AnswersText};
-ghost use Rattle.subst_document.specs.Edits.{AreSpelled};
-ghost use Rattle.subst_toml.specs.Errors.{HasOwnMemory};
-ghost use Rattle.subst_toml.specs.Filled.{strings_in, spelled_of, refusal_in, AreAllRefusals, HasFaultInText, IsFound, IsQuotedToken};
-ghost use Rattle.subst_toml.specs.Listed.{AreRefusedIn};
-ghost use Rattle.subst_toml.specs.Outcome.{ReadsAsTree, IfToml, OnToml, OnSubst};
+ghost use Rattle.subst_toml.specs.Filled.{IsFound};
+ghost use Rattle.subst_toml.specs.InPlace.{Lists};
+ghost use Rattle.subst_toml.specs.Listed.{AreAllRefused, AreRefusedIn, IsListing};
 
 use super::numbered::TomlPaths;
 use super::token::{Quoted, is_spelled};
@@ -36,15 +32,7 @@ pub type RefusalAt = subst_document::RefusalAt<Path>;
 ///
 /// `Toml` where the source isn't a document. `OutOfMemory` when allocation fails.
 pub fn strings(alloc: Global, source: &str) -> Result<Option<Vec<StringAt>>, Error>
-    ensures all { IfOk result (λ list. IfSome list
-        (λ list. strings_in source.now ≡ Some (map spelled_of list.items))) }
-    ensures spelled { IfOk result (λ list. IfSome list
-        (λ list. AreSpelled IsQuotedToken source.now 0 list.items)) }
-    ensures is_toml { IfOk result (λ _. ReadsAsTree source.now (λ _. ⊤)) }
-    ensures toml { OnToml result (parse_document source.now ≡ None) }
-    ensures span { IfToml result (IsWithin source.now) }
-    ensures subst { OnSubst result (λ _. ⊥) }
-    ensures memory { IfErr result HasOwnMemory }
+    ensures listed { Lists (IsListing source.now) source.now result }
 {
     let _ = toml::table_from_str(alloc, source)?;
     let Some(found) = tokens::strings_in(alloc, source)? else {
@@ -71,27 +59,9 @@ pub fn refusals_in<'a, M: VariableMap<'a>>(
 ) -> Result<Option<Vec<RefusalAt>>, Error>
 where
     M::Value: AsStr + Drop,
-
-    // Each has the span and the path of the string of the text that it is.
-    ensures each { IfOk result (λ all. IfSome all (λ all.
-        AreRefusedIn (AnswersText M.Value.text M.see (M.look_up variables.now)) source.now
-        all.items)) }
-
-    // They are the refusals of all strings of the text, in its order, and each other string gives bytes.
-    ensures refused { IfOk result (λ all. IfSome all
-        (λ all. AreAllRefusals (AnswersText M.Value.text M.see (M.look_up variables.now))
-        source.now (map refusal_in all.items))) }
-
-    // Each is at its span, and its path leads to it in the tree.
-    ensures found { IfOk result (λ all. IfSome all (λ all. ReadsAsTree source.now
-        (λ d. AllByRecursion (IsFound source.now d) all.items))) }
-    ensures range { IfOk result (λ all. IfSome all
-        (λ all. AllByRecursion HasFaultInText (map refusal_in all.items))) }
-    ensures is_toml { IfOk result (λ _. ReadsAsTree source.now (λ _. ⊤)) }
-    ensures toml { OnToml result (parse_document source.now ≡ None) }
-    ensures span { IfToml result (IsWithin source.now) }
-    ensures subst { OnSubst result (λ _. ⊥) }
-    ensures memory { IfErr result HasOwnMemory }
+    ensures listed { Lists
+        (AreAllRefused (AnswersText M.Value.text M.see (M.look_up variables.now)) source.now)
+        source.now result }
 {
     refusals_by(alloc, source, &Filler { variables })
 }
@@ -106,19 +76,7 @@ pub fn refusals_by<F: Fill>(
     source: &str,
     filler: &F,
 ) -> Result<Option<Vec<RefusalAt>>, Error>
-    ensures each { IfOk result (λ all. IfSome all
-        (λ all. AreRefusedIn (F.answers filler.now) source.now all.items)) }
-    ensures refused { IfOk result (λ all. IfSome all
-        (λ all. AreAllRefusals (F.answers filler.now) source.now (map refusal_in all.items))) }
-    ensures found { IfOk result (λ all. IfSome all (λ all. ReadsAsTree source.now
-        (λ d. AllByRecursion (IsFound source.now d) all.items))) }
-    ensures range { IfOk result (λ all. IfSome all
-        (λ all. AllByRecursion HasFaultInText (map refusal_in all.items))) }
-    ensures is_toml { IfOk result (λ _. ReadsAsTree source.now (λ _. ⊤)) }
-    ensures toml { OnToml result (parse_document source.now ≡ None) }
-    ensures span { IfToml result (IsWithin source.now) }
-    ensures subst { OnSubst result (λ _. ⊥) }
-    ensures memory { IfErr result HasOwnMemory }
+    ensures listed { Lists (AreAllRefused (F.answers filler.now) source.now) source.now result }
 {
     let tree = Value::Table(toml::table_from_str(alloc, source)?);
     Ok(refusals_of(alloc, source, &tree, filler)?)
@@ -131,14 +89,9 @@ fn refusals_of<F: Fill>(
     tree: &Value,
     filler: &F,
 ) -> Result<Option<Vec<RefusalAt>>, AllocError>
-    ensures each { IfOk result (λ all. IfSome all
-        (λ all. AreRefusedIn (F.answers filler.now) source.now all.items)) }
-    ensures refused { IfOk result (λ all. IfSome all
-        (λ all. AreAllRefusals (F.answers filler.now) source.now (map refusal_in all.items))) }
-    ensures range { IfOk result (λ all. IfSome all
-        (λ all. AllByRecursion HasFaultInText (map refusal_in all.items))) }
-    ensures found { IfOk result (λ all. IfSome all
-        (λ all. AllByRecursion (IsFound source.now (view tree.now)) all.items)) }
+    ensures { IfOk result (λ all. IfSome all
+        (λ all. AreRefusedIn (F.answers filler.now) source.now all.items
+        × AllByRecursion (IsFound source.now (view tree.now)) all.items)) }
 {
     let Some(found) = tokens::strings_in(alloc, source)? else {
         return Ok(None);

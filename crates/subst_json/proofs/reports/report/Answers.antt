@@ -7,5 +7,5 @@ use Rattle.subst_json.proofs.reports.report.Goals as goal
 
 pub refusals-requires : goal.refusals-requires
 refusals-requires g c =
-    IfSome_then c.in_ok-all-in-Subst.all c.in_ok-all-in-Subst.ensures.range
-    (λ all range. holds_of_all refusal_at HasRangeInText all.items range)
+    IfSome_then c.in_ok-all-in-Subst.all c.in_ok-all-in-Subst.ensures
+    (λ all are. holds_of_all refusal_at HasRangeInText all.items are.range)

@@ -1,0 +1,59 @@
+-- What calls return that fill in a JSON text in place, or list its strings.
+use Rattle.std.specs.Prelude.{◌≡◌, ⊤, ℕ, List, Option, None, Result, String, Vec, IfErr, IfNone, IfOk, IfSome, IsUtf8, OnOk, string_bytes}
+use Rattle.std.specs.Global.{Global}
+use Rattle.json.specs.Lex.{tokens}
+use Rattle.serde_json.specs.Errors.{IsOfText}
+use Rattle.serde_json.specs.Read.{read}
+use Rattle.subst_language.specs.Language.Answer.{Answer}
+use Rattle.subst_language.specs.Language.Several.{GivesBy, RefusesFirst}
+use Rattle.subst_document.specs.Stays.{SomeChanges}
+use Rattle.subst_document.specs.Texts.{HasRange}
+use Rattle.subst_json.specs.Errors.{HasOwnMemory}
+use Rattle.subst_json.specs.Filled.{strings_in, IsFilledJson}
+use Rattle.subst_json.specs.Mapped.{IsEach}
+use Rattle.subst_json.specs.Outcome.{ReadsAsTree, IfJson, OnJson, OnSubst}
+use Rattle.subst_json.specs.declared.error.Error.{Error}
+
+-- The document is filled in: each of its strings becomes one of which `Becomes` holds.
+pub record IsFilledDocument (Becomes : List ℕ → List ℕ → Type 0) (source output : List ℕ) : Type 0 where
+  -- the output reads as the tree that the source is read as, with its strings filled in
+  pub mapped : ReadsAsTree source (λ d. ReadsAsTree output (IsEach Becomes d))
+  -- it is the source, but for the strings that change
+  pub kept : IsFilledJson Becomes source output
+
+-- The result of filling in a text. `ask` tells which answers a string has.
+pub record FillsIn (ask : List ℕ → Answer → Type 0) (source : List ℕ)
+    (result : Result (Option (String Global)) Error) : Type 0 where
+  pub output : IfOk result (λ output. IfSome output
+      (λ output. IsFilledDocument (GivesBy ask) source (string_bytes output)))
+  -- nothing is returned only where some string changes
+  pub unconfirmed : IfOk result (λ output. IfNone output
+      (ReadsAsTree source (λ _. SomeChanges (GivesBy ask) (strings_in (tokens source)))))
+  pub json : OnJson result (read source ≡ None)
+  -- what the error says is of a text that is no tree, and not of a type
+  pub kind : IfJson result IsOfText
+  pub subst : OnSubst result
+      (λ f. ReadsAsTree source (λ _. RefusesFirst ask (strings_in (tokens source)) f))
+  pub range : OnSubst result HasRange
+  -- neither `Json` nor `Subst` says that memory ran out
+  pub memory : IfErr result HasOwnMemory
+
+-- The result of filling in bytes: that of the text, if they are UTF-8. Strings are filled in only there, and one
+-- is refused only there.
+pub record FillsInBytes (ask : List ℕ → Answer → Type 0) (source : List ℕ)
+    (result : Result (Option (String Global)) Error) : Type 0 where
+  pub text : IsUtf8 source → FillsIn ask source result
+  pub utf8 : OnOk result (IsUtf8 source)
+  pub refused_utf8 : OnSubst result (λ f. IsUtf8 source)
+  pub kind : IfJson result IsOfText
+  pub memory : IfErr result HasOwnMemory
+
+-- The result of listing strings of a text, a list of which `Are` holds.
+pub record Lists {T : Type 0} (Are : List T → Type 0) (source : List ℕ)
+    (result : Result (Option (Vec T Global)) Error) : Type 0 where
+  pub list : IfOk result (λ list. IfSome list (λ list. Are list.items))
+  pub is_json : IfOk result (λ _. ReadsAsTree source (λ _. ⊤))
+  pub json : OnJson result (read source ≡ None)
+  pub kind : IfJson result IsOfText
+  pub subst : OnSubst result (λ _. ⊥)
+  pub memory : IfErr result HasOwnMemory
