@@ -70,7 +70,12 @@ pub use Rattle.subst_toml.proofs.OneOutcomeLemmas.{one_outcome as toml_one_outco
 pub use Rattle.subst_language.proofs.CallingLemmas.{answer_by_map, first_by_map}
 pub use Rattle.subst_json.proofs.MappedLemmas.{mapped_by_map}
 pub use Rattle.subst_toml.proofs.MappedLemmas.{mapped_by_map as toml_mapped_by_map}
--- what the strings of a JSON tree become, of a TOML tree and of a text, said in a weaker way
+-- so of a document that is filled in in place, and of its refused strings
+pub use Rattle.subst_json.proofs.MappedLemmas.{filled_by_map, refusals_by_map}
+pub use Rattle.subst_toml.proofs.MappedLemmas.{filled_by_map as toml_filled_by_map, refusals_by_map as toml_refusals_by_map}
+-- what the strings of a document become, of a JSON tree, of a TOML tree and of a text, said in a weaker way
+pub use Rattle.subst_json.proofs.MappedLemmas.{document_weaker}
+pub use Rattle.subst_toml.proofs.MappedLemmas.{document_weaker as toml_document_weaker}
 pub use Rattle.subst_json.proofs.MappedLemmas.{each_weaker}
 pub use Rattle.subst_toml.proofs.MappedLemmas.{each_weaker as toml_each_weaker}
 pub use Rattle.subst_document.proofs.EditLemmas.{filled_weaker}

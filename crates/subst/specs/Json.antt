@@ -3,6 +3,7 @@ pub use Rattle.subst_json.specs.declared.error.Error.{Error}
 pub use Rattle.subst_json.specs.declared.error.Error.TheVariants as error
 pub use Rattle.subst_json.specs.Errors
 pub use Rattle.subst_json.specs.Filled
+pub use Rattle.subst_json.specs.InPlace
 pub use Rattle.subst_json.specs.Laws
 pub use Rattle.subst_json.specs.Listed
 pub use Rattle.subst_json.specs.Mapped

@@ -4,6 +4,7 @@ pub use Rattle.subst_toml.specs.declared.error.Error.TheVariants as error
 pub use Rattle.subst_toml.specs.Errors
 pub use Rattle.subst_toml.specs.DottedKey
 pub use Rattle.subst_toml.specs.Filled
+pub use Rattle.subst_toml.specs.InPlace
 pub use Rattle.subst_toml.specs.Laws
 pub use Rattle.subst_toml.specs.Listed
 pub use Rattle.subst_toml.specs.Mapped

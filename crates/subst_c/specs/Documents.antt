@@ -12,14 +12,13 @@ use Rattle.subst_language.specs.Language.LookUp.{LookUp}
 use Rattle.subst_language.specs.Language.Several.{GivesBy, under}
 use Rattle.subst_document.specs.Paths.{AreRefusals, PathStep, Refusal}
 use Rattle.subst_json.specs.Filled as json
+use Rattle.subst_json.specs.InPlace as json_in_place
 use Rattle.subst_json.specs.Listed as json_listed
-use Rattle.subst_json.specs.Mapped as json_tree
-use Rattle.subst_json.specs.Outcome as json_outcome
 use Rattle.subst_json.specs.Places as json_places
 use Rattle.subst_json.specs.Pointer.{pointer_text}
 use Rattle.subst_toml.specs.DottedKey.{dotted_text}
 use Rattle.subst_toml.specs.Filled as toml
-use Rattle.subst_toml.specs.Mapped as toml_tree
+use Rattle.subst_toml.specs.InPlace as toml_in_place
 use Rattle.subst_toml.specs.Outcome as toml_outcome
 use Rattle.subst_toml.specs.Paths as toml_paths
 use Rattle.subst_toml.specs.Places as toml_places
@@ -42,12 +41,8 @@ IsNoDocument Toml s = parse_document s ≡ None
 -- the second text is the first one with its strings filled in: it is read as the tree with its strings filled
 -- in, and has each other byte of the first one
 abbrev pub IsFilledIn : Format → LookUp → List ℕ → List ℕ → Type 0
-IsFilledIn Json look s x =
-    json_outcome.ReadsAsTree s (λ d. json_outcome.ReadsAsTree x (json_tree.IsMapped look d))
-    × json.IsFilledJson (GivesBy (under look)) s x
-IsFilledIn Toml look s x =
-    toml_outcome.ReadsAsTree s (λ d. toml_outcome.ReadsAsTree x (toml_tree.IsMapped look d))
-    × toml.IsFilledOrSame (GivesBy (under look)) s x
+IsFilledIn Json look s x = json_in_place.IsFilledDocument (GivesBy (under look)) s x
+IsFilledIn Toml look s x = toml_in_place.IsFilledDocument (GivesBy (under look)) s x
 
 -- the span of the text is where the token spells this range of its string
 abbrev pub IsPlaceIn : Format → List ℕ → (token range place : Range ℕ) → Type 0
