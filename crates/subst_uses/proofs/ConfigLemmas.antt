@@ -10,7 +10,7 @@ use Rattle.subst.specs.Json.error.{Json, Subst, OutOfMemory}
 use Rattle.subst.specs.Json.Errors.{HasOwnMemory}
 use Rattle.subst.specs.Json.Mapped.{strings, IsEach}
 use Rattle.subst.specs.Json.Outcome.{ReadsAsTree, IfJson, OnSubst}
-use Rattle.subst.specs.Json.Listed.{AreRefused}
+use Rattle.subst.specs.Json.Listed.{AreAllRefused}
 use Rattle.subst.specs.Json.Report.{Reports, ReportsRefused}
 use Rattle.subst.specs.Language.Answer.{Answer}
 use Rattle.subst.specs.Language.Several.{GivesBy, RefusesFirst}
@@ -26,7 +26,7 @@ module _ (ask : List ℕ → Answer → Type 0) (file s : List ℕ) where
       → HasOwnMemory e → Reports ask file s e text → IsReported ask file s IsUnread text
   reported text P IsUnread (Json e) why json subst memory told = inl (why e json, told)
   reported text P IsUnread (Subst e) why json subst memory told = inr (of_a_fault (error_fault e) _
-      (λ fault. ReportsAll (AreRefused ask s) ReportsRefused file s fault text) memory subst told)
+      (λ fault. ReportsAll (AreAllRefused ask s) ReportsRefused file s fault text) memory subst told)
   reported text P IsUnread (OutOfMemory e) why json subst memory told = absurd told
 
   -- the text isn't JSON; or its tree, filled in, is none of a type

@@ -13,7 +13,8 @@ use Rattle.subst.specs.Toml.error.{InvalidUtf8, Toml, Subst, OutOfMemory}
 use Rattle.subst.specs.Toml.Errors.{HasOwnMemory}
 use Rattle.subst.specs.Toml.Mapped.{strings, IsEach}
 use Rattle.subst.specs.Toml.Outcome.{ReadsAsTree, IfToml, OnSubst, TellsUtf8}
-use Rattle.subst.specs.Toml.Report.{AreRefused, Reports, ReportsRefused}
+use Rattle.subst.specs.Toml.Listed.{AreAllRefused}
+use Rattle.subst.specs.Toml.Report.{Reports, ReportsRefused}
 use Rattle.subst_uses.specs.Settings.{AreReported, CanFillIn}
 use Rattle.subst_uses.proofs.LoaderLemmas.{of_a_fault}
 
@@ -27,7 +28,7 @@ module _ (ask : List ℕ → Answer → Type 0) (file s : List ℕ) where
   reported text P AreUnread (InvalidUtf8 e) is why utf8 toml subst memory told = absurd (utf8.0 is)
   reported text P AreUnread (Toml e) is why utf8 toml subst memory told = inl (why e toml, (e, told))
   reported text P AreUnread (Subst e) is why utf8 toml subst memory told = inr (of_a_fault (error_fault e) _
-      (λ fault. ReportsAll (AreRefused ask s) ReportsRefused file s fault text) memory subst told)
+      (λ fault. ReportsAll (AreAllRefused ask s) ReportsRefused file s fault text) memory subst told)
   reported text P AreUnread (OutOfMemory e) is why utf8 toml subst memory told = absurd told
 
   -- a tree of which a type was read can be filled in

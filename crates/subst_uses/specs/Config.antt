@@ -7,7 +7,7 @@ use Rattle.serde_json.specs.declared.value.Value.{Value}
 use Rattle.subst.specs.Fault.{Fault}
 use Rattle.subst.specs.Json.Mapped.{strings, IsEach}
 use Rattle.subst.specs.Json.Outcome.{ReadsAsTree}
-use Rattle.subst.specs.Json.Listed.{AreRefused}
+use Rattle.subst.specs.Json.Listed.{AreAllRefused}
 use Rattle.subst.specs.Json.Report.{ReportsReader, ReportsRefused}
 use Rattle.subst.specs.Language.Answer.{Answer}
 use Rattle.subst.specs.Language.Several.{GivesBy, RefusesFirst}
@@ -25,7 +25,7 @@ abbrev pub IsReported : (List ℕ → Answer → Type 0) → (file s : List ℕ)
 IsReported ask file s IsUnread text =
     (IsUnread × ReportsReader file s text)
     ⊎ ((f : Fault) × ReadsAsTree s (λ d. RefusesFirst ask (strings d) f)
-    × ReportsAll (AreRefused ask s) ReportsRefused file s (Some f) text)
+    × ReportsAll (AreAllRefused ask s) ReportsRefused file s (Some f) text)
 
 -- A tree is the one that the text s of a file is read as, with its strings filled in. There is a report where
 -- that isn't JSON, or where a string is refused.

@@ -11,7 +11,8 @@ use Rattle.subst.specs.Language.Several.{GivesBy, RefusesFirst}
 use Rattle.subst.specs.Report.{ReportsAll}
 use Rattle.subst.specs.Toml.Mapped.{strings, IsEach}
 use Rattle.subst.specs.Toml.Outcome.{ReadsAsTree}
-use Rattle.subst.specs.Toml.Report.{AreRefused, ReportsReader, ReportsRefused}
+use Rattle.subst.specs.Toml.Listed.{AreAllRefused}
+use Rattle.subst.specs.Toml.Report.{ReportsReader, ReportsRefused}
 use Rattle.subst_uses.specs.declared.config.Loaded.{Loaded}
 use Rattle.subst_uses.specs.declared.config.Loaded.TheVariants.{Configuration, Report}
 
@@ -25,7 +26,7 @@ abbrev pub AreReported : (List ℕ → Answer → Type 0) → (file s : List ℕ
 AreReported ask file s AreUnread text =
     (AreUnread × ((e : reading.Error) × ReportsReader e file s text))
     ⊎ ((f : Fault) × ReadsAsTree s (λ d. RefusesFirst ask (strings d) f)
-    × ReportsAll (AreRefused ask s) ReportsRefused file s (Some f) text)
+    × ReportsAll (AreAllRefused ask s) ReportsRefused file s (Some f) text)
 
 -- A tree is the one that the text s of a file is read as, with its strings filled in. There is a report where
 -- that isn't a document, or where a string is refused.
