@@ -145,14 +145,12 @@ StandsInJson text =
 abbrev IsIn : List ℕ → json.Listed.RefusalAt → Type 0
 IsIn text it = Leads Json text (json.Paths.steps_of it.path) (string_bytes it.text)
 
--- strings that are refused of a JSON text, and spelled in it, stand in it
+-- strings that are refused of a JSON text stand in it
 pub json_stand : (ask : List ℕ → Answer → Type 0) (text : List ℕ) (list : List json.Listed.RefusalAt)
-    → AreSpelled IsStringToken text 0 (map place_of list)
-    → AreRefusals ask (located_in [] (tokens text)) (map json.Listed.refusal_at list)
-    → All (StandsInJson text) list
-json_stand ask text list spelled are =
-    from 0 list spelled (all_made json.Listed.refusal_at (IsOf (located_in [] (tokens text))) list
-    (refusals_of ask _ _ are))
+    → json.Listed.AreAllRefused ask text list → All (StandsInJson text) list
+json_stand ask text list are =
+    from 0 list are.spelled (all_made json.Listed.refusal_at (IsOf (located_in [] (tokens text))) list
+    (refusals_of ask _ _ are.refused))
   where
     from : (start : ℕ) (list : List json.Listed.RefusalAt)
         → AreSpelled IsStringToken text start (map place_of list)

@@ -1,24 +1,17 @@
--- What sources give, and what documents become, said in a weaker way.
+-- What sources give, said in a weaker way.
 use Rattle.std.proofs.Common.{◌≡◌, ℕ, List, [], ◌∷◌, ◌++◌, Option, Some, None, Result, Ok, Err, IfOk, IfSome, inl, inr, refl, sym, ap, ◌∙◌, subst, append_assoc, append-nil}
 use Rattle.std.proofs.lemmas.List.Elements.{Contains-append_left, Contains-append_right}
 use Rattle.std.proofs.lemmas.Result.{IfErr-weaker, IfOk-weaker}
 use Rattle.std.specs.List.{All}
 use Rattle.std.specs.Prelude.{◌⊎◌, IfErr, IfNone}
-use Rattle.subst.proofs.Calling.{each_weaker, toml_each_weaker, filled_weaker, plain_answer}
-use Rattle.subst.specs.Json.Filled as json_text
-use Rattle.subst.specs.Json.Mapped as json_tree
-use Rattle.subst.specs.Json.Outcome as json
-use Rattle.subst.specs.Toml.Filled as toml_text
-use Rattle.subst.specs.Toml.Mapped as toml_tree
-use Rattle.subst.specs.Toml.Outcome as toml
+use Rattle.subst.proofs.Calling.{plain_answer}
 use Rattle.subst_language.specs.Language.Bytes.{IsPlain}
 use Rattle.subst_cli.proofs.SourceLemmas.{AreDone, given_more, refused_more}
 use Rattle.subst_cli.specs.Faults.{IsNoText}
-use Rattle.subst_cli.specs.Fill.{AreOutputs, GivesFor, IsDocumentOutput, IsOutput}
+use Rattle.subst_cli.specs.Fill.{AreOutputs, GivesFor, IsOutput}
 use Rattle.subst_cli.specs.Layers.{Entry}
 use Rattle.subst_cli.specs.Run.{bytes_of, IsFaultIn, IsRefusalOf}
 use Rattle.subst_cli.specs.declared.document.format.Format.{Format}
-use Rattle.subst_cli.specs.declared.document.format.Format.TheVariants.{Json, Toml}
 use Rattle.subst_cli.specs.declared.fault.Fault.{Fault}
 use Rattle.subst_cli.specs.declared.options.InputFormat.{InputFormat}
 use Rattle.subst_cli.specs.declared.options.InputFormat.TheVariants.{Text, Bytes, Document}
@@ -69,43 +62,6 @@ done_more form placeholders entries sources source old new refused more done (in
     refused_more (IsRefusalOf form placeholders entries) (refusal_left form placeholders entries)
     (refusal_right form placeholders entries) _ _ sources source refused more it one both done
 
--- a tree that is read, of which something weaker is said
-read_weaker : (text : List ℕ) (P Q : _ → Type 0) → ((d : _) → P d → Q d) → toml.ReadsAsTree text P
-    → toml.ReadsAsTree text Q
-read_weaker text P Q weaker (ms, read, holds) = (ms, read, weaker _ holds)
-
--- A document whose strings are filled in, where what they become is said in a weaker way.
-module _ (Becomes Stays : List ℕ → List ℕ → Type 0)
-    (weaker : (s x : List ℕ) → Becomes s x → Stays s x) where
-  pub json_weaker : (source output : List ℕ)
-      → json.ReadsAsTree source (λ d. json.ReadsAsTree output (json_tree.IsEach Becomes d))
-      → json_text.IsFilledJson Becomes source output → IsDocumentOutput Json Stays source output
-  json_weaker source output (d, read, (e, read_as, each)) kept = (
-    (d, read, (e, read_as, each_weaker Becomes Stays weaker d e each)),
-    filled_weaker _ _ _ Becomes Stays weaker _ source output kept,
-  )
-
-  toml_kept : (source output : List ℕ) → toml_text.IsFilledOrSame Becomes source output
-      → toml_text.IsFilledOrSame Stays source output
-  toml_kept source output (inl (found, strings, kept)) =
-      inl (found, strings, filled_weaker _ _ _ Becomes Stays weaker _ source output kept)
-  toml_kept source output (inr (same, tree)) = inr (
-    same,
-    read_weaker source (λ d. toml_tree.IsEach Becomes d d) (λ d. toml_tree.IsEach Stays d d)
-        (λ d. toml_each_weaker Becomes Stays weaker d d) tree,
-  )
-
-  pub toml_weaker : (source output : List ℕ)
-      → toml.ReadsAsTree source (λ d. toml.ReadsAsTree output (toml_tree.IsEach Becomes d))
-      → toml_text.IsFilledOrSame Becomes source output → IsDocumentOutput Toml Stays source output
-  toml_weaker source output tree kept = (
-    read_weaker source (λ d. toml.ReadsAsTree output (toml_tree.IsEach Becomes d))
-        (λ d. toml.ReadsAsTree output (toml_tree.IsEach Stays d))
-        (λ d. read_weaker output (toml_tree.IsEach Becomes d) (toml_tree.IsEach Stays d)
-        (toml_each_weaker Becomes Stays weaker d)) tree,
-    toml_kept source output kept,
-  )
-
 -- what is said of what the library returns of a text, of what is returned of that
 pub returned : {T U E A : Type 0} (result : Result (Option T) E) (outcome : Result (Result T U) A)
     (P : T → Type 0) → IfOk outcome (λ it. IfOk it (λ it. result ≡ Ok (Some it)))
@@ -113,14 +69,6 @@ pub returned : {T U E A : Type 0} (result : Result (Option T) E) (outcome : Resu
 returned result (Ok (Ok it)) P same holds = subst (λ r. IfOk r (λ it. IfSome it P)) same holds
 returned result (Ok (Err e)) P same holds = tt
 returned result (Err e) P same holds = tt
-
--- what is said of a text that is returned, from two things that are said of it
-pub of_both : {T E : Type 0} (result : Result (Option T) E) (P Q R : T → Type 0)
-    → ((it : T) → P it → Q it → R it) → IfOk result (λ it. IfSome it P) → IfOk result (λ it. IfSome it Q)
-    → IfOk result (λ it. IfSome it R)
-of_both (Ok (Some it)) P Q R both p q = both it p q
-of_both (Ok None) P Q R both p q = tt
-of_both (Err e) P Q R both p q = tt
 
 -- a plain source gives itself
 pub plain_given : (entries : List Entry) (s : List ℕ) → All IsPlain s → GivesFor Own entries s s

@@ -4,9 +4,7 @@ use Rattle.std.specs.Prelude.{◌≡◌, ◌⊎◌, ◌==◌, ◌||◌, ◌++◌
 use Rattle.std.specs.List.{All, Any}
 use Rattle.subst.specs.Foreign.{IsListed}
 use Rattle.subst.specs.Grammar.{Grammar, grammar}
-use Rattle.subst.specs.Json.Filled as json_text
-use Rattle.subst.specs.Json.Mapped as json_tree
-use Rattle.subst.specs.Json.Outcome as json
+use Rattle.subst.specs.Json.InPlace as json
 use Rattle.subst.specs.Language.Answer.{Answers, Gives}
 use Rattle.subst.specs.Language.LookUp.{LookUp}
 use Rattle.subst.specs.Language.NamesIn.{names_in}
@@ -14,9 +12,7 @@ use Rattle.subst.specs.Language.Sentence.{Spells}
 use Rattle.subst.specs.Language.Tree.{Tree}
 use Rattle.subst.specs.Question.{by_question, value_of, is_missing, is_empty}
 use Rattle.subst.specs.Template.{IsTemplate, seen_by}
-use Rattle.subst.specs.Toml.Filled as toml_text
-use Rattle.subst.specs.Toml.Mapped as toml_tree
-use Rattle.subst.specs.Toml.Outcome as toml
+use Rattle.subst.specs.Toml.InPlace as toml
 use Rattle.subst_cli.specs.Layers.{Entry, IsKnown, IsKnownBy, IsUnreadable, is_unreadable, look_up_in}
 use Rattle.subst_cli.specs.Mark.{filled_of, kept_of}
 use Rattle.subst_cli.specs.declared.document.format.Format.{Format}
@@ -117,15 +113,10 @@ abbrev pub AreReadable : Option Forms → List Entry → List ℕ → Type 0
 AreReadable forms entries template = (t : Tree) → Spells t template
     → All (λ name. ¬ (IsUnreadable entries (asked_about forms name))) (names_in t)
 
--- The output is the document with its strings filled in: it reads as the tree whose strings are, and is the
--- source but for the tokens of strings that change.
+-- the output is the document with its strings filled in
 abbrev pub IsDocumentOutput : Format → (List ℕ → List ℕ → Type 0) → List ℕ → List ℕ → Type 0
-IsDocumentOutput Json Becomes source output =
-    json.ReadsAsTree source (λ d. json.ReadsAsTree output (json_tree.IsEach Becomes d))
-    × json_text.IsFilledJson Becomes source output
-IsDocumentOutput Toml Becomes source output =
-    toml.ReadsAsTree source (λ d. toml.ReadsAsTree output (toml_tree.IsEach Becomes d))
-    × toml_text.IsFilledOrSame Becomes source output
+IsDocumentOutput Json Becomes source output = json.IsFilledDocument Becomes source output
+IsDocumentOutput Toml Becomes source output = toml.IsFilledDocument Becomes source output
 
 -- what the bytes of a source give that are filled in
 abbrev pub IsFilled : InputFormat → Placeholders → List Entry → List ℕ → List ℕ → Type 0

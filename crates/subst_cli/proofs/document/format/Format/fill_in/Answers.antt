@@ -1,21 +1,24 @@
 -- What the library says of a text, of the entries that the variables are of.
-use Rattle.std.proofs.Common.{List, ℕ}
+use Rattle.std.proofs.Common.{List, ℕ, string_bytes}
+use Rattle.std.proofs.lemmas.Option.{IfSome_then}
+use Rattle.std.proofs.lemmas.Result.{IfOk-weaker}
+use Rattle.subst.proofs.Calling.{document_weaker, toml_document_weaker}
 use Rattle.subst.specs.Language.Answer.{Gives}
 use Rattle.subst_cli.specs.Strings.{AnswersBy}
 use Rattle.subst_cli.proofs.DocumentLemmas.{json_reader, json_string, toml_reader, toml_string, unfilled_weaker}
-use Rattle.subst_cli.proofs.FillingLemmas.{of_both, returned, json_weaker, toml_weaker, weaker_faults}
+use Rattle.subst_cli.proofs.FillingLemmas.{returned, weaker_faults}
 use Rattle.subst_cli.proofs.document.format.Format.fill_in.Goals as goal
 
 pub returns-in-Json-clause-given : goal.returns-in-Json-clause-given
 returns-in-Json-clause-given c = λ entries from.
     let gives = λ (s x : List ℕ) (it : AnswersBy c.args.filler.now s (Gives x)). it.1 entries from in
     rw c.in-Json.is (returned c.fill_in_by.result c.of_json.result _ c.of_json.ensures.it
-    (of_both c.fill_in_by.result _ _ _ (λ output. json_weaker _ _ gives _ _)
-    c.fill_in_by.ensures.each c.fill_in_by.ensures.kept))
+    (IfOk-weaker c.fill_in_by.result _ _ (λ it h. IfSome_then it h
+    (λ output. document_weaker _ _ gives _ (string_bytes output))) c.fill_in_by.ensures.filled.output))
 
 pub returns-in-Json-clause-unfilled : goal.returns-in-Json-clause-unfilled
 returns-in-Json-clause-unfilled c =
-    let said = c.fill_in_by.ensures in
+    let said = c.fill_in_by.ensures.filled in
     rw c.in-Json.is (weaker_faults c.of_json.result _ _ (unfilled_weaker _ _ _ _
     (λ is (d, reads, _). let none = json_reader c.fill_in_by.result _ said.json is in absurd (cc))
     (json_string c.fill_in_by.result _ said.subst said.memory)) c.of_json.ensures.unfilled)
@@ -24,12 +27,12 @@ pub returns-in-Toml-clause-given : goal.returns-in-Toml-clause-given
 returns-in-Toml-clause-given c = λ entries from.
     let gives = λ (s x : List ℕ) (it : AnswersBy c.args.filler.now s (Gives x)). it.1 entries from in
     rw c.in-Toml.is (returned c.fill_in_by-in-Toml.result c.of_toml.result _ c.of_toml.ensures.it
-    (of_both c.fill_in_by-in-Toml.result _ _ _ (λ output. toml_weaker _ _ gives _ _)
-    c.fill_in_by-in-Toml.ensures.each c.fill_in_by-in-Toml.ensures.kept))
+    (IfOk-weaker c.fill_in_by-in-Toml.result _ _ (λ it h. IfSome_then it h
+    (λ output. toml_document_weaker _ _ gives _ (string_bytes output))) c.fill_in_by-in-Toml.ensures.filled.output))
 
 pub returns-in-Toml-clause-unfilled : goal.returns-in-Toml-clause-unfilled
 returns-in-Toml-clause-unfilled c =
-    let said = c.fill_in_by-in-Toml.ensures in
+    let said = c.fill_in_by-in-Toml.ensures.filled in
     rw c.in-Toml.is (weaker_faults c.of_toml.result _ _ (unfilled_weaker _ _ _ _
     (λ is (ms, reads, _). let none = toml_reader c.fill_in_by-in-Toml.result _ said.toml is in absurd (cc))
     (toml_string c.fill_in_by-in-Toml.result _ said.subst said.memory)) c.of_toml.ensures.unfilled)

@@ -2,8 +2,8 @@
 use Rattle.subst_cli.specs.Strings.{AnswersBy}
 use Rattle.subst_cli.specs.declared.document.format.Format.TheVariants.{Json, Toml}
 use Rattle.subst_cli.proofs.DocumentLemmas.{json_display, json_reader, json_stand, json_string, of_refused, same_unfilled, toml_display, toml_reader, toml_stand, toml_string, unfilled_weaker}
-use Rattle.subst_cli.proofs.FillingLemmas.{of_both}
-use Rattle.std.proofs.lemmas.Result.{IfErr-weaker}
+use Rattle.std.proofs.lemmas.Option.{IfSome_then}
+use Rattle.std.proofs.lemmas.Result.{IfErr-weaker, IfOk-weaker}
 use Rattle.subst_cli.proofs.document.format.Format.refused.Goals as goal
 
 pub returns-in_ok-found-in-Json-clause-stand : goal.returns-in_ok-found-in-Json-clause-stand
@@ -11,13 +11,13 @@ returns-in_ok-found-in-Json-clause-stand c =
     let text = c.args.text.now in
     let returned = c.refusals_by.result in
     rw c.in-Json.is (of_refused Json text json_display returned c.in_ok-found-in-Json.found c.with_paths.result
-    (of_both returned _ _ _ (λ list. json_stand (AnswersBy c.args.filler.now) text list.items)
-    c.refusals_by.ensures.spelled c.refusals_by.ensures.refused)
+    (IfOk-weaker returned _ _ (λ list h. IfSome_then list h
+    (λ list. json_stand (AnswersBy c.args.filler.now) text list.items)) c.refusals_by.ensures.listed.list)
     c.in_ok-found-in-Json.ensures.it c.with_paths.ensures.strings)
 
 pub returns-in_ok-found-in-Json-clause-unfilled : goal.returns-in_ok-found-in-Json-clause-unfilled
 returns-in_ok-found-in-Json-clause-unfilled c =
-    let said = c.refusals_by.ensures in
+    let said = c.refusals_by.ensures.listed in
     rw c.in-Json.is (same_unfilled c.in_ok-found-in-Json.found c.with_paths.result _
     (IfErr-weaker c.in_ok-found-in-Json.found _ _ (unfilled_weaker _ _ _ _
     (λ is (d, reads, _). let none = json_reader c.refusals_by.result _ said.json is in absurd (cc))
@@ -30,13 +30,13 @@ returns-in_ok-found-in-Toml-clause-stand c =
     let returned = c.refusals_by-in-Toml.result in
     rw c.in-Toml.is (of_refused Toml text toml_display returned c.in_ok-found-in-Toml.found
     c.with_paths-in-Toml.result
-    (of_both returned _ _ _ (λ list found _. toml_stand text list.items found)
-    c.refusals_by-in-Toml.ensures.found c.refusals_by-in-Toml.ensures.range)
+    (IfOk-weaker returned _ _ (λ list h. IfSome_then list h
+    (λ list are. toml_stand text list.items are.found)) c.refusals_by-in-Toml.ensures.listed.list)
     c.in_ok-found-in-Toml.ensures.it c.with_paths-in-Toml.ensures.strings)
 
 pub returns-in_ok-found-in-Toml-clause-unfilled : goal.returns-in_ok-found-in-Toml-clause-unfilled
 returns-in_ok-found-in-Toml-clause-unfilled c =
-    let said = c.refusals_by-in-Toml.ensures in
+    let said = c.refusals_by-in-Toml.ensures.listed in
     rw c.in-Toml.is (same_unfilled c.in_ok-found-in-Toml.found c.with_paths-in-Toml.result _
     (IfErr-weaker c.in_ok-found-in-Toml.found _ _ (unfilled_weaker _ _ _ _
     (λ is (ms, reads, _). let none = toml_reader c.refusals_by-in-Toml.result _ said.toml is in absurd (cc))
