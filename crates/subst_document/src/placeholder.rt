@@ -8,6 +8,7 @@ ghost use Rattle.subst_document.specs.Splice.{bare, IsPlaceholder};
 use std::alloc::{AllocError, Global};
 use std::ops::Range;
 use subst_language::name_len;
+use subst_template::is_plain;
 
 /// Returns the spans of the placeholders and escapes of a text, in its order. One that is inside of another is
 /// none. Without escapes a backslash is a byte as any other.
@@ -30,6 +31,19 @@ pub(crate) fn placeholders(
         at += found.step(&bytes[at..], at, has_escapes)?.max(1);
     }
     Ok(found.spans)
+}
+
+/// Returns the span of the one placeholder or escape of a text, or `None` if it has none or more than one.
+pub(crate) fn only_placeholder(text: &str) -> Option<Range<usize>> {
+    let bytes = text.as_bytes();
+    let start = bytes.iter().position(|byte| matches!(byte, b'$' | b'\\'))?;
+    let placeholder = &bytes[start..];
+    let rest = &placeholder[placeholder_len(placeholder)?..];
+    if is_plain(rest) {
+        Some(start..bytes.len() - rest.len())
+    } else {
+        None
+    }
 }
 
 /// The placeholders of a text so far.

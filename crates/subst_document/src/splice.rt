@@ -8,7 +8,7 @@ ghost use Rattle.subst_document.specs.declared.splice.Values.TheVariants.{Joined
 
 use crate::Fill;
 use crate::edits::{Cut, StringFormat, changed, cut_round};
-use crate::placeholder::{is_placeholder, placeholders};
+use crate::placeholder::{is_placeholder, only_placeholder, placeholders};
 use std::alloc::{AllocError, Global};
 use std::ops::Range;
 use subst_error::Error;
@@ -31,28 +31,8 @@ pub struct Content {
     pub start: usize,
     /// Where it ends, before the closing quotes.
     pub end: usize,
-    /// The spans of the placeholders.
-    pub spans: Vec<Range<usize>>,
-}
-
-impl Content {
-    /// Returns ranges that begin so many bytes later: the spans of parts of a string in a token that has its bytes
-    /// as they are.
-    ///
-    /// # Errors
-    ///
-    /// When allocation fails, and for nothing else.
-    pub fn shifted(
-        alloc: Global,
-        ranges: &[Range<usize>],
-        by: usize,
-    ) -> Result<Vec<Range<usize>>, AllocError> {
-        let mut spans = Vec::with_capacity(alloc, ranges.len())?;
-        for range in ranges {
-            spans.push(range.start.saturating_add(by)..range.end.saturating_add(by))?;
-        }
-        Ok(spans)
-    }
+    /// The spans of the placeholders, or `None` if the content is the string as it is.
+    pub spans: Option<Vec<Range<usize>>>,
 }
 
 /// A part of a string that is spelled in another kind.
@@ -67,8 +47,8 @@ pub enum Part<'s> {
 /// The values of the placeholders of a string.
 #[derive(Drop)]
 enum Values {
-    /// Each is that of the placeholder at its span.
-    Each(Vec<Range<usize>>, Vec<String>),
+    /// The spans of the placeholders in the string, and of their values in the one that it becomes.
+    Each(Vec<Range<usize>>, Vec<Range<usize>>),
     /// The string's value isn't that of its parts.
     Joined,
     /// A part is refused by itself, or changes and is no placeholder.
@@ -94,6 +74,11 @@ pub(crate) fn new_token<S: StringFormat, F: Fill>(
         change.entry.text.now change.entry.value.now change.entry.token.now
         (string_bytes new))) }
 {
+    if let Some(span) = only_placeholder(change.text)
+        && let Some(value) = between(change, &span)
+    {
+        return token_of(alloc, change, &[span], &[value], format, filler);
+    }
     match values_of(alloc, change, true, filler)? {
         Values::Each(spans, values) => token_of(alloc, change, &spans, &values, format, filler),
         Values::Joined => match values_of(alloc, change, false, filler)? {
@@ -109,7 +94,7 @@ pub(crate) fn new_token<S: StringFormat, F: Fill>(
 }
 
 /// Returns a token of a string that changes, in which the placeholders at these spans alone are spelled anew if
-/// their values fit, as [`new_token`].
+/// their values fit, as [`new_token`]. Each value is at its span in the string's value.
 ///
 /// # Errors
 ///
@@ -118,7 +103,7 @@ fn token_of<S: StringFormat, F: Fill>(
     alloc: Global,
     change: Change<'_>,
     spans: &[Range<usize>],
-    values: &Vec<String>,
+    values: &[Range<usize>],
     format: &mut S,
     filler: &F,
 ) -> Result<Option<String>, AllocError>
@@ -143,7 +128,7 @@ fn token_of<S: StringFormat, F: Fill>(
     if !has_misfit(alloc, change, spans, format, filler)? {
         return Ok(None);
     }
-    let parts = parts_of(alloc, change.text, spans, values)?;
+    let parts = parts_of(alloc, change, spans, values)?;
     respelled(alloc, change, &parts, format)
 }
 
@@ -166,17 +151,18 @@ fn values_of<F: Fill>(
         && let Some(value) = between(change, only)
     {
         let mut values = Vec::with_capacity(alloc, 1)?;
-        values.push(String::from_str(alloc, value)?)?;
+        values.push(value)?;
         return Ok(Values::Each(spans, values));
     }
     values_of_each(alloc, change, spans, filler)
 }
 
-/// Returns the value of the only placeholder of a string: what the new string has in its place.
-fn between<'s>(change: Change<'s>, span: &Range<usize>) -> Option<&'s str> {
+/// Returns the span of the value of the only placeholder of a string: of what the new string has in its place.
+fn between(change: Change<'_>, span: &Range<usize>) -> Option<Range<usize>> {
     let after = change.text.get(span.end..)?;
     let value = change.value.strip_prefix(change.text.get(..span.start)?)?;
-    value.strip_suffix(after)
+    let len = value.strip_suffix(after)?.len();
+    Some(span.start..span.start.saturating_add(len))
 }
 
 /// Returns the values of placeholders, each of which is filled in by itself, as [`values_of`].
@@ -204,7 +190,8 @@ fn values_of_each<F: Fill>(
             return Ok(Values::Unknown);
         };
         stays = stays && before.as_str() == cut.before;
-        values.push(value)?;
+        let end = joined.len();
+        values.push(end.saturating_sub(value.len())..end)?;
         rest = cut.rest;
     }
     let Some(last) = append_output(alloc, rest, filler, &mut joined)? else {
@@ -288,7 +275,7 @@ fn spliced<S: StringFormat>(
     alloc: Global,
     change: Change<'_>,
     spans: &[Range<usize>],
-    values: &Vec<String>,
+    values: &[Range<usize>],
     begins_line: bool,
     format: &mut S,
 ) -> Result<Option<String>, AllocError>
@@ -310,15 +297,16 @@ fn spliced<S: StringFormat>(
         text: change.text,
         token: cut.token,
     };
-    for ((range, span), value) in spans.iter().zip(content.spans.iter()).zip(values.iter()) {
-        let left = content.end.saturating_sub(rest.token.len());
-        let text = cut_round(rest.text, &moved(range, passed(change.text, rest.text)));
-        let token = cut_round(rest.token, &moved(span, left));
-        let (Some(text), Some(token)) = (text, token) else {
+    for (index, (range, value)) in spans.iter().zip(values.iter()).enumerate() {
+        let range = moved(range, passed(change.text, rest.text));
+        let text = cut_round(rest.text, &range);
+        let token = cut_content(&content, rest.token, index, &range);
+        let value = change.value.get(value.start..value.end);
+        let (Some(text), Some(token), Some(value)) = (text, token, value) else {
             return Ok(None);
         };
         let value = Value {
-            text: value.as_str(),
+            text: value,
             begins_line,
         };
         if !append_placeholder(alloc, change.token, text, token, value, format, &mut output)? {
@@ -343,6 +331,25 @@ fn spliced<S: StringFormat>(
     }
     output.push_str(cut.rest)?;
     Ok(Some(output))
+}
+
+/// Returns a rest of the content, cut round the placeholder of an index, which is at this range of the rest if the
+/// content is the string as it is. It is `None` if the rest has no such range.
+fn cut_content<'s>(
+    content: &Content,
+    rest: &'s str,
+    index: usize,
+    range: &Range<usize>,
+) -> Option<Cut<'s>>
+    ensures { IfSome result
+        (λ cut. rest.now ≡ cut.before.now ++ (cut.token.now ++ cut.rest.now)) }
+{
+    let Some(spans) = &content.spans else {
+        return cut_round(rest, range);
+    };
+    let passed = content.end.saturating_sub(rest.len());
+    let cut = cut_round(rest, &moved(spans.get(index)?, passed))?;
+    Some(cut)
 }
 
 /// Returns a range that begins so many bytes earlier.
@@ -520,18 +527,20 @@ fn is_misfit<S: StringFormat, F: Fill>(
 /// When allocation fails, and for nothing else.
 fn parts_of<'s>(
     alloc: Global,
-    text: &'s str,
+    change: Change<'s>,
     spans: &[Range<usize>],
-    values: &'s Vec<String>,
+    values: &[Range<usize>],
 ) -> Result<Vec<Part<'s>>, AllocError> {
     let mut parts = Vec::new(alloc);
     let mut passed = 0;
     for (span, value) in spans.iter().zip(values.iter()) {
-        parts.push(Part::Own(text.get(passed..span.start).unwrap_or("")))?;
-        parts.push(Part::Value(value.as_str()))?;
+        let own = change.text.get(passed..span.start);
+        let value = change.value.get(value.start..value.end);
+        parts.push(Part::Own(own.unwrap_or("")))?;
+        parts.push(Part::Value(value.unwrap_or("")))?;
         passed = span.end;
     }
-    parts.push(Part::Own(text.get(passed..).unwrap_or("")))?;
+    parts.push(Part::Own(change.text.get(passed..).unwrap_or("")))?;
     Ok(parts)
 }
 

@@ -91,16 +91,16 @@ impl StringFormat for JsonStrings {
         text: &str,
         parts: &[Range<usize>],
     ) -> Result<Option<Content>, AllocError> {
-        let end = token.len().saturating_sub(1);
-        let spans = if token.get(1..end) == Some(text) {
-            Some(Content::shifted(alloc, parts, 1)?)
-        } else {
-            spans_of(alloc, self, token, text, parts)?
-        };
+        let (start, end) = (1, token.len().saturating_sub(1));
+        if token.get(start..end) == Some(text) {
+            let spans = None;
+            return Ok(Some(Content { start, end, spans }));
+        }
+        let spans = spans_of(alloc, self, token, text, parts)?;
         Ok(spans.map(|spans| Content {
-            start: 1,
+            start,
             end,
-            spans,
+            spans: Some(spans),
         }))
     }
 

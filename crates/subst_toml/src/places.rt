@@ -170,16 +170,20 @@ pub(crate) fn content_of(
         return Ok(None);
     };
     let end = token.len().saturating_sub(quotes.len());
-    let spans = if token.get(start..end) == Some(string) {
-        Some(Content::shifted(alloc, ranges, start)?)
-    } else {
-        let first = Position {
-            place: start,
-            offset: 0,
-        };
-        spans(alloc, &whole, &mut Quoted::new(), first, ranges)?
+    if token.get(start..end) == Some(string) {
+        let spans = None;
+        return Ok(Some(Content { start, end, spans }));
+    }
+    let first = Position {
+        place: start,
+        offset: 0,
     };
-    Ok(spans.map(|spans| Content { start, end, spans }))
+    let spans = spans(alloc, &whole, &mut Quoted::new(), first, ranges)?;
+    Ok(spans.map(|spans| Content {
+        start,
+        end,
+        spans: Some(spans),
+    }))
 }
 
 /// Returns whether a text between these quotes is read as this string.

@@ -4,12 +4,12 @@ use Rattle.subst_document.specs.Splice.{AppendsPieces}
 use Rattle.subst_document.proofs.SpliceLemmas.{appends_more, spliced_to_end}
 use Rattle.subst_document.proofs.splice.spliced.Goals as goal
 
-pub loop-range-preserved : goal.loop-range-preserved
-loop-range-preserved g c =
+pub loop-index-preserved : goal.loop-index-preserved
+loop-index-preserved g c =
     let IsPart = g.S.StringFormat.is_part c.args.change.token.now in
-    let l = c.loop-range in
-    let text = c.in-Some-Some.text in
-    let token = c.in-Some-Some.token in
+    let l = c.loop-index in
+    let text = c.in-Some-Some-Some.text in
+    let token = c.in-Some-Some-Some.token in
     let text_cut : l.rest.text.now ≡ text.before.now ++ (text.token.now ++ text.rest.now) = search rules in
     let token_cut : l.rest.token.now ≡ token.before.now ++ (token.token.now ++ token.rest.now) = search rules in
     let appends : AppendsPieces IsPart (text.before.now ++ text.token.now) (token.before.now ++ token.token.now)
@@ -21,7 +21,7 @@ loop-range-preserved g c =
 pub returns : goal.returns
 returns g c =
     let IsPart = g.S.StringFormat.is_part c.args.change.token.now in
-    let l = c.loop-range in
+    let l = c.loop-index in
     let cut = c.in-Some-cut_round in
     let last : AppendsPieces IsPart l.rest.text.now l.rest.token.now (string_bytes l.output)
     (string_bytes c.append_piece.new.output) = search rules in
