@@ -1,16 +1,24 @@
 -- Tokens that are filled in, and the trees that they are read as.
-use Rattle.std.proofs.Common.{◌≡◌, ℕ, suc, ◌≤◌, max, List, [], ◌∷◌, ◌++◌, Option, Some, None, Ordering, Less, Equal, Greater, option_map, option_and_then, refl, sym, ap, ap₂, ◌∙◌, subst, arith, append_assoc, append-nil}
+use Rattle.std.proofs.Common.{◌≡◌, ℕ, suc, ◌-◌, ◌≤◌, nat_le, length, ◌==◌, eq-eqb, max, Bool, true, false, not, ◌&&◌, List, [], ◌∷◌, ◌++◌, Option, Some, None, Ordering, Less, Equal, Greater, option_map, option_and_then, refl, sym, ap, ap₂, ◌∙◌, subst, arith, append_assoc, append-nil}
 use Rattle.std.specs.Cmp.Lexicographic.{slice_cmp}
+use Rattle.std.specs.List.{list_all}
 use Rattle.std.specs.Ordering.{match_ordering, nat_cmp}
+use Rattle.std.specs.Prelude.{slice_index, slice_range}
+use Rattle.std.proofs.lemmas.Bool.{leb-true}
+use Rattle.std.proofs.lemmas.Grind.{common_steps}
+use Rattle.std.proofs.lemmas.List.{take_more}
 use Rattle.json.specs.Json as json
 use Rattle.json.specs.Lex.{tokens}
+use Rattle.json.specs.Print.{escape, quoted, print_from, ArePrintable}
 use Rattle.json.specs.Token.{Token}
 use Rattle.json.specs.Tree as tree
 use Rattle.json.specs.Tree.{json_tokens, items_tokens, members_tokens}
+use Rattle.json.proofs.Printed.Strings.{escape_byte_plain}
+use Rattle.json.proofs.Printed.Tokens.{tokens-print}
 use Rattle.json.proofs.Printed.Trees.{value-json_tokens}
 use Rattle.serde_json.specs.Data.{Data, null, boolean, number, string, array, object, Items, no_items, item, Members, no_members, member, put}
 use Rattle.serde_json.specs.Read.{of_json, of_items, of_members, max_depth, read}
-use Rattle.subst_json.specs.Filled.{AreFilled}
+use Rattle.subst_json.specs.Filled.{is_plain, AreFilled}
 use Rattle.subst_json.specs.Mapped.{IsEach, AreEach, HasEachMember}
 use Rattle.subst_json.specs.Nesting.{AreOfValue}
 use Rattle.subst_json.specs.Outcome.{ReadsAsTree}
@@ -26,6 +34,43 @@ pub token_alone : (text x : List ℕ) → tokens text ≡ Token.string x ∷ [] 
 token_alone text x e =
     read_as text (json.string x) (string x)
     (ap (json.value max_depth) e ∙ value-json_tokens (json.string x) max_depth [] (omega arith)) refl
+
+both_true : (a b : Bool) → (a && b) ≡ true → (a ≡ true) × (b ≡ true)
+both_true true b h = (refl, h)
+both_true false b h = absurd cc
+
+other : (a b : ℕ) → not (a == b) ≡ true → a ≡ b → ⊥
+other a b h same = let is = eq-eqb a b same in cc
+
+-- bytes that a string has as they are have no escapes
+escape_plain : (x : List ℕ) → list_all is_plain x ≡ true → escape x ≡ x
+escape_plain [] h = refl
+escape_plain (b ∷ x) h =
+    let (here, rest) = both_true (is_plain b) (list_all is_plain x) h in
+    let (first, no_slash) = both_true (nat_le 32 b && not (b == 34)) (not (b == 92)) here in
+    let (no_control, no_quote) = both_true (nat_le 32 b) (not (b == 34)) first in
+    ap₂ (λ k l. k ++ l)
+    (escape_byte_plain b (other b 34 no_quote) (other b 92 no_slash) (leb-true 32 b no_control))
+    (escape_plain x rest)
+
+printed_alone : (x : List ℕ) → tokens (quoted x ++ []) ≡ Token.string x ∷ []
+unfolding print_from ArePrintable
+printed_alone x = tokens-print (Token.string x ∷ []) (tt, tt)
+
+-- between quotes they are read as that string
+pub plain_token : (x : List ℕ) → list_all is_plain x ≡ true → IsTokenOf (34 ∷ (x ++ 34 ∷ [])) x
+plain_token x h =
+    token_alone (34 ∷ (x ++ 34 ∷ [])) x
+    (subst (λ y. tokens (34 ∷ (y ++ 34 ∷ [])) ≡ Token.string x ∷ []) (escape_plain x h)
+    (subst (λ y. tokens y ≡ Token.string x ∷ []) (append-nil (quoted x)) (printed_alone x)))
+
+-- a token is its content between its quotes
+pub between_quotes : (token x : List ℕ) → 2 ≤ length token → slice_index token 0 ≡ 34
+    → slice_index token (length token - 1) ≡ 34 → slice_range token 1 (length token - 1) ≡ x
+    → token ≡ 34 ∷ (x ++ 34 ∷ [])
+between_quotes [] x within first last same = absurd (omega (arith, within))
+between_quotes (b ∷ y) x within first last same =
+    grind (arith, common_steps, take_more, within, first, last, same)
 
 by_order : (Becomes : List ℕ → List ℕ → Type 0) (o : Ordering) (a b c d e f : Members)
     → HasEachMember Becomes a d

@@ -1,5 +1,5 @@
 -- JSON texts whose strings are filled in where they stand.
-use Rattle.std.specs.Prelude.{◌≡◌, ℕ, List, [], ◌∷◌, ◌++◌, Some}
+use Rattle.std.specs.Prelude.{◌≡◌, ℕ, nat_le, ◌==◌, Bool, not, ◌&&◌, List, [], ◌∷◌, ◌++◌, Some}
 use Rattle.json.specs.Lex.{tokens}
 use Rattle.json.specs.Token.{Token, begin_object, end_object, begin_array, end_array, key, string, number, boolean, null, bad}
 use Rattle.serde_json.specs.Data.{Num}
@@ -28,6 +28,10 @@ strings_in (t ∷ ts) = strings_of_token t ++ strings_in ts
 -- the part of a text is this string, between quotes
 abbrev pub IsStringToken : List ℕ → List ℕ → Type 0
 IsStringToken token x = HasQuotes token × IsTokenOf token x
+
+-- a string has the byte as it is
+abbrev pub is_plain : ℕ → Bool
+is_plain b = nat_le 32 b && not (b == 34) && not (b == 92)
 
 -- the piece of a token is read between quotes as this part of its string
 abbrev pub IsPartOf : List ℕ → List ℕ → List ℕ → Type 0

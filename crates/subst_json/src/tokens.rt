@@ -1,6 +1,7 @@
 //! The tokens of a JSON text, with where they stand.
 
-ghost use Rattle.std.specs.Prelude.{◌≡◌, [], ◌∷◌, IfOk, IfSome, MatchOption, string_bytes};
+ghost use Rattle.std.specs.Prelude.{◌≡◌, [], ◌∷◌, IfOk, IfSome, IsTrue, MatchOption, string_bytes};
+ghost use Rattle.std.specs.List.{list_all};
 ghost use Rattle.json.specs.Lex.{tokens};
 ghost use Rattle.json.specs.Reads.{token_of};
 ghost use Rattle.subst_error.specs.ErrorFault.{error_fault};
@@ -8,7 +9,7 @@ ghost use Rattle.subst_language.specs.Calls.Outcome.{OnFault};
 ghost use Rattle.subst_language.specs.Language.Several.{GivesBy, RefusesFirst};
 ghost use Rattle.subst_document.specs.Stays.{SomeChanges, TellsChange};
 ghost use Rattle.subst_document.specs.Texts.{HasRange};
-ghost use Rattle.subst_json.specs.Filled.{strings_of_token, strings_in, IsFilledJson, IsPartOf, IsStringToken};
+ghost use Rattle.subst_json.specs.Filled.{is_plain, strings_of_token, strings_in, IsFilledJson, IsPartOf, IsStringToken};
 
 use crate::places::{reads_as, spans_of};
 use json::{Reader, Scratch, Token};
@@ -64,6 +65,9 @@ impl StringFormat for JsonStrings {
     ghost is_fit = { λ _ _. Unit {0} };
 
     fn spells(&mut self, alloc: Global, token: &str, text: &str) -> Result<bool, AllocError> {
+        if is_verbatim(token, text) {
+            return Ok(true);
+        }
         match self.read(token)? {
             Some(read) => Ok(read == text),
             None => Ok(false),
@@ -111,7 +115,7 @@ impl StringFormat for JsonStrings {
         value: &str,
         output: &mut String,
     ) -> Result<bool, AllocError> {
-        if value.as_bytes().iter().all(|byte| is_unescaped(*byte)) {
+        if are_unescaped(value.as_bytes()) {
             output.push_str(value)?;
             return Ok(true);
         }
@@ -143,8 +147,32 @@ impl StringFormat for JsonStrings {
     }
 }
 
+/// Returns whether a token is this string as it is, between quotes.
+fn is_verbatim(token: &str, text: &str) -> bool
+    ensures { IsTrue result → IsStringToken token.now text.now }
+{
+    let [b'"', content @ .., b'"'] = token.as_bytes() else {
+        return false;
+    };
+    content == text.as_bytes() && are_unescaped(content)
+}
+
+/// Returns whether a string has these bytes as they are.
+fn are_unescaped(bytes: &[u8]) -> bool
+    ensures { result ≡ list_all is_plain bytes.now }
+{
+    // With no way out of it, the loop compares many bytes at once.
+    let mut are = true;
+    for byte in bytes {
+        are &= is_unescaped(*byte);
+    }
+    are
+}
+
 /// Returns whether a string has the byte as it is.
-fn is_unescaped(byte: u8) -> bool {
+fn is_unescaped(byte: u8) -> bool
+    ensures { result ≡ is_plain byte }
+{
     byte >= b' ' && byte != b'"' && byte != b'\\'
 }
 
