@@ -12,10 +12,11 @@ ghost use Rattle.subst_document.specs.Texts.{HasRange};
 ghost use Rattle.subst_json.specs.Filled.{is_plain, strings_of_token, strings_in, IsFilledJson, IsPartOf, IsStringToken};
 
 use crate::places::{reads_as, spans_of};
-use json::{Reader, Scratch, Token};
+use json::{Reader, Scratch, Token, Writer};
 use serde_json::Value;
 use std::alloc::{AllocError, Global};
 use std::ops::Range;
+use std::str::from_utf8;
 use subst_document::{Content, Fill, Filled, Part, Spelled, StringFormat, Strings};
 use subst_error::Error;
 
@@ -119,8 +120,12 @@ impl StringFormat for JsonStrings {
             output.push_str(value)?;
             return Ok(true);
         }
-        let quoted = Value::String(String::from_str(alloc, value)?).to_string(alloc)?;
-        let Some(spelled) = quoted.get(1..quoted.len().saturating_sub(1)) else {
+        let capacity = value.len().saturating_add(8);
+        let mut writer = Writer::new(Vec::with_capacity(alloc, capacity)?);
+        writer.string(value)?;
+        let quoted = writer.into_inner();
+        let spelled = from_utf8(&quoted).unwrap_or("");
+        let Some(spelled) = spelled.get(1..quoted.len().saturating_sub(1)) else {
             return Ok(false);
         };
         output.push_str(spelled)?;
