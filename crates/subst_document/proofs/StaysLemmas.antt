@@ -1,6 +1,16 @@
 -- Strings of which some become others.
-use Rattle.std.proofs.Common.{◌≡◌, ℕ, Bool, true, false, ◌||◌, IsTrue, List, [], ◌∷◌, ◌++◌, inl, inr, refl, sym, ◌∙◌}
-use Rattle.subst_document.specs.Stays.{SomeChanges, AllStay, TellsChange}
+use Rattle.std.proofs.Common.{◌≡◌, ◌≢◌, ◌≤◌, ◌+◌, ℕ, Bool, true, false, ◌||◌, IsTrue, List, [], ◌∷◌, ◌++◌, length, inl, inr, refl, sym, ap, ap₂, ◌∙◌, arith, append_assoc, append-nil}
+use Rattle.subst_document.specs.Stays.{AreValues, SomeChanges, AllStay, TellsChange}
+use Rattle.subst_document.specs.declared.strings.ValueAt.{ValueAt}
+
+-- two texts of one length begin one text
+same_cut : (a b c d : List ℕ) → length a ≡ length b → a ++ c ≡ b ++ d → (a ≡ b) × (c ≡ d)
+same_cut [] [] c d len is = (refl, is)
+same_cut [] (y ∷ b) c d len is = absurd (omega (arith, len))
+same_cut (x ∷ a) [] c d len is = absurd (omega (arith, len))
+same_cut (x ∷ a) (y ∷ b) c d len is =
+    let (same, rest) = same_cut a b c d (omega (arith, len)) cc in
+    let first : x ≡ y = cc in (ap₂ (λ k l. k ∷ l) first same, rest)
 
 module _ (Becomes : List ℕ → List ℕ → Type 0) where
   pub some_before : (xs ys : List (List ℕ)) → SomeChanges Becomes xs → SomeChanges Becomes (xs ++ ys)
@@ -23,6 +33,83 @@ module _ (Becomes : List ℕ → List ℕ → Type 0) where
       → TellsChange Becomes (xs ++ x ∷ []) source output is_changed
   tells_more xs x source output true h same = some_before xs (x ∷ []) h
   tells_more xs x source output false h same = (all_stay_more xs x h.0 same, h.1)
+
+  -- one more string becomes itself
+  pub values_kept : (index : ℕ) (xs : List (List ℕ)) (x : List ℕ) (list : List ValueAt) (text : List ℕ)
+      → AreValues Becomes index xs list text → Becomes x x → AreValues Becomes index (xs ++ x ∷ []) list text
+  values_kept index [] x list text none same = inl (same, none)
+  values_kept index (y ∷ xs) x list text (inl (here, h)) same =
+      inl (here, values_kept (index + 1) xs x list text h same)
+  values_kept index (y ∷ xs) x list text (inr (value, rest, more, is, at, here, h)) same =
+      inr (value, rest, more, is, at, here, values_kept (index + 1) xs x more rest h same)
+
+  -- one more string becomes another one
+  pub values_more : (index : ℕ) (xs : List (List ℕ)) (x value : List ℕ) (list : List ValueAt) (text : List ℕ)
+      → AreValues Becomes index xs list text → Becomes x value → AreValues Becomes index (xs ++ x ∷ [])
+      (list ++ record { index = index + length xs; len = length value } ∷ []) (text ++ value)
+  values_more index [] x value list text (none, empty) becomes =
+      inr (
+        value,
+        [],
+        [],
+        ap (λ l. l ++ value) empty ∙ sym (append-nil value),
+        ap (λ l. l ++ record { index = index + 0; len = length value } ∷ []) none
+            ∙ ap (λ i. record { index = i; len = length value } ∷ []) (omega arith),
+        becomes,
+        (refl, refl),
+      )
+  values_more index (y ∷ xs) x value list text h becomes =
+      let at : index + length (y ∷ xs) ≡ (index + 1) + length xs = omega arith in
+      rw at (elim h as (λ _. AreValues Becomes index (y ∷ (xs ++ x ∷ []))
+      (list ++ record { index = (index + 1) + length xs; len = length value } ∷ []) (text ++ value)) [
+        | inl stays ↦ inl (stays.0, values_more (index + 1) xs x value list text stays.1 becomes)
+        | inr changes ↦
+            let (first, rest, more, is, is_first, here, later) = changes in
+            inr (
+              first,
+              rest ++ value,
+              more ++ record { index = (index + 1) + length xs; len = length value } ∷ [],
+              ap (λ l. l ++ value) is ∙ append_assoc first rest value,
+              ap (λ l. l ++ record { index = (index + 1) + length xs; len = length value } ∷ []) is_first,
+              here,
+              values_more (index + 1) xs x value more rest later becomes,
+            )
+      ])
+
+  -- no value is that of a string before
+  values_after : (index : ℕ) (xs : List (List ℕ)) (at : ValueAt) (more : List ValueAt) (text : List ℕ)
+      → AreValues Becomes index xs (at ∷ more) text → index ≤ at.index
+  values_after index [] at more text none = absurd cc
+  values_after index (x ∷ xs) at more text (inl (same, h)) =
+      let after = values_after (index + 1) xs at more text h in omega (arith, after)
+  values_after index (x ∷ xs) at more text (inr (value, rest, others, is, first, here, h)) =
+      let same : at.index ≡ index = cc in omega (arith, same)
+
+  -- the first value is that of the first string, if it has its index
+  pub first_value : (index : ℕ) (x : List ℕ) (xs : List (List ℕ)) (at : ValueAt) (more : List ValueAt)
+      (value rest : List ℕ) → at.index ≡ index → length value ≡ at.len
+      → AreValues Becomes index (x ∷ xs) (at ∷ more) (value ++ rest)
+      → Becomes x value × AreValues Becomes (index + 1) xs more rest
+  first_value index x xs at more value rest here len (inl (same, h)) =
+      let after = values_after (index + 1) xs at more (value ++ rest) h in absurd (omega (arith, after, here))
+  first_value index x xs at more value rest here len (inr (first, left, others, is, is_first, becomes, h)) =
+      let same_len : length value ≡ length first = cc in
+      let others_are : more ≡ others = cc in
+      let (value_is, rest_is) = same_cut value first rest left same_len is in
+      rw (value_is, rest_is, others_are) (becomes, h)
+
+  -- otherwise the first string becomes itself
+  pub first_stays : (index : ℕ) (x : List ℕ) (xs : List (List ℕ)) (at : ValueAt) (more : List ValueAt)
+      (text : List ℕ) → at.index ≢ index → AreValues Becomes index (x ∷ xs) (at ∷ more) text
+      → Becomes x x × AreValues Becomes (index + 1) xs (at ∷ more) text
+  first_stays index x xs at more text other (inl h) = h
+  first_stays index x xs at more text other (inr (value, rest, others, is, first, becomes, h)) =
+      let same : at.index ≡ index = cc in absurd (other same)
+
+  pub each_stays : (index : ℕ) (x : List ℕ) (xs : List (List ℕ)) (text : List ℕ)
+      → AreValues Becomes index (x ∷ xs) [] text → Becomes x x × AreValues Becomes (index + 1) xs [] text
+  each_stays index x xs text (inl h) = h
+  each_stays index x xs text (inr (value, rest, others, is, first, becomes, h)) = absurd cc
 
 -- what follows from either of two tests follows from both together
 pub either_test : (P : Type 0) (a b both : Bool) → both ≡ (a || b) → (IsTrue a → P) → (IsTrue b → P)

@@ -51,14 +51,15 @@ IsFilledUpTo IsToken IsPart Fits Becomes strings text rest old new =
     → IsFilledText IsToken IsPart Fits Becomes more rest filled
     → IsFilledText IsToken IsPart Fits Becomes (strings ++ more) text (appended ++ filled))
 
--- What became of a string at the start of a text: it becomes itself; or it becomes another one, and the text
--- before the rest is filled in by what was appended to an output; or its token isn't found.
+-- What became of a string at the start of a text: it becomes itself; or it becomes another one, which is the
+-- value, and the text before the rest is filled in by what was appended to an output; or its token isn't found.
 abbrev pub IsPassed : (List ℕ → List ℕ → Type 0) → (List ℕ → List ℕ → List ℕ → Type 0)
     → (List ℕ → List ℕ → Type 0) → (List ℕ → List ℕ → Type 0) → List ℕ
     → (text : List ℕ) → (old : List ℕ) → (new : List ℕ) → Passed → Type 0
 IsPassed IsToken IsPart Fits Becomes x text old new Stays = Becomes x x × (new ≡ old)
-IsPassed IsToken IsPart Fits Becomes x text old new (Changed rest) =
-    BecomesOther Becomes x × IsFilledUpTo IsToken IsPart Fits Becomes (x ∷ []) text rest.now old new
+IsPassed IsToken IsPart Fits Becomes x text old new (Changed value rest) =
+    Becomes x (string_bytes value) × (¬ (string_bytes value ≡ x))
+    × IsFilledUpTo IsToken IsPart Fits Becomes (x ∷ []) text rest.now old new
 IsPassed IsToken IsPart Fits Becomes x text old new NotFound = BecomesOther Becomes x
 
 -- Each of these strings is spelled where it stands in the text, one after the other from a position on.

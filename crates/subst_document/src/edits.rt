@@ -153,12 +153,12 @@ pub fn changed<F: Fill>(alloc: Global, text: &str, filler: &F) -> Result<Option<
 }
 
 /// The outcome of filling in a string of a text.
-#[derive(Clone, Copy)]
+#[derive(Drop)]
 pub enum Passed<'t> {
     /// It becomes itself, and is still in the rest.
     Stays,
-    /// It became another one, and this is the rest after it.
-    Changed(&'t str),
+    /// It became another one. The text is the rest after it.
+    Changed(String, &'t str),
     /// It becomes another one, and isn't where it should be.
     NotFound,
 }
@@ -203,7 +203,7 @@ pub fn fill_in_string<'t, S: StringFormat, F: Fill>(
         return Ok(Passed::NotFound);
     };
     push_both(output, cut.before, token.as_str())?;
-    Ok(Passed::Changed(cut.rest))
+    Ok(Passed::Changed(value, cut.rest))
 }
 
 /// Appends two texts.

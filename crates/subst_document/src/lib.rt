@@ -27,7 +27,9 @@ pub use refused::{Paths, refusals};
 pub use splice::{Content, Part};
 use std::alloc::{AllocError, Global};
 use std::convert::AsStr;
-pub use strings::{Filled, ListedStrings, Spelled, Strings, are_spelled, filled_in, listed};
+pub use strings::{
+    Filled, ListedStrings, Spelled, Strings, ValueAt, Values, are_spelled, filled_in, listed,
+};
 use subst_error::Error;
 use subst_language::VariableMap;
 use subst_template::{is_plain, substitute};

@@ -1,11 +1,11 @@
 //! The strings of a text, one after the other, and the passes over them that formats share.
 
-ghost use Rattle.std.specs.Prelude.{◌≡◌, ◌∷◌, [], ℕ, List, IfOk, IfSome, IsTrue, MatchOption, map, string_bytes};
+ghost use Rattle.std.specs.Prelude.{◌≡◌, ◌∷◌, ◌++◌, [], ℕ, List, IfOk, IfSome, IsTrue, MatchOption, OnOk, length, map, string_bytes};
 ghost use Rattle.subst_error.specs.ErrorFault.{error_fault};
 ghost use Rattle.subst_language.specs.Calls.Outcome.{OnFault};
 ghost use Rattle.subst_language.specs.Language.Several.{GivesBy, RefusesFirst};
 ghost use Rattle.subst_document.specs.Edits.{text_at, AreSpelled, IsFilledText};
-ghost use Rattle.subst_document.specs.Stays.{SomeChanges, TellsChange};
+ghost use Rattle.subst_document.specs.Stays.{AreValues, SomeChanges, TellsChange};
 ghost use Rattle.subst_document.specs.Texts.{HasRange};
 
 use crate::Fill;
@@ -56,6 +56,45 @@ impl<'t> Strings<'t> for ListedStrings<'t> {
     }
 }
 
+/// What the strings of a text became that changed, in its order.
+#[derive(Debug, Drop)]
+pub struct Values {
+    /// The values, one after the other.
+    pub text: String,
+    /// For each the string that it is the value of.
+    pub list: Vec<ValueAt>,
+}
+
+/// A string of a text that changed.
+#[derive(Clone, Copy, Debug)]
+pub struct ValueAt {
+    /// The index of the string among those of the text, from 0.
+    pub index: usize,
+    /// The length of its value.
+    pub len: usize,
+}
+
+impl Values {
+    /// Keeps the value of the string of an index, if values are kept.
+    ///
+    /// # Errors
+    ///
+    /// When allocation fails, and for nothing else.
+    fn keep(&mut self, index: usize, value: &str, keeps_values: bool) -> Result<(), AllocError>
+        ensures { IsTrue keeps_values → OnOk result
+            ((self.new.list.items
+            ≡ self.old.list.items ++ record { index = index; len = length value.now } ∷ [])
+            × (string_bytes self.new.text ≡ string_bytes self.old.text ++ value.now)) }
+    {
+        if keeps_values {
+            let len = value.len();
+            self.list.push(ValueAt { index, len })?;
+            self.text.push_str(value)?;
+        }
+        Ok(())
+    }
+}
+
 /// A text whose strings are filled in.
 #[derive(Debug, Drop)]
 pub struct Filled {
@@ -63,9 +102,12 @@ pub struct Filled {
     pub text: String,
     /// Whether some string became another one. If none did, the text is as it was.
     pub is_changed: bool,
+    /// What the strings became that changed, if values are kept.
+    pub values: Values,
 }
 
-/// Returns a text with its strings filled in, or `None` where one isn't found in it.
+/// Returns a text with its strings filled in, or `None` where one isn't found in it. The values of strings that
+/// change are kept if `keeps_values`.
 ///
 /// # Errors
 ///
@@ -76,6 +118,7 @@ pub fn filled_in<'t, S: Strings<'t>, T: StringFormat, F: Fill>(
     strings: &mut S,
     format: &mut T,
     filler: &F,
+    keeps_values: bool,
 ) -> Result<Option<Filled>, Error>
     ensures ok { IfOk result (λ filled. IfSome filled (λ filled.
         IsFilledText T.is_token T.is_part T.is_fit (GivesBy (F.answers filler.now))
@@ -84,21 +127,32 @@ pub fn filled_in<'t, S: Strings<'t>, T: StringFormat, F: Fill>(
         (SomeChanges (GivesBy (F.answers filler.now)) (S.left strings.old))
         (λ filled. TellsChange (GivesBy (F.answers filler.now)) (S.left strings.old) source.now
         (string_bytes filled.text) filled.is_changed)) }
+    ensures values { IsTrue keeps_values → IfOk result (λ filled. IfSome filled (λ filled.
+        AreValues (GivesBy (F.answers filler.now)) 0 (S.left strings.old) filled.values.list.items
+        (string_bytes filled.values.text))) }
     ensures err { OnFault error_fault result
         (RefusesFirst (F.answers filler.now) (S.left strings.old)) }
     ensures range { OnFault error_fault result HasRange }
 {
     let mut output = String::with_capacity(alloc, source.len())?;
+    let mut values = Values {
+        text: String::new(alloc),
+        list: Vec::new(alloc),
+    };
     let mut rest = source;
     let mut is_changed = false;
+    let mut count: usize = 0;
     while let Some(it) = strings.next() {
+        let index = count;
+        count = index.checked_add(1).ok_or(AllocError)?;
         let passed = source.len().saturating_sub(rest.len());
         let token = it.start.saturating_sub(passed)..it.end.saturating_sub(passed);
         match fill_in_string(alloc, rest, &token, it.text, format, filler, &mut output)? {
             Passed::Stays => {}
-            Passed::Changed(left) => {
+            Passed::Changed(value, left) => {
                 rest = left;
                 is_changed = true;
+                values.keep(index, value.as_str(), keeps_values)?;
             }
             Passed::NotFound => return Ok(None),
         }
@@ -107,6 +161,7 @@ pub fn filled_in<'t, S: Strings<'t>, T: StringFormat, F: Fill>(
     Ok(Some(Filled {
         text: output,
         is_changed,
+        values,
     }))
 }
 

@@ -1,4 +1,5 @@
 pub mod Changed
+pub mod Compared
 pub mod Errors
 pub mod Filled
 pub mod InPlace

@@ -1,36 +1,47 @@
 //! Tokens of a text, compared with those of the text filled in.
 
-ghost use Rattle.std.specs.Prelude.{◌≡◌, IfOk, IsTrue, Some};
+ghost use Rattle.std.specs.Prelude.{◌≡◌, ◌∷◌, ℕ, List, IfOk, IsTrue, Some, string_bytes};
 ghost use Rattle.json.specs.Lex.{tokens};
 ghost use Rattle.json.specs.Reads.{token_of};
+ghost use Rattle.json.specs.Token as spec;
 ghost use Rattle.serde_json.specs.Data.{Num};
 ghost use Rattle.fast_float.specs.Text.{scan};
 ghost use Rattle.serde_json.specs.Read.{number_of, number_from};
 ghost use Rattle.subst_language.specs.Language.Several.{GivesBy};
-ghost use Rattle.subst_json.specs.Filled.{AreFilled, IsFilledToken};
+ghost use Rattle.subst_document.specs.Stays.{AreValues};
+ghost use Rattle.subst_json.specs.Compared.{AreLeft};
+ghost use Rattle.subst_json.specs.Filled.{strings_in, AreFilled, IsFilledToken};
 ghost use Rattle.subst_json.specs.Nesting.{AreOfValue};
 
 use crate::nesting::Nesting;
 use fast_float::Numeral;
 use json::{Reader, Scratch, Token};
 use std::alloc::{AllocError, Global};
-use subst_document::{Fill, changed};
-use subst_error::Error;
+use subst_document::{Fill, ValueAt, Values};
 
 /// Returns whether `source` is one value, which nests no deeper than the reader of trees allows, and the tokens
 /// of `output` are those of `source`, with each string filled in, and each number is one that the reader takes.
+/// The values are what the strings of `source` that change become by `filler`, which isn't asked again.
 pub(crate) fn is_filled<F: Fill>(
     alloc: Global,
     source: &str,
     output: &str,
+    values: &Values,
     filler: &F,
 ) -> Result<bool, AllocError>
+    requires { AreValues (GivesBy (F.answers filler.now)) 0 (strings_in (tokens source.now))
+        values.now.list.items (string_bytes values.now.text) }
     ensures value { IfOk result (λ is. IsTrue is → AreOfValue (tokens source.now)) }
     ensures filled { IfOk result (λ is. IsTrue is
         → AreFilled (GivesBy (F.answers filler.now)) (tokens source.now)
         (tokens output.now)) }
 {
     let mut nesting = Nesting::new(alloc);
+    let mut left = Left {
+        index: 0,
+        list: values.list.as_slice(),
+        text: values.text.as_str(),
+    };
     let mut scratch = Scratch::new(alloc);
     let mut scratch_of_output = Scratch::new(alloc);
     let mut reader = Reader::new(source, &mut scratch)?;
@@ -39,43 +50,64 @@ pub(crate) fn is_filled<F: Fill>(
         let Some(filled) = reader_of_output.next() else {
             return Ok(false);
         };
-        if !nesting.takes(token)? || !is_filled_token(alloc, token, filled, filler)? {
+        if !nesting.takes(token)? || !left.takes(token, filled, filler) {
             return Ok(false);
         }
     }
     Ok(nesting.is_at_end() && reader_of_output.next().is_none())
 }
 
-/// Returns whether a token is another one, filled in.
-fn is_filled_token<F: Fill>(
-    alloc: Global,
-    token: Token<'_>,
-    filled: Token<'_>,
-    filler: &F,
-) -> Result<bool, AllocError>
-    ensures { IfOk result (λ is. IsTrue is
-        → IsFilledToken (GivesBy (F.answers filler.now)) (token_of token.entry)
-        (token_of filled.entry)) }
-{
-    match token {
-        Token::String(text) => match filled {
-            Token::String(value) => gives(alloc, text, value, filler),
-            _ => Ok(false),
-        },
-        token => Ok(is_same(token, filled)),
-    }
+/// The strings of a text that are still to come.
+#[derive(Clone, Copy)]
+struct Left<'v> {
+    /// The index of the next one.
+    index: usize,
+    /// Those of them that change.
+    list: &'v [ValueAt],
+    /// What these become, one after the other.
+    text: &'v str,
 }
 
-/// Returns whether a string gives this value.
-fn gives<F: Fill>(alloc: Global, text: &str, value: &str, filler: &F) -> Result<bool, AllocError>
-    ensures { IfOk result (λ is. IsTrue is
-        → GivesBy (F.answers filler.now) text.now value.now) }
-{
-    match changed(alloc, text, filler) {
-        Ok(None) => Ok(text == value),
-        Ok(Some(given)) => Ok(given.as_str() == value),
-        Err(Error::OutOfMemory(e)) => Err(e),
-        Err(_) => Ok(false),
+impl Left<'_> {
+    /// Takes the next token, and returns whether the other one is the token, filled in.
+    fn takes<F: Fill>(&mut self, token: Token<'_>, filled: Token<'_>, filler: &F) -> bool
+        ensures { IsTrue result → (rest : List spec.Token)
+            → AreLeft (GivesBy (F.answers filler.now)) self.old (token_of token.entry ∷ rest)
+            → IsFilledToken (GivesBy (F.answers filler.now)) (token_of token.entry)
+            (token_of filled.entry)
+            × AreLeft (GivesBy (F.answers filler.now)) self.new rest }
+    {
+        match (token, filled) {
+            (Token::String(text), Token::String(value)) => self.becomes(text, value, filler),
+            (token, filled) => is_same(token, filled),
+        }
+    }
+
+    /// Takes the next string, and returns whether it becomes this value.
+    fn becomes<F: Fill>(&mut self, text: &str, value: &str, filler: &F) -> bool
+        ensures { IsTrue result → (rest : List (List ℕ))
+            → AreValues (GivesBy (F.answers filler.now)) self.old.index (text.now ∷ rest)
+            self.old.list.now self.old.text.now
+            → GivesBy (F.answers filler.now) text.now value.now
+            × AreValues (GivesBy (F.answers filler.now)) self.new.index rest self.new.list.now
+            self.new.text.now }
+    {
+        let index = self.index;
+        let Some(next) = index.checked_add(1) else {
+            return false;
+        };
+        self.index = next;
+        match self.list.split_first() {
+            Some((first, list)) if first.index == index => {
+                let Some((given, rest)) = self.text.split_at_checked(first.len) else {
+                    return false;
+                };
+                self.list = list;
+                self.text = rest;
+                given == value
+            }
+            _ => text == value,
+        }
     }
 }
 

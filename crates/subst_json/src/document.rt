@@ -1,12 +1,15 @@
 //! JSON texts whose strings are filled in where they stand: each other byte stays.
 
 ghost use Rattle.std.specs.Prelude.{◌≡◌, ⊤, IfErr, IfNone, IfOk, IfSome, None, Some, string_bytes};
+ghost use Rattle.json.specs.Lex.{tokens};
 ghost use Rattle.serde_json.specs.Errors.{IsOfText};
 ghost use Rattle.serde_json.specs.Read.{read};
 ghost use Rattle.subst_error.specs.ErrorFault.{error_fault};
 ghost use Rattle.subst_language.specs.Calls.Clauses.{AnswersText};
 ghost use Rattle.subst_language.specs.Language.Several.{GivesBy};
+ghost use Rattle.subst_document.specs.Stays.{AreValues};
 ghost use Rattle.subst_json.specs.Errors.{HasOwnMemory};
+ghost use Rattle.subst_json.specs.Filled.{strings_in};
 ghost use Rattle.subst_json.specs.InPlace.{FillsIn, FillsInBytes};
 ghost use Rattle.subst_json.specs.Mapped.{IsEach};
 ghost use Rattle.subst_json.specs.Outcome.{ReadsAsTree, IfJson, OnJson, OnSubst};
@@ -18,7 +21,7 @@ use serde_json::Value;
 use std::alloc::Global;
 use std::convert::AsStr;
 use std::str::from_utf8;
-use subst_document::{Fill, Filler};
+use subst_document::{Fill, Filled, Filler};
 use subst_language::VariableMap;
 
 /// Returns a JSON text with its strings filled in from `variables`, whose values are texts. Each other byte
@@ -87,7 +90,7 @@ pub fn fill_in_by<F: Fill>(alloc: Global, source: &str, filler: &F) -> Result<Op
     ensures filled { FillsIn (F.answers filler.now) source.now result }
 {
     match filled_in(alloc, source, filler) {
-        Ok(Some(filled)) if filled.is_changed => confirmed(alloc, source, filled.text, filler),
+        Ok(Some(filled)) if filled.is_changed => confirmed(alloc, source, filled, filler),
         Ok(Some(filled)) => unchanged(alloc, source, filled.text),
         Ok(None) => unconfirmed(alloc, source),
         Err(e) => refused(alloc, source, e),
@@ -102,10 +105,13 @@ pub fn fill_in_by<F: Fill>(alloc: Global, source: &str, filler: &F) -> Result<Op
 fn confirmed<F: Fill>(
     alloc: Global,
     source: &str,
-    output: String,
+    filled: Filled,
     filler: &F,
 ) -> Result<Option<String>, Error>
-    ensures same { IfOk result (λ confirmed. IfSome confirmed (λ confirmed. confirmed ≡ output)) }
+    requires { AreValues (GivesBy (F.answers filler.now)) 0 (strings_in (tokens source.now))
+        filled.values.list.items (string_bytes filled.values.text) }
+    ensures same { IfOk result
+        (λ confirmed. IfSome confirmed (λ confirmed. confirmed ≡ filled.text)) }
     ensures none { IfOk result (λ confirmed. IfNone confirmed (ReadsAsTree source.now (λ _. ⊤))) }
     ensures each { IfOk result (λ output. IfSome output (λ output. ReadsAsTree source.now
         (λ d. ReadsAsTree (string_bytes output) (IsEach (GivesBy (F.answers filler.now)) d)))) }
@@ -114,8 +120,8 @@ fn confirmed<F: Fill>(
     ensures subst { OnSubst result (λ _. ⊥) }
     ensures memory { IfErr result HasOwnMemory }
 {
-    if is_filled(alloc, source, output.as_str(), filler)? {
-        Ok(Some(output))
+    if is_filled(alloc, source, &filled.text, &filled.values, filler)? {
+        Ok(Some(filled.text))
     } else {
         unconfirmed(alloc, source)
     }

@@ -7,7 +7,7 @@ ghost use Rattle.json.specs.Reads.{token_of};
 ghost use Rattle.subst_error.specs.ErrorFault.{error_fault};
 ghost use Rattle.subst_language.specs.Calls.Outcome.{OnFault};
 ghost use Rattle.subst_language.specs.Language.Several.{GivesBy, RefusesFirst};
-ghost use Rattle.subst_document.specs.Stays.{SomeChanges, TellsChange};
+ghost use Rattle.subst_document.specs.Stays.{AreValues, SomeChanges, TellsChange};
 ghost use Rattle.subst_document.specs.Texts.{HasRange};
 ghost use Rattle.subst_json.specs.Filled.{is_plain, strings_of_token, strings_in, IsFilledJson, IsPartOf, IsStringToken};
 
@@ -166,7 +166,7 @@ fn is_verbatim(token: &str, text: &str) -> bool
 fn are_unescaped(bytes: &[u8]) -> bool
     ensures { result ≡ list_all is_plain bytes.now }
 {
-    // With no way out of it, the loop compares many bytes at once.
+    // The loop has no early exit, so that many bytes are compared at once.
     let mut are = true;
     for byte in bytes {
         are &= is_unescaped(*byte);
@@ -268,6 +268,9 @@ pub(crate) fn filled_in<F: Fill>(
         (SomeChanges (GivesBy (F.answers filler.now)) (strings_in (tokens source.now)))
         (λ filled. TellsChange (GivesBy (F.answers filler.now)) (strings_in (tokens source.now))
         source.now (string_bytes filled.text) filled.is_changed)) }
+    ensures values { IfOk result (λ filled. IfSome filled
+        (λ filled. AreValues (GivesBy (F.answers filler.now)) 0 (strings_in (tokens source.now))
+        filled.values.list.items (string_bytes filled.values.text))) }
     ensures err { OnFault error_fault result
         (RefusesFirst (F.answers filler.now) (strings_in (tokens source.now))) }
     ensures range { OnFault error_fault result HasRange }
@@ -275,7 +278,7 @@ pub(crate) fn filled_in<F: Fill>(
     let mut scratch = Scratch::new(alloc);
     let mut format = JsonStrings::new(alloc);
     let mut strings = JsonTokens::new(source, &mut scratch)?;
-    subst_document::filled_in(alloc, source, &mut strings, &mut format, filler)
+    subst_document::filled_in(alloc, source, &mut strings, &mut format, filler, true)
 }
 
 /// Returns the byte range of a string of a text, which ends with the last quote before the next token: the

@@ -190,8 +190,9 @@ const JSON: &str = r#"{"b":["$1","${2:$1}"],"a":"${3?}$1","c":"$1"}"#;
 
 const TOML: &str = "b = ['$1', '${2:$1}']\na = '${3?}$1'\nc = '$1'\n";
 
-/// A tree asks for the names of each string once; a text where the strings stand too, and once more where what
-/// was written is confirmed.
+/// A tree asks for the names of each string once, and so does a text where the strings stand. There a string with
+/// several placeholders that changes asks once more, for the names of each of them. A TOML text has its tree filled
+/// in first.
 #[test]
 fn documents_ask_for_the_names_of_each_string(rt: HostRuntime) {
     let alloc = rt.alloc();
@@ -203,10 +204,10 @@ fn documents_ask_for_the_names_of_each_string(rt: HostRuntime) {
     assert_eq!(rt; variables.asked.get(), 311211);
     let variables = Asked::new();
     let _ = json::fill_in(alloc, JSON, &variables);
-    assert_eq!(rt; variables.asked.get(), 121311121311);
+    assert_eq!(rt; variables.asked.get(), 12131311);
     let variables = Asked::new();
     let _ = toml::fill_in(alloc, TOML, &variables);
-    assert_eq!(rt; variables.asked.get(), 311211121311);
+    assert_eq!(rt; variables.asked.get(), 31121112131311);
     let variables = Asked::new();
     let _ = json::refusals_in(alloc, JSON, &variables);
     assert_eq!(rt; variables.asked.get(), 121311);

@@ -111,7 +111,8 @@ fn written<F: Fill>(alloc: Global, source: &str, filler: &F) -> Result<Option<St
     let mut strings = ListedStrings {
         list: found.as_slice(),
     };
-    match filled_in(alloc, source, &mut strings, &mut Quoted::of(source), filler) {
+    let mut format = Quoted::of(source);
+    match filled_in(alloc, source, &mut strings, &mut format, filler, false) {
         Ok(Some(filled)) => Ok(Some(filled.text)),
         Err(subst_error::Error::OutOfMemory(e)) => Err(e),
         Ok(None) | Err(_) => Ok(None),

@@ -14,7 +14,8 @@ returns-clause-passed g c =
     (Some c.in-Some.value)) =
     subst (λ o. IsChanged Becomes c.args.text.now (option_map (λ v. string_bytes v) o)) c.in-Some.is
     c.in_ok-value.ensures.ok in (
-      (string_bytes c.in-Some.value, changed.0, changed.1),
+      changed.0,
+      changed.1,
       edited g.S.StringFormat.is_token g.S.StringFormat.is_part g.S.StringFormat.is_fit Becomes _ _ _
           c.in-Some-cut_round.cut.before.now _ _ _ _ _ changed.0 changed.1 (search rules) (search rules)
           (search rules) c.in-Some-cut_round.ensures.0 c.in_ok-push_both.ensures,

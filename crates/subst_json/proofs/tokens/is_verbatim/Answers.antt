@@ -1,5 +1,5 @@
 -- The content of the token is the string.
-use Rattle.std.proofs.Common.{rules, ◌≡◌, ◌≤◌, ◌-◌, true, length, sym, ◌∙◌, subst, arith}
+use Rattle.std.proofs.Common.{rules, ◌≡◌, ◌≤◌, ◌-◌, true, length, sym, subst}
 use Rattle.std.specs.List.{list_all}
 use Rattle.std.specs.Prelude.{slice_index, slice_range}
 use Rattle.subst_json.specs.Filled.{is_plain}
@@ -16,4 +16,6 @@ returns-then-eq c = λ is.
     let last : slice_index token (length token - 1) ≡ 34 = search rules in
     let same : slice_range token 1 (length token - 1) ≡ text = search rules in
     let plain : list_all is_plain text ≡ true = search (rules, is) in
-    ((first, last), subst (λ t. IsTokenOf t text) (sym (between_quotes token text within first last same)) (plain_token text plain))
+    let is_token : IsTokenOf token text =
+    subst (λ t. IsTokenOf t text) (sym (between_quotes token text within first last same))
+    (plain_token text plain) in ((first, last), is_token)
