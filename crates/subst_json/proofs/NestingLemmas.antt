@@ -1,13 +1,13 @@
 -- What is expected from a token on, where what comes after it is as expected.
-use Rattle.std.proofs.Common.{◌≡◌, ◌≤◌, ◌+◌, ℕ, Bool, true, false, List, [], ◌∷◌, ◌++◌, length, refl, sym, ap, ◌∙◌, subst, arith, append_assoc}
+use Rattle.std.proofs.Common.{◌≡◌, ◌≤◌, ◌+◌, ℕ, Bool, true, false, List, ◌∷◌, ◌++◌, length, refl, sym, ap, ◌∙◌, subst, arith, append_assoc}
 use Rattle.json.specs.Json as json
 use Rattle.json.specs.Json.{Json, array, object, no_items, item, no_members, member}
-use Rattle.json.specs.Token.{Token, begin_object, end_object, begin_array, end_array, key, string, number, boolean, null, bad}
+use Rattle.json.specs.Token.{Token, begin_object, end_object, begin_array, end_array, key, string, number, boolean, null}
 use Rattle.json.specs.Tree.{depth, json_tokens, items_tokens, members_tokens}
 use Rattle.serde_json.specs.Read.{max_depth}
 use Rattle.subst_json.specs.Nesting.{AreExpected}
 use Rattle.subst_json.specs.declared.nesting.Expected.{Expected}
-use Rattle.subst_json.specs.declared.nesting.Expected.TheVariants.{Value, Member, Item, Key, End}
+use Rattle.subst_json.specs.declared.nesting.Expected.TheVariants.{Member, Item, Key}
 
 -- the token ends an array or an object, inside of which this is expected
 abbrev pub ends : Token → Expected → Bool

@@ -1,5 +1,5 @@
 -- Each byte opens a brace, closes one or changes nothing.
-use Rattle.std.proofs.Common.{◌≡◌, ℕ, ◌+◌, ◌-◌, ◌==◌, not, suc, List, [], ◌∷◌, ◌++◌, take, get_or, ◌∙◌, ap, subst, arith}
+use Rattle.std.proofs.Common.{◌≡◌, ℕ, ◌+◌, ◌-◌, ◌==◌, not, suc, [], ◌∷◌, ◌++◌, take, get_or, ◌∙◌, ap, subst, arith}
 use Rattle.std.proofs.lemmas.List.{take_more}
 use Rattle.std.proofs.lemmas.List.Elements.{filter-append}
 use Rattle.subst_document.specs.Splice.{bare}

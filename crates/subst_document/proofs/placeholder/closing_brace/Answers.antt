@@ -1,5 +1,5 @@
 -- Each byte opens a brace, closes one, escapes the next or changes nothing.
-use Rattle.std.proofs.Common.{◌≡◌, ℕ, ◌+◌, ◌-◌, suc, List, [], ◌∷◌, ◌++◌, take, get_or, ◌∙◌, ap, subst, arith}
+use Rattle.std.proofs.Common.{◌≡◌, ℕ, ◌+◌, ◌-◌, suc, [], ◌∷◌, ◌++◌, take, get_or, ◌∙◌, ap, subst, arith}
 use Rattle.std.proofs.lemmas.List.{take_more}
 use Rattle.subst_document.proofs.PlaceholderLemmas.{LeavesOpen, open_byte, open_closing, open_escape, open_none, open_opening, reaches_escaped, reaches_plain}
 use Rattle.subst_document.proofs.placeholder.closing_brace.Goals as goal

@@ -1,4 +1,4 @@
-use Rattle.std.proofs.Common.{◌≡◌, ◌∷◌, List, ℕ, take, sym, subst}
+use Rattle.std.proofs.Common.{◌∷◌, List, ℕ, take, sym, subst}
 use Rattle.subst_language.specs.Language.Bytes.{backslash}
 use Rattle.subst_document.specs.Splice.{IsPlaceholder}
 use Rattle.subst_document.specs.Splice.IsPlaceholder.{escape}

@@ -1,5 +1,5 @@
 -- The braces after a dollar end with the text.
-use Rattle.std.proofs.Common.{rules, ◌≡◌, ◌∷◌, ◌+◌, List, ℕ, length, sym, subst, arith}
+use Rattle.std.proofs.Common.{rules, ◌≡◌, ◌∷◌, ◌+◌, length, sym, subst, arith}
 use Rattle.subst_language.specs.Language.Bytes.{dollar, opening_brace}
 use Rattle.subst_document.specs.Splice.{IsPlaceholder}
 use Rattle.subst_document.proofs.PlaceholderLemmas.{bare_placeholder}

@@ -1,5 +1,4 @@
-use Rattle.std.proofs.Common.{rules, ◌≡◌, ◌≢◌, ◌∷◌, ◌+◌, [], List, ℕ, length, take, sym, subst, arith}
-use Rattle.std.proofs.lemmas.Grind.{common_steps}
+use Rattle.std.proofs.Common.{◌∷◌, ◌+◌, List, ℕ, take, sym, subst}
 use Rattle.subst_language.specs.Language.Bytes.{dollar}
 use Rattle.subst_document.specs.Splice.{IsPlaceholder}
 use Rattle.subst_document.specs.Splice.IsPlaceholder.{dollars}

@@ -1,5 +1,5 @@
 -- A piece stays, or is a placeholder and spelled anew.
-use Rattle.std.proofs.Common.{rules, ◌≡◌, ◌⊎◌, string_bytes}
+use Rattle.std.proofs.Common.{rules, ◌≡◌, ◌⊎◌}
 use Rattle.subst_document.specs.Splice.{IsPlaceholder}
 use Rattle.subst_document.proofs.SpliceLemmas.{appends_kept, appends_placed}
 use Rattle.subst_document.proofs.splice.append_piece.Goals as goal
