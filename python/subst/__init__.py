@@ -169,7 +169,7 @@ def fill_in_toml(text: str, variables: Mapping[str, str] = _NONE, /, **more: str
     """Returns a TOML document with its strings filled in, as fill_in_json. Comments and dates stay as they are too.
 
         >>> print(fill_in_toml('name = "$name" # $name', {'name': 'a"b'}))
-        name = 'a"b' # $name
+        name = "a\\"b" # $name
 
     Raises DocumentError where the text isn't TOML, and SubstError for the first string that is refused.
     """
