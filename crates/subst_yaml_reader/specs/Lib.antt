@@ -1,0 +1,10 @@
+pub mod Block
+pub mod Bytes
+pub mod Decoded
+pub mod Flow
+pub mod Reader
+pub mod Reading
+pub mod Refusal
+pub mod Runs
+pub mod Scalar
+pub mod State

@@ -1,0 +1,16 @@
+-- The state of a reader of the code.
+use Rattle.subst_yaml_reader.specs.State.{State}
+use Rattle.subst_yaml_reader.specs.declared.reader.Reader.{Reader}
+
+-- what a reader knows
+abbrev pub state_of : Reader → State
+state_of r = record {
+  size = r.size;
+  line = r.line;
+  fresh = r.is_fresh;
+  next = r.next;
+  pending = r.pending;
+  blocks = r.blocks.items;
+  brackets = r.brackets.items;
+  events = r.events.items;
+}

@@ -1,0 +1,417 @@
+//! How far tokens go: each function returns the text after one.
+
+ghost use Rattle.std.specs.Prelude.{◌≡◌, ◌+◌, length, false, None, Some, OnErr, IfNone, IfOk, IfSome};
+ghost use Rattle.subst_yaml_reader.specs.Runs.{after_blanks, after_block, after_double, after_line_ends, after_lines, after_name, after_plain, after_plain_lines, after_single, after_spaces, breaks, closes, digits_after, ends_plain, escape_after, goes_on, hex_value, is_colon_end, is_escape, is_past, is_surrogate, is_text, next_line, to_line_end, with_digit};
+ghost use Rattle.subst_yaml_reader.specs.declared.runs.Escape.TheVariants.{Nothing};
+
+use crate::bytes::{
+    begins, is_blank, is_bracket, is_document_mark, is_foreign, is_line_end, is_line_over,
+    is_name_byte,
+};
+use crate::error::{Halt, Reason};
+
+/// The part of an escape between double quotes that has been read.
+#[derive(Clone, Copy)]
+pub(crate) enum Escape {
+    /// There is none.
+    Nothing,
+    /// A backslash.
+    Escaped,
+    /// A backslash, a letter and digits, of which so many are left, and the number that the others are.
+    Digits(u8, u32),
+}
+
+/// Returns whether no character of the text is foreign.
+#[tactic(auto, unfolding(crate::specs::Runs::is_text))]
+pub(crate) fn is_text(text: &[u8]) -> bool
+    ensures { result ≡ is_text text.now }
+{
+    let mut rest = text;
+    while let [first, tail @ ..] = rest {
+        if is_foreign(*first, tail) {
+            return false;
+        }
+        rest = tail;
+    }
+    true
+}
+
+/// Returns the text after its blanks.
+#[tactic(auto, unfolding(crate::specs::Runs::after_blanks))]
+pub(crate) fn after_blanks(text: &[u8]) -> &[u8]
+    ensures { result.now ≡ after_blanks text.now }
+{
+    let mut rest = text;
+    while let [first, tail @ ..] = rest {
+        if !is_blank(*first) {
+            return rest;
+        }
+        rest = tail;
+    }
+    rest
+}
+
+/// Returns the text after its spaces.
+#[tactic(auto, unfolding(crate::specs::Runs::after_spaces))]
+pub(crate) fn after_spaces(text: &[u8]) -> &[u8]
+    ensures { result.now ≡ after_spaces text.now }
+{
+    let mut rest = text;
+    while let [first, tail @ ..] = rest {
+        if *first != b' ' {
+            return rest;
+        }
+        rest = tail;
+    }
+    rest
+}
+
+/// Returns the text after its line ends.
+#[tactic(auto, unfolding(crate::specs::Runs::after_line_ends))]
+pub(crate) fn after_line_ends(text: &[u8]) -> &[u8]
+    ensures { result.now ≡ after_line_ends text.now }
+{
+    let mut rest = text;
+    while let [first, tail @ ..] = rest {
+        if !is_line_end(*first) {
+            return rest;
+        }
+        rest = tail;
+    }
+    rest
+}
+
+/// Returns the text from the end of its line on.
+#[tactic(auto, unfolding(crate::specs::Runs::to_line_end))]
+pub(crate) fn to_line_end(text: &[u8]) -> &[u8]
+    ensures { result.now ≡ to_line_end text.now }
+{
+    let mut rest = text;
+    while let [first, tail @ ..] = rest {
+        if is_line_end(*first) {
+            return rest;
+        }
+        rest = tail;
+    }
+    rest
+}
+
+/// Returns the text after a name, or after a tag.
+#[tactic(auto, unfolding(crate::specs::Runs::after_name))]
+pub(crate) fn after_name(text: &[u8], in_tag: bool) -> &[u8]
+    ensures { result.now ≡ after_name in_tag text.now }
+{
+    let mut rest = text;
+    while let [first, tail @ ..] = rest {
+        if !is_name_byte(*first, in_tag) {
+            return rest;
+        }
+        rest = tail;
+    }
+    rest
+}
+
+/// Returns the text from the next token on, from inside the indentation of a line, and how many bytes are left
+/// where its line begins, which are `line` for this one. Empty lines are passed over, and comments if they may
+/// be there.
+#[tactic(auto, unfolding(crate::specs::Runs::after_lines))]
+pub(crate) fn after_lines(text: &[u8], line: usize, comments: bool) -> (usize, &[u8])
+    ensures { after_lines comments false line text.now ≡ (result.0, result.1.now) }
+{
+    let mut begin = line;
+    let mut in_comment = false;
+    let mut rest = text;
+    while let [first, tail @ ..] = rest {
+        if *first == b'\n' {
+            begin = tail.len();
+            in_comment = false;
+        } else if !(in_comment || *first == b'\r' || *first == b' ') {
+            if !(comments && *first == b'#') {
+                return (begin, rest);
+            }
+            in_comment = true;
+        }
+        rest = tail;
+    }
+    (begin, rest)
+}
+
+/// Returns whether a colon before the rest of the text ends unquoted text.
+fn is_colon_end(rest: &[u8], in_flow: bool) -> bool
+    ensures { result ≡ is_colon_end in_flow rest.now }
+{
+    match rest {
+        [] => true,
+        [next, ..] => {
+            is_blank(*next) || is_line_end(*next) || in_flow && (is_bracket(*next) || *next == b'?')
+        }
+    }
+}
+
+/// Returns whether unquoted text ends before a byte.
+fn ends_plain(byte: u8, rest: &[u8], in_flow: bool) -> bool
+    ensures { result ≡ ends_plain in_flow byte rest.now }
+{
+    is_line_end(byte)
+        || byte == b':' && is_colon_end(rest, in_flow)
+        || is_blank(byte) && begins(rest, b'#')
+        || in_flow && is_bracket(byte)
+}
+
+/// Returns the text after unquoted text on one line, without the blanks at its end.
+#[tactic(auto, unfolding(crate::specs::Runs::after_plain))]
+pub(crate) fn after_plain(text: &[u8], in_flow: bool) -> &[u8]
+    ensures { result.now ≡ after_plain in_flow text.now text.now }
+{
+    let mut end = text;
+    let mut rest = text;
+    while let [first, tail @ ..] = rest {
+        if ends_plain(*first, tail, in_flow) {
+            return end;
+        }
+        if !is_blank(*first) {
+            end = tail;
+        }
+        rest = tail;
+    }
+    end
+}
+
+/// Returns whether a line feed before a mark of a document is at a byte.
+fn breaks(byte: u8, rest: &[u8]) -> bool
+    ensures { result ≡ breaks byte rest.now }
+{
+    byte == b'\n' && is_document_mark(rest)
+}
+
+/// Returns the text after single quotes that are open.
+#[tactic(auto, unfolding(crate::specs::Runs::after_single))]
+pub(crate) fn after_single(text: &[u8]) -> Result<&[u8], Halt>
+    ensures ok { IfOk result (λ rest. after_single false text.now ≡ Some rest.now) }
+    ensures err { OnErr result (after_single false text.now ≡ None) }
+{
+    let mut is_quoted = false;
+    let mut rest = text;
+    while let [first, tail @ ..] = rest {
+        if *first == b'\'' {
+            is_quoted = !is_quoted;
+        } else if is_quoted {
+            return Ok(rest);
+        } else if breaks(*first, tail) {
+            return Err(Halt::before(Reason::Quote, text));
+        }
+        rest = tail;
+    }
+    if is_quoted {
+        Ok(rest)
+    } else {
+        Err(Halt::before(Reason::Quote, text))
+    }
+}
+
+/// Returns whether a byte is an escape of one character after a backslash.
+fn is_escape(byte: u8) -> bool
+    ensures { result ≡ is_escape byte }
+{
+    byte == b'0'
+        || byte == b'a'
+        || byte == b'b'
+        || byte == b't'
+        || byte == b'n'
+        || byte == b'v'
+        || byte == b'f'
+        || byte == b'r'
+        || byte == b'e'
+        || byte == b'N'
+        || byte == b'_'
+        || byte == b'L'
+        || byte == b'P'
+        || byte == b'/'
+        || byte == b'\\'
+        || byte == b'"'
+        || is_blank(byte)
+        || is_line_end(byte)
+}
+
+/// Returns how many digits an escape by this letter has, or 0 for another byte.
+pub(crate) fn digits_after(byte: u8) -> u8
+    ensures { result ≡ digits_after byte }
+{
+    match byte {
+        b'x' => 2,
+        b'u' => 4,
+        b'U' => 8,
+        _ => 0,
+    }
+}
+
+/// Returns what a hexadecimal digit counts, or 16 for another byte.
+pub(crate) fn hex_value(byte: u8) -> u32
+    ensures { result ≡ hex_value byte }
+{
+    if byte >= b'0' && byte < b':' {
+        (byte - b'0') as u32
+    } else if byte >= b'A' && byte < b'G' {
+        (byte - 55) as u32
+    } else if byte >= b'a' && byte < b'g' {
+        (byte - 87) as u32
+    } else {
+        16
+    }
+}
+
+/// Returns whether a number is half of a pair of UTF-16.
+fn is_surrogate(number: u32) -> bool
+    ensures { result ≡ is_surrogate number }
+{
+    number >= 0xD800 && number < 0xE000
+}
+
+/// Returns an escape with one more digit, or `None` if it is no digit, or the number no character.
+fn with_digit(left: u8, value: u32, digit: u32) -> Option<Escape>
+    ensures { result ≡ with_digit left value digit }
+{
+    if digit >= 16 || value >= 0x1_1000 {
+        return None;
+    }
+    let number = value * 16 + digit;
+    if left > 1 {
+        Some(Escape::Digits(left - 1, number))
+    } else if is_surrogate(number) {
+        None
+    } else {
+        Some(Escape::Nothing)
+    }
+}
+
+/// Returns the escape after a byte between double quotes, or `None` if it can't be read.
+pub(crate) fn escape_after(escape: Escape, byte: u8, rest: &[u8]) -> Option<Escape>
+    ensures { result ≡ escape_after escape byte rest.now }
+{
+    match escape {
+        Escape::Nothing if breaks(byte, rest) => None,
+        Escape::Nothing if byte == b'\\' => Some(Escape::Escaped),
+        Escape::Nothing => Some(Escape::Nothing),
+        Escape::Escaped if digits_after(byte) > 0 => Some(Escape::Digits(digits_after(byte), 0)),
+        Escape::Escaped if is_escape(byte) && !breaks(byte, rest) => Some(Escape::Nothing),
+        Escape::Escaped => None,
+        Escape::Digits(left, value) => with_digit(left, value, hex_value(byte)),
+    }
+}
+
+/// Returns whether a byte closes double quotes.
+pub(crate) fn closes(escape: Escape, byte: u8) -> bool
+    ensures { result ≡ closes escape byte }
+{
+    matches!(escape, Escape::Nothing) && byte == b'"'
+}
+
+/// Returns the text after double quotes that are open.
+#[tactic(auto, unfolding(crate::specs::Runs::after_double))]
+pub(crate) fn after_double(text: &[u8]) -> Result<&[u8], Halt>
+    ensures ok { IfOk result (λ rest. after_double Nothing text.now ≡ Some rest.now) }
+    ensures err { OnErr result (after_double Nothing text.now ≡ None) }
+{
+    let mut escape = Escape::Nothing;
+    let mut rest = text;
+    while let [first, tail @ ..] = rest {
+        if closes(escape, *first) {
+            return Ok(tail);
+        }
+        match escape_after(escape, *first, tail) {
+            Some(next) => escape = next,
+            None if breaks(*first, tail) => return Err(Halt::before(Reason::Quote, text)),
+            None => return Err(Halt::at(Reason::Escape, rest)),
+        }
+        rest = tail;
+    }
+    Err(Halt::before(Reason::Quote, text))
+}
+
+/// Returns whether a column is past the column of a collection, or there is none.
+pub(crate) fn is_past(outer: Option<usize>, column: usize) -> bool
+    ensures { result ≡ is_past outer column }
+{
+    match outer {
+        None => true,
+        Some(outer) => outer < column,
+    }
+}
+
+/// Returns whether unquoted text in a collection goes on with a line.
+fn goes_on(outer: Option<usize>, column: usize, line: &[u8]) -> bool
+    ensures { result ≡ goes_on outer column line.now }
+{
+    match line {
+        [] => false,
+        [first, rest @ ..] => {
+            is_past(outer, column)
+                && !(column == 0 && is_document_mark(line))
+                && *first != b'#'
+                && !is_blank(*first)
+                && !ends_plain(*first, rest, false)
+        }
+    }
+}
+
+/// Returns the next line of unquoted text, or `None` if the text ends before it.
+fn next_line(outer: Option<usize>, text: &[u8]) -> Option<&[u8]>
+    ensures some { IfSome result (λ line. next_line outer text.now ≡ Some line.now) }
+    ensures none { IfNone result (next_line outer text.now ≡ None) }
+{
+    if !is_line_over(text) {
+        return None;
+    }
+    let (begin, line) = after_lines(text, 0, false);
+    if goes_on(outer, begin.saturating_sub(line.len()), line) {
+        Some(line)
+    } else {
+        None
+    }
+}
+
+/// Returns the text after the other lines of unquoted text in a collection.
+#[tactic(auto, unfolding(crate::specs::Runs::after_plain_lines))]
+pub(crate) fn after_plain_lines(text: &[u8], outer: Option<usize>) -> &[u8]
+    ensures { result.now ≡ after_plain_lines (length text.now + 1) outer text.now }
+{
+    let mut rest = text;
+    for turn in 0..text.len() + 1 {
+        match next_line(outer, after_blanks(rest)) {
+            Some(line) => rest = after_plain(line, false),
+            None => return rest,
+        }
+    }
+    rest
+}
+
+/// Returns the text after the lines of a block scalar whose column is `indent`. If there is none with text,
+/// it is `end`. Lines without text after the last one are passed over if they are kept.
+#[tactic(auto, unfolding(crate::specs::Runs::after_block))]
+pub(crate) fn after_block<'t>(text: &'t [u8], end: &'t [u8], indent: usize, keep: bool) -> &'t [u8]
+    ensures { result.now ≡ after_block indent keep false 0 end.now text.now }
+{
+    let mut end = end;
+    let mut in_text = false;
+    let mut column = 0;
+    let mut rest = text;
+    while let [first, tail @ ..] = rest {
+        if *first == b'\n' {
+            if in_text || keep {
+                end = tail;
+            }
+            in_text = false;
+            column = 0;
+        } else if !(in_text || *first == b'\r') {
+            if column >= indent {
+                in_text = true;
+            } else if *first == b' ' {
+                column += 1;
+            } else {
+                return end;
+            }
+        }
+        rest = tail;
+    }
+    if in_text || keep { rest } else { end }
+}

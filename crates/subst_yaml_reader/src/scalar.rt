@@ -1,0 +1,264 @@
+//! The parts of a node: names, scalars and what comes after them.
+
+ghost use Rattle.std.specs.Prelude.{◌≡◌, None, Some, OnErr, IfOk, IfSome, IfNone};
+ghost use Rattle.subst_yaml_reader.specs.Scalar.{after_byte, after_gap, begins_plain, colon_follows, digit_at, fits_key, header, is_name_over, is_property, joined, name_end, node_properties, one_property, property, property_of, scalar, sign_at};
+
+use crate::bytes::{begins, is_apart, is_blank, is_indicator, is_line_end, is_line_over};
+use crate::error::{Halt, Reason};
+use crate::event::Style;
+use crate::runs::{
+    after_blanks, after_double, after_lines, after_name, after_plain, after_single, to_line_end,
+};
+
+/// The bytes of a key, with the anchor and the tag before it, are at most these.
+pub(crate) const LONGEST_KEY: usize = 1024;
+
+/// Which of an anchor and a tag a node has.
+#[derive(Clone, Copy)]
+pub(crate) struct Properties {
+    /// Whether it has an anchor.
+    pub(crate) anchor: bool,
+    /// Whether it has a tag.
+    pub(crate) tag: bool,
+}
+
+/// The next token: whether it is the first on its line, how many bytes are left where the line begins, and the
+/// text from it on.
+pub(crate) type Spot<'t> = (bool, usize, &'t [u8]);
+
+/// What is written after `|` or `>`: the digit, or 0, whether `+` is there, and the text from the end of its
+/// line on.
+pub(crate) type Header<'t> = (usize, bool, &'t [u8]);
+
+/// Returns the text without its first byte if it is this one.
+pub(crate) fn after_byte(text: &[u8], byte: u8) -> &[u8]
+    ensures { result.now ≡ after_byte byte text.now }
+{
+    match text {
+        [first, rest @ ..] if *first == byte => rest,
+        _ => text,
+    }
+}
+
+/// Returns the next token after blanks, and after a comment and empty lines if the line is over. In this line
+/// so many bytes are left at its beginning.
+#[tactic(auto, unfolding(crate::specs::Scalar::after_gap))]
+pub(crate) fn after_gap(text: &[u8], line: usize) -> Spot<'_>
+    ensures { after_gap line text.now ≡ (result.0, result.1, result.2.now) }
+{
+    let rest = after_blanks(text);
+    if is_line_over(rest) || begins(rest, b'#') && !begins(text, b'#') {
+        let (begin, next) = after_lines(rest, 0, true);
+        (true, begin, next)
+    } else {
+        (false, line, rest)
+    }
+}
+
+/// Returns whether nothing more belongs to a name before this text.
+fn is_name_over(text: &[u8], in_flow: bool, in_tag: bool) -> bool
+    ensures { result ≡ is_name_over in_flow in_tag text.now }
+{
+    is_apart(text)
+        || in_flow && !in_tag && (begins(text, b',') || begins(text, b']') || begins(text, b'}'))
+}
+
+/// Returns the text after the name that it begins with.
+#[tactic(auto, unfolding(crate::specs::Scalar::name_end))]
+fn name_end(text: &[u8], in_flow: bool, in_tag: bool) -> Result<&[u8], Halt>
+    ensures ok { IfOk result (λ rest. name_end in_flow in_tag text.now ≡ Some rest.now) }
+    ensures err { OnErr result (name_end in_flow in_tag text.now ≡ None) }
+{
+    let rest = after_name(text, in_tag);
+    if rest.len() < text.len() && is_name_over(rest, in_flow, in_tag) {
+        Ok(rest)
+    } else {
+        Err(Halt::at(Reason::Name, rest))
+    }
+}
+
+/// Returns whether the text begins with an anchor or a tag.
+fn is_property(text: &[u8]) -> bool
+    ensures { result ≡ is_property text.now }
+{
+    begins(text, b'&') || begins(text, b'!')
+}
+
+/// Returns the text after the anchor or the tag that it begins with.
+#[tactic(auto, unfolding(crate::specs::Scalar::property))]
+fn property(text: &[u8], in_flow: bool) -> Result<&[u8], Halt>
+    ensures ok { IfOk result (λ rest. property in_flow text.now ≡ Some rest.now) }
+    ensures err { OnErr result (property in_flow text.now ≡ None) }
+{
+    if begins(text, b'!') {
+        name_end(after_byte(after_byte(text, b'!'), b'!'), in_flow, true)
+    } else {
+        name_end(after_byte(text, b'&'), in_flow, false)
+    }
+}
+
+/// Returns what both have, or refuses what both have.
+pub(crate) fn joined(first: Properties, second: Properties, text: &[u8]) -> Result<Properties, Halt>
+    ensures ok { IfOk result (λ both. joined first second ≡ Some both) }
+    ensures err { OnErr result (joined first second ≡ None) }
+{
+    if first.anchor && second.anchor || first.tag && second.tag {
+        return Err(Halt::at(Reason::Properties, text));
+    }
+    Ok(Properties {
+        anchor: first.anchor || second.anchor,
+        tag: first.tag || second.tag,
+    })
+}
+
+/// Returns the anchor or the tag that the text begins with, and the next token after it.
+#[tactic(auto, unfolding(crate::specs::Scalar::one_property))]
+fn one_property(text: &[u8], line: usize, in_flow: bool) -> Result<(Properties, Spot<'_>), Halt>
+    ensures ok { IfOk result (λ found. one_property in_flow line text.now
+        ≡ Some (found.0, (found.1.0, found.1.1, found.1.2.now))) }
+    ensures err { OnErr result (one_property in_flow line text.now ≡ None) }
+{
+    let rest = property(text, in_flow)?;
+    let found = Properties {
+        anchor: begins(text, b'&'),
+        tag: begins(text, b'!'),
+    };
+    Ok((found, after_gap(rest, line)))
+}
+
+/// Returns the anchor and the tag that the text begins with, and the next token after them.
+#[tactic(auto, unfolding(crate::specs::Scalar::node_properties, crate::specs::Scalar::second_property))]
+pub(crate) fn node_properties(
+    text: &[u8],
+    line: usize,
+    in_flow: bool,
+) -> Result<(Properties, Spot<'_>), Halt>
+    ensures ok { IfOk result (λ found. node_properties in_flow line text.now
+        ≡ Some (found.0, (found.1.0, found.1.1, found.1.2.now))) }
+    ensures err { OnErr result (node_properties in_flow line text.now ≡ None) }
+{
+    if !is_property(text) {
+        let nothing = Properties {
+            anchor: false,
+            tag: false,
+        };
+        return Ok((nothing, (false, line, text)));
+    }
+    let (first, spot) = one_property(text, line, in_flow)?;
+    if spot.0 || !is_property(spot.2) {
+        return Ok((first, spot));
+    }
+    let (second, after) = one_property(spot.2, line, in_flow)?;
+    Ok((joined(first, second, spot.2)?, after))
+}
+
+/// Returns whether unquoted text may begin with a byte.
+fn begins_plain(byte: u8, rest: &[u8], in_flow: bool) -> bool
+    ensures { result ≡ begins_plain in_flow byte rest.now }
+{
+    if byte == b'-' {
+        !is_apart(rest)
+    } else if byte == b'?' || byte == b':' {
+        !in_flow && !is_apart(rest)
+    } else {
+        !(is_indicator(byte) || is_blank(byte) || is_line_end(byte))
+    }
+}
+
+/// Returns why nothing begins with a text.
+fn reason_at(text: &[u8]) -> Reason {
+    match text {
+        [b'\t', ..] => Reason::Tab,
+        [b'?', ..] => Reason::ComplexKey,
+        [b':', ..] => Reason::NoKey,
+        [b'-', ..] => Reason::NotAValue,
+        [b'%', ..] => Reason::Directive,
+        [b'&' | b'!', ..] => Reason::Properties,
+        [b'[' | b'{', ..] => Reason::CollectionKey,
+        [] | [b',' | b']' | b'}', ..] => Reason::Bracket,
+        _ => Reason::Indicator,
+    }
+}
+
+/// Returns the style of the scalar that a text begins with, and the text after it. Unquoted text is read to
+/// the end of its line.
+#[tactic(auto, unfolding(crate::specs::Scalar::scalar))]
+pub(crate) fn scalar(text: &[u8], in_flow: bool) -> Result<(Style, &[u8]), Halt>
+    ensures ok { IfOk result (λ found. scalar in_flow text.now ≡ Some (found.0, found.1.now)) }
+    ensures err { OnErr result (scalar in_flow text.now ≡ None) }
+{
+    match text {
+        [b'\'', rest @ ..] => Ok((Style::Single, after_single(rest)?)),
+        [b'"', rest @ ..] => Ok((Style::Double, after_double(rest)?)),
+        [b'*', rest @ ..] => Ok((Style::Alias, name_end(rest, in_flow, false)?)),
+        [first, rest @ ..] if begins_plain(*first, rest, in_flow) => {
+            Ok((Style::Plain, after_plain(text, in_flow)))
+        }
+        _ => Err(Halt::at(reason_at(text), text)),
+    }
+}
+
+/// Returns whether the text begins with the colon after a key.
+pub(crate) fn colon_follows(text: &[u8], in_flow: bool, style: Style) -> bool
+    ensures { result ≡ colon_follows in_flow style text.now }
+{
+    match text {
+        [] => false,
+        [first, rest @ ..] => {
+            *first == b':' && (in_flow && !matches!(style, Style::Plain) || is_apart(rest))
+        }
+    }
+}
+
+/// Returns whether a key is on one line and not too long: from its text to the text from its colon on.
+#[tactic(auto, unfolding(crate::specs::Scalar::fits_key))]
+pub(crate) fn fits_key(text: &[u8], colon: &[u8]) -> bool
+    ensures { result ≡ fits_key text.now colon.now }
+{
+    let len = text.len().saturating_sub(colon.len());
+    len <= LONGEST_KEY && !text[..len].contains(&b'\n')
+}
+
+/// Returns the digit that a text begins with, or 0, and the text after it.
+pub(crate) fn digit_at(text: &[u8]) -> (usize, &[u8])
+    ensures { digit_at text.now ≡ (result.0, result.1.now) }
+{
+    match text {
+        [first, rest @ ..] if *first >= b'1' && *first < b':' => ((*first - b'0') as usize, rest),
+        _ => (0, text),
+    }
+}
+
+/// Returns whether a text begins with `+`, and the text after it or after `-`.
+fn sign_at(text: &[u8]) -> (bool, &[u8])
+    ensures { sign_at text.now ≡ (result.0, result.1.now) }
+{
+    match text {
+        [b'+', rest @ ..] => (true, rest),
+        [b'-', rest @ ..] => (false, rest),
+        _ => (false, text),
+    }
+}
+
+/// Returns what is written after `|` or `>`.
+#[tactic(auto, unfolding(crate::specs::Scalar::header, crate::specs::Scalar::line_end_of))]
+pub(crate) fn header(text: &[u8]) -> Result<Header<'_>, Halt>
+    ensures ok { IfOk result (λ found. header text.now ≡ Some (found.0, found.1, found.2.now)) }
+    ensures err { OnErr result (header text.now ≡ None) }
+{
+    let (first, signed) = digit_at(text);
+    let (keep, rest) = sign_at(signed);
+    let (digit, rest) = if first == 0 {
+        digit_at(rest)
+    } else {
+        (first, rest)
+    };
+    let end = after_blanks(rest);
+    if is_line_over(end) {
+        Ok((digit, keep, end))
+    } else if begins(end, b'#') && !begins(rest, b'#') {
+        Ok((digit, keep, to_line_end(end)))
+    } else {
+        Err(Halt::at(Reason::BlockHeader, end))
+    }
+}
