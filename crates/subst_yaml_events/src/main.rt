@@ -1,0 +1,42 @@
+//! Prints the events of documents of YAML: `subst_yaml_events FILE..`.
+//!
+//! A file has documents, each after a line with how many bytes it has. Of each document its events are
+//! printed, each on a line, and then a line `end`, or one with why, at which bytes and on which line it is
+//! refused.
+#![tactic(auto)]
+
+use shown::shown;
+use std::{env, fs, io};
+
+mod shown;
+#[cfg(test)]
+mod tests;
+
+fn main(rt: HostRuntime) -> io::Result<()> {
+    let files: Vec<String> = env::args(&rt)?.skip(1).collect(rt.alloc())?;
+    for file in &files {
+        let text = fs::read_to_string(&rt, file.as_str())?;
+        print_events(&rt, text.as_str())?;
+    }
+    Ok(())
+}
+
+/// Prints the events of the documents of a file.
+fn print_events(rt: &HostRuntime, text: &str) -> io::Result<()> {
+    let mut rest = text;
+    for _ in 0..text.len() {
+        let Some((document, after)) = next_document(rest) else {
+            break;
+        };
+        rt.print(shown(rt.alloc(), document)?.as_str())?;
+        rest = after;
+    }
+    Ok(())
+}
+
+/// Returns the document that a text begins with, after its length, and the text after it, if there is one.
+fn next_document(text: &str) -> Option<(&str, &str)> {
+    let (len, rest) = text.split_once('\n')?;
+    let len = len.parse::<usize>().ok()?;
+    Some((rest.get(..len)?, rest.get(len..)?))
+}
