@@ -1,0 +1,6 @@
+pub mod Errors
+pub mod Filled
+pub mod InPlace
+pub mod Laws
+pub mod Outcome
+pub mod Passes
