@@ -20,7 +20,7 @@ LINES = {'README.md': 172, 'docs/DESIGN.md': 160, 'docs/DEFINITIONS.md': 200, 'd
          'docs/CONTRIBUTING.md': 200, 'docs/decisions/[0-9]*.md': 40}
 # The words of README.md and of the pages that are no decisions, the lines of code, of definitions and proofs, and of
 # scripts, and the crates, at most; what the scripts are, and the ends of files beside them that are none.
-SIZES = {'words of pages': 14100, '.rt': 33950, '.antt': 35400, 'scripts': 13930, 'crates': 20}
+SIZES = {'words of pages': 14490, '.rt': 38880, '.antt': 37970, 'scripts': 14630, 'crates': 24}
 SCRIPTS = ('tools/*', 'tests/[!d]*', 'fuzz/*', 'python/*', 'benches/*')
 NO_SCRIPTS = ('.rt', '.antt', '.md', '.svg', '.tsv', '.txt', 'args', 'stdin', 'stdout')
 # The files that have an option of subst, at most, and those that have the text of a fault.
