@@ -9,10 +9,10 @@
 //! [`strings`] and [`refusals_in`] list the strings of a text, or those that are refused, with where they
 //! stand.
 //!
-//! [`place_in`] returns where the text spells a range of one of its strings, and [`places_in`] where it spells
-//! many of one string; a [`RangeFinder`] does so for many strings. [`fill_in_by`] and [`refusals_by`] take a
-//! [`Fill`], a way to fill in a string, which by a map is [`Filler`]. [`reader_stop`] returns where a text
-//! that is no JSON goes wrong.
+//! [`place_in`] returns where the text spells a range of one of its strings, and [`places_in`] where it
+//! spells many of one string; a [`RangeFinder`] does so for many strings. [`fill_in_by`] and [`refusals_by`]
+//! take a [`Fill`], a way to fill in a string, which by a map is [`Filler`]. [`reader_stop`] returns where a
+//! text that is no JSON goes wrong.
 //!
 //! [`report`] tells people what is wrong with a text for which a call returned an error: all strings that are
 //! refused, with line, column and path, or what the reader says.

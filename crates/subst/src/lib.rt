@@ -21,7 +21,8 @@
 //! Variables come from a `BTreeMap`, a `HashMap` or an `IndexMap` with keys `String` or `&str`, from pairs by
 //! an [`Env`], from [`NoSubstitution`], which has none, or from any other [`VariableMap`]. [`Layered`] is two
 //! maps as one, and [`NoEmpty`] a map without its empty values. [`is_name`] is the test of names.
-//! [`ShellMap`] is a map for the templates of shell-style texts, in which a digit before a name is a question.
+//! [`ShellMap`] is a map for the templates of shell-style texts, in which a digit before a name is a
+//! question.
 //!
 //! [`json`] and [`toml`] read a tree first and then fill in its strings, so no value can break out of its
 //! string. [`Fill`], [`StringAt`] and [`RefusalAt`] are what both have.

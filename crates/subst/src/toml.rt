@@ -9,9 +9,9 @@
 //! keys and layout stay. [`strings`] returns its strings with their places in the text, and [`refusals_in`]
 //! those that are refused.
 //!
-//! [`place_in`] returns where the text spells a range of one of its strings, and [`places_in`] where it spells
-//! many of one string. [`fill_in_by`] and [`refusals_by`] take a [`Fill`], a way to fill in a string, which by
-//! a map is [`Filler`].
+//! [`place_in`] returns where the text spells a range of one of its strings, and [`places_in`] where it
+//! spells many of one string. [`fill_in_by`] and [`refusals_by`] take a [`Fill`], a way to fill in a string,
+//! which by a map is [`Filler`].
 //!
 //! [`report`] tells people what is wrong with a document for which a call returned an error: all strings that
 //! are refused, with line, column and path, or what the reader says.

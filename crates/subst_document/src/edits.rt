@@ -66,8 +66,8 @@ pub trait StringFormat {
     fn fits(&self, token: &str, value: &str) -> bool
         ensures { is_fit token.now value.now → IsTrue result };
 
-    /// Returns where the content of a token is, and where these parts of its string are spelled, or `None` if
-    /// one isn't found.
+    /// Finds the content of a token, and the spans of these parts of its string there. Returns `None` if one
+    /// isn't found.
     fn content(
         &mut self,
         alloc: Global,

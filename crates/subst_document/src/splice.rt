@@ -24,7 +24,7 @@ pub(crate) struct Change<'s> {
     pub value: &'s str,
 }
 
-/// Where the content of a token is, and placeholders in it, by byte offsets of the token.
+/// The content of a token and the placeholders in it, by byte offsets of the token.
 #[derive(Drop)]
 pub struct Content {
     /// Where the content begins, after the opening quotes.
@@ -357,8 +357,8 @@ fn moved(range: &Range<usize>, by: usize) -> Range<usize> {
     range.start.saturating_sub(by)..range.end.saturating_sub(by)
 }
 
-/// Appends what comes before a placeholder in a token and its value, spelled in the token's kind, or returns
-/// `false` as [`append_piece`].
+/// Appends the piece before a placeholder, and its value in the token's kind. Returns `false` if
+/// [`append_piece`] does.
 ///
 /// # Errors
 ///

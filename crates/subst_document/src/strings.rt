@@ -56,7 +56,7 @@ impl<'t> Strings<'t> for ListedStrings<'t> {
     }
 }
 
-/// What the strings of a text became that changed, in its order.
+/// The values of the strings that changed, in the order of the text.
 #[derive(Debug, Drop)]
 pub struct Values {
     /// The values, one after the other.
@@ -102,7 +102,7 @@ pub struct Filled {
     pub text: String,
     /// Whether some string became another one. If none did, the text is as it was.
     pub is_changed: bool,
-    /// What the strings became that changed, if values are kept.
+    /// The values of the strings that changed, if they are kept.
     pub values: Values,
 }
 

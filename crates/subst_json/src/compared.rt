@@ -62,9 +62,9 @@ pub(crate) fn is_filled<F: Fill>(
 struct Left<'v> {
     /// The index of the next one.
     index: usize,
-    /// Those of them that change.
+    /// The strings that change.
     list: &'v [ValueAt],
-    /// What these become, one after the other.
+    /// Their values, one after the other.
     text: &'v str,
 }
 
