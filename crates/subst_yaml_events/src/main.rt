@@ -1,8 +1,7 @@
 //! Prints the events of documents of YAML: `subst_yaml_events FILE..`.
 //!
-//! A file has documents, each after a line with how many bytes it has. Of each document its events are
-//! printed, each on a line, and then a line `end`, or one with why, at which bytes and on which line it is
-//! refused.
+//! A file has documents, each after a line with its length in bytes. Each event of a document is printed on a
+//! line, and then `end`. For a refused document, one line is printed: the span, the line and the reason.
 #![tactic(auto)]
 
 use shown::shown;
@@ -34,7 +33,8 @@ fn print_events(rt: &HostRuntime, text: &str) -> io::Result<()> {
     Ok(())
 }
 
-/// Returns the document that a text begins with, after its length, and the text after it, if there is one.
+/// Returns the first document of a file's text, which follows a line with its length, and the text after it.
+/// The result is `None` if no document is left.
 fn next_document(text: &str) -> Option<(&str, &str)> {
     let (len, rest) = text.split_once('\n')?;
     let len = len.parse::<usize>().ok()?;

@@ -1,9 +1,9 @@
-//! The events of a document as text.
+//! Printing of a document's events.
 
 use std::alloc::{AllocError, Global};
 use subst_yaml_reader::{Bracket, Error, Event, Span, Style, read, value_of};
 
-/// Returns the events of a document, or why it is refused, as lines.
+/// Returns the events of a document as lines, and the line `end`, or one line with its refusal.
 pub(crate) fn shown(alloc: Global, document: &str) -> Result<String, AllocError> {
     let mut lines = String::new(alloc);
     match read(alloc, document) {
@@ -62,7 +62,7 @@ fn append(
     }
 }
 
-/// Appends the bytes of a value in hexadecimal digits, or `-` if there is none, and a line end.
+/// Appends the bytes of a value in hexadecimal digits, or `-` for `None`, and a line end.
 fn append_value(lines: &mut String, value: Option<Vec<u8>>) -> Result<(), AllocError> {
     match value {
         Some(value) => {

@@ -1,18 +1,19 @@
-//! What is read, and what is refused and why. Where libyaml reads a text, what is read here is the same.
+//! Tests of texts and their events, and of texts that are refused, with the reasons. If libyaml reads a text
+//! too, its events are the same.
 
 use std::alloc::{AllocError, AllocGlobal, Global};
 use std::process::Abort;
 use std::test::Fail;
 use subst_yaml_reader::{Bracket, Error, Event, Reason, Span, Style, read, value_of};
 
-/// What a test is given: memory, and that a failed assertion ends it.
+/// The runtime of a test: an allocator, and assertions that end the test.
 trait Testing: Abort + AllocGlobal {}
 
 impl<R: Abort + AllocGlobal> Testing for R {}
 
-/// A text, and its events: `doc`; `i` and `k` of items and keys with their depths; `v` of values, and `f` of
-/// those in brackets; `[`, `{`, `(` and `)` of brackets and pairs; `~` of none. A mark is their style, before
-/// their span.
+/// A text, and its events: `doc`; `i` and `k` of items and keys, outside brackets with their depths; `v` of
+/// values, and `f` of those in brackets; `[`, `{`, `(` and `)` of brackets and pairs; `~` of missing values.
+/// Then come the mark of a token's style, and its span.
 type Row<'t> = (&'t str, &'t str);
 
 /// Sequences and mappings without brackets.
@@ -74,13 +75,20 @@ const SCALARS: [Row<'static>; 12] = [
 ];
 
 /// Documents, their marks and comments.
-const DOCUMENTS: [Row<'static>; 6] = [
+const DOCUMENTS: [Row<'static>; 10] = [
     ("", ""),
     ("# c\n\n", ""),
     ("---\n---\n...\n...\n---\na", "doc doc doc v:20-21"),
     ("a: b\n---\n- c\n...\n", "doc k1:0-1 v:3-4 doc i1 v:11-12"),
     ("--- a # b\n--- # c\nd: e", "doc v:4-5 doc k1:18-19 v:21-22"),
     ("a #b\n...\n# c", "doc v:0-1"),
+    ("%YAML 1.1\n---\na", "doc v:14-15"),
+    (
+        "# a\n\n%YAML 1.2 \t# b\n\n # c\n--- d\n---\ne",
+        "doc v:30-31 doc v:36-37",
+    ),
+    ("%YAML 1.1\r\n---\r\n- a", "doc i1 v:18-19"),
+    ("%YAML 1.2\n---", "doc"),
 ];
 
 /// Anchors and tags.
@@ -110,7 +118,7 @@ const CHARACTERS: [Row<'static>; 3] = [
 ];
 
 /// Texts that are refused, each with the reason, the span and the line.
-const REFUSED: [(&str, Reason, usize, usize, usize); 93] = [
+const REFUSED: [(&str, Reason, usize, usize, usize); 106] = [
     ("? a", Reason::ComplexKey, 0, 1, 1),
     ("- ? a", Reason::ComplexKey, 2, 3, 1),
     ("[? a]", Reason::ComplexKey, 1, 2, 1),
@@ -132,7 +140,26 @@ const REFUSED: [(&str, Reason, usize, usize, usize); 93] = [
     ("- >1\n   \n  a", Reason::BlockSpaces, 5, 6, 2),
     ("- | a", Reason::BlockHeader, 4, 5, 1),
     ("- |0\n a", Reason::BlockHeader, 3, 4, 1),
-    ("%YAML 1.2\n---\na", Reason::Directive, 0, 1, 1),
+    ("%YAML 1.2\na", Reason::Directive, 0, 1, 1),
+    ("%YAML 1.2", Reason::Directive, 0, 1, 1),
+    ("%YAML 1.1\n ---\na", Reason::Directive, 0, 1, 1),
+    ("%YAML 1.1\n...\n---\na", Reason::Directive, 0, 1, 1),
+    ("%YAML 1.1 ---\na", Reason::Directive, 0, 1, 1),
+    ("%YAML 1.1#\n---\na", Reason::Directive, 0, 1, 1),
+    ("%YAML 1.1\n%YAML 1.1\n---\na", Reason::Directive, 0, 1, 1),
+    ("%YAML 1.1\n%TAG ! b:\n---\na", Reason::Directive, 0, 1, 1),
+    ("%YAML 1.3\n---\na", Reason::Directive, 0, 1, 1),
+    ("%YAML 1.10\n---\na", Reason::Directive, 0, 1, 1),
+    ("%YAML  1.1\n---\na", Reason::Directive, 0, 1, 1),
+    ("%TAG ! b:\n---\na", Reason::Directive, 0, 1, 1),
+    (" %YAML 1.1\n---\na", Reason::Directive, 1, 2, 1),
+    (
+        "%YAML 1.1\n---\na\n...\n%YAML 1.1\n---\nb",
+        Reason::TextAfterEnd,
+        20,
+        21,
+        5,
+    ),
     ("a\n...\n%TAG ! b\n", Reason::TextAfterEnd, 6, 7, 3),
     ("a\n...\nb", Reason::TextAfterEnd, 6, 7, 3),
     ("...\na", Reason::TextAfterEnd, 0, 1, 1),
@@ -209,73 +236,86 @@ const REFUSED: [(&str, Reason, usize, usize, usize); 93] = [
 /// The text of each reason.
 const REASONS: [(Reason, &str); 23] = [
     (Reason::Tab, "a tab in the indentation"),
-    (Reason::Indentation, "indented as no line before it"),
+    (
+        Reason::Indentation,
+        "an indentation that no line before has",
+    ),
     (
         Reason::NotAValue,
-        "a key or an item where only a value can be (quote what has ': ')",
+        "a key or an item in place of a value; quote a value with ': '",
     ),
     (
         Reason::NotAnEntry,
-        "no key or item of the collection that goes on here",
+        "not a key or an item of the collection at this indentation",
     ),
     (Reason::TextAfterValue, "text after a value"),
     (Reason::TextAfterEnd, "text after '...' without '---'"),
-    (Reason::ComplexKey, "a key after '?' isn't read"),
-    (Reason::NoKey, "a value without a key isn't read"),
+    (Reason::ComplexKey, "a key after '?' isn't supported"),
+    (Reason::NoKey, "a value without a key isn't supported"),
     (
         Reason::CollectionKey,
-        "a collection as a key isn't read (a template of Helm or Jinja?)",
+        "a collection as a key isn't supported; is this a Helm or Jinja template?",
     ),
     (
         Reason::LongKey,
-        "a key over lines or of more than 1,024 bytes isn't read",
+        "a key over several lines or of more than 1,024 bytes isn't supported",
     ),
     (
         Reason::Directive,
-        "a directive isn't read, nor a value that begins with '%'",
+        "a directive isn't supported, nor a value that begins with '%'",
     ),
-    (Reason::Name, "a name that isn't read"),
+    (
+        Reason::Name,
+        "an unsupported name of an anchor, alias or tag",
+    ),
     (
         Reason::Properties,
         "a second anchor or tag, or one at an alias",
     ),
-    (Reason::Quote, "a quote that isn't closed"),
-    (Reason::Escape, "an escape that isn't known"),
+    (Reason::Quote, "a missing closing quote"),
+    (Reason::Escape, "an unknown escape"),
     (
         Reason::Bracket,
-        "a bracket that isn't closed, or a bracket or comma where none can be",
+        "a missing closing bracket, or a bracket or comma out of place",
     ),
     (
         Reason::FlowLines,
-        "a value over lines in brackets needs quotes",
+        "a value over several lines in brackets; quote it",
     ),
     (
         Reason::BlockHeader,
-        "text after '|' or '>', or one that is a whole document",
+        "text after '|' or '>', or a whole document in this style",
     ),
     (
         Reason::BlockSpaces,
-        "a line of spaces alone before the text after '|' or '>'",
+        "a line of spaces before the first line of text after '|' or '>'",
     ),
     (
         Reason::Indicator,
-        "a value that begins with this character needs quotes",
+        "a value can't begin with this character; quote it",
     ),
-    (Reason::Character, "a character that not every reader takes"),
+    (
+        Reason::Character,
+        "a character that some YAML readers reject",
+    ),
     (
         Reason::CarriageReturn,
-        "a carriage return without a line feed isn't read as a line end",
+        "a carriage return without a line feed",
     ),
-    (Reason::Zero, "a zero byte isn't read (text in UTF-16?)"),
+    (Reason::Zero, "a zero byte; is this UTF-16?"),
 ];
 
-/// Tokens with their styles and indentation, and what they say.
-const VALUES: [(Style, usize, &str, Option<&str>); 17] = [
+/// Tokens with their styles and the indentation of their lines, and the values that they are decoded to.
+const VALUES: [(Style, usize, &str, Option<&str>); 31] = [
     (Style::Plain, 0, "a b", Some("a b")),
-    (Style::Plain, 0, "a\n b", None),
+    (Style::Plain, 0, "a\n b", Some("a b")),
+    (Style::Plain, 0, "a \t\n\n \n  b\r\nc", Some("a\n\nb c")),
     (Style::Single, 0, "''", Some("")),
     (Style::Single, 0, "'it''s \\n'", Some("it's \\n")),
-    (Style::Single, 0, "'a\n b'", None),
+    (Style::Single, 0, "'a\n b'", Some("a b")),
+    (Style::Single, 0, "' a\r\n\r\n\t'", Some(" a\n")),
+    (Style::Single, 0, "'\n '' b '", Some(" ' b ")),
+    (Style::Single, 0, "'a' b'", None),
     (Style::Double, 0, "\"\"", Some("")),
     (
         Style::Double,
@@ -289,7 +329,12 @@ const VALUES: [(Style, usize, &str, Option<&str>); 17] = [
         "\"\\N\\_\\L\\P\\x41\\u00e9\\U0001F600\"",
         Some("\u{85}\u{a0}\u{2028}\u{2029}A\u{e9}\u{1f600}"),
     ),
-    (Style::Double, 0, "\"a\\\n b\"", None),
+    (Style::Double, 0, "\"a\\\n b\"", Some("ab")),
+    (Style::Double, 0, "\"a \\\n \n b\"", Some("a \nb")),
+    (Style::Double, 0, "\"a\\\r\n\r\n\\  b\"", Some("a\n  b")),
+    (Style::Double, 0, "\"a\\ \n \\tb\"", Some("a  \tb")),
+    (Style::Double, 0, "\"a\n \\\n b\\x20\n\"", Some("a b  ")),
+    (Style::Double, 0, "\"a\\ \\\n\"", Some("a ")),
     (
         Style::Literal,
         2,
@@ -301,11 +346,21 @@ const VALUES: [(Style, usize, &str, Option<&str>); 17] = [
     (Style::Literal, 2, "|2-\n   a", Some(" a")),
     (Style::Literal, 1, "|+\n a\n\n", Some("a\n\n")),
     (Style::Literal, 1, "|", Some("")),
-    (Style::Folded, 1, ">\n a\n", None),
+    (Style::Folded, 1, ">\n a\n b\n", Some("a b\n")),
+    (Style::Folded, 2, ">-\n\n  a\n\n\n  b \n", Some("\na\n\nb ")),
+    (
+        Style::Folded,
+        2,
+        ">\r\n  a\r\n   b\r\n\r\n  c\r\n",
+        Some("a\n b\n\nc\n"),
+    ),
+    (Style::Folded, 1, ">+\n \ta\n b\n\n", Some("\ta\nb\n\n")),
+    (Style::Folded, 2, ">2 # c\n   a\n   b", Some(" a\n b")),
+    (Style::Folded, 1, ">", Some("")),
     (Style::Alias, 0, "*a", None),
 ];
 
-/// Returns the mark of a style.
+/// Returns the mark of a style in a row's events, such as `'` for single quotes.
 fn mark(style: Style) -> &'static str {
     match style {
         Style::Plain => ":",
@@ -317,13 +372,13 @@ fn mark(style: Style) -> &'static str {
     }
 }
 
-/// Returns a token as text.
+/// Returns an event's `head`, the mark of its token's style, and the token's span, as a row has them.
 fn token(alloc: Global, head: &str, style: Style, span: Span) -> Result<String, AllocError> {
     let (mark, Span { start, end }) = (mark(style), span);
     format!(in alloc; "{head}{mark}{start}-{end}")
 }
 
-/// Returns a value as text.
+/// Returns the event of a value as a row has it.
 fn value(
     alloc: Global,
     style: Style,
@@ -338,7 +393,7 @@ fn value(
     }
 }
 
-/// Returns an event as text.
+/// Returns an event as a row has it.
 fn sketch(alloc: Global, event: &Event) -> Result<String, AllocError> {
     match *event {
         Event::Document => String::from_str(alloc, "doc"),
@@ -362,7 +417,7 @@ fn sketch(alloc: Global, event: &Event) -> Result<String, AllocError> {
     }
 }
 
-/// The events of a text are these.
+/// Checks that the events of a text are these of a row.
 fn expect(rt: &impl Testing, source: &str, want: &str) -> Result<(), Fail> {
     let events = read(rt.alloc(), source)?;
     let mut sketches = String::new(rt.alloc());
@@ -376,7 +431,7 @@ fn expect(rt: &impl Testing, source: &str, want: &str) -> Result<(), Fail> {
     Ok(())
 }
 
-/// A text is refused so.
+/// Checks that a text is refused for this reason, with this span and line.
 fn expect_refused(rt: &impl Testing, source: &str, reason: Reason, span: Span, line: usize) {
     match read(rt.alloc(), source) {
         Err(Error::Refused(fault)) => {

@@ -1,3 +1,10 @@
+pub mod BlockNests
 pub mod DecodedLemmas
+pub mod FlowNests
+pub mod NestLemmas
+pub mod PartLemmas
+pub mod ReadNests
+pub mod SearchLemmas
+pub mod StreamLemmas
 pub mod TurnLemmas
 pub mod WorkedExamples

@@ -19,19 +19,22 @@ use Rattle.subst_yaml_reader.specs.declared.reader.Next.{Next}
 use Rattle.subst_yaml_reader.specs.declared.reader.Next.TheVariants as next
 use Rattle.subst_yaml_reader.specs.declared.scalar.Properties.{Properties}
 
--- what a turn gives: what is known after it, and the text from the next token on
+-- the result of a turn: the state after it, and the text from the next token on, or `None` if the text is
+-- refused
 abbrev pub Turn : Type 0
 Turn = Option (State × List ℕ)
 
--- the next token is here
+-- the result of a turn that ends in the state s, with the next token at this position
 abbrev pub moved : Spot → State → Turn
 moved spot s = Some (placed spot.0 spot.1 s, spot.2)
 
--- the next token after this text
+-- the result of a turn that ends in the state s and at `rest`, past its leading blanks, comments and empty
+-- lines
 abbrev pub after_token : List ℕ → State → Turn
 after_token rest s = moved (after_gap s.line rest) s
 
--- the next token from the beginning of a line on
+-- the result of a turn that ends in the state s and at the start of the line `rest`, past empty lines and
+-- comments
 abbrev pub after_line : List ℕ → State → Turn
 after_line rest s = moved (first_of (after_lines true false (length rest) rest)) s
 
@@ -46,7 +49,8 @@ abbrev pub is_entry : Role → Bool
 is_entry Entry = true
 is_entry _ = false
 
--- A value from `text` to `rest`. It has one anchor and one tag at most, and an alias none.
+-- The state after a value from `text` to `rest`. It is `None` for two anchors, for two tags, and for an
+-- anchor or a tag of an alias. `indent` is the number of spaces before each line of a block scalar.
 unfoldable pub value : (in_flow : Bool) → Properties → Style → (indent : ℕ) → State → (text rest : List ℕ)
     → Option State
 value in_flow properties style indent s text rest = do
@@ -54,31 +58,36 @@ value in_flow properties style indent s text rest = do
   if is_alias style && has_any both then None
       else Some (with_next next.Done (emit (Value style (span_of s text rest) in_flow indent) s))
 
--- a collection in brackets begins: `[`, or else `{`
+-- the kind of collection that the bracket b opens: a sequence for `[`, and otherwise a mapping
 abbrev pub bracket_of : ℕ → Bracket
 bracket_of b = if b == opening_square then bracket.Sequence else bracket.Mapping
 
+-- a turn at the opening bracket b of a collection; `rest` is the text after the bracket
 unfoldable pub open_bracket : Properties → ℕ → State → (rest : List ℕ) → Turn
 open_bracket properties b s rest = do
   both ← joined s.pending properties
   after_token rest (with_next next.Member (opened (bracket_of b) s))
 
--- The column of the lines of a block scalar in a collection: so many columns past the collection's as its digit
--- says, or else as its first line has spaces, at least one past it.
+-- The column of a block scalar's lines: `column`, where its collection is, plus the header's `digit`. If
+-- `digit` is 0, it is `spaces`, the number of spaces before the first line, but at least `column` + 1.
 abbrev pub block_indent : (column digit spaces : ℕ) → ℕ
 block_indent column digit spaces =
     if nat_lt 0 digit then min (column + digit) (2 ^ 64 - 1) else max (min (column + 1) (2 ^ 64 - 1)) spaces
 
--- how many spaces a text begins with
+-- the number of spaces at the start of a text
 abbrev pub spaces_of : List ℕ → ℕ
 spaces_of text = length text - length (after_spaces text)
 
--- The first line of a block scalar is of spaces alone, or begins with a tab where no digit makes that text.
+-- Whether a block scalar is refused because the column of its lines is unclear. That is so if the line at
+-- the start of `first` has only spaces, one or more. It is also so if the header's `digit` is 0 and a tab
+-- follows the spaces at that start, if any.
 abbrev pub is_unclear : (digit : ℕ) → List ℕ → Bool
 is_unclear digit first = (nat_lt 0 (spaces_of first) && is_line_over (after_spaces first))
     || (digit == 0 && begins tab (after_spaces first))
 
--- the text after the lines of a block scalar, of which `first` begins the first one that isn't empty
+-- The text after the lines of a block scalar, which are at the column `indent`. `head` is the text from the
+-- header's line end on, and `first` is `head` without the line ends at its start. Empty lines at the end
+-- belong to the scalar if `keep`.
 abbrev pub block_end : (indent : ℕ) → (keep : Bool) → (head first : List ℕ) → List ℕ
 block_end indent keep head first = after_block indent keep false 0 (if keep then first else head) first
 
@@ -88,15 +97,17 @@ lines_from column digit keep head first = if is_unclear digit first then None el
   block_end (block_indent column digit (spaces_of first)) keep head first,
 )
 
--- the column of the lines of a block scalar in a collection, and the text after them, from what is written
--- before them
+-- The column of a block scalar's lines, and the text after the lines, in a collection at `column`. The tuple
+-- is the scalar's header: a digit or 0, whether the sign is `+`, and the text from the line end on.
 unfoldable pub block_lines : (column : ℕ) → ℕ × Bool × List ℕ → Option (ℕ × List ℕ)
 block_lines column (digit, keep, head) = lines_from column digit keep head (after_line_ends head)
 
--- A block scalar, `|` or `>`, in a collection: no document is one.
+-- the style of a block scalar whose first byte is b, `|` or `>`
 abbrev pub block_style : ℕ → Style
 block_style b = if b == vertical_bar then style.Literal else style.Folded
 
+-- A turn at a block scalar from `text` on, which is the byte b and then `rest`. A whole document can't be a
+-- block scalar.
 unfoldable pub block_scalar : Properties → ℕ → State → (rest text : List ℕ) → Turn
 block_scalar properties b s rest text = do
   column ← outer_column s
@@ -105,26 +116,29 @@ block_scalar properties b s rest text = do
   done ← value false properties (block_style b) lines.0 s text lines.1
   after_line lines.1 done
 
--- A key from `text` to `rest`, and its colon. It may open a mapping at its column.
+-- the state after a key of this style and span, whose value is expected
 abbrev pub keyed_block : Style → Span → State → State
 keyed_block style span s = with_next next.Value (emit (Key (length s.blocks) style span) s)
 
+-- the state in which a node of this role is a key, if it can be; in the role `Open`, it begins a mapping
 abbrev pub opened_for : Role → State → Option State
 opened_for (Open column) s = Some (push_block Mapping column s)
 opened_for Entry s = Some s
 opened_for Inline s = None
 
+-- a turn at a key, from `text` to `rest`, and its colon
 unfoldable pub key : Role → Style → State → (text rest : List ℕ) → Turn
 key role style s text rest = do
   t ← opened_for role s
   after_token (after_byte colon (after_blanks rest)) (keyed_block style (span_of t text rest) t)
 
--- The text after a value that begins on the line before `rest`: unquoted text goes on with lines inside its
--- collection.
+-- The text after a value. `rest` begins after the value, or after the first line of an unquoted one. Its
+-- other lines are past the column of the innermost collection.
 abbrev pub value_end : State → Style → (rest : List ℕ) → List ℕ
 value_end s style rest = if is_plain style then after_plain_lines (length rest + 1) (outer_column s) rest else rest
 
--- A scalar or an alias at `at`: a key if a colon follows, else a value. Its anchor and tag are from `text` on.
+-- A scalar or an alias, from `at` to `rest`: a key if a colon follows, and otherwise a value. Its anchor and
+-- tag are from `text` to `at`.
 abbrev pub keyed_or_value : Role → Properties → State → (text at : List ℕ) → Style × List ℕ → Turn
 keyed_or_value role properties s text at (style, rest) =
     if colon_follows false style (after_blanks rest)
@@ -138,7 +152,8 @@ scalar_node role properties s text at = do
   found ← scalar false at
   keyed_or_value role properties s text at found
 
--- What a node is. An entry of a mapping is no collection and no block scalar.
+-- The content of a node, after its anchor and tag, which begin at `text`. A node of the role `Entry` can't be
+-- a collection or a block scalar.
 unfoldable pub content : Role → Properties → State → (text at : List ℕ) → Turn
 content role properties s text [] = None
 content role properties s text (b ∷ rest) =
@@ -148,7 +163,7 @@ content role properties s text (b ∷ rest) =
     then (if is_entry role then None else block_scalar properties b s rest (b ∷ rest))
     else scalar_node role properties s text (b ∷ rest)
 
--- An anchor and a tag that are alone on their line are the next value's.
+-- A turn at an anchor and a tag alone on their line, which belong to the next value.
 abbrev pub properties_alone : Role → Properties → Spot → State → Turn
 properties_alone role properties spot s = if is_entry role then None else do
   both ← joined s.pending properties
@@ -159,7 +174,7 @@ node role s text = do
   found ← node_properties false s.line text
   if found.1.0 then properties_alone role found.0 found.1 s else content role found.0 s text found.1.2
 
--- the mark of an item, after which a collection may begin on the same line
+-- a turn at the `-` of an item, after which a collection may begin on the same line
 unfoldable pub item : State → List ℕ → Turn
 item s text = moved (first_of (after_lines true false s.line (after_byte hyphen text)))
     (with_next next.Value (emit (Item (length s.blocks)) s))
@@ -176,7 +191,8 @@ abbrev pub is_mapping_at : (column : ℕ) → Option Collection → Bool
 is_mapping_at column None = false
 is_mapping_at column (Some block) = not (is_sequence block.kind) && block.column == column
 
--- the next entry of the innermost collection, at its column
+-- a turn at an entry of the innermost collection, or `None` if that isn't at `column`; `is_item` is whether
+-- the entry begins with `- `
 unfoldable pub entry : (column : ℕ) → (is_item : Bool) → State → List ℕ → Turn
 entry column is_item s text =
     if is_item && is_sequence_at column (innermost s.blocks) then item s text
@@ -187,18 +203,21 @@ entry column is_item s text =
 abbrev pub first_deeper : (column : ℕ) → List Collection → Option ℕ
 first_deeper column blocks = position (λ block. nat_lt column block.column) blocks
 
--- without the collections whose entries are past a column, and a sequence at it that doesn't go on
+-- the first n collections, or all of them for `None`
 abbrev pub taken : List Collection → Option ℕ → List Collection
 taken blocks None = blocks
 taken blocks (Some n) = take n blocks
 
+-- the collections without those whose entries are past `column`
 abbrev pub without_deeper : (column : ℕ) → List Collection → List Collection
 without_deeper column blocks = taken blocks (first_deeper column blocks)
 
+-- the collections without the innermost one if it is a sequence at `column`, and `is_item` is false
 abbrev pub without_sequence : (column : ℕ) → (is_item : Bool) → List Collection → List Collection
 without_sequence column is_item blocks =
     if not is_item && is_sequence_at column (innermost blocks) then take (length blocks - 1) blocks else blocks
 
+-- the state with only the collections that an entry at `column` leaves open
 unfoldable pub shallower : (column : ℕ) → (is_item : Bool) → State → State
 shallower column is_item s = record s { blocks = without_sequence column is_item (without_deeper column s.blocks) }
 
@@ -206,13 +225,13 @@ abbrev pub is_value : Next → Bool
 is_value next.Value = true
 is_value _ = false
 
--- A value may be here: one may come, and the column is past the innermost collection's. The items of a key
--- may be at its own column too.
+-- A value may begin at `column`: a value is expected, and `column` is past the innermost collection's. If
+-- `is_item`, the column may also be that of the key whose value the items are.
 abbrev pub may_open : (column : ℕ) → (is_item : Bool) → State → Bool
 may_open column is_item s = is_value s.next
     && (is_past (outer_column s) column || (is_item && is_mapping_at column (innermost s.blocks)))
 
--- a token at which a collection may begin
+-- a turn at a token where a collection may begin
 unfoldable pub line_turn : (column : ℕ) → State → List ℕ → Turn
 line_turn column s text =
     if not (may_open column (is_mark hyphen text) s)
@@ -220,7 +239,7 @@ line_turn column s text =
     else if is_mark hyphen text then item (push_block Sequence column s) text
     else node (Open column) s text
 
--- the same, where a document may begin without a mark
+-- a turn at a token where a collection may begin; the first document also begins there if it has no `---`
 unfoldable pub fresh_turn : (column : ℕ) → State → List ℕ → Turn
 fresh_turn column s text = elim s.next [
   | next.Start ↦ line_turn column (with_next next.Value (emit Document s)) text
@@ -242,7 +261,7 @@ is_start _ = false
 abbrev pub without_blocks : State → State
 without_blocks s = record s { blocks = [] }
 
--- `---` begins a document, and `...` ends one
+-- a turn at a document mark: `---` begins a document, and `...` ends one
 unfoldable pub document : State → List ℕ → Turn
 document s text =
     if begins hyphen text
@@ -250,7 +269,7 @@ document s text =
     else if is_start s.next then None
     else after_token (after_mark text) (without_blocks (with_next next.Ended s))
 
--- a token outside brackets
+-- a turn outside brackets
 unfoldable pub block_turn : State → List ℕ → Turn
 block_turn s text =
     if not s.fresh then (if is_value s.next then node Inline s text else None)

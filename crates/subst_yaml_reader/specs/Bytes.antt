@@ -1,4 +1,4 @@
--- Which bytes and characters are which. A text is the list of bytes that is left.
+-- Classes of bytes and characters. A text is the list of the bytes that are left.
 use Rattle.std.specs.Prelude.{ℕ, ◌==◌, ◌&&◌, ◌||◌, Bool, false, true, not, slice_index, List, [], ◌∷◌, nat_lt}
 use Rattle.std.specs.Char.{is_ascii_alphanumeric}
 
@@ -91,7 +91,8 @@ closing_curly = 125
 abbrev pub is_blank : ℕ → Bool
 is_blank b = b == space || b == tab
 
--- a line feed, or a carriage return, which is before one
+-- a line feed or a carriage return; in a text that every reader accepts, a line feed follows each carriage
+-- return
 abbrev pub is_line_end : ℕ → Bool
 is_line_end b = b == line_feed || b == carriage_return
 
@@ -99,13 +100,13 @@ is_line_end b = b == line_feed || b == carriage_return
 abbrev pub is_bracket : ℕ → Bool
 is_bracket b = b == comma || b == opening_square || b == closing_square || b == opening_curly || b == closing_curly
 
--- one of `,[]{}#&*!|>'"%@` and the grave accent, which begin no unquoted text
+-- one of `,[]{}#&*!|>'"%@` and the grave accent, which can't begin unquoted text
 abbrev pub is_indicator : ℕ → Bool
 is_indicator b = is_bracket b || b == hash || b == ampersand || b == asterisk || b == exclamation_mark
     || b == vertical_bar || b == greater_than || b == single_quote || b == double_quote || b == percent_sign
     || b == at_sign || b == grave_accent
 
--- a letter, a digit, `_`, `-`; in a tag also `.`, `/`, `:`
+-- a letter, a digit, `_` or `-`; in a tag also `.`, `/` or `:`
 abbrev pub is_name_byte : (in_tag : Bool) → ℕ → Bool
 is_name_byte in_tag b = is_ascii_alphanumeric b || b == underscore || b == hyphen
     || (in_tag && (b == dot || b == slash || b == colon))
@@ -115,43 +116,45 @@ abbrev pub begins : ℕ → List ℕ → Bool
 begins b [] = false
 begins b (first ∷ rest) = first == b
 
--- the line is over: the text is at its end, or at a line end
+-- the line is over: the text is empty, or begins with a line end
 abbrev pub is_line_over : List ℕ → Bool
 is_line_over [] = true
 is_line_over (b ∷ rest) = is_line_end b
 
--- the line is over, or a blank comes
+-- the text is empty, or begins with a blank or a line end
 abbrev pub is_apart : List ℕ → Bool
 is_apart [] = true
 is_apart (b ∷ rest) = is_blank b || is_line_end b
 
--- this byte, and nothing that goes on with it: `- ` of an item, `? ` of a key
+-- the text begins with this byte, followed by white space or the end: `- ` of an item, `? ` of a key
 abbrev pub is_mark : ℕ → List ℕ → Bool
 is_mark b [] = false
 is_mark b (first ∷ rest) = first == b && is_apart rest
 
--- this byte three times, and nothing that goes on with them
+-- the text begins with this byte three times, followed by white space or the end
 abbrev pub is_mark_of_three : ℕ → List ℕ → Bool
 is_mark_of_three b [] = false
 is_mark_of_three b (first ∷ []) = false
 is_mark_of_three b (first ∷ (second ∷ rest)) = first == b && second == b && is_mark b rest
 
--- `---` or `...`, which at the beginning of a line begins or ends a document
+-- the text begins with `---` or `...`, followed by white space or the end
 abbrev pub is_document_mark : List ℕ → Bool
 is_document_mark text = is_mark_of_three hyphen text || is_mark_of_three dot text
 
--- a control character but for tab and line ends, or a carriage return that is alone
+-- a control character other than tabs and line feeds; a carriage return isn't one if `next`, the byte after
+-- it, is a line feed
 abbrev pub is_control : ℕ → (next : ℕ) → Bool
 is_control b next = b == 127
     || (nat_lt b 32 && not (b == tab) && not (b == line_feed) && not (b == carriage_return && next == line_feed))
 
--- U+0080 to U+009F, U+2028, U+2029, U+FEFF, U+FFFE and U+FFFF
+-- the bytes b, `next` and `third` begin with one of U+0080 to U+009F, U+2028, U+2029, U+FEFF, U+FFFE and
+-- U+FFFF
 abbrev pub is_odd : ℕ → (next third : ℕ) → Bool
 is_odd b next third = (b == 194 && nat_lt next 160)
     || (b == 226 && next == 128 && (third == 168 || third == 169))
     || (b == 239 && next == 187 && third == 191)
     || (b == 239 && next == 191 && (third == 190 || third == 191))
 
--- the text begins with a character that not every reader takes
+-- the byte b, before `rest`, begins a character that not every reader accepts
 abbrev pub is_foreign : ℕ → (rest : List ℕ) → Bool
 is_foreign b rest = is_control b (slice_index rest 0) || is_odd b (slice_index rest 0) (slice_index rest 1)

@@ -1,37 +1,36 @@
--- What a scalar says, from its token: unquoted text and quotes on one line, and lines after `|`. A step is
--- what a byte of the token gives, and what is known after it.
-use Rattle.std.specs.Prelude.{ℕ, ◌==◌, ◌+◌, ◌-◌, ◌*◌, ◌&&◌, ◌||◌, Bool, false, true, not, List, [], ◌∷◌, ◌++◌, take, length, if◌then◌else◌, Option, Some, None, nat_lt, option_map, slice_get}
-use Rattle.std.specs.Char.{encode_utf8}
-use Rattle.std.specs.List.{list_any}
-use Rattle.subst_yaml_reader.specs.Bytes.{begins, is_line_end, line_feed, carriage_return, single_quote, hyphen, backslash, underscore}
+-- Decoding of scalars: from a token to its text. Each byte of a token decodes to a piece of the value, which
+-- may be nothing.
+use Rattle.std.specs.Prelude.{ℕ, ◌==◌, ◌+◌, ◌-◌, ◌*◌, ◌&&◌, ◌||◌, Bool, false, true, not, List, [], ◌∷◌, take, length, map, if◌then◌else◌, Option, Some, None, nat_lt, option_map, slice_get}
+use Rattle.subst_yaml_reader.specs.Bytes.{begins, is_blank, is_line_end, line_feed, carriage_return, single_quote, hyphen, backslash, underscore}
 use Rattle.subst_yaml_reader.specs.Runs.{closes, digits_after, escape_after, hex_value}
 use Rattle.subst_yaml_reader.specs.Scalar.{after_byte, digit_at, header}
-use Rattle.subst_yaml_reader.specs.declared.decoded.Given.{Given}
-use Rattle.subst_yaml_reader.specs.declared.decoded.Given.TheVariants as given
+use Rattle.subst_yaml_reader.specs.Values.{folded, folded_lines}
+use Rattle.subst_yaml_reader.specs.declared.folded.Piece.{Piece}
+use Rattle.subst_yaml_reader.specs.declared.folded.Piece.TheVariants as piece
 use Rattle.subst_yaml_reader.specs.declared.event.Style.{Style}
 use Rattle.subst_yaml_reader.specs.declared.event.Style.TheVariants as style
 use Rattle.subst_yaml_reader.specs.declared.runs.Escape.{Escape}
 use Rattle.subst_yaml_reader.specs.declared.runs.Escape.TheVariants.{Nothing, Escaped, Digits}
 
--- these bytes, and then those of a value, if there is one
-abbrev pub prefixed : List ℕ → Option (List ℕ) → Option (List ℕ)
-prefixed bytes None = None
-prefixed bytes (Some more) = Some (bytes ++ more)
+-- the piece that a byte outside an escape decodes to
+abbrev pub piece_of : ℕ → Piece
+piece_of b = if is_blank b || is_line_end b then piece.White b else piece.Byte b
 
--- Between single quotes: a quote after the first of two is one, and the last one is alone.
-abbrev pub single_step : (quoted : Bool) → ℕ → Option (List ℕ)
+-- The piece that the byte b in single quotes decodes to, or `None` if the quotes are closed before b. Two
+-- quotes are decoded as one, and `quoted` is whether b follows a quote that may be the first of two.
+abbrev pub single_step : (quoted : Bool) → ℕ → Option Piece
 single_step quoted b =
-    if b == single_quote then Some (if quoted then single_quote ∷ [] else [])
-    else if quoted || is_line_end b then None
-    else Some (b ∷ [])
+    if b == single_quote then Some (if quoted then piece.Byte b else piece.Nothing)
+    else if quoted then None
+    else Some (piece_of b)
 
-unfoldable pub single_value : (quoted : Bool) → List ℕ → Option (List ℕ)
-single_value quoted [] = if quoted then Some [] else None
-single_value quoted (b ∷ rest) =
+unfoldable pub single : (quoted : Bool) → List ℕ → Option (List Piece)
+single quoted [] = if quoted then Some [] else None
+single quoted (b ∷ rest) =
     elim (single_step quoted b)
-    [ None ↦ None | Some bytes ↦ prefixed bytes (single_value (b == single_quote && not quoted) rest) ]
+    [ None ↦ None | Some g ↦ option_map (λ more. g ∷ more) (single (b == single_quote && not quoted) rest) ]
 
--- the character that an escape of one letter, digit or mark is
+-- the character of an escape with one byte after the backslash
 abbrev pub escaped : ℕ → ℕ
 escaped b =
     if b == 48 then 0
@@ -49,26 +48,31 @@ escaped b =
     else if b == 80 then 8233
     else b
 
--- between double quotes: a byte itself, the character of an escape after its last byte, else nothing
-abbrev pub given_by : Escape → ℕ → List ℕ
-given_by Nothing b = if b == backslash then [] else b ∷ []
-given_by Escaped b = if nat_lt 0 (digits_after b) then [] else encode_utf8 (escaped b)
-given_by (Digits left value) b = if nat_lt 1 left then [] else encode_utf8 (value * 16 + hex_value b)
+-- The piece that the byte b in double quotes decodes to, in this state of an escape. The last byte of an
+-- escape decodes to its character or to its line end, and those before to nothing.
+abbrev pub piece_after : Escape → ℕ → Piece
+piece_after Nothing b = if b == backslash then piece.Nothing else piece_of b
+piece_after Escaped b =
+    if nat_lt 0 (digits_after b) then piece.Nothing
+    else if is_line_end b then piece.EscapedEnd b
+    else piece.Character (escaped b)
+piece_after (Digits left value) b =
+    if nat_lt 1 left then piece.Nothing else piece.Character (value * 16 + hex_value b)
 
 abbrev pub double_step : Escape → ℕ → Option Escape
-double_step held b = if is_line_end b then None else escape_after held b []
+double_step held b = escape_after held b []
 
-unfoldable pub double_value : Escape → List ℕ → Option (List ℕ)
-double_value held [] = None
-double_value held (b ∷ rest) =
+unfoldable pub double : Escape → List ℕ → Option (List Piece)
+double held [] = None
+double held (b ∷ rest) =
     elim (closes held b) [
       | true ↦ Some []
       | false ↦ elim (double_step held b)
-          [ None ↦ None | Some next ↦ prefixed (given_by held b) (double_value next rest) ]
+          [ None ↦ None | Some next ↦ option_map (λ more. piece_after held b ∷ more) (double next rest) ]
     ]
 
--- Lines after `|`, without their indentation: so many columns of a line were passed, or its text has begun.
--- Each line end is a line feed.
+-- The lines of a block scalar without `indent` bytes of indentation each. Their ends are line feeds. Of the
+-- first line `column` bytes were skipped, or its text has begun if `in_text`.
 unfoldable pub lines_of : (indent : ℕ) → (in_text : Bool) → (column : ℕ) → List ℕ → List ℕ
 lines_of indent in_text column [] = []
 lines_of indent in_text column (b ∷ rest) =
@@ -81,46 +85,43 @@ lines_of indent in_text column (b ∷ rest) =
       ]
     ]
 
--- without the line feed at its end, if there is one
+-- the last byte, if there is one, is a line feed
 abbrev pub is_ended : Option ℕ → Bool
 is_ended None = false
 is_ended (Some b) = b == line_feed
 
+-- the bytes without the line feed at their end, if they have one
 abbrev pub without_end : List ℕ → List ℕ
 without_end bytes =
     if is_ended (slice_get bytes (length bytes - 1)) then take (length bytes - 1) bytes else bytes
 
--- The lines after what is written after `|`. With `-` the last one has no line end.
+-- The value of a block scalar in the style `|`, from the parts of its header. `text` is the text after the
+-- `|`. If the sign in the header is `-`, the last line feed is left out.
 abbrev pub lines_after : (indent : ℕ) → List ℕ → ℕ × Bool × List ℕ → List ℕ
 lines_after indent text (digit, keep, head) =
     if begins hyphen (digit_at text).1
     then without_end (lines_of indent false 0 (after_byte line_feed (after_byte carriage_return head)))
     else lines_of indent false 0 (after_byte line_feed (after_byte carriage_return head))
 
+-- the value of a block scalar in the style `|`, from the text after the `|`, or `None` if its header is wrong
 unfoldable pub literal_value : (indent : ℕ) → List ℕ → Option (List ℕ)
 literal_value indent text = option_map (lines_after indent text) (header text)
 
--- what a token says, from its second byte on
+-- the value of a token in quotes or of a block scalar, from its second byte on; `None` for other tokens
 abbrev pub value_after : Style → (indent : ℕ) → List ℕ → Option (List ℕ)
-value_after style.Single indent rest = single_value false rest
-value_after style.Double indent rest = double_value Nothing rest
+value_after style.Single indent rest = option_map (folded []) (single false rest)
+value_after style.Double indent rest = option_map (folded []) (double Nothing rest)
 value_after style.Literal indent rest = literal_value indent rest
+value_after style.Folded indent rest = option_map (folded_lines None (line_feed ∷ [])) (literal_value indent rest)
 value_after _ indent rest = None
 
 abbrev pub is_plain_style : Style → Bool
 is_plain_style style.Plain = true
 is_plain_style _ = false
 
--- What a token says whose lines have this column. Nothing is said of an alias, of lines after `>`, and of
--- other scalars over lines than those after `|`.
+-- The value of a token of the style s, or `None` if it is an alias or not of this style. `indent` is the
+-- number of spaces before each line of a block scalar.
 unfoldable pub value_of : Style → (indent : ℕ) → (token : List ℕ) → Option (List ℕ)
 value_of s indent [] = None
 value_of s indent (b ∷ rest) =
-    if is_plain_style s then (if list_any (λ c. c == line_feed) (b ∷ rest) then None else Some (b ∷ rest))
-    else value_after s indent rest
-
--- the bytes that a step gives
-abbrev pub bytes_of : Given → List ℕ
-bytes_of given.Nothing = []
-bytes_of (given.Byte b) = b ∷ []
-bytes_of (given.Character c) = encode_utf8 c
+    if is_plain_style s then Some (folded [] (map piece_of (b ∷ rest))) else value_after s indent rest

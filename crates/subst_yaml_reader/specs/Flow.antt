@@ -36,11 +36,12 @@ abbrev pub is_done : Next → Bool
 is_done next.Done = true
 is_done _ = false
 
--- a key of a mapping comes
+-- a key of a mapping is expected
 abbrev pub is_key_due : State → Bool
 is_key_due s = is_member s.next && is_in Mapping s
 
--- A key is on one line, its anchor and tag too, and an alias has none.
+-- A node in brackets may be a key: it has at most 1,024 bytes and no line feed from its anchor or tag, at
+-- `text`, to `rest`. No anchor or tag is pending, and an alias has none.
 abbrev pub is_flow_key : Properties → Style → State → (text rest : List ℕ) → Bool
 is_flow_key properties style s text rest =
     fits_key text rest && not (has_any s.pending) && not (is_alias style && has_any properties)
@@ -48,16 +49,16 @@ is_flow_key properties style s text rest =
 abbrev pub keyed : Style → Span → State → State
 keyed style span s = with_next next.Value (emit (FlowKey style span) s)
 
--- a key, and its colon: in a sequence it is a pair
+-- a turn at the colon after a key, if `rest` begins at the colon; in a sequence, a pair begins with the key
 unfoldable pub flow_key : Style → Span → State → (rest : List ℕ) → Turn
 flow_key style span s rest = if not (is_member s.next) then None
     else after_token (after_byte colon rest) (keyed style span (if is_in Mapping s then s else opened Pair s))
 
--- a key without a value
+-- a turn at a key without a colon in a mapping in brackets, whose value is null; `rest` follows the key
 unfoldable pub lone_key : Style → Span → State → (rest : List ℕ) → Turn
 lone_key style span s rest = after_token rest (with_next next.Done (emit Null (keyed style span s)))
 
--- A scalar or an alias from `at` to `rest`: a key or a value. Its anchor and tag are from `text` on.
+-- A scalar or an alias from `at` to `rest`, as a key or a value. Its anchor and tag are from `text` on.
 unfoldable pub flow_scalar : Properties → Style → State → (text at rest : List ℕ) → Turn
 flow_scalar properties style s text at rest =
     if colon_follows true style (after_blanks rest) || is_key_due s
@@ -67,12 +68,14 @@ flow_scalar properties style s text at rest =
     else lone_key style (span_of s at rest) s rest)
     else value true properties style 0 s at rest >>= after_token rest
 
--- what a node in brackets is: no key is a collection
+-- a scalar or an alias in brackets, from `at` on; its anchor and tag are from `text` to `at`
 abbrev pub scalar_in_flow : Properties → State → (text at : List ℕ) → Turn
 scalar_in_flow properties s text at = do
   found ← scalar true at
   flow_scalar properties found.0 s text at found.1
 
+-- The content of a node in brackets, from `at` on: a scalar, an alias, or a collection, which can't be a key.
+-- Its anchor and tag are from `text` to `at`.
 unfoldable pub flow_content : Properties → State → (text at : List ℕ) → Turn
 flow_content properties s text [] = scalar_in_flow properties s text []
 flow_content properties s text (b ∷ rest) =
@@ -80,11 +83,12 @@ flow_content properties s text (b ∷ rest) =
     then (if is_key_due s then None else open_bracket properties b s rest)
     else scalar_in_flow properties s text (b ∷ rest)
 
--- an anchor and a tag are alone: the line is over, or the entry
+-- no node follows an anchor or a tag in brackets: the text is on another line (`fresh`), or begins with `,`,
+-- `]` or `}`
 abbrev pub is_node_over : (fresh : Bool) → List ℕ → Bool
 is_node_over fresh text = fresh || begins comma text || begins closing_square text || begins closing_curly text
 
--- a member of a collection in brackets
+-- a turn at a member of a collection in brackets
 unfoldable pub member : State → List ℕ → Turn
 member s text = if is_done s.next then None else do
   found ← node_properties true s.line text
@@ -92,7 +96,8 @@ member s text = if is_done s.next then None else do
     both ← joined s.pending found.0
     moved found.1 (record s { pending = both })
 
--- The entry is over. It has no value after a key, or as an item with an anchor or a tag alone.
+-- The state after an entry in brackets, or `None` if no entry can end here. A missing value becomes null:
+-- after a key and its colon, or for an item that is only an anchor or a tag.
 unfoldable pub finished : State → Option State
 finished s = elim s.next [
   | next.Done ↦ Some s
@@ -108,22 +113,24 @@ close_pair s = if is_in Pair s then closed s else s
 unfoldable pub ended : State → Option State
 ended s = option_map close_pair (finished s)
 
--- the next entry, after a comma
+-- a turn at a comma, which ends an entry; `rest` is the text after the comma
 unfoldable pub next_entry : State → (rest : List ℕ) → Turn
 next_entry s rest = do
   t ← ended s
   after_token rest (with_next next.Member t)
 
--- before a closing bracket no entry is needed
+-- the state before a closing bracket, after the last entry, or `None` if it can't end here; an entry may be
+-- missing after the opening bracket or the last comma
 unfoldable pub closing : State → Option State
 closing s = if is_member s.next && not (has_any s.pending) then Some s else ended s
 
+-- a turn at the closing bracket of a collection of this kind; `rest` is the text after the bracket
 unfoldable pub close : Bracket → State → (rest : List ℕ) → Turn
 close bracket s rest = do
   t ← closing s
   if is_in bracket t then after_token rest (with_next next.Done (closed t)) else None
 
--- a token in brackets
+-- a turn in brackets
 abbrev pub flow_token : State → List ℕ → Turn
 flow_token s [] = member s []
 flow_token s (b ∷ rest) =

@@ -1,10 +1,15 @@
 pub mod Block
 pub mod Bytes
 pub mod Decoded
+pub mod Display
 pub mod Flow
+pub mod Nesting
 pub mod Reader
 pub mod Reading
 pub mod Refusal
 pub mod Runs
 pub mod Scalar
+pub mod Search
 pub mod State
+pub mod Stream
+pub mod Values

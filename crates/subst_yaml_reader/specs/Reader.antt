@@ -1,8 +1,8 @@
--- The state of a reader of the code.
+-- The state of a reader in the code.
 use Rattle.subst_yaml_reader.specs.State.{State}
 use Rattle.subst_yaml_reader.specs.declared.reader.Reader.{Reader}
 
--- what a reader knows
+-- the state in the definitions' terms
 abbrev pub state_of : Reader → State
 state_of r = record {
   size = r.size;

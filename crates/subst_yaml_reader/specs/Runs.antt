@@ -1,25 +1,26 @@
--- How far tokens go: each definition returns the text after one.
+-- The ends of tokens. A text is the list of the bytes that are left, and most definitions are the text after
+-- a token at its start.
 use Rattle.std.specs.Prelude.{ℕ, zero, suc, length, ◌==◌, ◌+◌, ◌-◌, ◌*◌, ◌&&◌, ◌||◌, Bool, false, true, not, List, [], ◌∷◌, if◌then◌else◌, Option, Some, None, nat_lt}
 use Rattle.subst_yaml_reader.specs.Bytes.{begins, is_blank, is_bracket, is_document_mark, is_foreign, is_line_end, is_line_over, is_name_byte, line_feed, carriage_return, space, double_quote, hash, single_quote, slash, colon, question_mark, backslash}
 use Rattle.subst_yaml_reader.specs.declared.runs.Escape.{Escape}
 use Rattle.subst_yaml_reader.specs.declared.runs.Escape.TheVariants.{Nothing, Escaped, Digits}
 
--- no character is foreign
+-- every reader accepts all characters of the text
 unfoldable pub is_text : List ℕ → Bool
 is_text [] = true
 is_text (b ∷ rest) = elim (is_foreign b rest) [ true ↦ false | false ↦ is_text rest ]
 
--- the text after its blanks
+-- the text without the spaces and tabs at its start
 unfoldable pub after_blanks : List ℕ → List ℕ
 after_blanks [] = []
 after_blanks (b ∷ rest) = elim (is_blank b) [ true ↦ after_blanks rest | false ↦ b ∷ rest ]
 
--- the text after its spaces
+-- the text without the spaces at its start
 unfoldable pub after_spaces : List ℕ → List ℕ
 after_spaces [] = []
 after_spaces (b ∷ rest) = elim (b == space) [ true ↦ after_spaces rest | false ↦ b ∷ rest ]
 
--- the text after its line ends
+-- the text without the line ends at its start
 unfoldable pub after_line_ends : List ℕ → List ℕ
 after_line_ends [] = []
 after_line_ends (b ∷ rest) = elim (is_line_end b) [ true ↦ after_line_ends rest | false ↦ b ∷ rest ]
@@ -29,13 +30,14 @@ unfoldable pub to_line_end : List ℕ → List ℕ
 to_line_end [] = []
 to_line_end (b ∷ rest) = elim (is_line_end b) [ true ↦ b ∷ rest | false ↦ to_line_end rest ]
 
--- the text after a name
+-- the text without the bytes of a name at its start, or of a tag's name if `in_tag`
 unfoldable pub after_name : (in_tag : Bool) → List ℕ → List ℕ
 after_name in_tag [] = []
 after_name in_tag (b ∷ rest) =
     elim (is_name_byte in_tag b) [ true ↦ after_name in_tag rest | false ↦ b ∷ rest ]
 
--- what a byte of an empty line does: it ends the line, is passed over, opens a comment, or belongs to a token
+-- the role of a byte before the next token: it ends a line, is skipped, begins a comment, or belongs to the
+-- token
 pub data LinePart : Type 0 where
   Ends : LinePart
   Passes : LinePart
@@ -49,9 +51,10 @@ line_part comments in_comment b =
     else if comments && b == hash then Opens
     else Stops
 
--- The text from the next token on, from inside the indentation of a line, and how much is left where its line
--- begins: empty lines are passed over, and comments if they may be there. `in_comment` is whether the text is
--- in one.
+-- The next token of a text that begins in the indentation of a line: the length of the text from the start of
+-- the token's line on, and the text from the token on. Empty lines are skipped, and comments if `comments`.
+-- `line` is the length from the start of the first line on, and `in_comment` is whether the text begins in a
+-- comment.
 unfoldable pub after_lines : (comments in_comment : Bool) → (line : ℕ) → List ℕ → ℕ × List ℕ
 after_lines comments in_comment line [] = (line, [])
 after_lines comments in_comment line (b ∷ rest) =
@@ -62,30 +65,32 @@ after_lines comments in_comment line (b ∷ rest) =
       | Stops ↦ (line, b ∷ rest)
     ]
 
--- Unquoted text ends before this byte: at a line end, at `: `, at ` #`, and in brackets at one of them and at
--- `:` before one of them or `?`.
+-- a colon before `rest` ends unquoted text: white space or the end follows, or in brackets (`in_flow`) one of
+-- `,[]{}?`
 abbrev pub is_colon_end : (in_flow : Bool) → (rest : List ℕ) → Bool
 is_colon_end in_flow [] = true
 is_colon_end in_flow (b ∷ rest) = is_blank b || is_line_end b || (in_flow && (is_bracket b || b == question_mark))
 
+-- Unquoted text ends before the byte b, which `rest` follows: at a line end, at a colon with `is_colon_end`,
+-- or at a blank before `#`. In brackets (`in_flow`) it also ends at one of `,[]{}`.
 abbrev pub ends_plain : (in_flow : Bool) → ℕ → (rest : List ℕ) → Bool
 ends_plain in_flow b rest = is_line_end b || (b == colon && is_colon_end in_flow rest)
     || (is_blank b && begins hash rest) || (in_flow && is_bracket b)
 
--- The text after unquoted text on one line, without the blanks at its end: `end` is what is left after the
--- last byte so far that is none.
+-- The text after one line of unquoted text, from the blanks at the end of that line on. `end` is the text
+-- after the last byte so far that isn't a blank.
 unfoldable pub after_plain : (in_flow : Bool) → (end : List ℕ) → List ℕ → List ℕ
 after_plain in_flow end [] = end
 after_plain in_flow end (b ∷ rest) =
     elim (ends_plain in_flow b rest)
     [ true ↦ end | false ↦ after_plain in_flow (if is_blank b then end else rest) rest ]
 
--- a line begins here, with a mark that ends the document
+-- the byte b is a line feed, and `rest`, the text after it, begins with a document mark
 abbrev pub breaks : ℕ → (rest : List ℕ) → Bool
 breaks b rest = b == line_feed && is_document_mark rest
 
--- The text after single quotes that are open. `''` is a quote: `quoted` is whether the byte before is the
--- first of two.
+-- The text after the closing single quote, if the argument begins between the quotes, or `None` if they
+-- aren't closed. `quoted` is whether the byte before is a quote, which closes unless another quote follows.
 unfoldable pub after_single : (quoted : Bool) → List ℕ → Option (List ℕ)
 after_single quoted [] = if quoted then Some [] else None
 after_single quoted (b ∷ rest) =
@@ -95,18 +100,17 @@ after_single quoted (b ∷ rest) =
           [ true ↦ if quoted then Some (b ∷ rest) else None | false ↦ after_single false rest ]
     ]
 
--- one of `0abtnvfreN_LP`, `/`, a backslash, `"`, a blank or a line end: with a backslash before it, it is an
--- escape
+-- a backslash and this byte are an escape: one of `0abtnvfreN_LP/"`, a backslash, a blank or a line end
 abbrev pub is_escape : ℕ → Bool
 is_escape b = b == 48 || b == 97 || b == 98 || b == 116 || b == 110 || b == 118 || b == 102 || b == 114 || b == 101
     || b == 78 || b == 95 || b == 76 || b == 80 || b == slash || b == backslash || b == double_quote || is_blank b
     || is_line_end b
 
--- how many digits come after `x`, `u` and `U`, or 0
+-- the number of digits in an escape with the letter b: 2 for `x`, 4 for `u`, 8 for `U`, and otherwise 0
 abbrev pub digits_after : ℕ → ℕ
 digits_after b = if b == 120 then 2 else if b == 117 then 4 else if b == 85 then 8 else 0
 
--- what a hexadecimal digit counts, or 16 for another byte
+-- the value of a hexadecimal digit, or 16 for another byte
 abbrev pub hex_value : ℕ → ℕ
 hex_value b =
     if not (nat_lt b 48) && nat_lt b 58 then b - 48
@@ -114,11 +118,12 @@ hex_value b =
     else if not (nat_lt b 97) && nat_lt b 103 then b - 87
     else 16
 
--- a number that is no character, since it is half of a pair of UTF-16
+-- a number that isn't a character, since it is a surrogate of UTF-16
 abbrev pub is_surrogate : ℕ → Bool
 is_surrogate n = not (nat_lt n 55296) && nat_lt n 57344
 
--- an escape with one more digit, or none if it is no digit, or the number no character
+-- the state of an escape after `digit`, the next of `left` missing digits, if those before have the value
+-- `value`; `None` if `digit` is over 15, or if the number can't be a character
 abbrev pub with_digit : (left value : ℕ) → (digit : ℕ) → Option Escape
 with_digit left value digit =
     if not (nat_lt digit 16) || not (nat_lt value 69632) then None
@@ -126,7 +131,8 @@ with_digit left value digit =
     else if is_surrogate (value * 16 + digit) then None
     else Some Nothing
 
--- the escape after a byte between double quotes that doesn't close them, or none if nothing may be read so
+-- the state of an escape after the byte b in double quotes, or `None` if b is wrong in this state or before
+-- `rest`; b doesn't close the quotes
 abbrev pub escape_after : Escape → ℕ → (rest : List ℕ) → Option Escape
 escape_after Nothing b rest = if breaks b rest then None else Some (if b == backslash then Escaped else Nothing)
 escape_after Escaped b rest =
@@ -135,12 +141,13 @@ escape_after Escaped b rest =
     else None
 escape_after (Digits left value) b rest = with_digit left value (hex_value b)
 
--- the byte closes double quotes
+-- the byte b closes double quotes: it is a quote, and not in an escape
 abbrev pub closes : Escape → ℕ → Bool
 closes Nothing b = b == double_quote
 closes _ b = false
 
--- the text after double quotes that are open, in this escape
+-- the text after the closing double quote of a text that begins in the quotes, in the state `held` of an
+-- escape; `None` if the quotes aren't closed or an escape is wrong
 unfoldable pub after_double : Escape → List ℕ → Option (List ℕ)
 after_double held [] = None
 after_double held (b ∷ rest) =
@@ -149,34 +156,36 @@ after_double held (b ∷ rest) =
       | false ↦ elim (escape_after held b rest) [ None ↦ None | Some next ↦ after_double next rest ]
     ]
 
--- the column is inside a collection: it is past the collection's column, or there is none
+-- `column` is past `outer`, the column of a collection, or `outer` is `None`
 abbrev pub is_past : Option ℕ → (column : ℕ) → Bool
 is_past None column = true
 is_past (Some outer) column = nat_lt outer column
 
--- Unquoted text in a collection goes on with this line.
+-- a line at this column continues unquoted text in a collection at the column `outer`
 abbrev pub goes_on : (outer : Option ℕ) → (column : ℕ) → List ℕ → Bool
 goes_on outer column [] = false
 goes_on outer column (b ∷ rest) = is_past outer column && not (column == 0 && is_document_mark (b ∷ rest))
     && not (b == hash) && not (is_blank b) && not (ends_plain false b rest)
 
--- the next line of unquoted text, or none if the text ends before it
+-- the text from the first token of a line on, or `None` if it doesn't continue unquoted text in a collection
+-- at the column `outer`; `line` is the length of the text from the start of that line on
 abbrev pub line_of : (outer : Option ℕ) → ℕ × List ℕ → Option (List ℕ)
 line_of outer (line, text) = if goes_on outer (line - length text) text then Some text else None
 
+-- the text from the next line of unquoted text on, or `None` if no line continues it
 abbrev pub next_line : (outer : Option ℕ) → List ℕ → Option (List ℕ)
 next_line outer text = if is_line_over text then line_of outer (after_lines false false 0 text) else None
 
--- the text after unquoted text over at most n more lines
+-- the text after at most n more lines of unquoted text in a collection at the column `outer`
 unfoldable pub after_plain_lines : (n : ℕ) → (outer : Option ℕ) → List ℕ → List ℕ
 after_plain_lines zero outer text = text
 after_plain_lines (suc n) outer text =
     elim (next_line outer (after_blanks text))
     [ None ↦ text | Some line ↦ after_plain_lines n outer (after_plain false line line) ]
 
--- The text after the lines of a block scalar whose column is `indent`. So many columns of a line were passed,
--- or its text has begun; `end` is what is left after the last line with text, or with `keep` after the last
--- line.
+-- The text after the lines of a block scalar, before which are `indent` spaces each. Of the current line
+-- `column` spaces were skipped, or its text has begun if `in_text`. `end` is the text after the last line
+-- with text, or after the last line if `keep`: then empty lines at the end belong to the scalar.
 unfoldable pub after_block : (indent : ℕ) → (keep in_text : Bool) → (column : ℕ) → (end : List ℕ) → List ℕ → List ℕ
 after_block indent keep in_text column end [] = if in_text || keep then [] else end
 after_block indent keep in_text column end (b ∷ rest) =

@@ -1,4 +1,4 @@
--- What is known from token to token.
+-- The state of reading between tokens.
 use Rattle.std.specs.Prelude.{ℕ, ◌-◌, Bool, true, List, [], ◌∷◌, ◌++◌, take, length, Option, option_map, slice_get}
 use Rattle.subst_yaml_reader.specs.Scalar.{no_properties}
 use Rattle.subst_yaml_reader.specs.declared.event.Bracket.{Bracket}
@@ -12,24 +12,25 @@ use Rattle.subst_yaml_reader.specs.declared.reader.Next.TheVariants.{Start}
 use Rattle.subst_yaml_reader.specs.declared.scalar.Properties.{Properties}
 
 pub record State : Type 0 where
-  -- how many bytes the whole text has
+  -- the length of the whole text
   pub size : ℕ
-  -- how many bytes are left where the line of the token begins
+  -- the length of the text from the start of the token's line on
   pub line : ℕ
-  -- a collection may begin at the token: it is the first on its line, or comes after `- `
+  -- the token is the first on its line or after `- `, so that a collection may begin at it
   pub fresh : Bool
-  -- what may come
+  -- the tokens that are expected next
   pub next : Next
-  -- the anchor and the tag of the value that comes next, from lines before
+  -- whether the next value has an anchor, and whether a tag, that an earlier turn read
   pub pending : Properties
-  -- the collections without brackets that are open, the innermost last
+  -- the open collections without brackets, the innermost last
   pub blocks : List Collection
-  -- the collections in brackets that are open, the innermost last
+  -- the open collections in brackets, the innermost last
   pub brackets : List Bracket
-  -- what was read
+  -- the events of the last turn
   pub events : List Event
 
--- nothing is read of a text of so many bytes
+-- the state before the first token of a text of `size` bytes; the text from the start of that token's line on
+-- has the length `line`
 abbrev pub initial : (size line : ℕ) → State
 initial size line = record {
   size = size;
@@ -42,14 +43,18 @@ initial size line = record {
   events = [];
 }
 
+-- the state without the events of the last turn
+abbrev pub without_events : State → State
+without_events s = record s { events = [] }
+
 abbrev pub emit : Event → State → State
 emit e s = record s { events = s.events ++ e ∷ [] }
 
--- the token is at another spot
+-- the state with another position of the next token
 abbrev pub placed : (fresh : Bool) → (line : ℕ) → State → State
 placed fresh line s = record s { fresh = fresh; line = line }
 
--- this may come next, without an anchor or a tag
+-- the state in which `next` is expected, and no anchor or tag is pending
 abbrev pub with_next : Next → State → State
 with_next next s = record s { next = next; pending = no_properties }
 
@@ -62,18 +67,18 @@ opened bracket s = record s { brackets = s.brackets ++ bracket ∷ []; events = 
 abbrev pub closed : State → State
 closed s = record s { brackets = take (length s.brackets - 1) s.brackets; events = s.events ++ event.Close ∷ [] }
 
--- the last one, if there is one
+-- the last element, if there is one
 abbrev pub innermost : {A : Type 0} → List A → Option A
 innermost xs = slice_get xs (length xs - 1)
 
--- the column of the innermost collection without brackets
+-- the column of the innermost collection without brackets, if one is open
 abbrev pub outer_column : State → Option ℕ
 outer_column s = option_map (λ block. block.column) (innermost s.blocks)
 
--- the column of the token
+-- the column, from 0, of the token at the start of the text
 abbrev pub column_of : State → List ℕ → ℕ
 column_of s text = s.line - length text
 
--- the offsets of the bytes from one text to another one
+-- the span from the start of `text` to the start of `rest`, which is a later part of the text
 abbrev pub span_of : State → (text rest : List ℕ) → Span
 span_of s text rest = record { start = s.size - length text; «end» = s.size - length rest }

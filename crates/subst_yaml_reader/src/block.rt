@@ -10,7 +10,7 @@ ghost use Rattle.subst_yaml_reader.specs.declared.reader.Kind.TheVariants.{Seque
 use crate::bytes::{begins, is_document_mark, is_line_over, is_mark};
 use crate::error::{Halt, Reason};
 use crate::event::{Bracket, Event, Style};
-use crate::reader::{Collection, Kind, Next, Reader};
+use crate::reader::{Collection, EventKind, Kind, Next, Reader};
 use crate::runs::{
     after_blanks, after_block, after_line_ends, after_lines, after_plain_lines, after_spaces,
     is_past,
@@ -20,18 +20,18 @@ use crate::scalar::{
     scalar,
 };
 
-/// What a node is.
+/// The role of a node by its position: a value, a key, or either.
 #[derive(Clone, Copy)]
 pub(crate) enum Role {
     /// A value, or the first key of a mapping at this column.
     Open(usize),
-    /// An entry of the innermost mapping.
+    /// The key of an entry of the innermost mapping.
     Entry,
-    /// A value.
+    /// A value after other text on its line.
     Inline,
 }
 
-/// Returns whether there is an anchor or a tag.
+/// Returns whether a node has an anchor or a tag.
 pub(crate) fn has_any(properties: Properties) -> bool
     ensures { result ≡ has_any properties }
 {
@@ -65,14 +65,14 @@ fn is_sequence_at(block: Option<Collection>, column: usize) -> bool
     }
 }
 
-/// Returns the index of the first collection whose entries are past this column.
+/// Returns the index of the first collection whose entries are past this column, or `None` if there is none.
 fn first_deeper(blocks: &[Collection], column: usize) -> Option<usize>
     ensures { result ≡ first_deeper column blocks.now }
 {
     blocks.iter().position(|block| block.column > column)
 }
 
-/// Returns the text after the three bytes of a mark of a document.
+/// Returns the text after a document mark, which has three bytes.
 fn after_mark(text: &[u8]) -> &[u8]
     ensures { result.now ≡ after_mark text.now }
 {
@@ -82,8 +82,8 @@ fn after_mark(text: &[u8]) -> &[u8]
     }
 }
 
-/// Returns the column of the lines of a block scalar in a collection: what its digit says, or else what its
-/// first line says, which has so many spaces.
+/// Returns the column of a block scalar's lines: that of its collection, `column`, plus the header's `digit`.
+/// If `digit` is 0, returns `spaces`, the spaces before the first line, but at least `column` + 1.
 fn block_indent(column: usize, digit: usize, spaces: usize) -> usize
     ensures { result ≡ block_indent column digit spaces }
 {
@@ -94,8 +94,8 @@ fn block_indent(column: usize, digit: usize, spaces: usize) -> usize
     }
 }
 
-/// Returns the column of the lines of a block scalar in a collection, and the text after them, from what is
-/// written before them.
+/// Reads the lines of a block scalar after its header, in a collection at `column`. Returns the column of the
+/// lines, and the text after the lines.
 #[tactic(auto, unfolding(crate::specs::Block::block_lines))]
 fn block_lines(column: usize, header: Header<'_>) -> Result<(usize, &[u8]), Halt>
     ensures ok { IfOk result (λ found. block_lines column
@@ -119,7 +119,7 @@ fn block_lines(column: usize, header: Header<'_>) -> Result<(usize, &[u8]), Halt
 }
 
 impl Reader {
-    /// Reads a token outside brackets. Returns the text from the next one on.
+    /// Reads a token outside brackets. Returns the text from the next token on.
     #[tactic(auto, unfolding(crate::specs::Block::block_turn))]
     pub(crate) fn block_turn<'t>(&mut self, text: &'t [u8]) -> Result<&'t [u8], Halt>
         ensures ok { IfOk result (λ rest. block_turn (state_of self.old) text.now
@@ -141,18 +141,18 @@ impl Reader {
         }
     }
 
-    /// Returns the refusal of text after a value on its line.
+    /// Returns the refusal of text after a value or after `...`, on the same line.
     fn text_after_value(&self, text: &[u8]) -> Halt {
-        let reason = match (text, self.next, self.events.last()) {
+        let reason = match (text, self.next, self.last_kind()) {
             (_, Next::Ended, _) => Reason::TextAfterEnd,
-            ([b':', ..], _, Some(Event::Close)) => Reason::CollectionKey,
+            ([b':', ..], _, EventKind::Close) => Reason::CollectionKey,
             ([b':', ..], _, _) => Reason::NotAValue,
             _ => Reason::TextAfterValue,
         };
         Halt::at(reason, text)
     }
 
-    /// Reads a mark that begins or ends a document.
+    /// Reads a document mark, `---` or `...`.
     #[tactic(auto, unfolding(crate::specs::Block::document))]
     fn document<'t>(&mut self, text: &'t [u8]) -> Result<&'t [u8], Halt>
         ensures ok { IfOk result (λ rest. document (state_of self.old) text.now
@@ -172,8 +172,9 @@ impl Reader {
         Ok(self.go_on(after_mark(text)))
     }
 
-    /// Reads a token at which a collection may begin.
+    /// Reads a token at which a collection may begin. Without `---`, the first document begins there too.
     #[tactic(auto, unfolding(crate::specs::Block::fresh_turn))]
+    #[inline(always)]
     fn fresh_turn<'t>(&mut self, column: usize, text: &'t [u8]) -> Result<&'t [u8], Halt>
         ensures ok { IfOk result (λ rest. fresh_turn column (state_of self.old) text.now
             ≡ Some (state_of self.new, rest.now)) }
@@ -191,7 +192,7 @@ impl Reader {
         }
     }
 
-    /// Returns whether a value may be at this column, and so the first entry of a collection.
+    /// Returns whether a value or a collection may begin at this column. `is_item` is whether `- ` is there.
     fn may_open(&self, column: usize, is_item: bool) -> bool
         ensures { result ≡ may_open column is_item (state_of self.now) }
     {
@@ -200,8 +201,9 @@ impl Reader {
                 || is_item && is_mapping_at(self.innermost_block(), column))
     }
 
-    /// Reads a token that is the first on its line, or after `- `.
+    /// Reads a token that is the first on its line, or the first after `- `.
     #[tactic(auto, unfolding(crate::specs::Block::line_turn))]
+    #[inline(always)]
     fn line_turn<'t>(&mut self, column: usize, text: &'t [u8]) -> Result<&'t [u8], Halt>
         ensures ok { IfOk result (λ rest. line_turn column (state_of self.old) text.now
             ≡ Some (state_of self.new, rest.now)) }
@@ -222,7 +224,7 @@ impl Reader {
         }
     }
 
-    /// Closes the collections whose entries are past this column, and a sequence at it that doesn't go on.
+    /// Closes collections with entries past this column, and unless `is_item`, a sequence at this column.
     #[tactic(auto, unfolding(crate::specs::Block::shallower))]
     fn close_deeper(&mut self, column: usize, is_item: bool)
         ensures { state_of self.new ≡ shallower column is_item (state_of self.old) }
@@ -235,9 +237,10 @@ impl Reader {
         }
     }
 
-    /// Reads an entry of the innermost collection, which is at this column. The innermost one before is at
-    /// `outer`.
+    /// Reads an entry of the innermost collection, or refuses it if that collection isn't at this column.
+    /// `outer` is the column of the collection that was innermost before deeper ones were closed.
     #[tactic(auto, unfolding(crate::specs::Block::entry))]
+    #[inline(always)]
     fn entry<'t>(
         &mut self,
         column: usize,
@@ -259,7 +262,8 @@ impl Reader {
         }
     }
 
-    /// Returns the refusal of a token that is no entry at this column. The innermost collection was at `outer`.
+    /// Returns the refusal of a token that is no entry at this column. `outer` is the column of the
+    /// collection that was innermost before deeper ones were closed.
     fn no_entry(&self, column: usize, outer: Option<usize>, text: &[u8]) -> Halt {
         let reason = match (outer, self.outer_column()) {
             _ if begins(text, b'\t') => Reason::Tab,
@@ -271,7 +275,7 @@ impl Reader {
         Halt::at(reason, text)
     }
 
-    /// Reads the mark of an item.
+    /// Reads the `-` of an item, and appends its event.
     #[tactic(auto, unfolding(crate::specs::Block::item))]
     fn item<'t>(&mut self, text: &'t [u8]) -> Result<&'t [u8], Halt>
         ensures ok { IfOk result (λ rest. item (state_of self.old) text.now
@@ -286,7 +290,8 @@ impl Reader {
         Ok(rest)
     }
 
-    /// Reads the anchor and the tag of a node, and what it is, or where its key is.
+    /// Reads the anchor and the tag of a node, and then its content. If no content is on their line, they are
+    /// kept for the next value.
     #[tactic(auto, unfolding(crate::specs::Block::node))]
     fn node<'t>(&mut self, role: Role, text: &'t [u8]) -> Result<&'t [u8], Halt>
         ensures ok { IfOk result (λ rest. node role (state_of self.old) text.now
@@ -306,7 +311,7 @@ impl Reader {
         Ok(spot.2)
     }
 
-    /// Reads a node from `at` on. Its anchor and tag are read, and its text is from them on.
+    /// Reads the content of a node from `at` on. Its anchor and tag are from `text` to `at`.
     #[tactic(auto, unfolding(crate::specs::Block::content))]
     fn content<'t>(
         &mut self,
@@ -339,7 +344,7 @@ impl Reader {
         }
     }
 
-    /// Reads a scalar or an alias that is a key or a value.
+    /// Reads a scalar or an alias from `at` on: as a key if a colon follows, and otherwise as a value.
     #[tactic(auto, unfolding(crate::specs::Block::scalar_node))]
     fn scalar_node<'t>(
         &mut self,
@@ -372,7 +377,7 @@ impl Reader {
         Ok(self.go_on(end))
     }
 
-    /// Returns the text after a value of which the text on its first line is read.
+    /// Returns the text after a value. `rest` begins after the value, or after its first line if unquoted.
     fn value_end<'t>(&self, style: Style, rest: &'t [u8]) -> &'t [u8]
         ensures { result.now ≡ value_end (state_of self.now) style rest.now }
     {
@@ -383,7 +388,7 @@ impl Reader {
         }
     }
 
-    /// Reads a key, which is before `rest`, and its colon.
+    /// Reads a key, from `at` to `rest`, and its colon. In the role `Open`, the key begins a mapping.
     #[tactic(auto, unfolding(crate::specs::Block::key))]
     fn key<'t>(
         &mut self,
@@ -409,8 +414,9 @@ impl Reader {
         Ok(self.go_on(after_byte(after_blanks(rest), b':')))
     }
 
-    /// Takes a value from `text` to `rest`.
+    /// Appends the event of a value from `text` to `rest`, and expects no other value after it.
     #[tactic(auto, unfolding(crate::specs::Block::value))]
+    #[inline(always)]
     pub(crate) fn value(
         &mut self,
         in_flow: bool,
@@ -440,7 +446,7 @@ impl Reader {
         Ok(())
     }
 
-    /// Opens a collection in brackets, whose bracket is before `rest`.
+    /// Opens a collection in brackets. Its opening bracket is `byte`, the byte before `rest`.
     #[tactic(auto, unfolding(crate::specs::Block::open_bracket))]
     pub(crate) fn open_collection<'t>(
         &mut self,
@@ -464,7 +470,7 @@ impl Reader {
         Ok(self.go_on(rest))
     }
 
-    /// Reads a block scalar from `text` on, whose first byte is before `rest`.
+    /// Reads a block scalar from `text` on, which is `byte` and then `rest`.
     #[tactic(auto, unfolding(crate::specs::Block::block_scalar))]
     fn block_scalar<'t>(
         &mut self,

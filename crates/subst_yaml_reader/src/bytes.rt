@@ -1,7 +1,19 @@
-//! Which bytes and characters are which.
+//! Classes of bytes and characters.
 
 ghost use Rattle.std.specs.Prelude.{◌≡◌, slice_index};
 ghost use Rattle.subst_yaml_reader.specs.Bytes.{begins, is_apart, is_blank, is_bracket, is_control, is_document_mark, is_foreign, is_indicator, is_line_end, is_line_over, is_mark, is_mark_of_three, is_name_byte, is_odd};
+ghost use Rattle.subst_yaml_reader.specs.Search.{is_inner};
+
+/// Blanks, line ends, the colon and `,[]{}`, each at its own index, and a dot at every other index.
+static OUTER_BYTES: [u8; 256] = *b"\
+    .........\t\n..\r..................\
+    \x20...........,.............:.....\
+    ...........................[.]..\
+    ...........................{.}..\
+    ................................\
+    ................................\
+    ................................\
+    ................................";
 
 /// Returns whether a byte is a space or a tab.
 pub(crate) fn is_blank(byte: u8) -> bool
@@ -10,7 +22,7 @@ pub(crate) fn is_blank(byte: u8) -> bool
     byte == b' ' || byte == b'\t'
 }
 
-/// Returns whether a byte is a line feed, or a carriage return, which is before one.
+/// Returns whether a byte is a line feed, or a carriage return, which precedes one.
 pub(crate) fn is_line_end(byte: u8) -> bool
     ensures { result ≡ is_line_end byte }
 {
@@ -24,7 +36,15 @@ pub(crate) fn is_bracket(byte: u8) -> bool
     byte == b',' || byte == b'[' || byte == b']' || byte == b'{' || byte == b'}'
 }
 
-/// Returns whether a byte begins no unquoted text.
+/// Returns whether a byte belongs to unquoted text, whatever follows it, and isn't a blank.
+#[inline(always)]
+pub(crate) fn is_inner(byte: u8) -> bool
+    ensures { result ≡ is_inner byte }
+{
+    OUTER_BYTES[byte as usize] == b'.'
+}
+
+/// Returns whether a byte can't begin unquoted text.
 pub(crate) fn is_indicator(byte: u8) -> bool
     ensures { result ≡ is_indicator byte }
 {
@@ -42,7 +62,7 @@ pub(crate) fn is_indicator(byte: u8) -> bool
         || byte == b'`'
 }
 
-/// Returns whether a byte may be in a name, or in a tag.
+/// Returns whether a byte may be in the name of an anchor or an alias, or of a tag if `in_tag`.
 pub(crate) fn is_name_byte(byte: u8, in_tag: bool) -> bool
     ensures { result ≡ is_name_byte in_tag byte }
 {
@@ -62,7 +82,7 @@ pub(crate) fn begins(text: &[u8], byte: u8) -> bool
     }
 }
 
-/// Returns whether the text is at its end, or at a line end.
+/// Returns whether the text is empty or begins with a line end.
 pub(crate) fn is_line_over(text: &[u8]) -> bool
     ensures { result ≡ is_line_over text.now }
 {
@@ -72,7 +92,7 @@ pub(crate) fn is_line_over(text: &[u8]) -> bool
     }
 }
 
-/// Returns whether the text is at its end, at a line end or at a blank.
+/// Returns whether the text is empty, or begins with a blank or a line end.
 pub(crate) fn is_apart(text: &[u8]) -> bool
     ensures { result ≡ is_apart text.now }
 {
@@ -82,7 +102,7 @@ pub(crate) fn is_apart(text: &[u8]) -> bool
     }
 }
 
-/// Returns whether the text begins with this byte, and white space or nothing comes after it.
+/// Returns whether the text begins with this byte, followed by white space or the end.
 pub(crate) fn is_mark(text: &[u8], byte: u8) -> bool
     ensures { result ≡ is_mark byte text.now }
 {
@@ -92,8 +112,8 @@ pub(crate) fn is_mark(text: &[u8], byte: u8) -> bool
     }
 }
 
-/// Returns whether the text begins with this byte three times, and white space or nothing comes after them.
-fn is_mark_of_three(text: &[u8], byte: u8) -> bool
+/// Returns whether the text begins with this byte three times, followed by white space or the end.
+pub(crate) fn is_mark_of_three(text: &[u8], byte: u8) -> bool
     ensures { result ≡ is_mark_of_three byte text.now }
 {
     match text {
@@ -102,28 +122,28 @@ fn is_mark_of_three(text: &[u8], byte: u8) -> bool
     }
 }
 
-/// Returns whether the text begins with `---` or `...`, and white space or nothing comes after them.
+/// Returns whether the text begins with `---` or `...`, followed by white space or the end.
 pub(crate) fn is_document_mark(text: &[u8]) -> bool
     ensures { result ≡ is_document_mark text.now }
 {
     is_mark_of_three(text, b'-') || is_mark_of_three(text, b'.')
 }
 
-/// Returns the byte at an index of the text, or 0 if it is shorter.
+/// Returns the byte at an index of the text, or 0 if the text ends before that index.
 fn byte_at(text: &[u8], index: usize) -> u8
     ensures { result ≡ slice_index text.now index }
 {
     if index < text.len() { text[index] } else { 0 }
 }
 
-/// Returns whether a byte is a control character, or a carriage return that ends no line.
+/// Returns whether a byte before `next` is a control character other than a tab or a part of a line end.
 fn is_control(byte: u8, next: u8) -> bool
     ensures { result ≡ is_control byte next }
 {
     byte == 127 || byte < 32 && byte != b'\t' && byte != b'\n' && !(byte == b'\r' && next == b'\n')
 }
 
-/// Returns whether U+0080 to U+009F, U+2028, U+2029, U+FEFF, U+FFFE or U+FFFF begins with a byte.
+/// Returns whether three bytes begin with one of U+0080 to U+009F, U+2028, U+2029, U+FEFF, U+FFFE and U+FFFF.
 fn is_odd(byte: u8, next: u8, third: u8) -> bool
     ensures { result ≡ is_odd byte next third }
 {
@@ -133,7 +153,7 @@ fn is_odd(byte: u8, next: u8, third: u8) -> bool
         || byte == 239 && next == 191 && (third == 190 || third == 191)
 }
 
-/// Returns whether a byte begins a character that not every reader takes, before the rest of the text.
+/// Returns whether a byte, before `rest`, begins a character that not every reader accepts.
 pub(crate) fn is_foreign(byte: u8, rest: &[u8]) -> bool
     ensures { result ≡ is_foreign byte rest.now }
 {

@@ -1,29 +1,20 @@
-//! What a scalar says, from its token.
+//! Decoding of scalars: from a token to its text.
 
-ghost use Rattle.std.specs.Prelude.{◌≡◌, ◌<◌, ◌==◌, ◌++◌, if◌then◌else◌, false, None, Some, option_map, IfOk, IsSome};
-ghost use Rattle.std.specs.List.{list_any};
-ghost use Rattle.subst_yaml_reader.specs.Decoded.{bytes_of, double_step, double_value, escaped, given_by, lines_of, literal_value, single_step, single_value, value_after, value_of, without_end};
+ghost use Rattle.std.specs.Prelude.{◌≡◌, ◌<◌, ◌++◌, [], ◌∷◌, false, map, None, Some, option_map, IfOk, IfSome, IsSome};
+ghost use Rattle.subst_yaml_reader.specs.Decoded.{double_step, double, escaped, piece_after, piece_of, lines_of, literal_value, single_step, single, value_after, value_of, without_end};
+ghost use Rattle.subst_yaml_reader.specs.Values.{folded, folded_lines, gap};
 ghost use Rattle.subst_yaml_reader.specs.declared.runs.Escape.TheVariants.{Nothing};
 
-use crate::bytes::{begins, is_line_end};
+use crate::bytes::{begins, is_blank, is_line_end};
 use crate::event::Style;
+use crate::folded::{Folded, Piece, append, append_gap, folded_lines};
 use crate::runs::{Escape, closes, digits_after, escape_after, hex_value};
 use crate::scalar::{after_byte, digit_at, header};
 use std::alloc::{AllocError, Global};
 
-/// What a byte of a token gives.
-#[derive(Clone, Copy)]
-pub(crate) enum Given {
-    /// Nothing.
-    Nothing,
-    /// Itself, or another byte.
-    Byte(u8),
-    /// The character of an escape.
-    Character(char),
-}
-
-/// Returns the text of a scalar as bytes, from its token and, of lines after `|`, the spaces before each.
-/// Returns `None` for an alias, for lines after `>`, and for any other scalar over lines.
+/// Returns the text of a scalar as bytes, or `None` for an alias or if the token isn't one of this style.
+/// Lines are folded by YAML's rules, except in the style `|`. `indent` is the number of spaces before each
+/// line of a value after `|` or `>`.
 ///
 /// ```rust
 /// let value = value_of(alloc, Style::Single, 0, b"'it''s'")?;
@@ -32,7 +23,7 @@ pub(crate) enum Given {
 ///
 /// # Errors
 ///
-/// When allocation fails.
+/// If allocation fails.
 #[tactic(auto, unfolding(crate::specs::Decoded::value_of))]
 pub fn value_of(
     alloc: Global,
@@ -40,28 +31,92 @@ pub fn value_of(
     indent: usize,
     token: &[u8],
 ) -> Result<Option<Vec<u8>>, AllocError>
-    ensures { IfOk result (λ value. option_map (λ bytes. bytes.items) value
+    ensures value { IfOk result (λ value. option_map (λ bytes. bytes.items) value
         ≡ value_of style indent token.now) }
 {
     match token {
         [] => Ok(None),
-        _ if matches!(style, Style::Plain) => plain_value(alloc, token),
+        _ if matches!(style, Style::Plain) => Ok(Some(plain_value(alloc, token)?)),
         [_, rest @ ..] => value_after(alloc, style, indent, rest),
     }
 }
 
-/// Returns unquoted text that is on one line.
-fn plain_value(alloc: Global, token: &[u8]) -> Result<Option<Vec<u8>>, AllocError>
-    ensures { IfOk result (λ value. option_map (λ bytes. bytes.items) value
-        ≡ (if list_any (λ c. c == 10) token.now then None else Some token.now)) }
+/// Returns the piece that a byte outside an escape decodes to.
+fn piece_of(byte: u8) -> Piece
+    ensures { result ≡ piece_of byte }
 {
-    if token.contains(&b'\n') {
-        return Ok(None);
+    if is_blank(byte) || is_line_end(byte) {
+        Piece::White(byte)
+    } else {
+        Piece::Byte(byte)
     }
-    Ok(Some(Vec::from_slice(alloc, token)?))
 }
 
-/// Returns what a token says whose first byte is before `rest`.
+/// Creates the value of a token of which nothing is decoded yet.
+fn nothing_read(alloc: Global) -> Folded
+    ensures value { result.value.items ≡ [] }
+    ensures white { result.white.items ≡ [] }
+{
+    Folded {
+        value: Vec::new(alloc),
+        white: Vec::new(alloc),
+    }
+}
+
+/// Returns the value of a token that has been read to its end.
+fn ended(alloc: Global, folded: Folded) -> Result<Vec<u8>, AllocError>
+    ensures { IfOk result (λ value. value.items ≡ folded.value.items ++ gap folded.white.items) }
+{
+    let mut value = folded.value;
+    append_gap(alloc, &mut value, &folded.white)?;
+    Ok(value)
+}
+
+/// Decodes unquoted text.
+fn plain_value(alloc: Global, token: &[u8]) -> Result<Vec<u8>, AllocError>
+    ensures { IfOk result (λ value. value.items ≡ folded [] (map piece_of token.now)) }
+{
+    match plain_part(token) {
+        Some(value) => copy_of(alloc, value),
+        None => plain_lines(alloc, token),
+    }
+}
+
+/// Returns unquoted text as its value if it has no line feed, and otherwise `None`.
+fn plain_part(token: &[u8]) -> Option<&[u8]>
+    ensures { IfSome result (λ value. folded [] (map piece_of token.now) ≡ value.now) }
+{
+    if token.contains(&b'\n') {
+        None
+    } else {
+        Some(token)
+    }
+}
+
+/// Copies bytes into a list.
+fn copy_of(alloc: Global, bytes: &[u8]) -> Result<Vec<u8>, AllocError>
+    ensures { IfOk result (λ copy. copy.items ≡ bytes.now) }
+{
+    let mut copy = Vec::new(alloc);
+    copy.extend_from_slice(bytes)?;
+    Ok(copy)
+}
+
+/// Decodes unquoted text over several lines.
+#[tactic(auto, unfolding(crate::specs::Values::folded))]
+fn plain_lines(alloc: Global, token: &[u8]) -> Result<Vec<u8>, AllocError>
+    ensures { IfOk result (λ value. value.items ≡ folded [] (map piece_of token.now)) }
+{
+    let mut read = nothing_read(alloc);
+    let mut rest = token;
+    while let [first, tail @ ..] = rest {
+        append(alloc, &mut read, piece_of(*first))?;
+        rest = tail;
+    }
+    ended(alloc, read)
+}
+
+/// Decodes a token in quotes or of a block scalar, from its second byte on. Returns `None` for other tokens.
 fn value_after(
     alloc: Global,
     style: Style,
@@ -75,64 +130,53 @@ fn value_after(
         Style::Single => single_value(alloc, rest),
         Style::Double => double_value(alloc, rest),
         Style::Literal => literal_value(alloc, indent, rest),
-        Style::Plain | Style::Folded | Style::Alias => Ok(None),
+        Style::Folded => folded_value(alloc, indent, rest),
+        Style::Plain | Style::Alias => Ok(None),
     }
 }
 
-/// Appends what a byte of a token gives.
-fn append(value: &mut Vec<u8>, given: Given) -> Result<(), AllocError>
-    ensures { IfOk result (λ _. value.new.items ≡ value.old.items ++ bytes_of given) }
-{
-    match given {
-        Given::Nothing => {}
-        Given::Byte(byte) => value.push(byte)?,
-        Given::Character(character) => {
-            let mut buffer = [0; 4];
-            let text = character.encode_utf8(&mut buffer);
-            value.extend_from_slice(text.as_bytes())?;
-        }
-    }
-    Ok(())
-}
-
-/// Returns what a byte between single quotes gives, or `None` if it can't be there.
-fn single_step(is_quoted: bool, byte: u8) -> Option<Given>
-    ensures { option_map bytes_of result ≡ single_step is_quoted byte }
+/// Returns the piece that a byte in single quotes decodes to, or `None` if the quotes are closed before it.
+fn single_step(is_quoted: bool, byte: u8) -> Option<Piece>
+    ensures { result ≡ single_step is_quoted byte }
 {
     if byte == b'\'' {
         Some(if is_quoted {
-            Given::Byte(byte)
+            Piece::Byte(byte)
         } else {
-            Given::Nothing
+            Piece::Nothing
         })
-    } else if is_quoted || is_line_end(byte) {
+    } else if is_quoted {
         None
     } else {
-        Some(Given::Byte(byte))
+        Some(piece_of(byte))
     }
 }
 
-/// Returns what is between single quotes on one line, of which the first one is before the text.
-#[tactic(auto, unfolding(crate::specs::Decoded::single_value), using(crate::proofs::DecodedLemmas::prefixed_twice))]
+/// Decodes text after an opening single quote. Returns `None` if the text doesn't end at the closing quote.
+#[tactic(auto, unfolding(crate::specs::Decoded::single, crate::specs::Values::folded), using(crate::proofs::DecodedLemmas::prefixed_twice, crate::proofs::DecodedLemmas::folded_more))]
 fn single_value(alloc: Global, text: &[u8]) -> Result<Option<Vec<u8>>, AllocError>
     ensures { IfOk result (λ value. option_map (λ bytes. bytes.items) value
-        ≡ single_value false text.now) }
+        ≡ option_map (folded []) (single false text.now)) }
 {
-    let mut value = Vec::new(alloc);
+    let mut read = nothing_read(alloc);
     let mut is_quoted = false;
     let mut rest = text;
     while let [first, tail @ ..] = rest {
-        let Some(given) = single_step(is_quoted, *first) else {
+        let Some(piece) = single_step(is_quoted, *first) else {
             return Ok(None);
         };
-        append(&mut value, given)?;
+        append(alloc, &mut read, piece)?;
         is_quoted = *first == b'\'' && !is_quoted;
         rest = tail;
     }
-    Ok(if is_quoted { Some(value) } else { None })
+    if is_quoted {
+        Ok(Some(ended(alloc, read)?))
+    } else {
+        Ok(None)
+    }
 }
 
-/// Returns the character that an escape of one letter, digit or mark is.
+/// Returns the character of an escape with one byte after the backslash.
 fn escaped(byte: u8) -> char
     requires { byte < 128 }
     ensures { result ≡ escaped byte }
@@ -155,59 +199,56 @@ fn escaped(byte: u8) -> char
     }
 }
 
-/// Returns what a byte between double quotes gives, which can be there.
-fn given_by(held: Escape, byte: u8) -> Given
+/// Returns the piece that a byte in double quotes decodes to, in the state `held` of an escape.
+fn piece_after(held: Escape, byte: u8) -> Piece
     requires { IsSome (double_step held byte) }
-    ensures { bytes_of result ≡ given_by held byte }
+    ensures { result ≡ piece_after held byte }
 {
     match held {
-        Escape::Nothing if byte == b'\\' => Given::Nothing,
-        Escape::Nothing => Given::Byte(byte),
-        Escape::Escaped if digits_after(byte) > 0 => Given::Nothing,
-        Escape::Escaped => Given::Character(escaped(byte)),
-        Escape::Digits(left, _) if left > 1 => Given::Nothing,
+        Escape::Nothing if byte == b'\\' => Piece::Nothing,
+        Escape::Nothing => piece_of(byte),
+        Escape::Escaped if digits_after(byte) > 0 => Piece::Nothing,
+        Escape::Escaped if is_line_end(byte) => Piece::EscapedEnd(byte),
+        Escape::Escaped => Piece::Character(escaped(byte)),
+        Escape::Digits(left, _) if left > 1 => Piece::Nothing,
         Escape::Digits(_, value) => match char::from_u32(value * 16 + hex_value(byte)) {
-            Some(character) => Given::Character(character),
+            Some(character) => Piece::Character(character),
             None => unreachable!(),
         },
     }
 }
 
-/// Returns the escape after a byte between double quotes on one line, or `None` if it can't be there.
+/// Returns the state of an escape after a byte between double quotes, or `None` if the byte can't be there.
 fn double_step(held: Escape, byte: u8) -> Option<Escape>
     ensures { result ≡ double_step held byte }
 {
-    if is_line_end(byte) {
-        None
-    } else {
-        escape_after(held, byte, b"")
-    }
+    escape_after(held, byte, b"")
 }
 
-/// Returns what is between double quotes on one line, of which the first one is before the text.
-#[tactic(auto, unfolding(crate::specs::Decoded::double_value), using(crate::proofs::DecodedLemmas::prefixed_twice))]
+/// Decodes text after an opening double quote, or returns `None` if an escape is wrong or no quote closes it.
+#[tactic(auto, unfolding(crate::specs::Decoded::double, crate::specs::Values::folded), using(crate::proofs::DecodedLemmas::prefixed_twice, crate::proofs::DecodedLemmas::folded_more))]
 fn double_value(alloc: Global, text: &[u8]) -> Result<Option<Vec<u8>>, AllocError>
     ensures { IfOk result (λ value. option_map (λ bytes. bytes.items) value
-        ≡ double_value Nothing text.now) }
+        ≡ option_map (folded []) (double Nothing text.now)) }
 {
-    let mut value = Vec::new(alloc);
+    let mut read = nothing_read(alloc);
     let mut held = Escape::Nothing;
     let mut rest = text;
     while let [first, tail @ ..] = rest {
         if closes(held, *first) {
-            return Ok(Some(value));
+            return Ok(Some(ended(alloc, read)?));
         }
         let Some(next) = double_step(held, *first) else {
             return Ok(None);
         };
-        append(&mut value, given_by(held, *first))?;
+        append(alloc, &mut read, piece_after(held, *first))?;
         held = next;
         rest = tail;
     }
     Ok(None)
 }
 
-/// Returns lines without their indentation, each with a line feed at its end.
+/// Returns the lines of a block scalar without `indent` bytes of indentation each. Their ends are line feeds.
 #[tactic(auto, unfolding(crate::specs::Decoded::lines_of))]
 fn lines_of(alloc: Global, indent: usize, text: &[u8]) -> Result<Vec<u8>, AllocError>
     ensures { IfOk result (λ lines. lines.items ≡ lines_of indent false 0 text.now) }
@@ -234,7 +275,7 @@ fn lines_of(alloc: Global, indent: usize, text: &[u8]) -> Result<Vec<u8>, AllocE
     Ok(lines)
 }
 
-/// Takes the line feed off the end, if there is one.
+/// Removes the line feed at the end, if there is one.
 fn cut_end(lines: &mut Vec<u8>)
     ensures { lines.new.items ≡ without_end lines.old.items }
 {
@@ -243,7 +284,7 @@ fn cut_end(lines: &mut Vec<u8>)
     }
 }
 
-/// Returns the lines after `|`, which is before the text.
+/// Decodes a block scalar in the style `|` from its second byte on, or returns `None` if its header is wrong.
 #[tactic(auto, unfolding(crate::specs::Decoded::literal_value))]
 fn literal_value(alloc: Global, indent: usize, text: &[u8]) -> Result<Option<Vec<u8>>, AllocError>
     ensures { IfOk result (λ value. option_map (λ bytes. bytes.items) value
@@ -258,4 +299,15 @@ fn literal_value(alloc: Global, indent: usize, text: &[u8]) -> Result<Option<Vec
         cut_end(&mut lines);
     }
     Ok(Some(lines))
+}
+
+/// Decodes a block scalar in the style `>` from its second byte on, or returns `None` if its header is wrong.
+fn folded_value(alloc: Global, indent: usize, text: &[u8]) -> Result<Option<Vec<u8>>, AllocError>
+    ensures { IfOk result (λ value. option_map (λ bytes. bytes.items) value
+        ≡ option_map (folded_lines None (10 ∷ [])) (literal_value indent text.now)) }
+{
+    match literal_value(alloc, indent, text)? {
+        Some(lines) => Ok(Some(folded_lines(alloc, &lines)?)),
+        None => Ok(None),
+    }
 }

@@ -1,117 +1,126 @@
-//! Why a text isn't read.
+//! The errors of reading a text.
 
 ghost use Rattle.subst_yaml_reader.specs.declared.error.Halt.TheVariants.{OutOfMemory as HaltedByMemory};
 ghost use Rattle.subst_yaml_reader.specs.declared.error.Halt.TheVariants.{Refused as HaltedByText};
-ghost use Rattle.std.specs.Prelude.{◌≡◌, ◌+◌, length};
+ghost use Rattle.std.specs.Prelude.{◌≡◌, ◌+◌, Some, length};
+ghost use Rattle.subst_yaml_reader.specs.Display.{display_of_error, display_of_fault, display_of_reason};
 
 use crate::event::Span;
 use std::alloc::AllocFailed;
 use std::error::Error as ErrorTrait;
 use std::fmt;
 
-/// Why a text is refused.
+/// The reason why a text is refused.
 #[derive(Clone, Copy, Debug, PartialEq, Eq)]
 pub enum Reason {
-    /// A tab is in the indentation, or between `- ` and what comes after it.
+    /// A tab is in the indentation, or between `- ` and the token after it.
     Tab,
-    /// A line is indented as no line before it.
+    /// A line's indentation matches that of no open collection.
     Indentation,
-    /// A key, or an item, is where only a value can be.
+    /// A key or an item is where only a value can be.
     NotAValue,
-    /// A key without a colon, or an item, is missing: a mapping or a sequence goes on with something else.
+    /// A mapping or a sequence is continued by something other than a key with a colon or an item.
     NotAnEntry,
     /// Text comes after a value.
     TextAfterValue,
     /// Text comes after `...` without `---`.
     TextAfterEnd,
-    /// `? key`.
+    /// A key is written after `?`, as in `? key`.
     ComplexKey,
-    /// `: value`.
+    /// A colon has no key before it, as in `: value`.
     NoKey,
     /// A collection is a key.
     CollectionKey,
-    /// A key is over lines, or longer than 1,024 bytes.
+    /// A key spans lines, or is longer than 1,024 bytes.
     LongKey,
     /// `%` begins a line or a value.
     Directive,
-    /// The name of an anchor, an alias or a tag.
+    /// The name of an anchor, an alias or a tag isn't accepted.
     Name,
-    /// Two anchors or two tags, or one at an alias.
+    /// A node has two anchors or two tags, or an alias has an anchor or a tag.
     Properties,
-    /// A quote isn't closed, or a document ends in it.
+    /// A quote isn't closed before the end of its document.
     Quote,
-    /// An escape between double quotes.
+    /// An escape between double quotes isn't known.
     Escape,
-    /// A bracket isn't closed, or closes none, or a comma is where none can be.
+    /// A bracket isn't closed or closes none, or a comma is where none can be.
     Bracket,
-    /// Unquoted text in brackets goes on with another line.
+    /// Unquoted text in brackets is continued on another line.
     FlowLines,
-    /// The line of `|` or `>` goes on, or they begin a document.
+    /// Text follows `|` or `>` on its line, or a whole document is in such a style.
     BlockHeader,
-    /// Spaces alone are before the first line after `|` or `>`.
+    /// A line of only spaces comes before the first line of text after `|` or `>`.
     BlockSpaces,
-    /// A character that begins no value.
+    /// A value begins with a character that can't begin one.
     Indicator,
-    /// A character that not every reader takes.
+    /// A character isn't accepted by every reader.
     Character,
-    /// A carriage return that is before no line feed.
+    /// A carriage return has no line feed after it.
     CarriageReturn,
     /// A zero byte: the text may be UTF-16.
     Zero,
 }
 
 impl Reason {
-    /// Returns the reason in words.
-    fn text(self) -> &'static str {
+    /// Returns the text of the reason.
+    fn text(self) -> &'static str
+        ensures { result.now ≡ display_of_reason self }
+    {
         match self {
             Reason::Tab => "a tab in the indentation",
-            Reason::Indentation => "indented as no line before it",
-            Reason::NotAValue => "a key or an item where only a value can be (quote what has ': ')",
-            Reason::NotAnEntry => "no key or item of the collection that goes on here",
+            Reason::Indentation => "an indentation that no line before has",
+            Reason::NotAValue => "a key or an item in place of a value; quote a value with ': '",
+            Reason::NotAnEntry => "not a key or an item of the collection at this indentation",
             Reason::TextAfterValue => "text after a value",
             Reason::TextAfterEnd => "text after '...' without '---'",
-            Reason::ComplexKey => "a key after '?' isn't read",
-            Reason::NoKey => "a value without a key isn't read",
+            Reason::ComplexKey => "a key after '?' isn't supported",
+            Reason::NoKey => "a value without a key isn't supported",
             Reason::CollectionKey =>
-                "a collection as a key isn't read (a template of Helm or Jinja?)",
-            Reason::LongKey => "a key over lines or of more than 1,024 bytes isn't read",
-            Reason::Directive => "a directive isn't read, nor a value that begins with '%'",
-            Reason::Name => "a name that isn't read",
+                "a collection as a key isn't supported; is this a Helm or Jinja template?",
+            Reason::LongKey =>
+                "a key over several lines or of more than 1,024 bytes isn't supported",
+            Reason::Directive => "a directive isn't supported, nor a value that begins with '%'",
+            Reason::Name => "an unsupported name of an anchor, alias or tag",
             Reason::Properties => "a second anchor or tag, or one at an alias",
-            Reason::Quote => "a quote that isn't closed",
-            Reason::Escape => "an escape that isn't known",
-            Reason::Bracket =>
-                "a bracket that isn't closed, or a bracket or comma where none can be",
-            Reason::FlowLines => "a value over lines in brackets needs quotes",
-            Reason::BlockHeader => "text after '|' or '>', or one that is a whole document",
-            Reason::BlockSpaces => "a line of spaces alone before the text after '|' or '>'",
-            Reason::Indicator => "a value that begins with this character needs quotes",
-            Reason::Character => "a character that not every reader takes",
-            Reason::CarriageReturn =>
-                "a carriage return without a line feed isn't read as a line end",
-            Reason::Zero => "a zero byte isn't read (text in UTF-16?)",
+            Reason::Quote => "a missing closing quote",
+            Reason::Escape => "an unknown escape",
+            Reason::Bracket => "a missing closing bracket, or a bracket or comma out of place",
+            Reason::FlowLines => "a value over several lines in brackets; quote it",
+            Reason::BlockHeader => "text after '|' or '>', or a whole document in this style",
+            Reason::BlockSpaces =>
+                "a line of spaces before the first line of text after '|' or '>'",
+            Reason::Indicator => "a value can't begin with this character; quote it",
+            Reason::Character => "a character that some YAML readers reject",
+            Reason::CarriageReturn => "a carriage return without a line feed",
+            Reason::Zero => "a zero byte; is this UTF-16?",
         }
     }
 }
 
 impl fmt::Display for Reason {
+    ghost output = { λ reason. Some (display_of_reason reason) };
+
+    ghost styled_output = { λ reason _. Some (display_of_reason reason) };
+
     fn fmt<W: fmt::Write>(&self, f: &mut fmt::Formatter<W>) -> fmt::Result {
         f.write_str(self.text())
     }
 }
 
-/// Why and where a text is refused.
+/// A refusal of a text: its reason and its place.
 #[derive(Clone, Copy, Debug, PartialEq, Eq)]
 pub struct Fault {
-    /// Why.
+    /// The reason why the text is refused.
     pub reason: Reason,
-    /// The character at which it is refused, empty at the end of the text.
+    /// The span of the refused character, empty at the end of the text.
     pub span: Span,
-    /// Its line, counted from 1.
+    /// The line of the character, from 1.
     pub line: usize,
 }
 
 impl fmt::Display for Fault {
+    ghost output = { λ fault. Some (display_of_fault fault) };
+
     fn fmt<W: fmt::Write>(&self, f: &mut fmt::Formatter<W>) -> fmt::Result {
         let line = self.line;
         let reason = self.reason;
@@ -119,7 +128,7 @@ impl fmt::Display for Fault {
     }
 }
 
-/// Why a text isn't read.
+/// The error of reading a text.
 #[derive(Clone, Copy, Debug, PartialEq, Eq)]
 pub enum Error {
     /// The text is refused.
@@ -129,6 +138,8 @@ pub enum Error {
 }
 
 impl fmt::Display for Error {
+    ghost output = { λ error. Some (display_of_error error) };
+
     fn fmt<W: fmt::Write>(&self, f: &mut fmt::Formatter<W>) -> fmt::Result {
         match self {
             Error::Refused(fault) => write!(f, "{fault}"),
@@ -139,24 +150,24 @@ impl fmt::Display for Error {
 
 impl ErrorTrait for Error {}
 
-/// Why a turn doesn't come to its end.
+/// The reason why reading stops before the end of a text.
 #[derive(Clone, Copy, Drop)]
 pub(crate) enum Halt {
-    /// The text is refused, where so many bytes are left.
+    /// The text is refused: why, and the number of bytes from the refused character to the end of the text.
     Refused(Reason, usize),
     /// An allocation failed.
     OutOfMemory,
 }
 
 impl Halt {
-    /// Returns the refusal of a text at its beginning.
+    /// Creates the refusal of the character at which `text`, the rest of the source, begins.
     pub(crate) fn at(reason: Reason, text: &[u8]) -> Halt
         ensures { result ≡ HaltedByText reason (length text.now) }
     {
         Halt::Refused(reason, text.len())
     }
 
-    /// Returns the refusal of the byte before a text.
+    /// Creates the refusal of the byte before `text`, the rest of the source.
     pub(crate) fn before(reason: Reason, text: &[u8]) -> Halt
         ensures { result ≡ HaltedByText reason (length text.now + 1) }
     {

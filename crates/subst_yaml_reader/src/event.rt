@@ -1,32 +1,32 @@
-//! What a document is read as.
+//! Events: the elements of a text, in order.
 
-/// Where a token is: byte offsets from 0, the second one after it.
+/// The span of a token, in byte offsets from 0.
 #[derive(Clone, Copy, Debug, PartialEq, Eq)]
 pub struct Span {
-    /// The offset of its first byte.
+    /// The offset of the token's first byte.
     pub start: usize,
-    /// The offset after its last byte.
+    /// The offset after the token's last byte.
     pub end: usize,
 }
 
-/// How a token is written.
+/// The style in which a token is written.
 #[derive(Clone, Copy, Debug, PartialEq, Eq)]
 pub enum Style {
     /// Without quotes.
     Plain,
-    /// Between single quotes, which are in its span.
+    /// In single quotes, which are part of the token.
     Single,
-    /// Between double quotes, which are in its span.
+    /// In double quotes, which are part of the token.
     Double,
-    /// Lines after `|`, which begins its span. The line end of its last line is in it.
+    /// Lines after `|`. The span ends after the line end of the last line, or after a header without lines.
     Literal,
-    /// Lines after `>`, as those after `|`.
+    /// Lines after `>`. The span ends after the line end of the last line, or after a header without lines.
     Folded,
-    /// `*name`.
+    /// An alias, `*name`.
     Alias,
 }
 
-/// What a collection in brackets is.
+/// The kind of a collection in brackets.
 #[derive(Clone, Copy, Debug, PartialEq, Eq)]
 pub enum Bracket {
     /// `[..]`.
@@ -37,9 +37,8 @@ pub enum Bracket {
     Pair,
 }
 
-/// What is read at a token. Events are in the order of the text, and their depths say which collection an
-/// entry is of: the outermost collection without brackets has depth 1. An entry without a value has no event
-/// before the next one.
+/// An event of a text. The depth of an item or a key is the number of open collections without brackets, its
+/// own collection included. A missing value has no event, except `Null` in brackets.
 #[derive(Clone, Copy, Debug, PartialEq, Eq)]
 pub enum Event {
     /// A document begins.
@@ -53,33 +52,33 @@ pub enum Event {
     Key {
         /// The depth of the mapping.
         depth: usize,
-        /// How it is written.
+        /// The style of the key.
         style: Style,
-        /// Where it is, without its colon.
+        /// The span of the key, without its colon.
         span: Span,
     },
     /// A scalar or an alias that is a value.
     Value {
-        /// How it is written.
+        /// The style of the value.
         style: Style,
-        /// Where it is.
+        /// The span of the value.
         span: Span,
-        /// Whether it is in brackets.
+        /// Whether the value is in brackets.
         in_flow: bool,
-        /// The spaces before each line after `|` or `>`, and else 0.
+        /// The number of spaces before each line of a value after `|` or `>`, and 0 for any other value.
         indent: usize,
     },
     /// A collection in brackets begins.
     Open(Bracket),
     /// A key in brackets.
     FlowKey {
-        /// How it is written.
+        /// The style of the key.
         style: Style,
-        /// Where it is, without its colon.
+        /// The span of the key, without its colon.
         span: Span,
     },
-    /// No value, of a key in brackets or of an item there that has an anchor or a tag alone.
+    /// A missing value in brackets: after a key, or as an item that is only an anchor or a tag.
     Null,
-    /// The last collection in brackets ends.
+    /// The innermost collection in brackets ends.
     Close,
 }

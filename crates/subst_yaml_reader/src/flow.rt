@@ -9,13 +9,13 @@ use crate::block::{has_any, is_alias};
 use crate::bytes::{begins, is_document_mark, is_mark};
 use crate::error::{Halt, Reason};
 use crate::event::{Bracket, Event, Span, Style};
-use crate::reader::{Next, Reader};
+use crate::reader::{EventKind, Next, Reader};
 use crate::runs::after_blanks;
 use crate::scalar::{
     Properties, after_byte, colon_follows, fits_key, joined, node_properties, scalar,
 };
 
-/// Returns whether two collections in brackets are of one kind.
+/// Returns whether two collections in brackets are of the same kind.
 fn is_same(one: Bracket, other: Bracket) -> bool
     ensures { result ≡ is_same one other }
 {
@@ -26,7 +26,7 @@ fn is_same(one: Bracket, other: Bracket) -> bool
     }
 }
 
-/// Returns whether an entry in brackets is over before its node, of which the next token is this.
+/// Returns whether no node follows an anchor or a tag: the text is on another line, or at `,`, `]` or `}`.
 fn is_node_over(is_fresh: bool, text: &[u8]) -> bool
     ensures { result ≡ is_node_over is_fresh text.now }
 {
@@ -44,14 +44,14 @@ impl Reader {
         }
     }
 
-    /// Returns whether a key of a mapping in brackets comes.
+    /// Returns whether a key of a mapping in brackets is expected.
     fn is_key_due(&self) -> bool
         ensures { result ≡ is_key_due (state_of self.now) }
     {
         matches!(self.next, Next::Member) && self.is_in(Bracket::Mapping)
     }
 
-    /// Reads a token in brackets. Returns the text from the next one on.
+    /// Reads a token in brackets. Returns the text from the next token on.
     #[tactic(auto, unfolding(crate::specs::Flow::flow_turn))]
     pub(crate) fn flow_turn<'t>(&mut self, text: &'t [u8]) -> Result<&'t [u8], Halt>
         ensures ok { IfOk result (λ rest. flow_turn (state_of self.old) text.now
@@ -70,7 +70,8 @@ impl Reader {
         }
     }
 
-    /// Says that the entry has no value, if none is read.
+    /// Appends a null if the entry has no value: after a key, or as an item that is only an anchor or a tag.
+    /// Refuses the byte before `rest` if no entry can end there.
     #[tactic(auto, unfolding(crate::specs::Flow::finished))]
     fn finish_entry(&mut self, rest: &[u8]) -> Result<(), Halt>
         ensures ok { IfOk result (λ _. finished (state_of self.old) ≡ Some (state_of self.new)) }
@@ -87,7 +88,7 @@ impl Reader {
         }
     }
 
-    /// Ends an entry, and with it a pair.
+    /// Ends an entry at the byte before `rest`, and also its pair if the entry is `key: value` in a sequence.
     #[tactic(auto, unfolding(crate::specs::Flow::ended))]
     fn end_entry(&mut self, rest: &[u8]) -> Result<(), Halt>
         ensures ok { IfOk result (λ _. ended (state_of self.old) ≡ Some (state_of self.new)) }
@@ -100,7 +101,7 @@ impl Reader {
         Ok(())
     }
 
-    /// Reads a comma, which is before `rest`.
+    /// Reads a comma, the byte before `rest`.
     #[tactic(auto, unfolding(crate::specs::Flow::next_entry))]
     fn next_entry<'t>(&mut self, rest: &'t [u8]) -> Result<&'t [u8], Halt>
         ensures ok { IfOk result (λ next. next_entry (state_of self.old) rest.now
@@ -113,7 +114,7 @@ impl Reader {
         Ok(self.go_on(rest))
     }
 
-    /// Ends the last entry, if there is one.
+    /// Ends the last entry, if there is one. The byte before `rest` is the closing bracket.
     #[tactic(auto, unfolding(crate::specs::Flow::closing))]
     fn end_last(&mut self, rest: &[u8]) -> Result<(), Halt>
         ensures ok { IfOk result (λ _. closing (state_of self.old) ≡ Some (state_of self.new)) }
@@ -127,7 +128,7 @@ impl Reader {
         }
     }
 
-    /// Reads the closing bracket of a collection of this kind, which is before `rest`.
+    /// Reads the closing bracket of a collection of this kind. The bracket is the byte before `rest`.
     #[tactic(auto, unfolding(crate::specs::Flow::close))]
     fn close<'t>(&mut self, bracket: Bracket, rest: &'t [u8]) -> Result<&'t [u8], Halt>
         ensures ok { IfOk result (λ next. close bracket (state_of self.old) rest.now
@@ -144,7 +145,7 @@ impl Reader {
         Ok(self.go_on(rest))
     }
 
-    /// Reads the anchor and the tag of a member, and what it is.
+    /// Reads the anchor and the tag of a member, and then its content if that is on the same line.
     #[tactic(auto, unfolding(crate::specs::Flow::member))]
     fn member<'t>(&mut self, text: &'t [u8]) -> Result<&'t [u8], Halt>
         ensures ok { IfOk result (λ rest. member (state_of self.old) text.now
@@ -167,26 +168,17 @@ impl Reader {
     /// Returns the refusal of text after a value in brackets.
     fn text_after_member(&self, text: &[u8]) -> Halt {
         let is_next_line = self.is_fresh && !is_mark(text, b':');
-        let reason = match (text, self.events.last()) {
+        let reason = match (text, self.last_kind()) {
             ([b'\t', ..], _) => Reason::Tab,
-            (
-                _,
-                Some(
-                    Event::Value {
-                        style: Style::Plain,
-                        ..
-                    }
-                    | Event::Null,
-                ),
-            ) if is_next_line => { Reason::FlowLines }
-            ([b':', ..], Some(Event::Close)) => Reason::CollectionKey,
+            (_, EventKind::Unquoted) if is_next_line => Reason::FlowLines,
+            ([b':', ..], EventKind::Close) => Reason::CollectionKey,
             ([b':', ..], _) => Reason::NotAValue,
             _ => Reason::TextAfterValue,
         };
         Halt::at(reason, text)
     }
 
-    /// Reads a node in brackets from `at` on. Its anchor and tag are read, and its text is from them on.
+    /// Reads the content of a node in brackets from `at` on. Its anchor and tag are from `text` to `at`.
     #[tactic(auto, unfolding(crate::specs::Flow::flow_content))]
     fn flow_content<'t>(
         &mut self,
@@ -213,7 +205,7 @@ impl Reader {
         }
     }
 
-    /// Reads a scalar or an alias in brackets from `at` to `rest`: a key or a value.
+    /// Reads a scalar or an alias in brackets from `at` to `rest`, as a key or a value.
     #[tactic(auto, unfolding(crate::specs::Flow::flow_scalar))]
     fn flow_scalar<'t>(
         &mut self,
@@ -245,14 +237,14 @@ impl Reader {
         Ok(self.go_on(rest))
     }
 
-    /// Returns whether a scalar or an alias may be a key in brackets.
+    /// Returns whether a node in brackets, from its anchor or tag at `text` to `colon`, may be a key.
     fn is_flow_key(&self, properties: Properties, style: Style, text: &[u8], colon: &[u8]) -> bool
         ensures { result ≡ is_flow_key properties style (state_of self.now) text.now colon.now }
     {
         fits_key(text, colon) && !has_any(self.pending) && !(is_alias(style) && has_any(properties))
     }
 
-    /// Takes a key in brackets.
+    /// Appends the event of a key in brackets, and expects its value.
     fn emit_key(&mut self, style: Style, span: Span) -> Result<(), Halt>
         ensures ok { IfOk result (λ _. state_of self.new ≡ keyed style span (state_of self.old)) }
         ensures err { IfErr result (λ halt. halt ≡ OutOfMemory) }
@@ -262,7 +254,7 @@ impl Reader {
         Ok(())
     }
 
-    /// Reads the colon after a key: in a sequence a pair begins.
+    /// Appends the event of a key, and reads its colon. In a sequence, a pair begins with the key.
     #[tactic(auto, unfolding(crate::specs::Flow::flow_key))]
     fn flow_key<'t>(&mut self, style: Style, span: Span, colon: &'t [u8]) -> Result<&'t [u8], Halt>
         ensures ok { IfOk result (λ next. flow_key style span (state_of self.old) colon.now
@@ -280,7 +272,7 @@ impl Reader {
         Ok(self.go_on(after_byte(colon, b':')))
     }
 
-    /// Takes a key without a value.
+    /// Appends the events of a key without a value.
     #[tactic(auto, unfolding(crate::specs::Flow::lone_key))]
     fn lone_key<'t>(&mut self, style: Style, span: Span, rest: &'t [u8]) -> Result<&'t [u8], Halt>
         ensures ok { IfOk result (λ next. lone_key style span (state_of self.old) rest.now

@@ -1,10 +1,14 @@
-//! A reader of YAML, from token to token: `read` returns where the keys and values of documents are and how
-//! they are written, and makes no tree; `value_of` returns the text of a scalar.
+//! Reads a text of YAML as a list of events, without a tree. [`read`] returns the spans and styles of keys
+//! and values. [`value_of`] decodes a scalar, and folds its lines.
 //!
-//! Read are collections with and without brackets, scalars in all styles, aliases, anchors, tags, comments
-//! and several documents. Refused is what readers differ on or few people write: keys after `?`, over lines
-//! or that are collections, directives, tabs in the indentation, and characters that some readers take for
-//! line ends.
+//! It accepts collections with and without brackets, scalars in all styles, aliases, anchors, tags, comments
+//! and several documents. The directive `%YAML 1.1` or `%YAML 1.2` may precede the first one. It refuses
+//! forms on which readers differ or that few people write, among them:
+//!
+//! - keys after `?`, keys over several lines, and keys that are collections;
+//! - other directives;
+//! - tabs in the indentation;
+//! - characters that some readers take for line ends.
 #![tactic(auto)]
 
 ghost use Rattle.std.specs.Prelude.{◌≡◌, Some, IfErr, IfOk};
@@ -15,6 +19,7 @@ pub use decoded::value_of;
 pub use error::{Error, Fault, Reason};
 pub use event::{Bracket, Event, Span, Style};
 use std::alloc::Global;
+pub use stream::Events;
 
 mod block;
 mod bytes;
@@ -22,14 +27,18 @@ mod decoded;
 mod error;
 mod event;
 mod flow;
+mod folded;
+pub mod laws;
 mod reader;
 mod runs;
 mod scalar;
+mod search;
+mod stream;
 mod turns;
 
-/// Returns what is read at each token of a text of YAML.
+/// Reads a text of YAML, and returns its events.
 ///
-/// A byte order mark isn't passed over: pass the text after it.
+/// A byte order mark is refused: pass the text after it.
 ///
 /// ```rust
 /// let events = read(alloc, "port: 80 # c\n")?;
@@ -39,10 +48,10 @@ mod turns;
 ///
 /// # Errors
 ///
-/// When the text is refused, or allocation fails.
+/// If the text is refused, or if allocation fails.
 pub fn read(alloc: Global, source: &str) -> Result<Vec<Event>, Error>
     ensures ok { IfOk result (λ events. read source.now ≡ Some events.items) }
     ensures err { IfErr result (λ error. IsRefused error source.now (read source.now)) }
 {
-    turns::read(alloc, source.as_bytes())
+    stream::read(alloc, source)
 }

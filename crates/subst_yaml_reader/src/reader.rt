@@ -1,72 +1,101 @@
-//! What a reader of YAML keeps from token to token.
+//! The state of the reader between tokens.
 
 ghost use Rattle.std.specs.Prelude.{◌≡◌, ◌≢◌, Some, None, IfErr, IfOk};
 ghost use Rattle.subst_yaml_reader.specs.Block.{after_token};
 ghost use Rattle.subst_yaml_reader.specs.Reader.{state_of};
-ghost use Rattle.subst_yaml_reader.specs.State.{closed, column_of, emit, initial, innermost, opened, outer_column, placed, push_block, span_of, with_next};
+ghost use Rattle.subst_yaml_reader.specs.State.{closed, column_of, emit, initial, innermost, opened, outer_column, placed, push_block, span_of, with_next, without_events};
 ghost use Rattle.subst_yaml_reader.specs.declared.error.Halt.TheVariants.{OutOfMemory};
 
 use crate::error::Halt;
-use crate::event::{Bracket, Event, Span};
+use crate::event::{Bracket, Event, Span, Style};
 use crate::scalar::{Properties, Spot, after_gap};
 use std::alloc::Global;
 
-/// What a collection without brackets is.
+/// The kind of a collection without brackets.
 #[derive(Clone, Copy)]
 pub(crate) enum Kind {
-    /// Items.
+    /// A collection of items.
     Sequence,
-    /// Keys and their values.
+    /// A collection of keys and their values.
     Mapping,
 }
 
-/// A collection without brackets that is open.
+/// An open collection without brackets.
 #[derive(Clone, Copy)]
 pub(crate) struct Collection {
-    /// What it is.
+    /// The kind of the collection.
     pub(crate) kind: Kind,
-    /// The column of its entries.
+    /// The column of its entries, from 0.
     pub(crate) column: usize,
 }
 
-/// What may come next.
+/// The tokens that are expected next.
 #[derive(Clone, Copy)]
 pub(crate) enum Next {
     /// The first document.
     Start,
-    /// The marks of a document, after `...`.
+    /// A document mark, since `...` has ended the last document.
     Ended,
     /// A value.
     Value,
-    /// No value: the last one is read.
+    /// No value, since the value that was expected has been read.
     Done,
     /// A member of a collection in brackets.
     Member,
 }
 
-/// What a reader keeps.
+/// The kind of an event, as far as the refusal of text after the event depends on it.
+#[derive(Clone, Copy)]
+pub(crate) enum EventKind {
+    /// The end of a collection in brackets.
+    Close,
+    /// A value without quotes, or a missing one in brackets.
+    Unquoted,
+    /// Any other event, or none.
+    Other,
+}
+
+impl EventKind {
+    /// Returns the kind of an event.
+    fn of(event: Event) -> EventKind {
+        match event {
+            Event::Close => EventKind::Close,
+            Event::Value {
+                style: Style::Plain,
+                ..
+            }
+            | Event::Null => EventKind::Unquoted,
+            _ => EventKind::Other,
+        }
+    }
+}
+
+/// The state of the reader between two tokens. A turn reads one token.
 #[derive(Drop)]
 pub(crate) struct Reader {
-    /// How many bytes the whole text has.
+    /// The length of the whole text in bytes.
     pub(crate) size: usize,
-    /// How many bytes are left where the line of the token begins.
+    /// The number of bytes from the start of the next token's line to the end of the whole text.
     pub(crate) line: usize,
-    /// Whether a collection may begin at the token: it is the first on its line, or comes after `- `.
+    /// Whether the next token is the first on its line or after `- `, so that a collection may begin at it.
     pub(crate) is_fresh: bool,
-    /// What may come next.
+    /// The tokens that are expected next.
     pub(crate) next: Next,
-    /// The anchor and the tag of the value that comes next, from lines before.
+    /// Whether the next value has an anchor, and whether a tag, that an earlier turn read.
     pub(crate) pending: Properties,
-    /// The collections without brackets that are open, the innermost last.
+    /// The open collections without brackets, the innermost last.
     pub(crate) blocks: Vec<Collection>,
-    /// The collections in brackets that are open, the innermost last.
+    /// The open collections in brackets, the innermost last.
     pub(crate) brackets: Vec<Bracket>,
-    /// What was read.
+    /// The events of the last turn.
     pub(crate) events: Vec<Event>,
+    /// The kind of the last event before those in `events`.
+    pub(crate) last: EventKind,
 }
 
 impl Reader {
-    /// Returns a reader of a text of so many bytes whose first token is at a spot.
+    /// Creates the reader of a text of `size` bytes. `line` is the number of bytes from the start of the
+    /// first token's line to the end of the text.
     pub(crate) fn new(alloc: Global, size: usize, line: usize) -> Reader
         ensures { state_of result ≡ initial size line }
     {
@@ -82,6 +111,23 @@ impl Reader {
             blocks: Vec::new(alloc),
             brackets: Vec::new(alloc),
             events: Vec::new(alloc),
+            last: EventKind::Other,
+        }
+    }
+
+    /// Clears `events`, and keeps the kind of the last event in `last`.
+    pub(crate) fn forget_events(&mut self)
+        ensures { state_of self.new ≡ without_events (state_of self.old) }
+    {
+        self.last = self.last_kind();
+        self.events.clear();
+    }
+
+    /// Returns the kind of the last event so far.
+    pub(crate) fn last_kind(&self) -> EventKind {
+        match self.events.last() {
+            Some(event) => EventKind::of(*event),
+            None => self.last,
         }
     }
 
@@ -94,7 +140,7 @@ impl Reader {
         Ok(())
     }
 
-    /// Goes on at a spot.
+    /// Sets the position of the next token.
     pub(crate) fn place(&mut self, spot: &Spot<'_>)
         ensures { state_of self.new ≡ placed spot.now.0 spot.now.1 (state_of self.old) }
     {
@@ -102,7 +148,8 @@ impl Reader {
         self.line = spot.1;
     }
 
-    /// Goes on at the next token after this text. Returns the text from it on.
+    /// Moves to the next token in `rest`, after white space and comments. Returns the text from it on.
+    #[inline(always)]
     pub(crate) fn go_on<'t>(&mut self, rest: &'t [u8]) -> &'t [u8]
         ensures { after_token rest.now (state_of self.old) ≡ Some (state_of self.new, result.now) }
     {
@@ -111,7 +158,7 @@ impl Reader {
         spot.2
     }
 
-    /// Says what may come next. No anchor and no tag is pending.
+    /// Sets the tokens that are expected next, and clears the pending anchor and tag.
     pub(crate) fn expect(&mut self, next: Next)
         ensures { state_of self.new ≡ with_next next (state_of self.old) }
     {
@@ -132,7 +179,7 @@ impl Reader {
         Ok(())
     }
 
-    /// Opens a collection in brackets.
+    /// Opens a collection in brackets, and appends its event.
     pub(crate) fn open_bracket(&mut self, bracket: Bracket) -> Result<(), Halt>
         ensures ok { IfOk result (λ _. state_of self.new ≡ opened bracket (state_of self.old)) }
         ensures err { IfErr result (λ halt. halt ≡ OutOfMemory) }
@@ -142,7 +189,7 @@ impl Reader {
         Ok(())
     }
 
-    /// Closes the innermost collection in brackets.
+    /// Closes the innermost collection in brackets, and appends its event.
     pub(crate) fn close_bracket(&mut self) -> Result<(), Halt>
         ensures ok { IfOk result (λ _. state_of self.new ≡ closed (state_of self.old)) }
         ensures err { IfErr result (λ halt. halt ≡ OutOfMemory) }
@@ -152,21 +199,21 @@ impl Reader {
         Ok(())
     }
 
-    /// Returns the innermost collection without brackets.
+    /// Returns the innermost collection without brackets, or `None` if none is open.
     pub(crate) fn innermost_block(&self) -> Option<Collection>
         ensures { result ≡ innermost (state_of self.now).blocks }
     {
         self.blocks.last().copied()
     }
 
-    /// Returns the innermost collection in brackets.
+    /// Returns the kind of the innermost collection in brackets, or `None` if none is open.
     pub(crate) fn innermost_bracket(&self) -> Option<Bracket>
         ensures { result ≡ innermost (state_of self.now).brackets }
     {
         self.brackets.last().copied()
     }
 
-    /// Returns the column of the innermost collection without brackets.
+    /// Returns the column of the innermost collection without brackets, or `None` if none is open.
     pub(crate) fn outer_column(&self) -> Option<usize>
         ensures { result ≡ outer_column (state_of self.now) }
     {
@@ -176,14 +223,14 @@ impl Reader {
         }
     }
 
-    /// Returns the column of the token that the text begins with.
+    /// Returns the column of the token at the start of the text, from 0.
     pub(crate) fn column(&self, text: &[u8]) -> usize
         ensures { result ≡ column_of (state_of self.now) text.now }
     {
         self.line.saturating_sub(text.len())
     }
 
-    /// Returns where the bytes from one text to another one are.
+    /// Returns the span from the start of `text` to the start of `rest`, which is a later part of the source.
     pub(crate) fn span(&self, text: &[u8], rest: &[u8]) -> Span
         ensures { result ≡ span_of (state_of self.now) text.now rest.now }
     {

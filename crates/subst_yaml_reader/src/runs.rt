@@ -1,42 +1,45 @@
-//! How far tokens go: each function returns the text after one.
+//! The ends of tokens. Most functions return the text after a token at the start of their argument.
 
-ghost use Rattle.std.specs.Prelude.{◌≡◌, ◌+◌, length, false, None, Some, OnErr, IfNone, IfOk, IfSome};
+ghost use Rattle.std.specs.Prelude.{◌≡◌, ◌≤◌, ◌+◌, length, false, None, Some, OnErr, IfNone, IfOk, IfSome};
 ghost use Rattle.subst_yaml_reader.specs.Runs.{after_blanks, after_block, after_double, after_line_ends, after_lines, after_name, after_plain, after_plain_lines, after_single, after_spaces, breaks, closes, digits_after, ends_plain, escape_after, goes_on, hex_value, is_colon_end, is_escape, is_past, is_surrogate, is_text, next_line, to_line_end, with_digit};
+ghost use Rattle.subst_yaml_reader.specs.Search.{after_inner, is_indentation};
 ghost use Rattle.subst_yaml_reader.specs.declared.runs.Escape.TheVariants.{Nothing};
 
 use crate::bytes::{
-    begins, is_blank, is_bracket, is_document_mark, is_foreign, is_line_end, is_line_over,
-    is_name_byte,
+    begins, is_blank, is_bracket, is_document_mark, is_foreign, is_inner, is_line_end,
+    is_line_over, is_name_byte,
 };
 use crate::error::{Halt, Reason};
+use crate::search::{after_clear, after_quoted, to_line_feed};
 
-/// The part of an escape between double quotes that has been read.
+/// The state of an escape between double quotes.
 #[derive(Clone, Copy)]
 pub(crate) enum Escape {
-    /// There is none.
+    /// Not in an escape.
     Nothing,
-    /// A backslash.
+    /// After the backslash.
     Escaped,
-    /// A backslash, a letter and digits, of which so many are left, and the number that the others are.
+    /// After the backslash, a letter and maybe digits: how many digits are missing, and the value of the
+    /// digits so far.
     Digits(u8, u32),
 }
 
-/// Returns whether no character of the text is foreign.
+/// Returns whether every reader accepts all characters of the text.
 #[tactic(auto, unfolding(crate::specs::Runs::is_text))]
 pub(crate) fn is_text(text: &[u8]) -> bool
     ensures { result ≡ is_text text.now }
 {
-    let mut rest = text;
+    let mut rest = after_clear(text);
     while let [first, tail @ ..] = rest {
         if is_foreign(*first, tail) {
             return false;
         }
-        rest = tail;
+        rest = after_clear(tail);
     }
     true
 }
 
-/// Returns the text after its blanks.
+/// Returns the text without the spaces and tabs at its start.
 #[tactic(auto, unfolding(crate::specs::Runs::after_blanks))]
 pub(crate) fn after_blanks(text: &[u8]) -> &[u8]
     ensures { result.now ≡ after_blanks text.now }
@@ -51,10 +54,11 @@ pub(crate) fn after_blanks(text: &[u8]) -> &[u8]
     rest
 }
 
-/// Returns the text after its spaces.
+/// Returns the text without the spaces at its start.
 #[tactic(auto, unfolding(crate::specs::Runs::after_spaces))]
 pub(crate) fn after_spaces(text: &[u8]) -> &[u8]
-    ensures { result.now ≡ after_spaces text.now }
+    ensures value { result.now ≡ after_spaces text.now }
+    ensures shorter { length result.now ≤ length text.now }
 {
     let mut rest = text;
     while let [first, tail @ ..] = rest {
@@ -66,7 +70,7 @@ pub(crate) fn after_spaces(text: &[u8]) -> &[u8]
     rest
 }
 
-/// Returns the text after its line ends.
+/// Returns the text without the line ends at its start.
 #[tactic(auto, unfolding(crate::specs::Runs::after_line_ends))]
 pub(crate) fn after_line_ends(text: &[u8]) -> &[u8]
     ensures { result.now ≡ after_line_ends text.now }
@@ -96,7 +100,7 @@ pub(crate) fn to_line_end(text: &[u8]) -> &[u8]
     rest
 }
 
-/// Returns the text after a name, or after a tag.
+/// Returns the text after the bytes of a name at its start, or of a tag's name if `in_tag`.
 #[tactic(auto, unfolding(crate::specs::Runs::after_name))]
 pub(crate) fn after_name(text: &[u8], in_tag: bool) -> &[u8]
     ensures { result.now ≡ after_name in_tag text.now }
@@ -111,32 +115,38 @@ pub(crate) fn after_name(text: &[u8], in_tag: bool) -> &[u8]
     rest
 }
 
-/// Returns the text from the next token on, from inside the indentation of a line, and how many bytes are left
-/// where its line begins, which are `line` for this one. Empty lines are passed over, and comments if they may
-/// be there.
+/// Returns whether a byte belongs to the indentation of a line, or to an empty line.
+fn is_indentation(byte: u8) -> bool
+    ensures { result ≡ is_indentation byte }
+{
+    byte == b' ' || byte == b'\r'
+}
+
+/// Skips indentation, empty lines, and comments if `comments`, up to the next token. Returns the length of
+/// the text from the start of its line on (`line` for the first line), and the text from the token on.
 #[tactic(auto, unfolding(crate::specs::Runs::after_lines))]
+#[inline(always)]
 pub(crate) fn after_lines(text: &[u8], line: usize, comments: bool) -> (usize, &[u8])
     ensures { after_lines comments false line text.now ≡ (result.0, result.1.now) }
 {
     let mut begin = line;
-    let mut in_comment = false;
     let mut rest = text;
     while let [first, tail @ ..] = rest {
-        if *first == b'\n' {
+        if is_indentation(*first) {
+            rest = after_spaces(tail);
+        } else if *first == b'\n' {
             begin = tail.len();
-            in_comment = false;
-        } else if !(in_comment || *first == b'\r' || *first == b' ') {
-            if !(comments && *first == b'#') {
-                return (begin, rest);
-            }
-            in_comment = true;
+            rest = tail;
+        } else if comments && *first == b'#' {
+            rest = to_line_feed(tail);
+        } else {
+            return (begin, rest);
         }
-        rest = tail;
     }
     (begin, rest)
 }
 
-/// Returns whether a colon before the rest of the text ends unquoted text.
+/// Returns whether a colon ends unquoted text if `rest` follows the colon.
 fn is_colon_end(rest: &[u8], in_flow: bool) -> bool
     ensures { result ≡ is_colon_end in_flow rest.now }
 {
@@ -148,7 +158,8 @@ fn is_colon_end(rest: &[u8], in_flow: bool) -> bool
     }
 }
 
-/// Returns whether unquoted text ends before a byte.
+/// Returns whether unquoted text ends before `byte`, which `rest` follows.
+#[inline(always)]
 fn ends_plain(byte: u8, rest: &[u8], in_flow: bool) -> bool
     ensures { result ≡ ends_plain in_flow byte rest.now }
 {
@@ -158,7 +169,7 @@ fn ends_plain(byte: u8, rest: &[u8], in_flow: bool) -> bool
         || in_flow && is_bracket(byte)
 }
 
-/// Returns the text after unquoted text on one line, without the blanks at its end.
+/// Returns the text after one line of unquoted text, from the blanks at the end of that line on.
 #[tactic(auto, unfolding(crate::specs::Runs::after_plain))]
 pub(crate) fn after_plain(text: &[u8], in_flow: bool) -> &[u8]
     ensures { result.now ≡ after_plain in_flow text.now text.now }
@@ -166,41 +177,64 @@ pub(crate) fn after_plain(text: &[u8], in_flow: bool) -> &[u8]
     let mut end = text;
     let mut rest = text;
     while let [first, tail @ ..] = rest {
-        if ends_plain(*first, tail, in_flow) {
+        if is_inner(*first) {
+            rest = after_inner(tail);
+            end = rest;
+        } else if ends_plain(*first, tail, in_flow) {
             return end;
+        } else {
+            if !is_blank(*first) {
+                end = tail;
+            }
+            rest = tail;
         }
-        if !is_blank(*first) {
-            end = tail;
-        }
-        rest = tail;
     }
     end
 }
 
-/// Returns whether a line feed before a mark of a document is at a byte.
+/// Returns the text without the bytes at its start that belong to unquoted text and aren't blanks.
+#[tactic(auto, unfolding(crate::specs::Search::after_inner))]
+#[inline(always)]
+fn after_inner(text: &[u8]) -> &[u8]
+    ensures value { result.now ≡ after_inner text.now }
+    ensures shorter { length result.now ≤ length text.now }
+{
+    let mut rest = text;
+    while let [first, tail @ ..] = rest {
+        if !is_inner(*first) {
+            return rest;
+        }
+        rest = tail;
+    }
+    rest
+}
+
+/// Returns whether a byte is a line feed, and a document mark is at the start of `rest`, the text after it.
 fn breaks(byte: u8, rest: &[u8]) -> bool
     ensures { result ≡ breaks byte rest.now }
 {
     byte == b'\n' && is_document_mark(rest)
 }
 
-/// Returns the text after single quotes that are open.
+/// Returns the text after the closing single quote. `text` begins after the opening quote.
 #[tactic(auto, unfolding(crate::specs::Runs::after_single))]
 pub(crate) fn after_single(text: &[u8]) -> Result<&[u8], Halt>
     ensures ok { IfOk result (λ rest. after_single false text.now ≡ Some rest.now) }
     ensures err { OnErr result (after_single false text.now ≡ None) }
 {
     let mut is_quoted = false;
-    let mut rest = text;
+    let mut rest = after_quoted(text);
     while let [first, tail @ ..] = rest {
         if *first == b'\'' {
             is_quoted = !is_quoted;
+            rest = tail;
         } else if is_quoted {
             return Ok(rest);
         } else if breaks(*first, tail) {
             return Err(Halt::before(Reason::Quote, text));
+        } else {
+            rest = after_quoted(tail);
         }
-        rest = tail;
     }
     if is_quoted {
         Ok(rest)
@@ -209,7 +243,7 @@ pub(crate) fn after_single(text: &[u8]) -> Result<&[u8], Halt>
     }
 }
 
-/// Returns whether a byte is an escape of one character after a backslash.
+/// Returns whether a byte after a backslash makes an escape without digits.
 fn is_escape(byte: u8) -> bool
     ensures { result ≡ is_escape byte }
 {
@@ -233,7 +267,7 @@ fn is_escape(byte: u8) -> bool
         || is_line_end(byte)
 }
 
-/// Returns how many digits an escape by this letter has, or 0 for another byte.
+/// Returns the number of digits in an escape with this letter, or 0 for another byte.
 pub(crate) fn digits_after(byte: u8) -> u8
     ensures { result ≡ digits_after byte }
 {
@@ -245,7 +279,7 @@ pub(crate) fn digits_after(byte: u8) -> u8
     }
 }
 
-/// Returns what a hexadecimal digit counts, or 16 for another byte.
+/// Returns the value of a hexadecimal digit, or 16 for another byte.
 pub(crate) fn hex_value(byte: u8) -> u32
     ensures { result ≡ hex_value byte }
 {
@@ -260,14 +294,15 @@ pub(crate) fn hex_value(byte: u8) -> u32
     }
 }
 
-/// Returns whether a number is half of a pair of UTF-16.
+/// Returns whether a number is a surrogate of UTF-16.
 fn is_surrogate(number: u32) -> bool
     ensures { result ≡ is_surrogate number }
 {
     number >= 0xD800 && number < 0xE000
 }
 
-/// Returns an escape with one more digit, or `None` if it is no digit, or the number no character.
+/// Returns the state of an escape after `digit`, the next of `left` missing digits. The digits before have
+/// the value `value`. Returns `None` if `digit` is over 15, or if the number can't be a character.
 fn with_digit(left: u8, value: u32, digit: u32) -> Option<Escape>
     ensures { result ≡ with_digit left value digit }
 {
@@ -284,7 +319,7 @@ fn with_digit(left: u8, value: u32, digit: u32) -> Option<Escape>
     }
 }
 
-/// Returns the escape after a byte between double quotes, or `None` if it can't be read.
+/// Returns the state of an escape after `byte` in double quotes, or `None` if `byte` is wrong before `rest`.
 pub(crate) fn escape_after(escape: Escape, byte: u8, rest: &[u8]) -> Option<Escape>
     ensures { result ≡ escape_after escape byte rest.now }
 {
@@ -299,36 +334,42 @@ pub(crate) fn escape_after(escape: Escape, byte: u8, rest: &[u8]) -> Option<Esca
     }
 }
 
-/// Returns whether a byte closes double quotes.
+/// Returns whether a byte closes double quotes: it is a quote, and not in an escape.
 pub(crate) fn closes(escape: Escape, byte: u8) -> bool
     ensures { result ≡ closes escape byte }
 {
     matches!(escape, Escape::Nothing) && byte == b'"'
 }
 
-/// Returns the text after double quotes that are open.
+/// Returns the text after the closing double quote. `text` begins after the opening quote.
 #[tactic(auto, unfolding(crate::specs::Runs::after_double))]
 pub(crate) fn after_double(text: &[u8]) -> Result<&[u8], Halt>
     ensures ok { IfOk result (λ rest. after_double Nothing text.now ≡ Some rest.now) }
     ensures err { OnErr result (after_double Nothing text.now ≡ None) }
 {
     let mut escape = Escape::Nothing;
-    let mut rest = text;
+    let mut rest = after_quoted(text);
     while let [first, tail @ ..] = rest {
         if closes(escape, *first) {
             return Ok(tail);
         }
         match escape_after(escape, *first, tail) {
-            Some(next) => escape = next,
+            Some(Escape::Nothing) => {
+                escape = Escape::Nothing;
+                rest = after_quoted(tail);
+            }
+            Some(next) => {
+                escape = next;
+                rest = tail;
+            }
             None if breaks(*first, tail) => return Err(Halt::before(Reason::Quote, text)),
             None => return Err(Halt::at(Reason::Escape, rest)),
         }
-        rest = tail;
     }
     Err(Halt::before(Reason::Quote, text))
 }
 
-/// Returns whether a column is past the column of a collection, or there is none.
+/// Returns whether `column` is past `outer`, the column of a collection, or `outer` is `None`.
 pub(crate) fn is_past(outer: Option<usize>, column: usize) -> bool
     ensures { result ≡ is_past outer column }
 {
@@ -338,7 +379,7 @@ pub(crate) fn is_past(outer: Option<usize>, column: usize) -> bool
     }
 }
 
-/// Returns whether unquoted text in a collection goes on with a line.
+/// Returns whether a line at this column continues unquoted text in a collection at the column `outer`.
 fn goes_on(outer: Option<usize>, column: usize, line: &[u8]) -> bool
     ensures { result ≡ goes_on outer column line.now }
 {
@@ -354,7 +395,7 @@ fn goes_on(outer: Option<usize>, column: usize, line: &[u8]) -> bool
     }
 }
 
-/// Returns the next line of unquoted text, or `None` if the text ends before it.
+/// Returns the text from the next line of unquoted text on, or `None` if no line continues it.
 fn next_line(outer: Option<usize>, text: &[u8]) -> Option<&[u8]>
     ensures some { IfSome result (λ line. next_line outer text.now ≡ Some line.now) }
     ensures none { IfNone result (next_line outer text.now ≡ None) }
@@ -370,7 +411,8 @@ fn next_line(outer: Option<usize>, text: &[u8]) -> Option<&[u8]>
     }
 }
 
-/// Returns the text after the other lines of unquoted text in a collection.
+/// Returns the text after unquoted text, whose first line is before `text`, in a collection at column
+/// `outer`.
 #[tactic(auto, unfolding(crate::specs::Runs::after_plain_lines))]
 pub(crate) fn after_plain_lines(text: &[u8], outer: Option<usize>) -> &[u8]
     ensures { result.now ≡ after_plain_lines (length text.now + 1) outer text.now }
@@ -385,33 +427,38 @@ pub(crate) fn after_plain_lines(text: &[u8], outer: Option<usize>) -> &[u8]
     rest
 }
 
-/// Returns the text after the lines of a block scalar whose column is `indent`. If there is none with text,
-/// it is `end`. Lines without text after the last one are passed over if they are kept.
+/// Returns the text after the lines of a block scalar, which are at the column `indent`, or `end` if there
+/// are no lines. Empty lines at the end belong to the scalar if `keep`.
 #[tactic(auto, unfolding(crate::specs::Runs::after_block))]
 pub(crate) fn after_block<'t>(text: &'t [u8], end: &'t [u8], indent: usize, keep: bool) -> &'t [u8]
     ensures { result.now ≡ after_block indent keep false 0 end.now text.now }
 {
     let mut end = end;
-    let mut in_text = false;
     let mut column = 0;
     let mut rest = text;
     while let [first, tail @ ..] = rest {
         if *first == b'\n' {
-            if in_text || keep {
+            if keep {
                 end = tail;
             }
-            in_text = false;
             column = 0;
-        } else if !(in_text || *first == b'\r') {
-            if column >= indent {
-                in_text = true;
-            } else if *first == b' ' {
-                column += 1;
-            } else {
-                return end;
-            }
+            rest = tail;
+        } else if *first == b'\r' {
+            rest = tail;
+        } else if column >= indent {
+            let line_end = to_line_feed(tail);
+            let [_, next @ ..] = line_end else {
+                return line_end;
+            };
+            end = next;
+            column = 0;
+            rest = next;
+        } else if *first == b' ' {
+            column += 1;
+            rest = tail;
+        } else {
+            return end;
         }
-        rest = tail;
     }
-    if in_text || keep { rest } else { end }
+    if keep { rest } else { end }
 }

@@ -1,7 +1,7 @@
-//! The parts of a node: names, scalars and what comes after them.
+//! The parts of a node: names, scalars, and the gaps after them.
 
-ghost use Rattle.std.specs.Prelude.{◌≡◌, None, Some, OnErr, IfOk, IfSome, IfNone};
-ghost use Rattle.subst_yaml_reader.specs.Scalar.{after_byte, after_gap, begins_plain, colon_follows, digit_at, fits_key, header, is_name_over, is_property, joined, name_end, node_properties, one_property, property, property_of, scalar, sign_at};
+ghost use Rattle.std.specs.Prelude.{◌≡◌, true, None, Some, OnErr, IfOk, IfSome, IfNone, option_map};
+ghost use Rattle.subst_yaml_reader.specs.Scalar.{after_byte, after_gap, begins_plain, colon_follows, digit_at, fits_key, header, is_name_over, is_property, joined, line_end_of, name_end, node_properties, one_property, property, property_of, scalar, sign_at};
 
 use crate::bytes::{begins, is_apart, is_blank, is_indicator, is_line_end, is_line_over};
 use crate::error::{Halt, Reason};
@@ -10,10 +10,10 @@ use crate::runs::{
     after_blanks, after_double, after_lines, after_name, after_plain, after_single, to_line_end,
 };
 
-/// The bytes of a key, with the anchor and the tag before it, are at most these.
+/// The greatest length of a key in bytes, with the anchor and the tag before it.
 pub(crate) const LONGEST_KEY: usize = 1024;
 
-/// Which of an anchor and a tag a node has.
+/// The properties of a node: whether it has an anchor, and whether a tag.
 #[derive(Clone, Copy)]
 pub(crate) struct Properties {
     /// Whether it has an anchor.
@@ -22,15 +22,15 @@ pub(crate) struct Properties {
     pub(crate) tag: bool,
 }
 
-/// The next token: whether it is the first on its line, how many bytes are left where the line begins, and the
-/// text from it on.
+/// The position of a token: whether it is the first on its line, the length of the text from the line's start
+/// on, and the text from the token on.
 pub(crate) type Spot<'t> = (bool, usize, &'t [u8]);
 
-/// What is written after `|` or `>`: the digit, or 0, whether `+` is there, and the text from the end of its
-/// line on.
+/// The header of a block scalar: its digit, or 0 without one, whether it has `+`, and the text from the end
+/// of its line on.
 pub(crate) type Header<'t> = (usize, bool, &'t [u8]);
 
-/// Returns the text without its first byte if it is this one.
+/// Returns the text without its first byte if that is `byte`, and otherwise the text.
 pub(crate) fn after_byte(text: &[u8], byte: u8) -> &[u8]
     ensures { result.now ≡ after_byte byte text.now }
 {
@@ -40,8 +40,8 @@ pub(crate) fn after_byte(text: &[u8], byte: u8) -> &[u8]
     }
 }
 
-/// Returns the next token after blanks, and after a comment and empty lines if the line is over. In this line
-/// so many bytes are left at its beginning.
+/// Returns the position of the next token, after blanks, comments and line ends. `line` is the number of
+/// bytes from the start of the line in which `text` begins to the end of the source.
 #[tactic(auto, unfolding(crate::specs::Scalar::after_gap))]
 pub(crate) fn after_gap(text: &[u8], line: usize) -> Spot<'_>
     ensures { after_gap line text.now ≡ (result.0, result.1, result.2.now) }
@@ -55,7 +55,7 @@ pub(crate) fn after_gap(text: &[u8], line: usize) -> Spot<'_>
     }
 }
 
-/// Returns whether nothing more belongs to a name before this text.
+/// Returns whether a name may end before this text.
 fn is_name_over(text: &[u8], in_flow: bool, in_tag: bool) -> bool
     ensures { result ≡ is_name_over in_flow in_tag text.now }
 {
@@ -63,7 +63,7 @@ fn is_name_over(text: &[u8], in_flow: bool, in_tag: bool) -> bool
         || in_flow && !in_tag && (begins(text, b',') || begins(text, b']') || begins(text, b'}'))
 }
 
-/// Returns the text after the name that it begins with.
+/// Returns the text after the name at its start, or refuses the byte at which no name can begin or end.
 #[tactic(auto, unfolding(crate::specs::Scalar::name_end))]
 fn name_end(text: &[u8], in_flow: bool, in_tag: bool) -> Result<&[u8], Halt>
     ensures ok { IfOk result (λ rest. name_end in_flow in_tag text.now ≡ Some rest.now) }
@@ -84,7 +84,7 @@ fn is_property(text: &[u8]) -> bool
     begins(text, b'&') || begins(text, b'!')
 }
 
-/// Returns the text after the anchor or the tag that it begins with.
+/// Returns the text after the anchor or the tag at its start.
 #[tactic(auto, unfolding(crate::specs::Scalar::property))]
 fn property(text: &[u8], in_flow: bool) -> Result<&[u8], Halt>
     ensures ok { IfOk result (λ rest. property in_flow text.now ≡ Some rest.now) }
@@ -97,7 +97,7 @@ fn property(text: &[u8], in_flow: bool) -> Result<&[u8], Halt>
     }
 }
 
-/// Returns what both have, or refuses what both have.
+/// Returns the union of two parts of a node's properties. Two anchors or two tags are refused at `text`.
 pub(crate) fn joined(first: Properties, second: Properties, text: &[u8]) -> Result<Properties, Halt>
     ensures ok { IfOk result (λ both. joined first second ≡ Some both) }
     ensures err { OnErr result (joined first second ≡ None) }
@@ -111,7 +111,7 @@ pub(crate) fn joined(first: Properties, second: Properties, text: &[u8]) -> Resu
     })
 }
 
-/// Returns the anchor or the tag that the text begins with, and the next token after it.
+/// Reads the anchor or the tag at the start of the text. Returns which it is, and the next token's position.
 #[tactic(auto, unfolding(crate::specs::Scalar::one_property))]
 fn one_property(text: &[u8], line: usize, in_flow: bool) -> Result<(Properties, Spot<'_>), Halt>
     ensures ok { IfOk result (λ found. one_property in_flow line text.now
@@ -126,8 +126,9 @@ fn one_property(text: &[u8], line: usize, in_flow: bool) -> Result<(Properties, 
     Ok((found, after_gap(rest, line)))
 }
 
-/// Returns the anchor and the tag that the text begins with, and the next token after them.
-#[tactic(auto, unfolding(crate::specs::Scalar::node_properties, crate::specs::Scalar::second_property))]
+/// Reads an anchor and a tag, if any, at the start of the text. Returns which, and the next token's position.
+#[tactic(auto, unfolding(crate::specs::Scalar::node_properties))]
+#[inline(always)]
 pub(crate) fn node_properties(
     text: &[u8],
     line: usize,
@@ -137,13 +138,24 @@ pub(crate) fn node_properties(
         ≡ Some (found.0, (found.1.0, found.1.1, found.1.2.now))) }
     ensures err { OnErr result (node_properties in_flow line text.now ≡ None) }
 {
-    if !is_property(text) {
-        let nothing = Properties {
-            anchor: false,
-            tag: false,
-        };
-        return Ok((nothing, (false, line, text)));
+    if is_property(text) {
+        return some_properties(text, line, in_flow);
     }
+    let nothing = Properties {
+        anchor: false,
+        tag: false,
+    };
+    Ok((nothing, (false, line, text)))
+}
+
+/// Reads an anchor, a tag or both at the start of the text. Returns which, and the next token's position.
+#[tactic(auto, unfolding(crate::specs::Scalar::node_properties, crate::specs::Scalar::second_property))]
+fn some_properties(text: &[u8], line: usize, in_flow: bool) -> Result<(Properties, Spot<'_>), Halt>
+    requires { is_property text.now ≡ true }
+    ensures ok { IfOk result (λ found. node_properties in_flow line text.now
+        ≡ Some (found.0, (found.1.0, found.1.1, found.1.2.now))) }
+    ensures err { OnErr result (node_properties in_flow line text.now ≡ None) }
+{
     let (first, spot) = one_property(text, line, in_flow)?;
     if spot.0 || !is_property(spot.2) {
         return Ok((first, spot));
@@ -152,7 +164,7 @@ pub(crate) fn node_properties(
     Ok((joined(first, second, spot.2)?, after))
 }
 
-/// Returns whether unquoted text may begin with a byte.
+/// Returns whether unquoted text may begin with `byte`, which `rest` follows.
 fn begins_plain(byte: u8, rest: &[u8], in_flow: bool) -> bool
     ensures { result ≡ begins_plain in_flow byte rest.now }
 {
@@ -165,7 +177,7 @@ fn begins_plain(byte: u8, rest: &[u8], in_flow: bool) -> bool
     }
 }
 
-/// Returns why nothing begins with a text.
+/// Returns the reason for refusing a text that begins with neither a scalar nor an alias.
 fn reason_at(text: &[u8]) -> Reason {
     match text {
         [b'\t', ..] => Reason::Tab,
@@ -180,9 +192,10 @@ fn reason_at(text: &[u8]) -> Reason {
     }
 }
 
-/// Returns the style of the scalar that a text begins with, and the text after it. Unquoted text is read to
-/// the end of its line.
+/// Returns the style of the scalar at the start of the text, and the text after it. Of unquoted text, only
+/// the first line is read.
 #[tactic(auto, unfolding(crate::specs::Scalar::scalar))]
+#[inline(always)]
 pub(crate) fn scalar(text: &[u8], in_flow: bool) -> Result<(Style, &[u8]), Halt>
     ensures ok { IfOk result (λ found. scalar in_flow text.now ≡ Some (found.0, found.1.now)) }
     ensures err { OnErr result (scalar in_flow text.now ≡ None) }
@@ -198,7 +211,7 @@ pub(crate) fn scalar(text: &[u8], in_flow: bool) -> Result<(Style, &[u8]), Halt>
     }
 }
 
-/// Returns whether the text begins with the colon after a key.
+/// Returns whether the text begins with the colon after a key of this style.
 pub(crate) fn colon_follows(text: &[u8], in_flow: bool, style: Style) -> bool
     ensures { result ≡ colon_follows in_flow style text.now }
 {
@@ -210,7 +223,7 @@ pub(crate) fn colon_follows(text: &[u8], in_flow: bool, style: Style) -> bool
     }
 }
 
-/// Returns whether a key is on one line and not too long: from its text to the text from its colon on.
+/// Returns whether a key, from `text` to `colon`, is on one line and has at most 1,024 bytes.
 #[tactic(auto, unfolding(crate::specs::Scalar::fits_key))]
 pub(crate) fn fits_key(text: &[u8], colon: &[u8]) -> bool
     ensures { result ≡ fits_key text.now colon.now }
@@ -219,7 +232,7 @@ pub(crate) fn fits_key(text: &[u8], colon: &[u8]) -> bool
     len <= LONGEST_KEY && !text[..len].contains(&b'\n')
 }
 
-/// Returns the digit that a text begins with, or 0, and the text after it.
+/// Returns the digit, 1 to 9, at the start of the text, and the text after it, or 0 and the text.
 pub(crate) fn digit_at(text: &[u8]) -> (usize, &[u8])
     ensures { digit_at text.now ≡ (result.0, result.1.now) }
 {
@@ -229,7 +242,7 @@ pub(crate) fn digit_at(text: &[u8]) -> (usize, &[u8])
     }
 }
 
-/// Returns whether a text begins with `+`, and the text after it or after `-`.
+/// Returns whether the text begins with `+`, and the text after a `+` or `-` at its start.
 fn sign_at(text: &[u8]) -> (bool, &[u8])
     ensures { sign_at text.now ≡ (result.0, result.1.now) }
 {
@@ -240,8 +253,23 @@ fn sign_at(text: &[u8]) -> (bool, &[u8])
     }
 }
 
-/// Returns what is written after `|` or `>`.
-#[tactic(auto, unfolding(crate::specs::Scalar::header, crate::specs::Scalar::line_end_of))]
+/// Returns the text from the end of its line on, or `None` if the line has more than blanks and a comment.
+#[tactic(auto, unfolding(crate::specs::Scalar::line_end_of))]
+pub(crate) fn line_end_of(text: &[u8]) -> Option<&[u8]>
+    ensures { option_map (λ rest. rest.now) result ≡ line_end_of text.now }
+{
+    let end = after_blanks(text);
+    if is_line_over(end) {
+        Some(end)
+    } else if begins(end, b'#') && !begins(text, b'#') {
+        Some(to_line_end(end))
+    } else {
+        None
+    }
+}
+
+/// Reads the header of a block scalar, after `|` or `>`.
+#[tactic(auto, unfolding(crate::specs::Scalar::header))]
 pub(crate) fn header(text: &[u8]) -> Result<Header<'_>, Halt>
     ensures ok { IfOk result (λ found. header text.now ≡ Some (found.0, found.1, found.2.now)) }
     ensures err { OnErr result (header text.now ≡ None) }
@@ -253,12 +281,8 @@ pub(crate) fn header(text: &[u8]) -> Result<Header<'_>, Halt>
     } else {
         (first, rest)
     };
-    let end = after_blanks(rest);
-    if is_line_over(end) {
-        Ok((digit, keep, end))
-    } else if begins(end, b'#') && !begins(rest, b'#') {
-        Ok((digit, keep, to_line_end(end)))
-    } else {
-        Err(Halt::at(Reason::BlockHeader, end))
+    match line_end_of(rest) {
+        Some(end) => Ok((digit, keep, end)),
+        None => Err(Halt::at(Reason::BlockHeader, after_blanks(rest))),
     }
 }

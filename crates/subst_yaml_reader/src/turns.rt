@@ -1,23 +1,24 @@
-//! Reading a whole text.
+//! A turn, which reads one token, and the steps before the first turn.
 
-ghost use Rattle.std.specs.Prelude.{◌≡◌, ◌≢◌, ◌↔◌, ◌≤◌, Some, None, IfErr, IfOk, length};
-ghost use Rattle.subst_yaml_reader.specs.Reading.{events_of, finish, read, turn};
+ghost use Rattle.std.specs.Prelude.{◌≡◌, ◌≢◌, ◌↔◌, ◌≤◌, Some, None, IfErr, IfOk, length, option_map};
+ghost use Rattle.subst_yaml_reader.specs.Reading.{after_directive, after_version, directive_end, events_of, finish, is_at_line, read, turn};
 ghost use Rattle.subst_yaml_reader.specs.Refusal.{IsInside, IsRefused};
 ghost use Rattle.subst_yaml_reader.specs.Reader.{state_of};
 ghost use Rattle.subst_yaml_reader.specs.declared.error.Halt.TheVariants.{OutOfMemory};
 ghost use Rattle.subst_yaml_reader.specs.declared.error.Error.TheVariants.{OutOfMemory as MemoryError};
 
-use crate::bytes::is_foreign;
+use crate::bytes::{is_foreign, is_mark_of_three};
 use crate::error::{Error, Fault, Halt, Reason};
 use crate::event::{Event, Span};
 use crate::reader::Reader;
 use crate::runs::{after_lines, is_text};
+use crate::scalar::line_end_of;
 use std::alloc::Global;
 
 impl Reader {
-    /// Reads a token. Returns the text from the next one on.
+    /// Reads a token. Returns the text from the next token on.
     #[tactic(auto, unfolding(crate::specs::Reading::turn))]
-    fn turn<'t>(&mut self, text: &'t [u8]) -> Result<&'t [u8], Halt>
+    pub(crate) fn turn<'t>(&mut self, text: &'t [u8]) -> Result<&'t [u8], Halt>
         ensures ok { IfOk result (λ rest. turn (state_of self.old) text.now
             ≡ Some (state_of self.new, rest.now)) }
         ensures err { IfErr result (λ halt. halt ≢ OutOfMemory
@@ -28,40 +29,53 @@ impl Reader {
             Some(_) => self.flow_turn(text),
         }
     }
-
-    /// Returns what was read, at the end of the text.
-    #[tactic(auto, unfolding(crate::specs::Reading::finish))]
-    fn finish(self) -> Result<Vec<Event>, Halt>
-        ensures ok { IfOk result (λ events. finish (state_of self) ≡ Some events.items) }
-        ensures err { IfErr result (λ halt. halt ≢ OutOfMemory → finish (state_of self) ≡ None) }
-    {
-        match self.innermost_bracket() {
-            None => Ok(self.events),
-            Some(_) => Err(Halt::at(Reason::Bracket, b"")),
-        }
-    }
 }
 
-/// Reads a text whose characters are readable, in at most one turn more than it has bytes.
-#[tactic(auto, unfolding(crate::specs::Reading::events_of))]
-fn read_tokens(alloc: Global, text: &[u8]) -> Result<Vec<Event>, Halt>
-    ensures ok { IfOk result (λ events. events_of text.now ≡ Some events.items) }
-    ensures err { IfErr result (λ halt. halt ≢ OutOfMemory → events_of text.now ≡ None) }
+/// Returns the text after `%YAML 1.1` or `%YAML 1.2` at its start, or `None` if it begins with neither.
+fn after_version(text: &[u8]) -> Option<&[u8]>
+    ensures { option_map (λ rest. rest.now) result ≡ after_version text.now }
 {
-    let (line, first) = after_lines(text, text.len(), true);
-    let mut reader = Reader::new(alloc, text.len(), line);
-    let mut rest = first;
-    for turn in 0..text.len() + 1 {
-        if rest.is_empty() {
-            return reader.finish();
-        }
-        rest = reader.turn(rest)?;
+    if text.starts_with(b"%YAML 1.1") || text.starts_with(b"%YAML 1.2") {
+        Some(text.split_at(9).1)
+    } else {
+        None
     }
-    Err(Halt::at(Reason::Indicator, rest))
 }
 
-/// Returns the refusal of a text with a character that is foreign.
-fn foreign(text: &[u8]) -> Halt {
+/// Returns the text from the end of its first line on, if that line is `%YAML 1.1` or `%YAML 1.2` and maybe a
+/// comment, and otherwise `None`.
+fn directive_end(text: &[u8]) -> Option<&[u8]>
+    ensures { option_map (λ rest. rest.now) result ≡ directive_end text.now }
+{
+    line_end_of(after_version(text)?)
+}
+
+/// Returns whether the text is at the start of its line. `line` is the length of the text from that start on.
+fn is_at_line(line: usize, text: &[u8]) -> bool
+    ensures { result ≡ is_at_line (line, text.now) }
+{
+    line.saturating_sub(text.len()) == 0
+}
+
+/// Skips the directive `%YAML 1.1` or `%YAML 1.2` if `---` follows it. Returns the length of the text from
+/// the start of the next token's line on, and the text from that token on. Otherwise returns the arguments.
+#[tactic(auto, unfolding(crate::specs::Reading::after_directive))]
+pub(crate) fn after_directive(line: usize, text: &[u8]) -> (usize, &[u8])
+    ensures { after_directive (line, text.now) ≡ (result.0, result.1.now) }
+{
+    let Some(end) = directive_end(text) else {
+        return (line, text);
+    };
+    let (begin, next) = after_lines(end, 0, true);
+    if is_at_line(line, text) && is_at_line(begin, next) && is_mark_of_three(next, b'-') {
+        (begin, next)
+    } else {
+        (line, text)
+    }
+}
+
+/// Returns the refusal of the first character that not every reader accepts, in a text that has one.
+pub(crate) fn foreign(text: &[u8]) -> Halt {
     let mut rest = text;
     while let [first, tail @ ..] = rest {
         if is_foreign(*first, tail) {
@@ -77,23 +91,8 @@ fn foreign(text: &[u8]) -> Halt {
     Halt::at(Reason::Character, rest)
 }
 
-/// Reads a text.
-#[tactic(auto, unfolding(crate::specs::Reading::read))]
-pub(crate) fn read(alloc: Global, source: &[u8]) -> Result<Vec<Event>, Error>
-    ensures ok { IfOk result (λ events. read source.now ≡ Some events.items) }
-    ensures err { IfErr result (λ error. IsRefused error source.now (read source.now)) }
-{
-    if !is_text(source) {
-        return Err(error_of(source, foreign(source)));
-    }
-    match read_tokens(alloc, source) {
-        Ok(events) => Ok(events),
-        Err(halt) => Err(error_of(source, halt)),
-    }
-}
-
-/// Returns why and where a text is refused.
-fn error_of(source: &[u8], halt: Halt) -> Error
+/// Converts a halt into an error. A refusal has the span of the refused character in `source`, and its line.
+pub(crate) fn error_of(source: &[u8], halt: Halt) -> Error
     ensures out_of_memory { result ≡ MemoryError ↔ halt ≡ OutOfMemory }
     ensures span { IsInside result source.now }
 {
@@ -114,7 +113,7 @@ fn error_of(source: &[u8], halt: Halt) -> Error
     }
 }
 
-/// Returns how many bytes the first character of a text has.
+/// Returns the length of the first character of a text in bytes, or 0 if the text is empty.
 fn character_len(text: &[u8]) -> usize
     ensures { result ≤ length text.now }
 {
