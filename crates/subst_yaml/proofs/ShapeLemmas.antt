@@ -1,4 +1,4 @@
--- What is filled in has the shape of its source.
+-- A filled-in text has the shape of its source.
 use Rattle.std.proofs.Common.{◌≡◌, ℕ, List, [], ◌∷◌, ◌+◌, length, ap, ◌∙◌}
 use Rattle.subst_language.specs.Language.Answer.{Answer}
 use Rattle.subst_yaml_reader.specs.declared.event.Event.{Event}

@@ -2,5 +2,9 @@ pub mod Errors
 pub mod Filled
 pub mod InPlace
 pub mod Laws
+pub mod Listed
 pub mod Outcome
 pub mod Passes
+pub mod Paths
+pub mod Places
+pub mod Report

@@ -1,4 +1,4 @@
--- What a call returned that reads a text and fills in its values.
+-- The result of a call that reads a text and fills in its values.
 use Rattle.std.specs.Prelude.{◌≡◌, ◌≤◌, ⊤, ℕ, List, length, Some, Result, IfErr, IfSome}
 use Rattle.subst_error.specs.Fault as substituting
 use Rattle.subst_error.specs.ErrorFault.{error_fault}
@@ -9,11 +9,11 @@ use Rattle.subst_yaml.specs.declared.error.Error.{Error}
 use Rattle.subst_yaml.specs.declared.error.Error.TheVariants.{Yaml, Subst, OutOfMemory}
 use Rattle.subst_yaml.specs.declared.error.Fault.{Fault}
 
--- the text is read as events of which P holds
+-- the text is read as events, for which P holds
 abbrev pub ReadsAs : List ℕ → (List Event → Type 0) → Type 0
 ReadsAs text P = (es : List Event) × (read text ≡ Some es) × P es
 
--- P holds of why the text is refused, if that is the error
+-- P holds for the reader's refusal, if that is the error
 abbrev if_yaml : Error → (Fault → Type 0) → Type 0
 if_yaml (Yaml fault) P = P fault
 if_yaml (Subst e) P = ⊤
@@ -26,7 +26,7 @@ IfYaml result P = IfErr result (λ e. if_yaml e P)
 abbrev pub IsInside : Span → (text : List ℕ) → Type 0
 IsInside span text = (span.start ≤ span.«end») × (span.«end» ≤ length text)
 
--- P holds of the fault of a string, if that is the error
+-- P holds for the fault of a string, if that is the error
 abbrev if_subst : Error → (substituting.Fault → Type 0) → Type 0
 if_subst (Yaml fault) P = ⊤
 if_subst (Subst e) P = IfSome (error_fault e) P

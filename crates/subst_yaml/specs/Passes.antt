@@ -1,28 +1,23 @@
--- What a pass over the events of a text finds.
-use Rattle.std.specs.Prelude.{◌≡◌, ⊤, ℕ, Bool, true, false, List, [], ◌∷◌, ◌+◌, length, slice_range, string_bytes, Option, Some, MatchOption}
-use Rattle.subst_language.specs.Language.Answer.{Answer, Gives}
+-- How the values of a text's events change, and how two texts are compared event by event. `ask` relates a
+-- string to its answers.
+use Rattle.std.specs.Prelude.{◌≡◌, ⊤, ℕ, Bool, true, false, List, [], ◌∷◌, ◌+◌, length, slice_range, string_bytes}
+use Rattle.subst_language.specs.Language.Answer.{Answer}
 use Rattle.subst_yaml_reader.specs.declared.event.Event.{Event}
 use Rattle.subst_yaml_reader.specs.declared.event.Event.TheVariants.{Value}
 use Rattle.subst_yaml_reader.specs.declared.event.Style.{Style}
-use Rattle.subst_yaml.specs.Filled.{end_of, rest_of_value, start_of, token_at, Changes, IsFilledEvent, IsNotItself, IsOverLines, Stays}
+use Rattle.subst_yaml.specs.Filled.{end_of, rest_of_value, start_of, token_at, Changes, IsFilledEvent, Stays}
 use Rattle.subst_yaml.specs.declared.change.Change.{Change}
-use Rattle.subst_yaml.specs.declared.change.Change.TheVariants.{Kept, Becomes, OverLines}
+use Rattle.subst_yaml.specs.declared.change.Change.TheVariants.{Kept, Replaced}
 use Rattle.subst_yaml.specs.declared.compared.Positions.{Positions}
 
--- what becomes of a value that may change and has no string, but one as if its lines were one
-abbrev pub IsChangeInLines : (ask : List ℕ → Answer → Type 0) → (string : Option (List ℕ)) → Change → Type 0
-IsChangeInLines ask string Kept = (x : List ℕ) × (string ≡ Some x) × ask x (Gives x)
-IsChangeInLines ask string (Becomes value) = ⊥
-IsChangeInLines ask string OverLines = MatchOption string ⊤ (IsNotItself ask)
-
--- what a value becomes
+-- the code's `Change` is right for the value of a token of this style; `indent` is the number of spaces
+-- before each line of a block scalar
 abbrev pub IsChangeOf : (ask : List ℕ → Answer → Type 0) → Style → (indent : ℕ) → (token : List ℕ)
     → Change → Type 0
 IsChangeOf ask style indent token Kept = Stays ask style indent token
-IsChangeOf ask style indent token (Becomes value) = Changes ask style indent token (string_bytes value)
-IsChangeOf ask style indent token OverLines = IsOverLines ask style indent token
+IsChangeOf ask style indent token (Replaced value) = Changes ask style indent token (string_bytes value)
 
--- the value of the event, if it is one, stays
+-- if the event is a value, it is unchanged; `text` is the source
 abbrev pub StaysAt : (ask : List ℕ → Answer → Type 0) → (text : List ℕ) → Event → Type 0
 StaysAt ask text (Value style span in_flow indent) = Stays ask style indent (token_at text span)
 StaysAt ask text _ = ⊤
@@ -33,17 +28,18 @@ ChangesAt ask text (Value style span in_flow indent) =
     (y : List ℕ) × Changes ask style indent (token_at text span) y
 ChangesAt ask text _ = ⊥
 
--- by the test the event is a value that changes, or stays
+-- the result, true or false, is whether the event e is a value that changes
 abbrev pub TellsChange : (ask : List ℕ → Answer → Type 0) → (text : List ℕ) → Event → Bool → Type 0
 TellsChange ask text e true = ChangesAt ask text e
 TellsChange ask text e false = StaysAt ask text e
 
--- each value stays
+-- each value of the events is unchanged
 abbrev pub AllStay : (ask : List ℕ → Answer → Type 0) → (text : List ℕ) → List Event → Type 0
 AllStay ask text [] = ⊤
 AllStay ask text (e ∷ es) = StaysAt ask text e × AllStay ask text es
 
--- An event is filled in, the bytes before it are the same, and both texts go on at the next positions.
+-- The event f of `output` is the event e of `source` filled in, and the bytes from the positions `at` to both
+-- tokens are equal. Both texts continue at the positions `next`, after the tokens and the rest of a header.
 pub record IsFilledTo (ask : List ℕ → Answer → Type 0) (source output : List ℕ) (at : Positions) (e f : Event)
     (next : Positions) : Type 0 where
   pub event : IsFilledEvent ask source output e f

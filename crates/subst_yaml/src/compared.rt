@@ -1,8 +1,11 @@
-//! Events of a text, compared with those of the text filled in.
+//! Compares the events of an output with those of its source, and the bytes between their tokens.
 
-ghost use Rattle.std.specs.Prelude.{◌≡◌, IfOk, IfSome, IsTrue, Some};
+ghost use Rattle.std.specs.Prelude.{◌≡◌, drop, IfOk, IfSome, IsTrue, List, None, Ok, Some};
+ghost use Rattle.subst_yaml_reader.specs.Stream.{to_come};
+ghost use Rattle.subst_yaml_reader.specs.declared.event.Event.{Event};
 ghost use Rattle.subst_yaml_reader.specs.declared.event.Event.TheVariants.{Value};
-ghost use Rattle.subst_yaml.specs.Filled.{end_of, is_unblocked, rest_of_value, start_of, string_of, token_at, AreFilled, IsFilledEvent, IsFilledValue};
+ghost use Rattle.subst_yaml.specs.Filled.{end_of, is_block, is_unblocked, rest_of_value, start_of, string_of, token_at, AreFilled, IsFilledEvent, IsFilledValue};
+ghost use Rattle.subst_yaml.specs.InPlace.{IsFilledDocument};
 ghost use Rattle.subst_yaml.specs.Passes.{IsFilledTo};
 
 use crate::change::{Change, change_of, string_of};
@@ -10,23 +13,23 @@ use crate::token::{header_rest, part, token_at};
 use std::alloc::{AllocError, Global};
 use subst_document::Fill;
 use subst_error::Error;
-use subst_yaml_reader::{Bracket, Event, Span, Style};
+use subst_yaml_reader::{Bracket, Event, Events, Span, Style};
 
-/// A text and the text filled in.
+/// A source and its output.
 #[derive(Clone, Copy)]
 pub(crate) struct Texts<'t> {
     pub(crate) source: &'t [u8],
     pub(crate) output: &'t [u8],
 }
 
-/// How many bytes of two texts are compared.
+/// The offsets in two texts up to which they are compared.
 #[derive(Clone, Copy)]
 pub(crate) struct Positions {
     pub(crate) source: usize,
     pub(crate) output: usize,
 }
 
-/// A value, as it is written.
+/// A value as it is written: the bytes of its token, and how they are read.
 #[derive(Clone, Copy)]
 struct Token<'t> {
     style: Style,
@@ -34,7 +37,7 @@ struct Token<'t> {
     bytes: &'t [u8],
 }
 
-/// Returns where the token of an event begins, or the position before it.
+/// Returns the start of an event's token, or `at` if the event has no token.
 fn start_of(at: usize, event: Event) -> usize
     ensures { result ≡ start_of at event }
 {
@@ -45,7 +48,7 @@ fn start_of(at: usize, event: Event) -> usize
     }
 }
 
-/// Returns where the token of an event ends, or the position before it.
+/// Returns the end of an event's token, or `at` if the event has no token.
 fn end_of(at: usize, event: Event) -> usize
     ensures { result ≡ end_of at event }
 {
@@ -56,18 +59,22 @@ fn end_of(at: usize, event: Event) -> usize
     }
 }
 
-/// Returns whether a block is in quotes after it was filled in.
+/// Returns whether a value has the style `|` or `>`.
+fn is_block(style: Style) -> bool
+    ensures { result ≡ is_block style }
+{
+    matches!(style, Style::Literal | Style::Folded)
+}
+
+/// Returns whether the first style is `|` or `>`, and the other one isn't.
 fn is_unblocked(style: Style, other: Style) -> bool
     ensures { result ≡ is_unblocked style other }
 {
-    match (style, other) {
-        (Style::Literal, Style::Literal) => false,
-        (Style::Literal, _) => true,
-        _ => false,
-    }
+    is_block(style) && !is_block(other)
 }
 
-/// Returns what comes right after a value that was filled in, as a part of it.
+/// Returns the bytes that have to be right after the token of `other` in the output. If both events are
+/// values, and only `event` is after `|` or `>`, they are the rest of its header's line, and otherwise none.
 fn rest_of_value(source: &[u8], event: Event, other: Event) -> &[u8]
     ensures { result.now ≡ rest_of_value source.now event other }
 {
@@ -78,7 +85,7 @@ fn rest_of_value(source: &[u8], event: Event, other: Event) -> &[u8]
     }
 }
 
-/// Returns whether two styles are the same.
+/// Returns whether two styles are equal.
 fn is_same_style(style: Style, other: Style) -> bool
     ensures { IsTrue result → other ≡ style }
 {
@@ -92,7 +99,7 @@ fn is_same_style(style: Style, other: Style) -> bool
     }
 }
 
-/// Returns whether two brackets are the same.
+/// Returns whether two brackets are equal.
 fn is_same_bracket(bracket: Bracket, other: Bracket) -> bool
     ensures { IsTrue result → other ≡ bracket }
 {
@@ -103,7 +110,7 @@ fn is_same_bracket(bracket: Bracket, other: Bracket) -> bool
     }
 }
 
-/// Returns whether two values are written in the same way.
+/// Returns whether two values have the same style, indentation and bytes.
 fn is_same_token(value: Token<'_>, other: Token<'_>) -> bool
     ensures style { IsTrue result → other.entry.style ≡ value.entry.style }
     ensures indent { IsTrue result → other.entry.indent ≡ value.entry.indent }
@@ -114,11 +121,11 @@ fn is_same_token(value: Token<'_>, other: Token<'_>) -> bool
         && other.bytes == value.bytes
 }
 
-/// Returns whether a value is read as a string.
+/// Returns whether a value's token is read as this string.
 ///
 /// # Errors
 ///
-/// When allocation fails, and for nothing else.
+/// If allocation fails.
 fn is_read_as(alloc: Global, value: Token<'_>, string: &str) -> Result<bool, AllocError>
     ensures { IfOk result (λ is. IsTrue is
         → string_of value.entry.style value.entry.indent value.entry.bytes.now ≡ Some string.now) }
@@ -129,11 +136,11 @@ fn is_read_as(alloc: Global, value: Token<'_>, string: &str) -> Result<bool, All
     }
 }
 
-/// Returns whether a value is another one, filled in.
+/// Returns whether `other` is `value` as `filler` fills it in, or `false` if `filler` refuses it.
 ///
 /// # Errors
 ///
-/// When allocation fails, and for nothing else.
+/// If allocation fails.
 fn is_filled_value<F: Fill>(
     alloc: Global,
     value: Token<'_>,
@@ -146,14 +153,13 @@ fn is_filled_value<F: Fill>(
 {
     match change_of(alloc, value.style, value.indent, value.bytes, filler) {
         Ok(Change::Kept) => Ok(is_same_token(value, other)),
-        Ok(Change::Becomes(string)) => is_read_as(alloc, other, string.as_str()),
-        Ok(Change::OverLines) => Ok(false),
+        Ok(Change::Replaced(string)) => is_read_as(alloc, other, string.as_str()),
         Err(Error::OutOfMemory(e)) => Err(e),
         Err(_) => Ok(false),
     }
 }
 
-/// Returns whether the tokens of two keys are the same bytes in the same style.
+/// Returns whether the tokens of two keys have the same bytes and style.
 fn is_same_key(texts: Texts<'_>, style: Style, span: Span, other_style: Style, other: Span) -> bool
     ensures { IsTrue result → (other_style ≡ style)
         × (token_at texts.entry.output.now other ≡ token_at texts.entry.source.now span) }
@@ -162,7 +168,7 @@ fn is_same_key(texts: Texts<'_>, style: Style, span: Span, other_style: Style, o
         && token_at(texts.output, other) == token_at(texts.source, span)
 }
 
-/// Returns whether an event that is no value is the same one.
+/// Returns whether two events are equal, and neither is a value. Keys are compared by depth, style and bytes.
 fn is_same_event(texts: Texts<'_>, event: Event, other: Event) -> bool
     ensures { IsTrue result → IsFilledEvent (λ _ _. ⊥) texts.entry.source.now texts.entry.output.now
         event other }
@@ -192,7 +198,7 @@ fn is_same_event(texts: Texts<'_>, event: Event, other: Event) -> bool
     }
 }
 
-/// Returns whether an event is another one, filled in.
+/// Returns whether `other`, an event of the output, is `event` of the source as `filler` fills it in.
 fn is_filled_event<F: Fill>(
     alloc: Global,
     texts: Texts<'_>,
@@ -237,12 +243,12 @@ fn is_filled_event<F: Fill>(
     }
 }
 
-/// Returns the positions after an event, if it is another one, filled in, and the bytes before both are the
-/// same, or `None`.
+/// Returns the positions after two events, if `other` is `event` filled in and the bytes from `at` to both
+/// tokens are equal. Otherwise returns `None`.
 ///
 /// # Errors
 ///
-/// When allocation fails, and for nothing else.
+/// If allocation fails.
 fn after_event<F: Fill>(
     alloc: Global,
     texts: Texts<'_>,
@@ -274,37 +280,103 @@ fn after_event<F: Fill>(
     }))
 }
 
-/// Returns whether the events of `output` are those of `source`, filled in, and all bytes outside of their
-/// tokens are the same.
+/// Returns the value of a reading, or `None` if the text is refused.
 ///
 /// # Errors
 ///
-/// When allocation fails, and for nothing else.
-pub(crate) fn are_filled<F: Fill>(
+/// If allocation fails.
+fn read_of<T>(read: Result<T, subst_yaml_reader::Error>) -> Result<Option<T>, AllocError>
+    ensures { IfOk result (λ found. IfSome found (λ value. read ≡ Ok value)) }
+{
+    match read {
+        Ok(value) => Ok(Some(value)),
+        Err(subst_yaml_reader::Error::OutOfMemory) => Err(AllocError),
+        Err(subst_yaml_reader::Error::Refused(_)) => Ok(None),
+    }
+}
+
+/// Returns whether both events are `None`, and two texts are equal from these positions on.
+fn are_over(texts: Texts<'_>, at: Positions, event: Option<Event>, other: Option<Event>) -> bool
+    ensures { IsTrue result → (event ≡ None) × (other ≡ None)
+        × (drop at.output texts.entry.output.now ≡ drop at.source texts.entry.source.now) }
+{
+    event.is_none() && other.is_none() && have_same_ends(texts, at)
+}
+
+/// Returns whether two texts are equal from these positions on.
+fn have_same_ends(texts: Texts<'_>, at: Positions) -> bool
+    ensures { IsTrue result → drop at.output texts.entry.output.now
+        ≡ drop at.source texts.entry.source.now }
+{
+    let tail = part(texts.output, at.output, texts.output.len());
+    tail == part(texts.source, at.source, texts.source.len())
+}
+
+/// Returns whether the events `filled` of the output are the source's `events`, filled in by `filler`. All
+/// bytes outside of the events' tokens have to be equal.
+///
+/// # Errors
+///
+/// If allocation fails.
+fn are_filled<F: Fill>(
     alloc: Global,
     texts: Texts<'_>,
-    events: &[Event],
-    filled: &[Event],
+    events: Events<'_>,
+    filled: Events<'_>,
     filler: &F,
 ) -> Result<bool, AllocError>
-    ensures { IfOk result (λ are. IsTrue are → AreFilled (F.answers filler.now)
-        texts.entry.source.now texts.entry.output.now 0 0 events.now filled.now) }
+    ensures { IfOk result (λ are. IsTrue are → (es fs : List Event)
+        × (to_come events.entry ≡ Some es) × (to_come filled.entry ≡ Some fs)
+        × AreFilled (F.answers filler.now)
+        texts.entry.source.now texts.entry.output.now 0 0 es fs) }
 {
+    let mut events = events;
+    let mut filled = filled;
     let mut at = Positions {
         source: 0,
         output: 0,
     };
-    let mut rest = filled;
-    for event in events {
-        let [other, more @ ..] = rest else {
+    for _ in 0..u64::MAX {
+        let Some(event) = read_of(events.next())? else {
             return Ok(false);
         };
-        match after_event(alloc, texts, at, *event, *other, filler)? {
+        let Some(other) = read_of(filled.next())? else {
+            return Ok(false);
+        };
+        let (Some(event), Some(other)) = (event, other) else {
+            return Ok(are_over(texts, at, event, other));
+        };
+        match after_event(alloc, texts, at, event, other, filler)? {
             Some(next) => at = next,
             None => return Ok(false),
         }
-        rest = more;
     }
-    let tail = part(texts.output, at.output, texts.output.len());
-    Ok(rest.is_empty() && tail == part(texts.source, at.source, texts.source.len()))
+    Ok(false)
+}
+
+/// Returns whether `output` is read as `source` with its values filled in, and all other bytes are kept.
+///
+/// # Errors
+///
+/// If allocation fails.
+pub(crate) fn is_filled_document<F: Fill>(
+    alloc: Global,
+    source: &str,
+    output: &str,
+    filler: &F,
+) -> Result<bool, AllocError>
+    ensures { IfOk result (λ is. IsTrue is
+        → IsFilledDocument (F.answers filler.now) source.now output.now) }
+{
+    let Some(events) = read_of(Events::new(alloc, source))? else {
+        return Ok(false);
+    };
+    let Some(filled) = read_of(Events::new(alloc, output))? else {
+        return Ok(false);
+    };
+    let texts = Texts {
+        source: source.as_bytes(),
+        output: output.as_bytes(),
+    };
+    are_filled(alloc, texts, events, filled, filler)
 }

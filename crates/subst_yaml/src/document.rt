@@ -1,14 +1,12 @@
-//! Texts of YAML whose values are filled in where they stand: each other byte stays.
+//! Fills in the values of a text in place, and keeps every other byte.
 
-ghost use Rattle.std.specs.Prelude.{◌≡◌, IfErr, IfOk, IfSome, string_bytes};
+ghost use Rattle.std.specs.Prelude.{◌≡◌, IfOk, IfSome, string_bytes};
 ghost use Rattle.subst_language.specs.Calls.Clauses.{AnswersText};
-ghost use Rattle.subst_yaml.specs.Errors.{HasOwnMemory};
-ghost use Rattle.subst_yaml.specs.Filled.{AreFilled};
-ghost use Rattle.subst_yaml.specs.InPlace.{FillsIn, FillsInBytes};
-ghost use Rattle.subst_yaml.specs.Outcome.{ReadsAs, IfYaml, IsInside, OnSubst};
+ghost use Rattle.subst_yaml.specs.InPlace.{FillsIn, FillsInBytes, IsFilledDocument};
+ghost use Rattle.subst_yaml.specs.Outcome.{IsInside};
 ghost use Rattle.subst_yaml.specs.declared.error.Reason.TheVariants.{InvalidUtf8};
 
-use crate::compared::{Texts, are_filled};
+use crate::compared::is_filled_document;
 use crate::error::{Error, Fault, Reason};
 use crate::filled::filled_in;
 use crate::token::line_at;
@@ -17,12 +15,12 @@ use std::convert::AsStr;
 use std::str::from_utf8;
 use subst_document::{Fill, Filler};
 use subst_language::VariableMap;
-use subst_yaml_reader::{Event, Span, read};
+use subst_yaml_reader::Span;
 
-/// Returns a text of YAML with its values filled in from `variables`, whose values are texts. Each other
-/// byte stays: white space, comments, keys, tags, anchors and aliases, and the spelling of each value that
-/// gives itself. A value that changes keeps its style if what it becomes fits there, and is between double
-/// quotes otherwise.
+/// Returns a text of YAML with its values filled in from `variables`, whose values are texts. Every other
+/// byte is kept: white space, comments, keys, tags, anchors and aliases, and each value that doesn't change.
+/// A value that changes keeps its style if the new value fits, and is otherwise put in double quotes. A value
+/// over several lines keeps its lines if each can be filled in by itself.
 ///
 /// ```rust
 /// let source = "port: ${PORT:8080} # of the service\nmotto: '${MOTTO:it is: \"x\"}'\n";
@@ -30,21 +28,20 @@ use subst_yaml_reader::{Event, Span, read};
 /// // Some("port: 8080 # of the service\nmotto: 'it is: \"x\"'\n")
 /// ```
 ///
-/// Without quotes, YAML decides what a value is: `port: $PORT` is a number if `$PORT` is `8080`, and `port:
-/// "$PORT"` is a string.
+/// Without quotes, YAML decides the type of a value: `port: $PORT` is a number if `$PORT` is `8080`, and
+/// `port: "$PORT"` is a string.
 ///
-/// A token without `$` and `\` isn't read, since its string gives itself. A value over lines that are
-/// folded isn't filled in yet, nor one after `>`: it stays if it gives itself with spaces in place of its
-/// line ends, after `>` as it is written, and is refused otherwise.
+/// A token without `$` and `\` isn't decoded, since its string is unchanged.
 ///
-/// If a string changes, the output is read and compared with the source before it is returned. It is `None`
-/// where it isn't confirmed so; no text is known for which that happens.
+/// If a value changes, the output is read again and compared with the source. The result is `None` if the
+/// comparison fails; no text is known for which that happens.
 ///
 /// # Errors
 ///
-/// `Yaml` where the source isn't YAML that is read, whatever its values are, or a value isn't filled in;
-/// the error names the line. Otherwise `Subst` with the fault of the first string that is refused, in the
-/// order of the text; positions are byte offsets in that string. `OutOfMemory` when allocation fails.
+/// - `Yaml` if the source is refused by the reader, whatever its values are; the error has the line.
+/// - `Subst` for the first refused string, in the order of the text. Positions are byte offsets in that
+///   string.
+/// - `OutOfMemory` if allocation fails.
 pub fn fill_in<'a, M: VariableMap<'a>>(
     alloc: Global,
     source: &str,
@@ -58,11 +55,11 @@ where
     fill_in_by(alloc, source, &Filler { variables })
 }
 
-/// Returns a text of YAML with its values filled in, from bytes, as [`fill_in`].
+/// Fills in the values of a text of YAML, from bytes, as [`fill_in`].
 ///
 /// # Errors
 ///
-/// As [`fill_in`]; it is `Yaml` too where the bytes aren't UTF-8.
+/// As [`fill_in`]. Also `Yaml` if the bytes aren't UTF-8.
 pub fn fill_in_slice<'a, M: VariableMap<'a>>(
     alloc: Global,
     source: &[u8],
@@ -79,7 +76,7 @@ where
     }
 }
 
-/// Returns the refusal of bytes that aren't UTF-8 from a position on.
+/// Creates the refusal of bytes whose valid UTF-8 ends at `start`.
 fn not_utf8(source: &[u8], start: usize) -> Fault
     ensures reason { result.reason ≡ InvalidUtf8 }
     ensures span { IsInside result.span source.now }
@@ -93,8 +90,8 @@ fn not_utf8(source: &[u8], start: usize) -> Fault
     }
 }
 
-/// Returns a text of YAML with its values filled in by `filler`, as [`fill_in`]. A string that is seen to
-/// give itself ([`Fill::gives_itself`]) isn't filled in.
+/// Fills in the values of a text of YAML by `filler`, as [`fill_in`]. A string for which
+/// [`Fill::needs_no_filling`] returns `true` isn't filled in.
 ///
 /// # Errors
 ///
@@ -102,45 +99,30 @@ fn not_utf8(source: &[u8], start: usize) -> Fault
 pub fn fill_in_by<F: Fill>(alloc: Global, source: &str, filler: &F) -> Result<Option<String>, Error>
     ensures filled { FillsIn (F.answers filler.now) source.now result }
 {
-    let events = read(alloc, source)?;
-    match filled_in(alloc, source.as_bytes(), &events, filler)? {
-        Some(output) => confirmed(alloc, source, &events, output, filler),
+    match filled_in(alloc, source, filler)? {
+        Some(output) => Ok(confirmed(alloc, source, output, filler)?),
         None => Ok(Some(String::from_str(alloc, source)?)),
     }
 }
 
-/// Returns a text that was filled in, or `None` where the reader doesn't confirm it.
+/// Returns `output` if it is read as `source` with its values filled in, and otherwise `None`.
 ///
 /// # Errors
 ///
-/// `OutOfMemory` when allocation fails, and nothing else: what is wrong with the output is no fault of the
-/// source.
+/// If allocation fails. A refusal of the output isn't an error, since the source isn't at fault.
 fn confirmed<F: Fill>(
     alloc: Global,
     source: &str,
-    events: &[Event],
     output: Vec<u8>,
     filler: &F,
-) -> Result<Option<String>, Error>
-    ensures filled { IfOk result (λ output. IfSome output (λ output. ReadsAs (string_bytes output)
-        (AreFilled (F.answers filler.now) source.now (string_bytes output) 0 0 events.now))) }
-    ensures yaml { IfYaml result (λ _. ⊥) }
-    ensures subst { OnSubst result (λ _. ⊥) }
-    ensures memory { IfErr result HasOwnMemory }
+) -> Result<Option<String>, AllocError>
+    ensures { IfOk result (λ output. IfSome output (λ output.
+        IsFilledDocument (F.answers filler.now) source.now (string_bytes output))) }
 {
     let Ok(output) = String::from_utf8(output) else {
         return Ok(None);
     };
-    let filled = match read(alloc, output.as_str()) {
-        Ok(filled) => filled,
-        Err(subst_yaml_reader::Error::OutOfMemory) => return Err(Error::OutOfMemory(AllocError)),
-        Err(subst_yaml_reader::Error::Refused(_)) => return Ok(None),
-    };
-    let texts = Texts {
-        source: source.as_bytes(),
-        output: output.as_bytes(),
-    };
-    if are_filled(alloc, texts, events, &filled, filler)? {
+    if is_filled_document(alloc, source, output.as_str(), filler)? {
         Ok(Some(output))
     } else {
         Ok(None)

@@ -1,45 +1,49 @@
-//! Why a text isn't read and filled in. Each `From` keeps the error inside, and gives out of memory its
-//! own case.
+//! The error of reading and filling in a text. Each `From` keeps the inner error, except that a failure to
+//! allocate becomes `OutOfMemory`.
+
+ghost use Rattle.std.specs.Prelude.{Some};
+ghost use Rattle.subst_yaml.specs.Errors.{display_of_fault, display_of_reason};
 
 use std::alloc::{AllocError, AllocFailed};
 use std::fmt;
 use subst_yaml_reader::Span;
 
-/// Why a text isn't read, or a value in it isn't filled in.
+/// The reason why a text is refused.
 #[derive(Clone, Copy, Debug)]
 pub enum Reason {
     /// The bytes aren't UTF-8.
     InvalidUtf8,
-    /// It isn't YAML that is read.
+    /// The reader refuses the text.
     Reader(subst_yaml_reader::Reason),
-    /// A value that may change is after `>`, or over lines and not after `|`.
-    OverLines,
 }
 
 impl fmt::Display for Reason {
+    ghost output = { λ reason. Some (display_of_reason reason) };
+
+    ghost styled_output = { λ reason _. Some (display_of_reason reason) };
+
     fn fmt<W: fmt::Write>(&self, f: &mut fmt::Formatter<W>) -> fmt::Result {
         match self {
             Reason::InvalidUtf8 => f.write_str("a text that isn't UTF-8"),
             Reason::Reader(reason) => reason.fmt(f),
-            Reason::OverLines => {
-                f.write_str("a value over lines with a variable isn't filled in yet")
-            }
         }
     }
 }
 
-/// Why and where a text is refused.
+/// A refusal of a text: its reason and its place.
 #[derive(Clone, Copy, Debug)]
 pub struct Fault {
-    /// Why.
+    /// The reason why the text is refused.
     pub reason: Reason,
-    /// The character at which it is refused, empty at the end of the text; or the value that isn't filled in.
+    /// The span of the refused character, empty at the end of the text.
     pub span: Span,
-    /// The line on which it begins, counted from 1.
+    /// The line on which the span begins, from 1.
     pub line: usize,
 }
 
 impl fmt::Display for Fault {
+    ghost output = { λ fault. Some (display_of_fault fault) };
+
     fn fmt<W: fmt::Write>(&self, f: &mut fmt::Formatter<W>) -> fmt::Result {
         let line = self.line;
         let reason = self.reason;
@@ -47,12 +51,12 @@ impl fmt::Display for Fault {
     }
 }
 
-/// Why a text isn't read and filled in.
+/// The error of reading and filling in a text.
 #[derive(Debug, Drop)]
 pub enum Error {
-    /// The text isn't YAML that is read, or a value in it isn't filled in.
+    /// The text is refused by the reader, or isn't UTF-8.
     Yaml(Fault),
-    /// A string of the text is refused. Positions are byte offsets in that string. It is never `OutOfMemory`.
+    /// The error of a refused string, never `OutOfMemory`. Positions are byte offsets in that string.
     Subst(subst_error::Error),
     /// An allocation failed.
     OutOfMemory(AllocError),
@@ -111,7 +115,7 @@ impl<T: Drop> From<AllocFailed<T>> for Error {
     }
 }
 
-/// The text of the error inside, or `out of memory`.
+/// The text of the inner error, or `out of memory`.
 impl fmt::Display for Error {
     ghost use Rattle.std.specs.Fmt.{DisplaysOnOk};
     ghost use Rattle.subst_error.specs.Display.{IsDisplayOfError};
@@ -121,8 +125,8 @@ impl fmt::Display for Error {
 
     ghost output = { display_of_yaml };
 
-    // Of an error of a substitution the text is there also where it quotes a character past ASCII, which
-    // has two forms.
+    // The clause `text` also holds if the error quotes a character past ASCII, which is displayed in one of
+    // two forms.
     fn fmt<W: fmt::Write>(&self, f: &mut fmt::Formatter<W>) -> fmt::Result
         ensures writes { DisplaysOnOk W.write_str_gives f.old result
             (display_of_yaml self.now) f.new }

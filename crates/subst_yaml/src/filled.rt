@@ -1,72 +1,51 @@
-//! A text with its values filled in.
+//! Fills in the values of a YAML text. All other bytes are copied.
 
-ghost use Rattle.std.specs.Prelude.{◌≡◌, IfErr, IfNone, IfOk, IfSome};
+ghost use Rattle.std.specs.Prelude.{◌≡◌, true, false, IfErr, IfNone, IfOk, IfSome};
 ghost use Rattle.subst_language.specs.Language.Several.{GivesBy, RefusesFirst};
 ghost use Rattle.subst_document.specs.Stays.{SomeChanges};
 ghost use Rattle.subst_document.specs.Texts.{HasRange};
 ghost use Rattle.subst_yaml.specs.Errors.{HasOwnMemory};
-ghost use Rattle.subst_yaml.specs.Filled.{span_in, strings_at, strings_in, HasOverLines, IsOverLinesAt};
-ghost use Rattle.subst_yaml.specs.declared.error.Reason.TheVariants.{OverLines};
-ghost use Rattle.subst_yaml.specs.Outcome.{IfYaml, IsInside, OnSubst};
+ghost use Rattle.subst_yaml.specs.Filled.{strings_at, strings_in};
+ghost use Rattle.subst_yaml.specs.InPlace.{Holds};
+ghost use Rattle.subst_yaml.specs.Outcome.{IfYaml, IsInside, OnSubst, ReadsAs};
 ghost use Rattle.subst_yaml.specs.Passes.{AllStay, TellsChange};
 
 use crate::Error;
 use crate::change::{Change, change_of};
-use crate::error::{Fault, Reason};
-use crate::spell::{Place, append_value};
-use crate::token::{line_at, part, token_at};
+use crate::lines::spelled;
+use crate::spell::Place;
+use crate::token::{part, token_at};
 use std::alloc::{AllocError, Global};
 use subst_document::Fill;
-use subst_yaml_reader::{Event, Span};
+use subst_yaml_reader::{Event, Events, Span};
 
-/// A text that is filled in up to a value.
+/// The output up to the end of some value of the source.
 #[derive(Drop)]
 struct Output {
     text: Vec<u8>,
-    /// So many bytes of the source are passed.
+    /// The number of bytes of the source that are copied, or replaced by new tokens.
     done: usize,
 }
 
-/// Returns the refusal of the value at a span.
-fn over_lines(source: &[u8], span: Span) -> Fault
-    ensures reason { result.reason ≡ OverLines }
-    ensures span { result.span ≡ span_in source.now span }
-{
-    let end = span.end.min(source.len());
-    let start = span.start.min(end);
-    Fault {
-        reason: Reason::OverLines,
-        span: Span { start, end },
-        line: line_at(source, start),
-    }
-}
-
-/// Appends what is before a value, and the value.
+/// Appends the source from the last changed value to `span`, and then `value`, the new token at `span`.
 ///
 /// # Errors
 ///
-/// When allocation fails, and for nothing else.
-fn append(
-    output: &mut Output,
-    source: &[u8],
-    span: Span,
-    place: Place<'_>,
-    value: &str,
-) -> Result<(), AllocError> {
+/// If allocation fails.
+fn append(output: &mut Output, source: &[u8], span: Span, value: &[u8]) -> Result<(), AllocError> {
     output
         .text
         .extend_from_slice(part(source, output.done, span.start))?;
-    append_value(&mut output.text, place, value)?;
+    output.text.extend_from_slice(value)?;
     output.done = span.end;
     Ok(())
 }
 
-/// Fills in an event, if it is a value, and returns whether it changed.
+/// Fills in an event: if it is a value that changes, appends its new token. Returns whether it changes.
 ///
 /// # Errors
 ///
-/// The fault for which its string is refused, or `Yaml` if it isn't filled in. `OutOfMemory` when
-/// allocation fails.
+/// If the value's string is refused, or if allocation fails. An error isn't `Yaml`.
 fn fill_in_event<F: Fill>(
     alloc: Global,
     source: &[u8],
@@ -75,9 +54,7 @@ fn fill_in_event<F: Fill>(
     output: &mut Output,
 ) -> Result<bool, Error>
     ensures ok { IfOk result (TellsChange (F.answers filler.now) source.now event) }
-    ensures inside { IfYaml result (λ fault. IsInside fault.span source.now) }
-    ensures yaml { IfYaml result (λ fault. (fault.reason ≡ OverLines)
-        × IsOverLinesAt (F.answers filler.now) source.now fault.span event) }
+    ensures yaml { IfYaml result (λ _. ⊥) }
     ensures subst { OnSubst result
         (RefusesFirst (F.answers filler.now) (strings_at source.now event)) }
     ensures range { OnSubst result HasRange }
@@ -95,57 +72,77 @@ fn fill_in_event<F: Fill>(
     let token = token_at(source, span);
     match change_of(alloc, style, indent, token, filler)? {
         Change::Kept => Ok(false),
-        Change::Becomes(value) => {
+        Change::Replaced(value) => {
             let place = Place {
                 style,
                 in_flow,
                 indent,
                 token,
             };
-            append(output, source, span, place, value.as_str())?;
+            let token = spelled(alloc, place, value.as_str(), filler)?;
+            append(output, source, span, &token)?;
             Ok(true)
         }
-        Change::OverLines => Err(Error::Yaml(over_lines(source, span))),
     }
 }
 
-/// Returns a text with its values filled in, or `None` if all of them stay.
+/// Returns a text with its values filled in, or `None` if none of them changes.
 ///
 /// # Errors
 ///
-/// The fault of the first string that is refused, or `Yaml` if a value isn't filled in. `OutOfMemory` when
+/// `Yaml` if the source is refused by the reader, `Subst` for the first refused string, or `OutOfMemory` if
 /// allocation fails.
 pub(crate) fn filled_in<F: Fill>(
     alloc: Global,
-    source: &[u8],
-    events: &[Event],
+    source: &str,
     filler: &F,
 ) -> Result<Option<Vec<u8>>, Error>
-    ensures stay { IfOk result
-        (λ output. IfNone output (AllStay (F.answers filler.now) source.now events.now)) }
-    ensures change { IfOk result (λ output. IfSome output
-        (λ _. SomeChanges (GivesBy (F.answers filler.now)) (strings_in source.now events.now))) }
+    ensures stay { IfOk result (λ output. IfNone output
+        (ReadsAs source.now (AllStay (F.answers filler.now) source.now))) }
+    ensures change { IfOk result (λ output. IfSome output (λ _. ReadsAs source.now (λ es.
+        SomeChanges (GivesBy (F.answers filler.now)) (strings_in source.now es)))) }
+    ensures yaml { IfYaml result (Holds source.now) }
     ensures inside { IfYaml result (λ fault. IsInside fault.span source.now) }
-    ensures yaml { IfYaml result (λ fault. (fault.reason ≡ OverLines)
-        × HasOverLines (F.answers filler.now) source.now fault.span events.now) }
-    ensures subst { OnSubst result
-        (RefusesFirst (F.answers filler.now) (strings_in source.now events.now)) }
+    ensures subst { OnSubst result (λ f. ReadsAs source.now (λ es.
+        RefusesFirst (F.answers filler.now) (strings_in source.now es) f)) }
     ensures range { OnSubst result HasRange }
     ensures memory { IfErr result HasOwnMemory }
 {
+    let text = source.as_bytes();
+    let mut events = Events::new(alloc, source)?;
     let mut output = Output {
         text: Vec::new(alloc),
         done: 0,
     };
     let mut is_changed = false;
-    for event in events {
-        is_changed |= fill_in_event(alloc, source, *event, filler, &mut output)?;
+    for _ in 0..u64::MAX {
+        let Some(event) = events.next()? else {
+            return Ok(whole(output, text, is_changed)?);
+        };
+        match fill_in_event(alloc, text, event, filler, &mut output) {
+            Ok(changes) => is_changed |= changes,
+            Err(error) => {
+                events.pass_over()?;
+                return Err(error);
+            }
+        }
     }
+    Err(Error::OutOfMemory(AllocError))
+}
+
+/// Returns the output with the rest of the source appended, or `None` if no value changed.
+///
+/// # Errors
+///
+/// If allocation fails.
+fn whole(output: Output, source: &[u8], is_changed: bool) -> Result<Option<Vec<u8>>, AllocError>
+    ensures stay { IfOk result (λ text. IfNone text (is_changed ≡ false)) }
+    ensures change { IfOk result (λ text. IfSome text (λ _. is_changed ≡ true)) }
+{
     if !is_changed {
         return Ok(None);
     }
-    output
-        .text
-        .extend_from_slice(part(source, output.done, source.len()))?;
-    Ok(Some(output.text))
+    let Output { mut text, done } = output;
+    text.extend_from_slice(part(source, done, source.len()))?;
+    Ok(Some(text))
 }

@@ -7,9 +7,9 @@ ghost use Rattle.subst_yaml.specs.Laws.{shape};
 
 use subst_document::Fill;
 
-/// The law of shapes. A text that is filled in has the shape of its source: the same documents, items, keys
-/// and brackets, in the same order and nested in the same way, with a value wherever the source has one. So
-/// no value gets out of its scalar, whatever it is.
+/// The law of shapes. A filled-in text has the shape of its source: the same documents, items, keys and
+/// brackets, in the same order and equally nested. It has a value wherever the source has one. So no value
+/// can break out of its scalar.
 pub fn filled_texts_keep_their_shape<F: Fill>(filler: &F)
     ensures same { (source output : List ℕ) (es fs : List Event)
         → AreFilled (F.answers filler.now) source output 0 0 es fs

@@ -1,43 +1,45 @@
-//! How a value is spelled. Nothing is said of it: the text that it is in is read, and compared.
+//! Spells values as tokens. No contract states how: the output is read again, and compared.
 
 use crate::token::{header_rest, line_of};
 use std::alloc::AllocError;
 use subst_yaml_reader::Style;
 
-/// The place of a value.
+/// The old token of a value that changes, and how it is written.
 #[derive(Clone, Copy)]
 pub(crate) struct Place<'t> {
-    /// How it was written.
+    /// The style in which the value was written.
     pub(crate) style: Style,
-    /// Whether it is in brackets.
+    /// Whether the value is in brackets.
     pub(crate) in_flow: bool,
-    /// The spaces before each line after `|`.
+    /// The number of spaces before each line of a value after `|` or `>`.
     pub(crate) indent: usize,
-    /// Its token.
+    /// The value's old token.
     pub(crate) token: &'t [u8],
 }
 
-/// Appends a value in the style of its place, if it fits there, or else between double quotes.
+/// Appends the token of `value`: in the style of `place` if the value fits, and otherwise in double quotes.
 ///
 /// # Errors
 ///
-/// When allocation fails, and for nothing else.
+/// If allocation fails.
 pub(crate) fn append_value(
     output: &mut Vec<u8>,
     place: Place<'_>,
     value: &str,
 ) -> Result<(), AllocError> {
     match place.style {
-        Style::Plain if fits_plain(value, place.in_flow) => {
+        Style::Plain if is_printable(value) && fits_plain(value, place.in_flow) => {
             output.extend_from_slice(value.as_bytes())
         }
-        Style::Single if is_printable(value) => append_single(output, value),
-        Style::Literal if fits_literal(value, place.token) => append_literal(output, place, value),
-        Style::Literal => {
-            append_double(output, value)?;
+        Style::Single if is_printable(value) => append_quoted(output, Style::Single, value),
+        Style::Literal | Style::Folded if fits_place(value, place) => {
+            append_block(output, place, value)
+        }
+        Style::Literal | Style::Folded => {
+            append_quoted(output, Style::Double, value)?;
             output.extend_from_slice(header_rest(place.token))
         }
-        _ => append_double(output, value),
+        _ => append_quoted(output, Style::Double, value),
     }
 }
 
@@ -56,71 +58,62 @@ fn is_printable(value: &str) -> bool {
     value.chars().all(is_printable_char)
 }
 
-/// Returns whether a byte is a space or a tab.
-fn is_blank(byte: u8) -> bool {
-    byte == b' ' || byte == b'\t'
+/// Returns whether all characters of a value are printable or line feeds.
+pub(crate) fn has_printable_lines(value: &str) -> bool {
+    value.chars().all(|character| is_printable_char(character) || character == '\n')
 }
 
-/// Returns whether a byte is one of those that end unquoted text in brackets.
+/// Returns whether a byte is a space, a tab or a line feed.
+fn is_white(byte: u8) -> bool {
+    byte == b' ' || byte == b'\t' || byte == b'\n'
+}
+
+/// Returns whether a byte ends unquoted text in brackets.
 fn is_bracket(byte: u8) -> bool {
     matches!(byte, b',' | b'[' | b']' | b'{' | b'}')
 }
 
-/// Returns whether unquoted text may begin as a value does.
+/// Returns whether a value may be written without quotes, as far as its start decides that.
 fn begins_plain(value: &[u8]) -> bool {
     if value.starts_with(b"---") || value.starts_with(b"...") {
         return false;
     }
     match value {
         [] | [b'-'] => false,
-        [b'-', next, ..] => !is_blank(*next) && !is_bracket(*next),
+        [b'-', next, ..] => !is_white(*next) && !is_bracket(*next),
         [
             b'#' | b'&' | b'*' | b'!' | b'|' | b'>' | b'\'' | b'"' | b'%' | b'@' | b'`',
             ..
         ] => false,
         [b'?' | b':', ..] => false,
-        [first, ..] => !is_blank(*first) && !is_bracket(*first),
+        [first, ..] => !is_white(*first) && !is_bracket(*first),
     }
 }
 
-/// Returns whether unquoted text may end as a value does.
+/// Returns whether a value may be written without quotes, as far as its end decides that.
 fn ends_plain(value: &[u8]) -> bool {
     match value {
         [] => false,
-        [.., last] => !is_blank(*last) && *last != b':',
+        [.., last] => !is_white(*last) && *last != b':',
     }
 }
 
-/// Returns whether a value can stand without quotes.
-fn fits_plain(value: &str, in_flow: bool) -> bool {
+/// Returns whether a value of printable characters and line feeds can be written without quotes.
+pub(crate) fn fits_plain(value: &str, in_flow: bool) -> bool {
     let bytes = value.as_bytes();
-    if !is_printable(value) || !begins_plain(bytes) || !ends_plain(bytes) {
+    if !begins_plain(bytes) || !ends_plain(bytes) || value == "=" || value == "<<" {
         return false;
     }
-    if value == "=" || value == "<<" || value.contains(": ") || value.contains(" #") {
+    if [": ", ":\n", " #", "\n#"]
+        .iter()
+        .any(|mark| value.contains(*mark))
+    {
         return false;
     }
     !in_flow || !value.contains(":?") && !bytes.iter().any(|byte| is_bracket(*byte))
 }
 
-/// Appends a value between single quotes.
-///
-/// # Errors
-///
-/// When allocation fails, and for nothing else.
-fn append_single(output: &mut Vec<u8>, value: &str) -> Result<(), AllocError> {
-    output.push(b'\'')?;
-    for byte in value.as_bytes() {
-        if *byte == b'\'' {
-            output.push(b'\'')?;
-        }
-        output.push(*byte)?;
-    }
-    output.push(b'\'')?;
-    Ok(())
-}
-
-/// Returns how the header of a block ends its text: with `+`, `-`, or none of them.
+/// Returns the sign, `+` or `-`, in the header of a token after `|` or `>`, or `None` if there is none.
 fn sign_of(token: &[u8]) -> Option<u8> {
     match token {
         [_, sign, ..] if *sign == b'+' || *sign == b'-' => Some(*sign),
@@ -132,8 +125,8 @@ fn sign_of(token: &[u8]) -> Option<u8> {
     }
 }
 
-/// Returns the lines of a value after `|`, without the end of the last one, or `None` if the header gives
-/// another end.
+/// Returns a value without its last line end, as the lines of a block scalar with the header of `token`. The
+/// result is `None` if the sign in this header, or its absence, doesn't fit the value's end.
 fn lines_of<'v>(value: &'v str, token: &[u8]) -> Option<&'v str> {
     match sign_of(token) {
         Some(b'-') if !value.ends_with("\n") => Some(value),
@@ -142,17 +135,17 @@ fn lines_of<'v>(value: &'v str, token: &[u8]) -> Option<&'v str> {
     }
 }
 
-/// Returns whether the lines of a value can stand after `|`.
-fn are_literal(lines: &str) -> bool {
+/// Returns whether lines can be written after `|`, by their characters and their first and last line.
+fn are_lines(lines: &str) -> bool {
     let begins_with_text = match lines.as_bytes() {
         [] => false,
-        [first, ..] => !is_blank(*first) && *first != b'\n',
+        [first, ..] => !is_white(*first),
     };
     let last = match lines.rsplit_once('\n') {
         Some((_, last)) => last,
         None => lines,
     };
-    let ends_with_text = last.as_bytes().iter().any(|byte| !is_blank(*byte));
+    let ends_with_text = last.as_bytes().iter().any(|byte| !is_white(*byte));
     begins_with_text
         && ends_with_text
         && lines.chars().all(|character| is_printable_char(character)
@@ -160,41 +153,72 @@ fn are_literal(lines: &str) -> bool {
             || character == '\t')
 }
 
-/// Returns whether a value can stand after `|`, in place of a token that is there.
-fn fits_literal(value: &str, token: &[u8]) -> bool {
+/// Returns whether a value can be written after `|`, or folded after `>`, with the header of this old token.
+pub(crate) fn fits_block(value: &str, token: &[u8]) -> bool {
     match lines_of(value, token) {
-        Some(lines) => token.ends_with(b"\n") && are_literal(lines),
+        Some(lines) => token.ends_with(b"\n") && are_lines(lines),
         None => false,
     }
 }
 
-/// Appends a value after `|`, its lines with as many spaces as those before it had.
+/// Returns whether a value fits as lines under the header of `place`. After `>`, no line may be indented.
+fn fits_place(value: &str, place: Place<'_>) -> bool {
+    let has_indented = value.contains("\n ") || value.contains("\n\t");
+    fits_block(value, place.token) && (matches!(place.style, Style::Literal) || !has_indented)
+}
+
+/// Appends a value as a block scalar, after the header of `place`.
 ///
 /// # Errors
 ///
-/// When allocation fails, and for nothing else.
-fn append_literal(output: &mut Vec<u8>, place: Place<'_>, value: &str) -> Result<(), AllocError> {
+/// If allocation fails.
+fn append_block(output: &mut Vec<u8>, place: Place<'_>, value: &str) -> Result<(), AllocError> {
     let header = line_of(place.token);
-    let line_end: &[u8] = if header.ends_with(b"\r\n") {
-        b"\r\n"
-    } else {
-        b"\n"
-    };
     output.extend_from_slice(header)?;
     let lines = value.strip_suffix("\n").unwrap_or(value);
+    append_lines(output, place, line_end_of(header), lines)
+}
+
+/// Returns the line end at the end of a line, `\r\n` or `\n`.
+pub(crate) fn line_end_of(line: &[u8]) -> &'static str {
+    if line.ends_with(b"\r\n") {
+        "\r\n"
+    } else {
+        "\n"
+    }
+}
+
+/// Appends the lines of a block scalar, with the indentation of `place` and this line end. In the style `>`,
+/// a line end is added before each line that follows a line with text.
+///
+/// # Errors
+///
+/// If allocation fails.
+pub(crate) fn append_lines(
+    output: &mut Vec<u8>,
+    place: Place<'_>,
+    line_end: &str,
+    lines: &str,
+) -> Result<(), AllocError> {
+    let is_folded = matches!(place.style, Style::Folded);
+    let mut is_after_text = false;
     for line in lines.split('\n') {
-        if !line.is_empty() {
+        if is_folded && is_after_text {
+            output.extend_from_slice(line_end.as_bytes())?;
+        }
+        is_after_text = !line.is_empty();
+        if is_after_text {
             for _ in 0..place.indent {
                 output.push(b' ')?;
             }
             output.extend_from_slice(line.as_bytes())?;
         }
-        output.extend_from_slice(line_end)?;
+        output.extend_from_slice(line_end.as_bytes())?;
     }
     Ok(())
 }
 
-/// Returns a hexadecimal digit of a number: its last one.
+/// Returns the last hexadecimal digit of a number.
 fn last_digit(number: u32) -> u8 {
     let digit = (number % 16) as u8;
     if digit < 10 {
@@ -204,11 +228,11 @@ fn last_digit(number: u32) -> u8 {
     }
 }
 
-/// Appends the escape of a character by its number.
+/// Appends the escape of a character, `\xXX` or `\uXXXX`, from its number, which is below 65,536.
 ///
 /// # Errors
 ///
-/// When allocation fails, and for nothing else.
+/// If allocation fails.
 fn append_number(output: &mut Vec<u8>, number: u32) -> Result<(), AllocError> {
     if number < 256 {
         return output.extend_from_slice(&[
@@ -228,27 +252,65 @@ fn append_number(output: &mut Vec<u8>, number: u32) -> Result<(), AllocError> {
     ])
 }
 
-/// Appends a value between double quotes.
+/// Appends a character as it is written in double quotes.
 ///
 /// # Errors
 ///
-/// When allocation fails, and for nothing else.
-fn append_double(output: &mut Vec<u8>, value: &str) -> Result<(), AllocError> {
-    output.push(b'"')?;
-    for character in value.chars() {
-        match character {
-            '"' => output.extend_from_slice(b"\\\"")?,
-            '\\' => output.extend_from_slice(b"\\\\")?,
-            '\n' => output.extend_from_slice(b"\\n")?,
-            '\t' => output.extend_from_slice(b"\\t")?,
-            '\r' => output.extend_from_slice(b"\\r")?,
-            _ if is_printable_char(character) => {
+/// If allocation fails.
+fn append_escaped(output: &mut Vec<u8>, character: char) -> Result<(), AllocError> {
+    match character {
+        '"' => output.extend_from_slice(b"\\\""),
+        '\\' => output.extend_from_slice(b"\\\\"),
+        '\n' => output.extend_from_slice(b"\\n"),
+        '\t' => output.extend_from_slice(b"\\t"),
+        '\r' => output.extend_from_slice(b"\\r"),
+        _ if is_printable_char(character) => {
+            let mut buffer = [0; 4];
+            output.extend_from_slice(character.encode_utf8(&mut buffer).as_bytes())
+        }
+        _ => append_number(output, u32::from(character)),
+    }
+}
+
+/// Appends words as they are written in a style with quotes or without, but not the quotes around the words.
+///
+/// # Errors
+///
+/// If allocation fails.
+pub(crate) fn append_words(
+    output: &mut Vec<u8>,
+    style: Style,
+    words: &str,
+) -> Result<(), AllocError> {
+    for character in words.chars() {
+        match style {
+            Style::Double => append_escaped(output, character)?,
+            Style::Single if character == '\'' => output.extend_from_slice(b"''")?,
+            _ => {
                 let mut buffer = [0; 4];
                 output.extend_from_slice(character.encode_utf8(&mut buffer).as_bytes())?;
             }
-            _ => append_number(output, u32::from(character))?,
         }
     }
-    output.push(b'"')?;
     Ok(())
+}
+
+/// Returns the quote of a style, or an empty text if it has none.
+pub(crate) fn quote_of(style: Style) -> &'static str {
+    match style {
+        Style::Single => "'",
+        Style::Double => "\"",
+        _ => "",
+    }
+}
+
+/// Appends a value in the quotes of a style.
+///
+/// # Errors
+///
+/// If allocation fails.
+fn append_quoted(output: &mut Vec<u8>, style: Style, value: &str) -> Result<(), AllocError> {
+    output.extend_from_slice(quote_of(style).as_bytes())?;
+    append_words(output, style, value)?;
+    output.extend_from_slice(quote_of(style).as_bytes())
 }

@@ -1,13 +1,12 @@
-//! Tokens of a text, and which of them may change.
+//! Tokens of a text, and whether the value of one may change.
 
 ghost use Rattle.std.specs.Prelude.{◌≡◌, slice_range};
 ghost use Rattle.std.specs.List.{list_any};
-ghost use Rattle.subst_yaml_reader.specs.Bytes.{is_line_end};
 ghost use Rattle.subst_yaml.specs.Filled.{header_rest, is_alias, is_mark, is_sign, after_line, after_signs, line_of, may_change, token_at};
 
 use subst_yaml_reader::{Span, Style};
 
-/// Returns the bytes of a text from one position to another one.
+/// Returns the bytes of a text from `start` to `end`, both cut at the end of the text.
 pub(crate) fn part(text: &[u8], start: usize, end: usize) -> &[u8]
     ensures { result.now ≡ slice_range text.now start end }
 {
@@ -23,7 +22,7 @@ pub(crate) fn token_at(text: &[u8], span: Span) -> &[u8]
     part(text, span.start, span.end)
 }
 
-/// Returns whether a byte is a dollar or a backslash, without which a string gives itself.
+/// Returns whether a byte is a dollar or a backslash. A string whose token has neither is unchanged.
 fn is_mark(byte: u8) -> bool
     ensures { result ≡ is_mark byte }
 {
@@ -37,7 +36,7 @@ fn is_alias(style: Style) -> bool
     matches!(style, Style::Alias)
 }
 
-/// Returns whether a token has a dollar or a backslash.
+/// Returns whether a token contains a dollar or a backslash.
 fn has_mark(token: &[u8]) -> bool
     ensures { result ≡ list_any is_mark token.now }
 {
@@ -52,13 +51,6 @@ pub(crate) fn may_change(style: Style, token: &[u8]) -> bool
     !is_alias(style) && has_mark(token)
 }
 
-/// Returns whether a byte is at the end of a line.
-pub(crate) fn is_line_end(byte: u8) -> bool
-    ensures { result ≡ is_line_end byte }
-{
-    byte == b'\n' || byte == b'\r'
-}
-
 /// Returns whether a byte is a digit or a sign.
 fn is_sign(byte: u8) -> bool
     ensures { result ≡ is_sign byte }
@@ -66,7 +58,7 @@ fn is_sign(byte: u8) -> bool
     byte == b'+' || byte == b'-' || byte > b'/' && byte < b':'
 }
 
-/// Returns a text after its digits and signs.
+/// Returns a text without the digits and signs at its start.
 #[tactic(auto, unfolding(crate::specs::Filled::after_signs))]
 fn after_signs(text: &[u8]) -> &[u8]
     ensures { result.now ≡ after_signs text.now }
@@ -96,7 +88,7 @@ fn after_line(text: &[u8]) -> &[u8]
     rest
 }
 
-/// Returns the first line of a text, with its end.
+/// Returns the first line of a text, with its line end.
 pub(crate) fn line_of(text: &[u8]) -> &[u8]
     ensures { result.now ≡ line_of text.now }
 {
@@ -104,14 +96,14 @@ pub(crate) fn line_of(text: &[u8]) -> &[u8]
     &text[..len]
 }
 
-/// Returns what is in the line of `|` after it: a comment and the line end.
+/// Returns the rest of a token's first line, after `|` or `>`, digits and signs: a comment and the line end.
 pub(crate) fn header_rest(token: &[u8]) -> &[u8]
     ensures { result.now ≡ header_rest token.now }
 {
     line_of(after_signs(part(token, 1, token.len())))
 }
 
-/// Returns the line of a position of a text, counted from 1.
+/// Returns the number of the line that contains a byte offset in a text, from 1.
 pub(crate) fn line_at(text: &[u8], position: usize) -> usize {
     let before = part(text, 0, position);
     before

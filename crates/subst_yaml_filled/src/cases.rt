@@ -1,16 +1,18 @@
-//! The documents of a file, and their variables.
+//! Reads the documents of a file and their variables.
 
 use std::alloc::{AllocError, Global};
 use std::collections::BTreeMap;
 use subst_foreign::Forms;
 
-/// How the variables of a document are written.
+/// The syntax of a document's variables.
 #[derive(Clone, Copy)]
 pub(crate) enum Written {
-    /// In the language of templates.
+    /// The language of templates.
     All,
-    /// In these forms, of some names alone.
+    /// These forms, for chosen names.
     Some(Forms),
+    /// The language of templates; the document isn't filled in, but its refused strings are listed.
+    Paths,
 }
 
 /// A document, and its variables.
@@ -22,14 +24,14 @@ pub(crate) struct Document<'t> {
     pub(crate) values: BTreeMap<&'t str, String>,
 }
 
-/// A document of a file, and the rest of the file.
+/// A document of a file, and the text of the file after it.
 #[derive(Drop)]
 pub(crate) struct Case<'t> {
     pub(crate) case: Document<'t>,
     pub(crate) rest: &'t str,
 }
 
-/// Returns the next document of a file, or `None` after the last one.
+/// Returns the first document of a file's text and the text after it, or `None` if no document is left.
 pub(crate) fn next_case(alloc: Global, text: &str) -> Result<Option<Case<'_>>, AllocError> {
     let Some((head, mut rest)) = text.split_once('\n') else {
         return Ok(None);
@@ -64,12 +66,13 @@ pub(crate) fn next_case(alloc: Global, text: &str) -> Result<Option<Case<'_>>, A
     Ok(Some(Case { case, rest }))
 }
 
-/// Returns what the line before a document says.
+/// Returns the length, the syntax and the count of variables before a document, or `None` for another line.
 fn head_of(line: &str) -> Option<(usize, Written, usize)> {
     let (len, rest) = line.split_once(' ')?;
     let (written, count) = rest.split_once(' ')?;
     let written = match written {
         "all" => Written::All,
+        "paths" => Written::Paths,
         "own" => Written::Some(Forms::Own),
         "envsubst" => Written::Some(Forms::Envsubst),
         "shell" => Written::Some(Forms::Shell),
@@ -82,7 +85,7 @@ fn head_of(line: &str) -> Option<(usize, Written, usize)> {
     ))
 }
 
-/// Returns a value in which each `%XX` is a byte.
+/// Returns a value with each `%XX` replaced by its byte.
 fn plain(alloc: Global, value: &str) -> Result<String, AllocError> {
     let mut bytes = Vec::new(alloc);
     let mut rest = value.as_bytes();
@@ -101,7 +104,7 @@ fn plain(alloc: Global, value: &str) -> Result<String, AllocError> {
     String::from_utf8(bytes).map_err(|_| AllocError)
 }
 
-/// Returns what a hexadecimal digit counts.
+/// Returns the value of a hexadecimal digit, whose letters are capital ones.
 fn digit(byte: u8) -> u8 {
     if byte >= b'A' && byte <= b'F' {
         byte - b'A' + 10

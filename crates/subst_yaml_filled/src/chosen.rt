@@ -1,4 +1,4 @@
-//! Filling in the variables of some names alone.
+//! Fills in only the variables in chosen forms and of chosen names.
 
 ghost use Rattle.std.specs.Prelude.{◌≡◌, Some};
 ghost use Rattle.subst_error.specs.ErrorFault.{error_fault};
@@ -11,7 +11,7 @@ use subst_error::{Error, MissingVariableName};
 use subst_foreign::{Forms, Missing, OnlyNames, ShellMap, Style, TextError};
 use subst_template::substitute;
 
-/// Fills in the variables of some names alone.
+/// A filler that expands only variables in these forms and of these names.
 #[derive(Clone, Copy)]
 pub(crate) struct Chosen<'r, 't> {
     pub(crate) forms: Forms,
@@ -19,7 +19,7 @@ pub(crate) struct Chosen<'r, 't> {
     pub(crate) values: &'r BTreeMap<&'t str, String>,
 }
 
-/// Returns an error that says nothing but that a text is refused.
+/// Creates the error that every refused text has, whatever is wrong with it.
 fn refused() -> Error
     ensures { error_fault result ≡ Some (faults.MissingVariableName 0 0) }
 {
@@ -30,10 +30,10 @@ fn refused() -> Error
 }
 
 impl Fill for Chosen<'_, '_> {
-    // Nothing is said of what a text becomes.
+    // The contract allows any answer.
     ghost answers = { λ chosen text answer. Unit {0} };
 
-    fn gives_itself(&self, text: &str) -> bool {
+    fn needs_no_filling(&self, text: &str) -> bool {
         !text.as_bytes().contains(&b'$')
     }
 

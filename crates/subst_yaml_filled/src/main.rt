@@ -1,9 +1,11 @@
 //! Prints texts of YAML with their values filled in: `subst_yaml_filled FILE..`.
 //!
-//! A file has documents. Before each one are a line of its length in bytes, of how its variables are
-//! written, `all`, `own`, `envsubst` or `shell`, and of how many there are, and for each of them lines of
-//! its name and, after `=`, its value, if it has one, with `%XX` for some of its bytes. Of each document a
-//! line is printed that says what came of it, and how many bytes, and then these bytes.
+//! A file has documents. Each document follows a line and its variables. The line has the document's length
+//! in bytes, the syntax of its variables, `all`, `own`, `envsubst` or `shell`, and the number of variables.
+//! Each variable has a line with its name and, if it is set, `=` and its value, in which `%XX` is a byte.
+//!
+//! For each document a line with the kind and the length of its output is printed, and then the output. The
+//! syntax `paths` is that of `all`, but the output has the paths to the refused strings.
 #![tactic(auto)]
 
 use cases::{Case, next_case};
@@ -12,6 +14,10 @@ use std::{env, fs, io};
 
 mod cases;
 mod chosen;
+#[cfg(test)]
+mod path_tests;
+#[cfg(test)]
+mod place_tests;
 mod shown;
 #[cfg(test)]
 mod tests;
@@ -25,7 +31,7 @@ fn main(rt: HostRuntime) -> io::Result<()> {
     Ok(())
 }
 
-/// Prints what comes of the documents of a file.
+/// Prints the outputs of the documents of a file.
 fn print_cases(rt: &HostRuntime, text: &str) -> io::Result<()> {
     let mut rest = text;
     for _ in 0..text.len() {

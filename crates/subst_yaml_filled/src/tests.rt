@@ -1,4 +1,4 @@
-//! How values are spelled, and what is refused. `tests/test_yaml.py` has PyYAML read values back.
+//! Tests of how values are spelled, and of refusals. `tests/test_yaml.py` reads the values back with PyYAML.
 
 use std::alloc::{AllocError, AllocGlobal};
 use std::collections::BTreeMap;
@@ -6,12 +6,12 @@ use std::process::Abort;
 use std::test::Fail;
 use subst_yaml::{Error, Reason, fill_in, fill_in_slice};
 
-/// What a test is given: memory, and that a failed assertion ends it.
+/// The runtime of a test: an allocator, and assertions that end the test.
 trait Testing: Abort + AllocGlobal {}
 
 impl<R: Abort + AllocGlobal> Testing for R {}
 
-/// A text, the value of `$X`, and the text filled in.
+/// A text, the value of `$X`, and the output.
 type Row<'t> = (&'t str, &'t str, &'t str);
 
 /// Values without quotes.
@@ -80,8 +80,8 @@ const QUOTED: [Row<'static>; 12] = [
     ("a: \"\\n\" # \\n", "y", "a: \"\\n\" # \\n"),
 ];
 
-/// Values after `|`, and others over lines.
-const LINES: [Row<'static>; 21] = [
+/// Sources with a value in the style `|`.
+const LINES: [Row<'static>; 17] = [
     ("a: |\n  k: $X\n", "v #w", "a: |\n  k: v #w\n"),
     ("a: |\n  k: $X\n", "l1\nl2", "a: |\n  k: l1\n  l2\n"),
     ("a: |\n  $X\n", " x", "a: \" x\\n\"\n"),
@@ -103,39 +103,93 @@ const LINES: [Row<'static>; 21] = [
         "x",
         "- |\n  x\n  # no comment\n# one\n",
     ),
-    ("a: b\n  c\nd: $X", "x", "a: b\n  c\nd: x"),
-    (
-        "a: \"\\u00a0- \\\n  b\"\nd: $X",
-        "x",
-        "a: \"\\u00a0- \\\n  b\"\nd: x",
-    ),
-    ("a: >\n  b\n  c\nd: $X", "x", "a: >\n  b\n  c\nd: x"),
-    ("a: 'it''s\n  so'\nd: $X", "x", "a: 'it''s\n  so'\nd: x"),
 ];
 
-/// Texts that are refused, and why.
-const REFUSED: [(&'static str, &'static str); 6] = [
+/// Values over lines without quotes and in quotes.
+const OVER_LINES: [Row<'static>; 29] = [
+    ("a: $X b\n   c", "x", "a: x b\n   c"),
+    ("a: b\n\n  # c $X\n", "x", "a: b\n\n  # c $X\n"),
+    ("a: b\n\n  c $X # d\n", "x", "a: b\n\n  c x # d\n"),
+    ("a: b\n  $X\n  c", "", "a: b  c"),
+    ("a: b\n  $X", "c: d", "a: \"b c: d\""),
+    ("a: b\n  $X", "# c", "a: \"b # c\""),
+    ("a: b\n\n  $X", "#c", "a: \"b\\n#c\""),
+    ("a: b $X\n\n  c", "d:", "a: \"b d:\\nc\""),
+    ("a: $X\n\n  c", "", "a: \"\\nc\""),
+    ("a: b\n  $X", "l\nm", "a: \"b l\\nm\""),
+    ("a: b\n  ${Y:c\n  $X}", "x", "a: b c x"),
+    ("b\n$X", "---", "b ---"),
+    ("b\n\n$X", "...", "\"b\\n...\""),
+    ("b\n$X\nc $X", "x", "b\nx\nc x"),
+    ("a: b\r\n  $X\r\nc: d", "x", "a: b\r\n  x\r\nc: d"),
+    ("a: '$X\n   b'", "it's", "a: 'it''s\n   b'"),
+    ("a: 'b \n\n  $X'", "x", "a: 'b \n\n  x'"),
+    ("a: 'b\n  $X'", " x", "a: 'b  x'"),
+    ("a: 'b\n\n  $X\n  c'", "", "a: \"b\\n c\""),
+    ("a: 'b\n  $X'", "l\nm", "a: \"b l\\nm\""),
+    ("'b\n$X'", "---", "'b ---'"),
+    ("a: [$X, 'b\n$X']", "x", "a: [x, 'b\nx']"),
+    ("a: \"$X \\\n   b\\x41\"", "x", "a: \"x \\\n   b\\x41\""),
+    ("a: \"b\\x24{X}\\\n  c\"", "x", "a: \"bx\\\n  c\""),
     (
-        "a: $X\n  b",
-        "line 1: a value over lines with a variable isn't filled in yet",
+        "a: \"b\\ \n  $X\\t\n  c\"",
+        "\"",
+        "a: \"b\\ \n  \\\"\\t\n  c\"",
+    ),
+    ("a: \"b\n\n  $X\"", "l\nm", "a: \"b\n\n  l\\nm\""),
+    ("a: \"b\n  $X\"", " x", "a: \"b  x\""),
+    ("a: \"$\\\n  X\"", "x", "a: \"x\""),
+    ("a: \"$X\\\\\\\\\n  c\"", "x", "a: \"x\\\\\n  c\""),
+];
+
+/// Sources with a value in the style `>`.
+const FOLDED: [Row<'static>; 20] = [
+    ("a: >\n  b\n  c\nd: $X", "x", "a: >\n  b\n  c\nd: x"),
+    ("a: >\n  b $X\n  c\n", "x", "a: >\n  b x\n  c\n"),
+    (
+        "a: >- # d\n  b $X\n\n   c\n  $X\n",
+        "x",
+        "a: >- # d\n  b x\n\n   c\n  x\n",
     ),
     (
-        "a: 1\nb: >\n  $X\n",
-        "line 2: a value over lines with a variable isn't filled in yet",
+        "a: >\n  b\n  $X\n  c\n",
+        "l\nm",
+        "a: >\n  b\n  l\n\n  m\n  c\n",
     ),
+    ("a: >\n  b\n  $X\n", "l\n\nm", "a: >\n  b\n  l\n\n\n  m\n"),
+    ("a: >\n  b\n  $X\n  c\n", "", "a: >\n  b  c\n"),
+    ("a: >\n  b\n  $X\n  c\n", " x", "a: >\n  b  x c\n"),
+    ("a: >\n  b\n  $X\n", "l\n m", "a: \"b l\\n m\\n\"\n"),
+    ("a: > # d\n  $X\n", " x", "a: \" x\\n\" # d\n"),
+    ("a: >\n  $X\n", "", "a: \"\\n\"\n"),
+    ("a: >\n  b\n  $X\n", "l\n", "a: \"b l\\n\\n\"\n"),
+    ("a: >-\n  b\n  $X\n", "l\n", "a: \"b l\\n\"\n"),
+    ("a: >\n  b\n  $X\n", "\u{7f}", "a: \"b \\x7F\\n\"\n"),
+    ("a: >+\n  b\n  $X\n\n", "x", "a: \"b x\\n\\n\"\n"),
+    ("a: >\n  b\n  $X", "x", "a: \"b x\"\n"),
+    ("a: >\n  b\n  ${Y:c\n  $X}\n", "x", "a: >\n  b c x\n"),
     (
-        "a: 'b\n  $X'",
-        "line 1: a value over lines with a variable isn't filled in yet",
+        "a: >\r\n  b\r\n  $X\r\n",
+        "l\nm",
+        "a: >\r\n  b\r\n  l\r\n\r\n  m\r\n",
     ),
+    ("a: >2\n  b\n  $X\n", "x", "a: >2\n  b\n  x\n"),
+    ("a: >\n  b\n   c $X\n  d\n", "x", "a: >\n  b\n   c x\n  d\n"),
     (
-        "a: \"b\\x24X\\\n  c\"",
-        "line 1: a value over lines with a variable isn't filled in yet",
+        "- >\n  b $X\n  # no comment\n# one\n",
+        "x",
+        "- >\n  b x\n  # no comment\n# one\n",
     ),
+];
+
+/// Texts that are refused, and their errors.
+const REFUSED: [(&'static str, &'static str); 3] = [
     ("a: b\n\tc: $X", "line 2: a tab in the indentation"),
     ("a: ${Y}", "No such variable: $Y"),
+    ("a: >\n  b\n  ${Y}\n", "No such variable: $Y"),
 ];
 
-/// Each text gives the one beside it, with this value.
+/// Checks the output of each source, with the row's value of `$X`.
 fn expect_rows(rt: &impl Testing, rows: &[Row<'_>]) -> Result<(), AllocError> {
     for (source, value, want) in rows {
         let mut variables = BTreeMap::new(rt.alloc());
@@ -165,6 +219,18 @@ fn quotes_are_kept_if_the_value_fits(rt: HostRuntime) -> Result<(), Fail> {
 #[test]
 fn lines_are_kept_if_the_value_fits(rt: HostRuntime) -> Result<(), Fail> {
     expect_rows(&rt, &LINES)?;
+    Ok(())
+}
+
+#[test]
+fn values_over_lines_keep_their_lines(rt: HostRuntime) -> Result<(), Fail> {
+    expect_rows(&rt, &OVER_LINES)?;
+    Ok(())
+}
+
+#[test]
+fn folded_lines_are_kept_if_the_value_fits(rt: HostRuntime) -> Result<(), Fail> {
+    expect_rows(&rt, &FOLDED)?;
     Ok(())
 }
 

@@ -1,4 +1,4 @@
--- A `String` is text.
+-- A `String` is UTF-8.
 use Rattle.std.proofs.Common.{rules, string_bytes}
 use Rattle.subst_yaml.proofs.StringLemmas.{no_text, text_is}
 use Rattle.subst_yaml.proofs.change.text_of.Goals as goal

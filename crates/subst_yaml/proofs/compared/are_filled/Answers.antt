@@ -1,23 +1,28 @@
 -- One more event is compared, and then both texts are at their ends.
-use Rattle.std.proofs.Common.{◌≡◌, ◌≤◌, length, rules}
-use Rattle.subst_yaml.proofs.FilledLemmas.{filled_end, filled_step}
+use Rattle.subst_yaml_reader.specs.Stream.{to_come}
+use Rattle.subst_yaml.proofs.FilledLemmas.{compare_end, compare_more, given_end, given_event}
 use Rattle.subst_yaml.proofs.compared.are_filled.Goals as goal
 
-pub loop-event-preserved : goal.loop-event-preserved
-loop-event-preserved g c =
-    let ask = g.F.Fill.answers c.args.filler.now in
-    let l = c.loop-event in λ more. l.invariant
-    (filled_step ask c.args.texts.source.now c.args.texts.output.now l.at c.in-Some.next c.args.events.now
-    l.rest.now
-    l.event-index (search rules) (search rules) (rw c.in-Some.is at c.in_ok-next.ensures) more)
+pub loop-preserved : goal.loop-preserved
+loop-preserved g c =
+    compare_more (g.F.Fill.answers c.args.filler.now) c.args.texts.source.now c.args.texts.output.now
+    (to_come c.args.events) (to_come c.args.filled) (to_come c.loop.events) (to_come c.loop.filled)
+    (to_come c.next.new.self) (to_come c.next-in-loop.new.self) c.loop.at c.in-Some-3.next
+    c.in-Some-Some.event c.in-Some-Some.other c.loop.invariant
+    (given_event c.next.result c.in_ok-event.field-0 c.in-Some.event c.in-Some-Some.event _
+    c.next.ensures.event c.in_ok-event.ensures c.in-Some.is c.in-Some-Some.is-0)
+    (given_event c.next-in-loop.result c.in_ok-other.field-0 c.in-Some-2.other c.in-Some-Some.other _
+    c.next-in-loop.ensures.event c.in_ok-other.ensures c.in-Some-2.is c.in-Some-Some.is-1)
+    (rw c.in-Some-3.is at c.in_ok-next.ensures)
 
-pub returns-then-is_empty : goal.returns-then-is_empty
-returns-then-is_empty g c =
-    let ask = g.F.Fill.answers c.args.filler.now in
-    let l = c.loop-event in λ eq.
-    let same : c.part-tail.result.now ≡ c.part.result.now = search rules in
-    let all : length c.args.events.now ≤ l.event-index = search rules in
-    let none : length l.rest.now ≡ 0 = search rules in
-    l.invariant (filled_end ask c.args.texts.source.now c.args.texts.output.now l.at c.args.events.now
-    l.rest.now
-    l.event-index all none (rw (c.part-tail.ensures, c.part.ensures) at same))
+pub returns-in_default-3 : goal.returns-in_default-3
+returns-in_default-3 g c = λ over.
+    let (no_event, no_other, same) = c.are_over.ensures over in
+    compare_end (g.F.Fill.answers c.args.filler.now) c.args.texts.source.now c.args.texts.output.now
+    (to_come c.args.events) (to_come c.args.filled) (to_come c.loop.events) (to_come c.loop.filled)
+    c.loop.at c.loop.invariant
+    (given_end c.next.result c.in_ok-event.field-0 c.in-Some.event _ c.next.ensures.end
+    c.in_ok-event.ensures c.in-Some.is no_event)
+    (given_end c.next-in-loop.result c.in_ok-other.field-0 c.in-Some-2.other _ c.next-in-loop.ensures.end
+    c.in_ok-other.ensures c.in-Some-2.is no_other)
+    same

@@ -1,34 +1,35 @@
 -- Each event is filled in after those before it.
-use Rattle.std.proofs.Common.{ℕ, Bool, Global, Option, Vec}
-use Rattle.std.proofs.lemmas.Result.{err_from_is_err_and}
-use Rattle.subst_yaml.proofs.PassLemmas.{IfYaml-weaker, OnSubst-weaker, over_lines_step, pass_step, refused_step}
+use Rattle.std.proofs.Common.{ℕ, Bool, Global, Option, Vec, rules}
+use Rattle.std.proofs.lemmas.Option.{IfSome_then}
+use Rattle.subst_yaml_reader.specs.Stream.{text_of, to_come}
+use Rattle.subst_yaml.proofs.PassLemmas.{OnSubst-weaker, begin, pass_more, some_changed, string_refused}
 use Rattle.subst_yaml.proofs.filled.filled_in.Goals as goal
 
-pub returns-in_err-is_changed-clause-yaml : goal.returns-in_err-is_changed-clause-yaml
-returns-in_err-is_changed-clause-yaml g c =
-    let ask = g.F.Fill.answers c.args.filler.now in
-    let l = c.loop-event in
-    let failed = c.in_err-is_changed in
-    let given = err_from_is_err_and c.from_residual.result c.from_residual.ensures.1 in
-    rw (given.1, given.2) (IfYaml-weaker Bool (Option (Vec ℕ Global)) _ _ (λ fault (is, over). (
-      is,
-      over_lines_step ask c.args.source.now c.args.events.now l.event-index c.loop-event-test.true
-          l.is_changed
-          l.invariant fault.span over,
-    )) failed.field-0.0 failed.ensures.yaml)
+pub loop-init : goal.loop-init
+loop-init g c =
+    let events = c.in_ok-events.events in
+    begin (g.F.Fill.answers c.args.filler.now) c.args.source.now (text_of events) (to_come events)
+    (search rules) (search rules)
 
-pub returns-in_err-is_changed-clause-subst : goal.returns-in_err-is_changed-clause-subst
-returns-in_err-is_changed-clause-subst g c =
-    let ask = g.F.Fill.answers c.args.filler.now in
-    let l = c.loop-event in
-    let failed = c.in_err-is_changed in
-    let given = err_from_is_err_and c.from_residual.result c.from_residual.ensures.1 in
-    rw (given.1, given.2) (OnSubst-weaker Bool (Option (Vec ℕ Global)) _ _
-    (refused_step ask c.args.source.now c.args.events.now l.event-index c.loop-event-test.true l.is_changed
-    l.invariant) failed.field-0.0 failed.ensures.subst)
+pub returns-in_default-clause-change : goal.returns-in_default-clause-change
+returns-in_default-clause-change g c =
+    IfSome_then c.in_ok-whole.field-0 c.in_ok-whole.ensures.change
+    (λ x is. some_changed (g.F.Fill.answers c.args.filler.now) c.args.source.now (text_of c.loop.events)
+    (to_come c.loop.events) c.loop.is_changed c.loop.invariant (search rules) is)
 
-pub loop-event-preserved : goal.loop-event-preserved
-loop-event-preserved g c =
-    let l = c.loop-event in
-    pass_step (g.F.Fill.answers c.args.filler.now) c.args.source.now c.args.events.now l.event-index
-    c.loop-event-test.true l.is_changed l.invariant c.in_ok-is_changed.field-0 c.in_ok-is_changed.ensures.ok
+pub returns-in-Err-clause-subst : goal.returns-in-Err-clause-subst
+returns-in-Err-clause-subst g c =
+    let ask = g.F.Fill.answers c.args.filler.now in
+    OnSubst-weaker Bool (Option (Vec ℕ Global)) _ _
+    (string_refused ask c.args.source.now (text_of c.loop.events) (to_come c.loop.events)
+    (to_come c.next.new.self) c.in-Some.event c.loop.is_changed c.loop.invariant
+    (rw c.in-Some.is at c.in_ok-event.ensures.event) (search rules)) c.in-Err.error
+    (rw c.as_bytes-text.ensures.value at c.in-Err.ensures.subst)
+
+pub loop-preserved : goal.loop-preserved
+loop-preserved g c =
+    pass_more (g.F.Fill.answers c.args.filler.now) c.args.source.now (text_of c.loop.events)
+    (text_of c.next.new.self) (to_come c.loop.events) (to_come c.next.new.self) c.in-Some.event
+    c.loop.is_changed c.in-Ok.changes c.loop.invariant (rw c.in-Some.is at c.in_ok-event.ensures.event)
+    c.in_ok-event.ensures.text
+    (rw c.as_bytes-text.ensures.value at c.in-Ok.ensures.ok)

@@ -1,4 +1,4 @@
--- Nothing is said of the answer, and the range is at the beginning.
+-- Any answer is allowed, and the range is at the start.
 use Rattle.std.proofs.lemmas.Str.{IsCharBoundary-start}
 use Rattle.subst_yaml_filled.proofs.chosen.ChosenFill.refusal.Goals as goal
 
