@@ -1,4 +1,4 @@
--- Texts that are cut where they don't fit.
+-- Texts that are cut if they don't fit.
 use Rattle.std.proofs.Common.{◌≡◌, ◌≤◌, ℕ, List, length, le-leb, refl}
 use Rattle.std.specs.Fmt.Cut.{cut_to}
 

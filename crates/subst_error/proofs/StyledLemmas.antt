@@ -1,4 +1,4 @@
--- Texts that are written one after the other, whatever width and precision the formatter has.
+-- Texts written one after the other, whatever the formatter's width and precision.
 use Rattle.std.proofs.Common.{◌≡◌, ◌++◌, ℕ, List, [], ◌∷◌, Option, Some, None, Result, IsOk, IfSome, refl, sym, ap, ◌∙◌, subst, codes, append_assoc, append-nil}
 use Rattle.std.proofs.lemmas.List.Folds.{concat-append}
 use Rattle.std.specs.Fmt.{◌++?◌, DisplaysStyledOnOk, HasWrittenStyled, IsFlush, WritesStyledOnOk, WritesText}
@@ -10,13 +10,13 @@ use Rattle.std.specs.declared.fmt.InlineText.{InlineText}
 use Rattle.subst_error.specs.Display.{quoted_of}
 use Rattle.subst_error.specs.declared.CharOrByte.{CharOrByte}
 
--- calls, and then more calls
+-- two sequences of calls are one
 calls-append : {W : Type 0} (took : W → List ℕ → W → Type 0) (w v u : W) (xs ys : List (List ℕ))
     → FoldsTo took w xs v → FoldsTo took v ys u → FoldsTo took w (xs ++ ys) u
 calls-append took w v u [] ys p q = subst (λ x. FoldsTo took x ys u) (sym p) q
 calls-append took w v u (x ∷ xs) ys p q = (p.0, p.1, calls-append took p.0 v u xs ys p.2 q)
 
--- a text is written, and then another one
+-- two texts are written one after the other
 pub styled_two : {W : Type 0} (took : W → List ℕ → W → Type 0) (f g h : Formatter W) (a b all : List ℕ)
     → HasWrittenStyled took f a g → HasWrittenStyled took g b h → a ++ b ≡ all → HasWrittenStyled took f all h
 styled_two took f g h a b all one two is = record {
@@ -31,7 +31,7 @@ styled_two took f g h a b all one two is = record {
   flush = two.flush;
 }
 
--- a quoted form, where it is known, is between texts that are known
+-- a quoted form is written between two texts
 styled_around : {W : Type 0} (took : W → List ℕ → W → Type 0) (f g h i j : Formatter W)
     (q r : Result (Unit {0}) Error) (a b c : List ℕ) (o : Option (List ℕ))
     → (IsFlush f → HasWrittenStyled took f a g) → DisplaysStyledOnOk took g q o h → IsOk q
@@ -47,7 +47,7 @@ styled_around took f g h i j q r a b c (Some shown) one two fine three four = λ
     let shows = styled_two took g h j shown (b ++ c) (shown ++ (b ++ c)) second ends refl in
     styled_two took f g j a (shown ++ (b ++ c)) (a ++ (shown ++ (b ++ c))) first shows refl
 
--- an unexpected character in its quoted form, where there is one, with the words around it
+-- an unexpected character is written in its quoted form, if there is one, with the text around it
 pub unexpected_styled : {W : Type 0} (took : W → List ℕ → W → Type 0) (f g h i j : Formatter W)
     (q r : Result (Unit {0}) Error) (c shown : CharOrByte) (expected said : List ℕ)
     → (IsFlush f → HasWrittenStyled took f (codes "Unexpected character: ") g)
@@ -64,7 +64,7 @@ unexpected_styled took f g h i j q r c shown expected said one two fine three fo
     Is x text = DisplaysStyledOnOk took f r
         (Some (codes "Unexpected character: ") ++? quoted_of x ++? Some (codes ", expected " ++ text)) j
 
--- what an inline text took is what it shows
+-- an inline text has the texts that were written to it, if none was cut
 shown_after : {n : ℕ} (s : InlineText n) (parts : List (List ℕ)) (t : InlineText n)
     → FoldsTo AppendsIfIntact s parts t → IsIntact s → inline_text t ≡ inline_text s ++ concat parts
 shown_after s [] t same intact = ap inline_text (sym same) ∙ sym (append-nil (inline_text s))
@@ -73,7 +73,7 @@ shown_after s (part ∷ parts) t calls intact =
     shown_after calls.0 parts t calls.2 next.0 ∙ ap (λ l. l ++ concat parts) next.1
     ∙ append_assoc (inline_text s) part (concat parts)
 
--- of what was written to an empty inline text, and is shown, all holds that holds of what it shows
+-- a property of an inline text holds of the text that was written to it while it was empty
 pub holds_of_shown : {n : ℕ} (P : List ℕ → Type 0) (s t : InlineText n) (said : List ℕ)
     (o : Option (List ℕ)) → IsIntact s → inline_text s ≡ [] → WritesText AppendsIfIntact s o t
     → said ≡ inline_text t → P said → IfSome o P

@@ -1,4 +1,4 @@
--- Texts that are written one after the other.
+-- Texts written one after the other.
 use Rattle.std.proofs.Common.{◌≡◌, ◌++◌, ℕ, List, codes, refl}
 use Rattle.std.specs.Fmt.{HasWritten}
 use Rattle.std.specs.declared.fmt.Formatter.{Formatter}
@@ -8,7 +8,7 @@ use Rattle.subst_error.specs.Fault.{UnexpectedCharacter}
 use Rattle.subst_error.specs.Writing.{HasWrittenSome}
 use Rattle.subst_error.specs.declared.CharOrByte.{CharOrByte}
 
--- an unexpected character in some quoted form, with the words around it
+-- an unexpected character is written in some quoted form, with the text around it
 pub unexpected_written : {W : Type 0} (took : W → List ℕ → W → Type 0) (f g h i j : Formatter W)
     (position : ℕ) (c shown : CharOrByte) (expected said : List ℕ)
     → HasWritten took f (codes "Unexpected character: ") g → HasWrittenSome took g (IsQuoted shown) h

@@ -1,24 +1,24 @@
--- The texts that characters and errors are shown as.
+-- The texts that characters and errors display as.
 use Rattle.std.specs.Prelude.{◌≡◌, ◌⊎◌, MatchBool, ℕ, ◌/◌, ◌%◌, ◌==◌, ◌||◌, true, false, if◌then◌else◌, nat_lt, List, [], ◌∷◌, ◌++◌, Option, Some, None, codes, encode_utf8}
 use Rattle.std.specs.Fmt.{digits, digit_glyph, ◌++?◌}
 use Rattle.subst_error.specs.Fault.{Fault, InvalidEscapeSequence, MissingVariableName, UnexpectedCharacter, MissingClosingBrace, NoSuchVariable}
 use Rattle.subst_error.specs.declared.CharOrByte.{CharOrByte}
 use Rattle.subst_error.specs.declared.CharOrByte.TheVariants.{Char, Byte}
 
--- a byte in two upper-case hexadecimal digits
+-- a byte as two upper-case hexadecimal digits
 abbrev pub two_digits : ℕ → List ℕ
 two_digits b = digit_glyph true (b / 16) ∷ digit_glyph true (b % 16) ∷ []
 
--- a character, or an ASCII byte, as itself; another byte as `0x` and its two digits
+-- a character or an ASCII byte as itself, any other byte as `0x` and two digits
 abbrev pub display_of_character : CharOrByte → List ℕ
 display_of_character (Char c) = encode_utf8 c
 display_of_character (Byte b) = if nat_lt b 0x80 then b ∷ [] else codes "0x" ++ two_digits b
 
--- a character by its number, as `\u{200b}`
+-- a character by its code point, like `\u{200b}`
 abbrev pub number_escape : ℕ → List ℕ
 number_escape c = codes "\\u{" ++ (digits 16 false c ++ codes "}")
 
--- what is for an ASCII character in single quotes: itself, or an escape
+-- the text of an ASCII character between single quotes: the character itself, or its escape
 abbrev pub ascii_escape : ℕ → List ℕ
 ascii_escape c =
     if c == 0x00 then codes "\\0" else
@@ -34,29 +34,29 @@ ascii_escape c =
 abbrev pub in_quotes : List ℕ → List ℕ
 in_quotes shown = codes "'" ++ (shown ++ codes "'")
 
--- a character in single quotes, where there is one form of it: one past ASCII has two
+-- an ASCII character in single quotes, or `None` for another character, which may be escaped or not
 abbrev pub quoted_char : ℕ → Option (List ℕ)
 quoted_char c = if nat_lt c 0x80 then Some (in_quotes (ascii_escape c)) else None
 
--- The text is a character in single quotes. One past ASCII is there as itself or by its number: the library's
--- table of the characters that can be seen says which.
+-- `text` is the character c in single quotes. If c isn't ASCII, it is unchanged or escaped by its code point.
+-- The standard library's table of printable characters decides which.
 abbrev pub IsQuotedChar : ℕ → List ℕ → Type 0
 IsQuotedChar c text = MatchBool (nat_lt c 0x80)
     (text ≡ in_quotes (ascii_escape c))
     ((text ≡ in_quotes (encode_utf8 c)) ⊎ (text ≡ in_quotes (number_escape c)))
 
--- The quoted form, where there is one. An ASCII byte counts as the character of its number; another byte is
--- `'\x`, its two digits and a quote.
+-- The text of a character or byte in single quotes, or `None` for a character that isn't ASCII. An ASCII byte
+-- is quoted like its character; any other byte is `'\x`, its two digits and a quote.
 abbrev pub quoted_of : CharOrByte → Option (List ℕ)
 quoted_of (Char c) = quoted_char c
 quoted_of (Byte b) = if nat_lt b 0x80 then quoted_char b else Some (in_quotes (codes "\\x" ++ two_digits b))
 
--- the text is a quoted form
+-- `text` is the character or byte in single quotes; a character that isn't ASCII may be escaped or not
 abbrev pub IsQuoted : CharOrByte → List ℕ → Type 0
 IsQuoted (Char c) text = IsQuotedChar c text
 IsQuoted (Byte b) text = quoted_of (Byte b) ≡ Some text
 
--- what an error says of its fault, where the character that it quotes has one form
+-- the text of a fault, or `None` if that quotes a character that isn't ASCII, which may be escaped or not
 abbrev pub display_of_fault : Fault → Option (List ℕ)
 display_of_fault (InvalidEscapeSequence position (Some c)) =
     Some (codes "Invalid escape sequence: \\" ++ display_of_character c)
@@ -68,19 +68,20 @@ display_of_fault (UnexpectedCharacter position c expected) =
 display_of_fault (MissingClosingBrace position) = Some (codes "Missing closing brace")
 display_of_fault (NoSuchVariable position name) = Some (codes "No such variable: $" ++ name)
 
--- the text is what an error says of its fault, with a quoted form of the character
+-- `text` is the text of the fault, in which a quoted character that isn't ASCII may be escaped or not
 abbrev pub IsDisplayOfFault : Fault → List ℕ → Type 0
 IsDisplayOfFault (UnexpectedCharacter position c expected) text =
     (quoted : List ℕ) × IsQuoted c quoted
     × (text ≡ codes "Unexpected character: " ++ (quoted ++ (codes ", expected " ++ expected)))
 IsDisplayOfFault fault text = display_of_fault fault ≡ Some text
 
--- what an error says, of its fault or of out of memory, where that is one text
+-- The text of an error: the text of its fault, or `out of memory` if it states no fault. `None` if the text
+-- quotes a character that isn't ASCII.
 abbrev pub display_of_error : Option Fault → Option (List ℕ)
 display_of_error (Some fault) = display_of_fault fault
 display_of_error None = Some (codes "out of memory")
 
--- the text is what an error says
+-- `text` is the text of an error: the text of its fault, or `out of memory` if it states no fault
 abbrev pub IsDisplayOfError : Option Fault → List ℕ → Type 0
 IsDisplayOfError (Some fault) text = IsDisplayOfFault fault text
 IsDisplayOfError None text = text ≡ codes "out of memory"

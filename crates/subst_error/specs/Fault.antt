@@ -1,9 +1,8 @@
--- What is wrong with a source, or with its expansion. The cases are those of the errors; texts are their
--- bytes.
+-- The faults of a source or of its expansion, as errors state them, with texts as lists of bytes.
 use Rattle.std.specs.Prelude.{ℕ, List, Option}
 use Rattle.subst_error.specs.declared.CharOrByte.{CharOrByte}
 
--- Positions are byte offsets in the whole source, from 0.
+-- A fault of a source or of its expansion. Positions are byte offsets in the whole source, from 0.
 pub data Fault : Type 0 where
   InvalidEscapeSequence : (position : ℕ) → (character : Option CharOrByte) → Fault
   MissingVariableName : (position len : ℕ) → Fault

@@ -1,5 +1,5 @@
-//! Errors of the calls that append to a borrowed output. Each borrows the name of a missing variable from the
-//! source, so that an error takes no memory.
+//! Errors of the calls that append to a caller's buffer. Each borrows the name of the unset variable from the
+//! source, so an error never allocates.
 
 ghost use Rattle.std.specs.Prelude.{◌≡◌, None, Some, IfSome, IfOk};
 ghost use Rattle.subst_error.specs.ErrorFault.{error_fault, expand_fault, expand_into_fault};
@@ -12,22 +12,21 @@ ghost use Rattle.subst_error.specs.declared.borrowed.SubstituteIntoError.TheVari
 use crate::{Error, ExpandError, NoSuchVariable, ParseError};
 use std::alloc::{AllocError, Global};
 
-/// A variable that is needed, and that the map has no value for: a [`NoSuchVariable`] whose name is borrowed
-/// from the source.
+/// An unset variable without a default: a [`NoSuchVariable`] whose name is borrowed from the source.
 #[derive(Clone, Copy, Debug, PartialEq, Eq)]
 pub struct NoSuchVariableRef<'s> {
-    /// The byte offset of the first byte of the name.
+    /// The byte offset of the name.
     pub position: usize,
-    /// The name.
+    /// The name of the variable.
     pub name: &'s str,
 }
 
 impl<'s> NoSuchVariableRef<'s> {
-    /// Returns this error with a name of its own.
+    /// Converts into a [`NoSuchVariable`], which owns the variable's name.
     ///
     /// # Errors
     ///
-    /// When allocation fails.
+    /// If allocation fails.
     pub fn into_owned(self, alloc: Global) -> Result<NoSuchVariable, AllocError>
         ensures fault { IfOk result (λ e. error_fault (substituting.NoSuchVariable e)
             ≡ Some (fault.NoSuchVariable self.entry.position self.entry.name.now)) }
@@ -39,18 +38,18 @@ impl<'s> NoSuchVariableRef<'s> {
     }
 }
 
-/// Why a template isn't expanded into an output that is borrowed.
+/// An error of expanding a template into a caller's buffer.
 #[derive(Clone, Copy, Debug, PartialEq, Eq)]
 pub enum ExpandIntoError<'s> {
-    /// A variable that is needed, and that the map has no value for.
+    /// An unset variable without a default.
     NoSuchVariable(NoSuchVariableRef<'s>),
-    /// The output is too short for what is written, and it couldn't grow.
+    /// The buffer is too small for the output, and it couldn't grow.
     OutOfMemory(AllocError),
 }
 
 impl<'s> ExpandIntoError<'s> {
-    /// Returns the error with a name of its own, which is `OutOfMemory` where allocation fails. An error that
-    /// names no variable takes no memory, and stays what it is.
+    /// Converts into an error that owns the variable's name, or `OutOfMemory` if allocation fails. Allocates
+    /// only if the error names a variable.
     pub fn into_owned(self, alloc: Global) -> ExpandError
         ensures fault { IfSome (expand_fault result) (λ f. expand_into_fault self.entry ≡ Some f) }
         ensures out_of_memory { expand_into_fault self.entry ≡ None → expand_fault result ≡ None }
@@ -73,21 +72,21 @@ impl<'s> From<AllocError> for ExpandIntoError<'s> {
     }
 }
 
-/// Why a source isn't filled in into an output that is borrowed.
+/// An error of filling in a source into a caller's buffer.
 #[derive(Clone, Copy, Debug, PartialEq, Eq)]
 pub enum SubstituteIntoError<'s> {
-    /// The source is no template, or memory ran out while it was parsed.
+    /// The source couldn't be parsed.
     Parse(ParseError),
-    /// The template isn't expanded.
+    /// The parsed template couldn't be expanded.
     Expand(ExpandIntoError<'s>),
 }
 
 impl<'s> SubstituteIntoError<'s> {
-    /// Returns the error with a name of its own, which is `OutOfMemory` where allocation fails. An error that
-    /// names no variable takes no memory, and stays what it is.
+    /// Converts into an [`Error`], which owns the variable's name, or is `OutOfMemory` if allocation fails.
+    /// Allocates only if the error names a variable.
     ///
-    /// [`Error::source_line`], [`Error::source_position`] and [`Error::source_highlighting`] say of the
-    /// result where in its source it is. [`SubstituteIntoError::source_range`] needs no memory.
+    /// The result has [`Error::source_line`], [`Error::source_position`] and [`Error::source_highlighting`].
+    /// [`SubstituteIntoError::source_range`] needs no conversion.
     pub fn into_owned(self, alloc: Global) -> Error
         ensures fault { IfSome (error_fault result)
             (λ f. substitute_into_fault self.entry ≡ Some f) }

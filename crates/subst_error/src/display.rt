@@ -1,4 +1,4 @@
-//! The texts of characters and errors.
+//! `Display` of characters and errors.
 
 ghost use Rattle.std.specs.Prelude.{Some, string_bytes};
 ghost use Rattle.std.specs.Fmt.{DisplaysOnOk, DisplaysStyledOnOk};
@@ -9,7 +9,7 @@ ghost use Rattle.subst_error.specs.ErrorFault.{substitute_into_fault, unexpected
 ghost use Rattle.subst_error.specs.Fault as fault;
 ghost use Rattle.subst_error.specs.Writing.{WritesSome};
 
-use crate::shown::write_shown;
+use crate::unpadded::write_unpadded;
 use crate::{
     CharOrByte, Error, ExpandError, ExpandIntoError, InvalidEscapeSequence, MissingClosingBrace,
     MissingVariableName, NoSuchVariable, NoSuchVariableRef, ParseError, SubstituteIntoError,
@@ -30,7 +30,7 @@ impl fmt::Display for CharOrByte {
                 if b.is_ascii() {
                     f.write_char(char::from(b))
                 } else {
-                    write_shown(format_args!("0x{b:02X}"), f)
+                    write_unpadded(format_args!("0x{b:02X}"), f)
                 }
             }
         }

@@ -1,4 +1,4 @@
-//! The line of its source that an error is in, with the error underlined.
+//! Excerpts of a source: the line of an error, with the error underlined.
 
 ghost use Rattle.std.specs.Prelude.{◌≡◌, [], Some, IsOk, IfOk, OnOk, MatchOption, string_bytes};
 ghost use Rattle.std.specs.Fmt.{WritesText};
@@ -14,17 +14,17 @@ use std::fmt::Write;
 use std::ops::Range;
 use unicode_width::UnicodeWidthStr;
 
-/// The columns of the widest line that is highlighted.
+/// The widest excerpt, in columns. Wider lines aren't shown.
 const WIDEST: usize = 60;
 
-/// A line with a part of it underlined. It displays as two indented lines.
+/// A line in which a range is underlined. It displays as two indented lines.
 #[derive(Clone, Copy)]
 pub struct Underlined<'a> {
-    /// The line.
+    /// The line, without its line end.
     pub line: &'a str,
-    /// The columns of what is before that part.
+    /// The width of the text before the range, in columns.
     pub spaces: usize,
-    /// The columns of that part.
+    /// The width of the range, in columns.
     pub carets: usize,
 }
 
@@ -42,23 +42,23 @@ impl fmt::Display for Underlined<'_> {
 }
 
 impl Error {
-    /// Writes the line of `source` that the error is in, with the error's range underlined by carets:
+    /// Writes the error's line of `source`, with the error's range underlined by carets:
     ///
     /// ```text
     ///   Hello $name!
     ///          ^^^^
     /// ```
     ///
-    /// Both lines end in a line feed and are indented by two spaces. A range that goes on after the line's
-    /// end is cut there. Nothing is written for `OutOfMemory`, and where the line is wider than 60 columns.
-    /// Columns are those of a terminal, as `unicode_width` counts them.
+    /// Both lines end in a line feed and are indented by two spaces. If the range goes on past the end of the
+    /// line, the carets stop there. Nothing is written for `OutOfMemory`, or if the line is wider than 60
+    /// columns. Columns are those of a terminal, as `unicode_width` counts them.
     ///
-    /// Both ends of the range have to be character boundaries of `source`, as they are for an error that a
-    /// substitution of `source` returned.
+    /// Both ends of the range must be character boundaries of `source`, as they are if substituting `source`
+    /// returned the error.
     ///
     /// # Errors
     ///
-    /// That of the writer, where it fails; a part may have been written then.
+    /// If the writer fails. Part of the text may be written then.
     pub fn write_source_highlighting<W: fmt::Write>(&self, f: &mut W, source: &str) -> fmt::Result
         requires { IsRangeIn source.now (range_of (error_fault self.now)) }
         ensures written { OnOk result (WritesText W.write_str_gives f.old
@@ -70,15 +70,15 @@ impl Error {
         }
     }
 
-    /// Returns the line of `source` that the error is in, with the error's range underlined, as
+    /// Returns the error's line of `source`, with the error's range underlined, as
     /// [`Error::write_source_highlighting`] writes it.
     ///
-    /// Both ends of the error's range have to be character boundaries of `source`, as they are for an error
-    /// that a substitution of `source` returned.
+    /// Both ends of the range must be character boundaries of `source`, as they are if substituting `source`
+    /// returned the error.
     ///
     /// # Errors
     ///
-    /// When allocation fails. An empty text takes no memory, so it never fails.
+    /// If allocation fails. An empty text is never allocated.
     pub fn source_highlighting(&self, alloc: Global, source: &str) -> Result<String, AllocError>
         requires { IsRangeIn source.now (range_of (error_fault self.now)) }
         ensures highlighting { IfOk result (λ text.
@@ -91,7 +91,7 @@ impl Error {
         }
     }
 
-    /// Returns the line of `source` that the error is in, underlined, or nothing where that isn't shown.
+    /// Returns the error's line, underlined, or `None` for `OutOfMemory` or a line wider than 60 columns.
     fn underlined<'a>(&self, source: &'a str) -> Option<Underlined<'a>>
         requires { IsRangeIn source.now (range_of (error_fault self.now)) }
         ensures { MatchOption result (highlighting_of (error_fault self.now) source.now ≡ [])
@@ -105,14 +105,14 @@ impl Error {
     }
 }
 
-/// Returns the line of `source` that a range begins in, underlined as [`Error::source_highlighting`] does it;
-/// nothing where the line is wider than 60 columns.
+/// Returns the line of `source` in which `range` begins, with the range underlined as by
+/// [`Error::source_highlighting`]. The text is empty if the line is wider than 60 columns.
 ///
-/// Both ends of the range have to be character boundaries of `source`.
+/// Both ends of the range must be character boundaries of `source`.
 ///
 /// # Errors
 ///
-/// When allocation fails. An empty text takes no memory, so it never fails.
+/// If allocation fails. An empty text is never allocated.
 pub fn underline(alloc: Global, source: &str, range: Range<usize>) -> Result<String, AllocError>
     requires { IsRangeIn source.now range }
     ensures highlighting { IfOk result (λ text.
@@ -125,7 +125,7 @@ pub fn underline(alloc: Global, source: &str, range: Range<usize>) -> Result<Str
     }
 }
 
-/// Returns the line of `source` that a range begins in, underlined, or nothing where that isn't shown.
+/// Returns the line in which `range` begins, underlined, or `None` if the line is wider than 60 columns.
 fn underlined_line(source: &str, range: Range<usize>) -> Option<Underlined<'_>>
     requires { IsRangeIn source.now range }
     ensures { MatchOption result (highlighting_at range source.now ≡ [])

@@ -1,4 +1,4 @@
-//! Laws of errors: what `==` and `clone` keep. Each is the contract of a function that does nothing.
+//! Laws of errors: what `==` and `clone` preserve. Each is the contract of an empty function.
 
 ghost use Rattle.std.specs.Prelude.{◌≡◌, ◌≢◌, ◌↔◌, IsTrue, None, false};
 ghost use Rattle.subst_error.specs.ErrorFault.{error_fault, expand_fault, expand_into_fault};
@@ -27,7 +27,7 @@ use crate::{
     SubstituteIntoError, UnexpectedCharacter,
 };
 
-/// The law of clones. A clone of an error states the fault that the error states, or also out of memory.
+/// The law of clones. A clone states the same fault as the error, or out of memory if the error does.
 pub fn clones_state_equal_faults()
     ensures error { (e copy : Error) → ⟦<Error as Clone>⟧.is_clone e copy
         → error_fault copy ≡ error_fault e }
@@ -49,8 +49,8 @@ pub fn clones_state_equal_faults()
         → substitute_into_fault copy ≡ substitute_into_fault e }
 {}
 
-/// The law of clones without a name. An error that names no variable takes no memory to clone, so that never
-/// fails.
+/// The law of clones without a name. Cloning an error that owns no name of a variable doesn't allocate, so it
+/// never fails.
 pub fn clones_without_a_name_never_fail()
     ensures error { (e : Error) → ((v : NoSuchVariable) → e ≢ stated.NoSuchVariable v)
         → ⟦<Error as Clone>⟧.is_infallible e }
@@ -73,8 +73,8 @@ pub fn clones_without_a_name_never_fail()
         → ⟦<SubstituteIntoError<'static> as Clone>⟧.is_infallible e }
 {}
 
-/// The law of equality. Errors are equal exactly where they state equal faults, or both out of memory. A
-/// `SubstituteIntoError` of parsing is never equal to one of expansion, also where both are out of memory.
+/// The law of equality. Errors are equal if and only if they state equal faults, or both are out of memory. A
+/// `SubstituteIntoError` of parsing never equals one of expansion, even if both are out of memory.
 pub fn equal_errors_state_equal_faults()
     ensures error { (a b : Error) → IsTrue (⟦<Error as PartialEq>⟧.eq a b)
         ↔ (error_fault a ≡ error_fault b) }
@@ -101,8 +101,8 @@ pub fn equal_errors_state_equal_faults()
         (substituting_into.Parse a) (substituting_into.Expand b) ≡ false }
 {}
 
-/// The law of equality of what an error holds: two of these are equal exactly where errors that hold them
-/// state equal faults.
+/// The law of equality of the structs that errors hold. Two of one type are equal if and only if errors with
+/// them state equal faults. Two `ExpectedCharacter`s are equal if and only if their messages are.
 pub fn equal_parts_state_equal_faults()
     ensures escape { (a b : InvalidEscapeSequence)
         → IsTrue (⟦<InvalidEscapeSequence as PartialEq>⟧.eq a b)

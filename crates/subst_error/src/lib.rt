@@ -1,8 +1,8 @@
-//! The faults of a source, and the errors that the calls of `subst` return.
+//! The errors of `subst`: what is wrong with a source, and where.
 //!
-//! Each position is a byte offset in the whole source, from 0, also inside defaults.
+//! Positions are byte offsets in the whole source, from 0, also inside defaults.
 //!
-//! A derive of `From` states nothing of the result, so conversions are written by hand, with their contracts.
+//! A derived `From` has no contract, so conversions are written by hand.
 #![tactic(auto)]
 
 ghost use Rattle.std.specs.Prelude.{◌≡◌, ◌≤◌, length};
@@ -25,21 +25,21 @@ mod line;
 mod position;
 mod quoted;
 mod range;
-mod shown;
+mod unpadded;
 
-/// The longest message, in bytes, that an [`ExpectedCharacter`] keeps whole.
+/// The maximum length in bytes of a message that an [`ExpectedCharacter`] keeps whole.
 pub const MESSAGE_CAPACITY: usize = 64;
 
-/// A character, or a byte that no character begins with.
+/// A character, or a byte at which no UTF-8 character begins.
 #[derive(Clone, Copy, Debug, PartialEq, Eq)]
 pub enum CharOrByte {
     /// A Unicode character.
     Char(char),
-    /// A byte that no character begins with.
+    /// A byte at which no UTF-8 character begins.
     Byte(u8),
 }
 
-/// The message that says what was expected instead of an unexpected character.
+/// The message that names the characters expected instead of an unexpected one.
 #[derive(Clone, Copy)]
 pub struct ExpectedCharacter {
     message: InlineText<MESSAGE_CAPACITY>,
@@ -49,8 +49,8 @@ impl ExpectedCharacter {
     ghost use Rattle.std.specs.Fmt.Cut.{cut_to};
     ghost use Rattle.subst_error.specs.Expected.{expected_text};
 
-    /// Returns the message, without allocating. A message of more than [`MESSAGE_CAPACITY`] bytes is cut at
-    /// a character, and ends in dots.
+    /// Creates the message without allocating. A message of more than [`MESSAGE_CAPACITY`] bytes is cut at a
+    /// character boundary and ends in three dots.
     #[tactic(auto, using(crate::proofs::CutLemmas::cut_to_fits))]
     pub fn new(message: &'static str) -> Self
         ensures whole { length message.now ≤ MESSAGE_CAPACITY
@@ -62,7 +62,7 @@ impl ExpectedCharacter {
         }
     }
 
-    /// Returns the message.
+    /// Returns the message, which [`ExpectedCharacter::new`] may have cut.
     pub fn message(&self) -> &str
         ensures text { result.now ≡ expected_text self.now }
     {
@@ -106,82 +106,82 @@ impl fmt::Debug for ExpectedCharacter {
 pub struct InvalidEscapeSequence {
     /// The byte offset of the backslash.
     pub position: usize,
-    /// The character after the backslash, or nothing where the source ends there.
+    /// The character after the backslash, or `None` at the end of the source.
     pub character: Option<CharOrByte>,
 }
 
-/// A dollar, or a dollar and an opening brace, with no name after it.
+/// A `$` or `${` without a name after it.
 #[derive(Clone, Copy, Debug, PartialEq, Eq)]
 pub struct MissingVariableName {
-    /// The byte offset of the dollar.
+    /// The byte offset of the `$`.
     pub position: usize,
-    /// The length in bytes of the placeholder's beginning: 1 for `$`, 2 for `${`.
+    /// The length in bytes: 1 for `$`, 2 for `${`.
     pub len: usize,
 }
 
-/// A character that can't follow the name of a placeholder in braces.
+/// An unexpected character after the name of a placeholder in braces.
 #[derive(Clone, Copy, Debug, PartialEq, Eq)]
 pub struct UnexpectedCharacter {
     /// The byte offset of the character.
     pub position: usize,
-    /// The character.
+    /// The unexpected character.
     pub character: CharOrByte,
-    /// What may be there.
+    /// The characters expected instead, as a message.
     pub expected: ExpectedCharacter,
 }
 
-/// A placeholder whose opening brace is never closed.
+/// A placeholder without its closing brace.
 #[derive(Clone, Copy, Debug, PartialEq, Eq)]
 pub struct MissingClosingBrace {
     /// The byte offset of the opening brace.
     pub position: usize,
 }
 
-/// A variable that is needed, and that the map has no value for.
+/// An unset variable without a default, written `$name` or `${name}`.
 #[derive(Clone, Debug, PartialEq, Eq, Drop)]
 pub struct NoSuchVariable {
-    /// The byte offset of the first byte of the name.
+    /// The byte offset of the name.
     pub position: usize,
-    /// The name.
+    /// The name of the variable.
     pub name: String,
 }
 
-/// Why a source is refused by `substitute_bytes`.
+/// An error of parsing or expanding a source.
 #[derive(Clone, Debug, PartialEq, Eq, Drop)]
 pub enum Error {
     /// A backslash before a character that can't be escaped, or at the end of the source.
     InvalidEscapeSequence(InvalidEscapeSequence),
-    /// A placeholder with no name.
+    /// A `$` or `${` without a name after it.
     MissingVariableName(MissingVariableName),
-    /// A character that can't follow the name of a placeholder in braces.
+    /// An unexpected character after the name of a placeholder in braces.
     UnexpectedCharacter(UnexpectedCharacter),
-    /// A placeholder that is never closed.
+    /// A placeholder without its closing brace.
     MissingClosingBrace(MissingClosingBrace),
-    /// A variable that is needed, and that the map has no value for.
+    /// An unset variable without a default.
     NoSuchVariable(NoSuchVariable),
     /// An allocation failed.
     OutOfMemory(AllocError),
 }
 
-/// Why a source is no template.
+/// An error of parsing a template.
 #[derive(Clone, Copy, Debug, PartialEq, Eq)]
 pub enum ParseError {
     /// A backslash before a character that can't be escaped, or at the end of the source.
     InvalidEscapeSequence(InvalidEscapeSequence),
-    /// A placeholder with no name.
+    /// A `$` or `${` without a name after it.
     MissingVariableName(MissingVariableName),
-    /// A character that can't follow the name of a placeholder in braces.
+    /// An unexpected character after the name of a placeholder in braces.
     UnexpectedCharacter(UnexpectedCharacter),
-    /// A placeholder that is never closed.
+    /// A placeholder without its closing brace.
     MissingClosingBrace(MissingClosingBrace),
     /// An allocation failed.
     OutOfMemory(AllocError),
 }
 
-/// Why a template isn't expanded.
+/// An error of expanding a template.
 #[derive(Clone, Debug, PartialEq, Eq, Drop)]
 pub enum ExpandError {
-    /// A variable that is needed, and that the map has no value for.
+    /// An unset variable without a default.
     NoSuchVariable(NoSuchVariable),
     /// An allocation failed.
     OutOfMemory(AllocError),

@@ -1,4 +1,4 @@
-//! The line of its source that an error is in.
+//! The line of an error in its source.
 
 ghost use Rattle.std.specs.Prelude.{◌≡◌, ◌-◌, ◌≤◌, take, slice_range};
 ghost use Rattle.std.specs.Str.{IsCharBoundary};
@@ -10,11 +10,11 @@ use crate::Error;
 use std::ops::Range;
 
 impl Error {
-    /// Returns the line of `source` that the error's range begins in, without what ends it. A line ends at a
+    /// Returns the line of `source` in which the error's range begins, without its line end. A line ends at a
     /// line feed or a carriage return. For `OutOfMemory` it is the first line.
     ///
-    /// Both ends of the range have to be character boundaries of `source`, as they are for an error that a
-    /// substitution of `source` returned.
+    /// Both ends of the range must be character boundaries of `source`, as they are if substituting `source`
+    /// returned the error.
     pub fn source_line<'a>(&self, source: &'a str) -> &'a str
         requires { IsRangeIn source.now (range_of (error_fault self.now)) }
         ensures line { result.now ≡ line_of (error_fault self.now) source.now }
@@ -23,18 +23,18 @@ impl Error {
     }
 }
 
-/// A line of a source, with a range of it that is marked.
+/// The line of a source in which a range begins, with the line's texts before and in the range.
 #[derive(Clone, Copy)]
 pub(crate) struct MarkedLine<'a> {
-    /// The whole line, without what ends it.
+    /// The whole line, without its line end.
     pub(crate) text: &'a str,
-    /// What is before the range.
+    /// The text of the line before the range.
     pub(crate) before: &'a str,
-    /// What is within the range, up to the line's end.
+    /// The text of the range, cut at the end of the line.
     pub(crate) marked: &'a str,
 }
 
-/// Returns the line of `source` that a range begins in, with what of it is marked.
+/// Returns the line of `source` in which `range` begins, with the line's texts before and in the range.
 pub(crate) fn marked_line(source: &str, range: Range<usize>) -> MarkedLine<'_>
     requires { IsRangeIn source.now range }
     ensures text { result.text.now ≡ line_around range.start source.now }
@@ -52,7 +52,7 @@ pub(crate) fn marked_line(source: &str, range: Range<usize>) -> MarkedLine<'_>
     }
 }
 
-/// Returns the byte offset at which the line around the byte offset `offset` begins.
+/// Returns the byte offset of the start of the line that contains `offset`.
 fn line_start(source: &str, offset: usize) -> usize
     requires { IsCharBoundary source.now offset }
     ensures before { slice_range source.now result offset ≡ line_before offset source.now }
@@ -67,7 +67,7 @@ fn line_start(source: &str, offset: usize) -> usize
     start
 }
 
-/// Returns the byte offset at which the line around the byte offset `offset` ends.
+/// Returns the byte offset of the end of the line that contains `offset`.
 fn line_end(source: &str, offset: usize) -> usize
     requires { IsCharBoundary source.now offset }
     ensures from { slice_range source.now offset result ≡ line_from offset source.now }
@@ -82,7 +82,7 @@ fn line_end(source: &str, offset: usize) -> usize
     end
 }
 
-/// Returns whether a byte ends a line.
+/// Returns whether a byte ends a line: a line feed or a carriage return.
 fn is_end(b: u8) -> bool
     ensures { result ≡ is_line_end b }
 {

@@ -1,17 +1,17 @@
-//! Characters in single quotes, as an error shows them.
+//! Characters in single quotes, as errors print them.
 
 ghost use Rattle.std.specs.Fmt.{DisplaysStyledOnOk};
 ghost use Rattle.subst_error.specs.Display.{IsQuotedChar, quoted_char};
 ghost use Rattle.subst_error.specs.Writing.{WritesSome};
 
 use crate::CharOrByte;
-use crate::shown::write_shown;
+use crate::unpadded::write_unpadded;
 use std::fmt;
 use std::marker::Model;
 
-/// A character in single quotes, with an escape for what can't be seen. It displays as that text.
+/// A character that displays in single quotes, escaped if it isn't printable.
 ///
-/// A byte past ASCII is shown by its number, as `'\x81'`.
+/// A byte that isn't ASCII displays as its hexadecimal value, like `'\x81'`.
 #[derive(Clone, Copy, Debug)]
 pub struct QuotedPrintable {
     character: CharOrByte,
@@ -30,7 +30,7 @@ impl Model for QuotedPrintable {
 impl CharOrByte {
     ghost use Rattle.std.specs.Prelude.{◌≡◌};
 
-    /// Returns the character in single quotes.
+    /// Returns the character in single quotes, for display.
     pub fn quoted_printable(&self) -> QuotedPrintable
         ensures character { result ≡ self.now }
     {
@@ -59,7 +59,7 @@ impl fmt::Display for QuotedPrintable {
                 if b.is_ascii() {
                     write_quoted(char::from(b), f)
                 } else {
-                    write_shown(format_args!("'\\x{b:02X}'"), f)
+                    write_unpadded(format_args!("'\\x{b:02X}'"), f)
                 }
             }
         }
@@ -68,14 +68,14 @@ impl fmt::Display for QuotedPrintable {
 
 /// Writes a character in single quotes, as `{:?}` does.
 ///
-/// Of a character past ASCII `{:?}` states nothing, so its two forms are written here.
+/// The contract of `{:?}` covers ASCII alone. Any other character is written unchanged or as its code point.
 #[tactic(auto, using(crate::proofs::QuotedLemmas::debug_is_quoted))]
 fn write_quoted<W: fmt::Write>(c: char, f: &mut fmt::Formatter<W>) -> fmt::Result
     ensures styled { DisplaysStyledOnOk W.write_str_gives f.old result (quoted_char c) f.new }
     ensures text { WritesSome W.write_str_gives f.old result (IsQuotedChar c) f.new }
 {
     if c.is_ascii() {
-        write_shown(format_args!("{c:?}"), f)
+        write_unpadded(format_args!("{c:?}"), f)
     } else if c.escape_debug().count() == 1 {
         write!(f, "'{c}'")
     } else {

@@ -1,4 +1,4 @@
-//! Where in its source an error is.
+//! The byte range of an error in its source.
 
 ghost use Rattle.std.specs.Prelude.{◌≡◌, ◌^◌, ◌<◌};
 ghost use Rattle.subst_error.specs.ErrorFault.{error_fault, expand_into_fault, substitute_into_fault};
@@ -8,8 +8,8 @@ use crate::{CharOrByte, Error, ExpandIntoError, SubstituteIntoError};
 use std::ops::Range;
 
 impl CharOrByte {
-    /// Returns how many bytes the character takes in a source: the length of its UTF-8 encoding, and 1 for a
-    /// byte that no character begins with.
+    /// Returns the number of bytes of the character in a source: the length of its UTF-8 encoding, or 1 for a
+    /// `Byte`.
     pub fn source_len(&self) -> usize
         ensures len { result ≡ range.source_len self.now }
     {
@@ -21,11 +21,10 @@ impl CharOrByte {
 }
 
 impl Error {
-    /// Returns the range of the source that the error is about, in byte offsets: an escape with its
-    /// character, the beginning of a placeholder, a character, an opening brace, or a name. For
-    /// `OutOfMemory` it is `0..0`.
+    /// Returns the error's range in the source, in byte offsets. It covers an escape with its character, a
+    /// `$` or `${`, an unexpected character, an opening brace, or a name. For `OutOfMemory` it is `0..0`.
     ///
-    /// The range has to end within a `usize`, as that of each error that a substitution returns does.
+    /// The end of the range must fit in a `usize`, as it does for every returned error.
     pub fn source_range(&self) -> Range<usize>
         requires { (range.range_of (error_fault self.now)).end < 2 ^ 64 }
         ensures range { result ≡ range.range_of (error_fault self.now) }
@@ -45,10 +44,10 @@ impl Error {
 }
 
 impl ExpandIntoError<'_> {
-    /// Returns the range of the source that the error is about, in byte offsets: the name. For `OutOfMemory`
-    /// it is `0..0`.
+    /// Returns the range of the unset variable's name in the source, in byte offsets. For `OutOfMemory` it is
+    /// `0..0`.
     ///
-    /// The range has to end within a `usize`, as that of each error that an expansion returns does.
+    /// The end of the range must fit in a `usize`, as it does for every returned error.
     pub fn source_range(&self) -> Range<usize>
         requires { (range.range_of (expand_into_fault self.now)).end < 2 ^ 64 }
         ensures range { result ≡ range.range_of (expand_into_fault self.now) }
@@ -61,10 +60,9 @@ impl ExpandIntoError<'_> {
 }
 
 impl SubstituteIntoError<'_> {
-    /// Returns the range of the source that the error is about, as [`Error::source_range`] does, without
-    /// allocating.
+    /// Returns the error's range in the source, as [`Error::source_range`] does, without allocating.
     ///
-    /// The range has to end within a `usize`, as that of each error that a substitution returns does.
+    /// The end of the range must fit in a `usize`, as it does for every returned error.
     pub fn source_range(&self) -> Range<usize>
         requires { (range.range_of (substitute_into_fault self.now)).end < 2 ^ 64 }
         ensures range { result ≡ range.range_of (substitute_into_fault self.now) }

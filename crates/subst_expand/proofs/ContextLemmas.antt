@@ -1,4 +1,4 @@
--- What parts write by themselves.
+-- The output of single parts.
 use Rattle.std.proofs.Common.{◌≡◌, ◌≤◌, ◌<◌, ℕ, ◌+◌, List, [], ◌∷◌, length, map, append-nil, refl, sym, ap, ◌∙◌, subst, arith}
 use Rattle.std.specs.declared.alloc.AllocError.{AllocError}
 use Rattle.subst_language.specs.Language.LookUp.{LookUp}
@@ -21,11 +21,11 @@ use Rattle.subst_language.specs.declared.part.Part.{Part}
 use Rattle.subst_expand.proofs.FilledLemmas.{all_kept}
 use Rattle.subst_expand.proofs.OutputLemmas.{nothing_appended}
 
--- one mark filled in
+-- one mark replaced
 fills_one : {Passes : List ℕ → Type 0} (x : List ℕ) → Passes x → IsFilled Passes (mark ∷ []) x
 fills_one {Passes} x passes = subst (IsFilled Passes (mark ∷ [])) (append-nil x) (filled x passes empty)
 
--- bytes, each for itself, give these bytes
+-- the value of plain bytes as steps is these bytes
 own_value : (x : List ℕ) → steps_value (map Own x) ≡ Bytes x
 own_value [] = refl
 own_value (b ∷ x) = ap (joined (Bytes (b ∷ []))) (own_value x)
@@ -38,7 +38,7 @@ module _ {V Seen W First : Type 0} (context : Context V Seen W First) (s : List 
     (before after : W) (puts : Puts context.holds before x after)
     (long : context.len after ≡ context.len before + length x)
     (capacity : context.capacity before ≤ context.capacity after) where
-  -- a part that gives these bytes, whatever the map, writes them
+  -- a part whose value is these bytes, whatever the map, writes them
   writes_bytes : ByContext context (λ look. steps_value (part_steps part s look) ≡ Bytes x)
       → FillsMarks context.is_read (steps_value (part_steps part s (marks_of context.look_up))) x
       → WritesPart context s part before after
@@ -60,7 +60,7 @@ module _ {V Seen W First : Type 0} (context : Context V Seen W First) (s : List 
     filled = all_kept x;
   }
 
-  -- a value that was found
+  -- a found value
   pub writes_value : ByContext context (λ look. part_steps part s look ≡ Given x ∷ [])
       → part_steps part s (marks_of context.look_up) ≡ Given (mark ∷ []) ∷ [] → context.is_read x
       → WritesPart context s part before after
@@ -87,7 +87,7 @@ module _ {V Seen W First : Type 0} (context : Context V Seen W First) (s : List 
     (before after : W) (e : AllocError) (puts : Puts context.holds before [] after)
     (full : context.capacity before < context.len before + length x)
     (capacity : context.capacity before ≤ context.capacity after) where
-  -- where there is no capacity for the bytes that a part gives, writing stops at it
+  -- if the capacity is too small for the bytes of a part, writing stops at it
   stops_full : ByContext context (λ look. steps_value (part_steps part s look) ≡ Bytes x)
       → StopsAtPart context s part (Full e) before after
   stops_full gives = record {
@@ -103,13 +103,13 @@ module _ {V Seen W First : Type 0} (context : Context V Seen W First) (s : List 
       → StopsAtPart context s part (Full e) before after
   stops_at_own owns = stops_full (λ bytes reads. ap steps_value (owns _) ∙ own_value x)
 
-  -- for a value that was found
+  -- for a found value
   pub stops_at_value : ByContext context (λ look. part_steps part s look ≡ Given x ∷ [])
       → StopsAtPart context s part (Full e) before after
   stops_at_value gives =
       stops_full (λ bytes reads. ap steps_value (gives bytes reads) ∙ ap Bytes (append-nil x))
 
--- where a part needs a variable that is missing, writing stops at it
+-- if a part needs a variable that is missing, writing stops at it
 pub stops_missing : {V Seen W First : Type 0} (context : Context V Seen W First) (s : List ℕ) (part : Part)
     (name : Span) (output : W)
     → ByContext context

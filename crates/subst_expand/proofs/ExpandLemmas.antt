@@ -1,4 +1,4 @@
--- Which parts an expansion visits, and where it goes on.
+-- The parts that an expansion visits, and the index at which it continues.
 use Rattle.std.proofs.Common.{◌≡◌, ℕ, ◌+◌, ◌-◌, ◌<◌, ◌≤◌, zero, suc, Option, Some, None, List, [], ◌∷◌, length, drop, take, unwrap_or, refl, sym, ap, ◌∙◌, subst, arith}
 use Rattle.std.proofs.lemmas.List.{drop-drop, length-take-le}
 use Rattle.std.specs.List.{slice_get}
@@ -33,7 +33,7 @@ part_here {at = at} reads same is =
 pub none_here : {read parts : List Part} {at : ℕ} → length read ≤ at → read ≡ parts → length parts ≤ at
 none_here {at = at} past same = subst (λ (xs : List Part). length xs ≤ at) same past
 
--- of a list that is jumped into, an expansion visits what it visits of the rest by itself
+-- an expansion that jumps into a list visits its parts of the rest alone
 visited_parts-jump : (k i : ℕ) (s : List ℕ) (xs : List Part) (look : LookUp)
     → visited_parts xs i (i + k) s look ≡ visited_parts (drop k xs) (i + k) 0 s look
 visited_parts-jump zero i s xs look =
@@ -46,7 +46,7 @@ visited_parts-jump (suc k) i s (part ∷ xs) look =
     ∙ visited_parts-jump k (i + 1) s xs look
     ∙ ap (λ n. visited_parts (drop k xs) n 0 s look) (omega arith)
 
--- from a later index on, an expansion of the rest of a list visits what it visits of the list from there
+-- from a later index on, an expansion of the rest of a list visits its parts of the list from there
 visited_parts-from_jump : (parts : List Part) (i next : ℕ) (s : List ℕ) (look : LookUp) → i ≤ next
     → visited_parts (drop i parts) i next s look ≡ visited_parts (drop next parts) next 0 s look
 visited_parts-from_jump parts i next s look forward =
@@ -56,13 +56,13 @@ visited_parts-from_jump parts i next s look forward =
     ∙ ap (λ (rest : List Part). visited_parts rest (i + (next - i)) 0 s look) (drop-drop (next - i) i parts)
     ∙ ap (λ n. visited_parts (drop n parts) n 0 s look) there
 
--- an expansion that is at the index `at` visits the part there, and goes on at the index `next`
+-- an expansion at the index `at` visits the part there, and continues at the index `next`
 pub record GoesOn (parts : List Part) (s : List ℕ) (look : LookUp) (at : ℕ) (part : Part) (next : ℕ)
     : Type 0 where
   pub visits : visited_parts (drop at parts) at 0 s look
       ≡ part ∷ visited_parts (drop next parts) next 0 s look
 
--- a part that is at an index is visited there, and the rest from where the part says
+-- the part at an index is visited, and then the rest from the index at which it resumes
 pub visited_parts-here : (parts : List Part) (at : ℕ) (part : Part) (s : List ℕ) (look : LookUp)
     → IsElementAt parts at part
     → visited_parts (drop at parts) at 0 s look
@@ -71,7 +71,7 @@ visited_parts-here parts at part s look here =
     ap (λ (rest : List Part). visited_parts rest at 0 s look) here.spelled
     ∙ visited_parts-from part (drop (at + 1) parts) at 0 s look (omega arith)
 
--- an expansion goes on after a part that makes no jump
+-- an expansion continues after a part that makes no jump
 pub goes_on_after : {parts : List Part} {s : List ℕ} {look : LookUp} {at : ℕ} {part : Part}
     → IsElementAt parts at part → resume_index part s look ≡ 0
     → GoesOn parts s look at part (at + 1)
@@ -80,7 +80,7 @@ goes_on_after {parts = parts} {s = s} {look = look} {at = at} {part = part} here
       ∙ ap (λ n. part ∷ visited_parts (drop (at + 1) parts) (at + 1) n s look) no_jump;
 }
 
--- where the jump of a default ends, whose name has a value
+-- after a default whose name has a value, it continues at the end of the jump
 pub goes_on_there : {parts : List Part} {s : List ℕ} {look : LookUp} {at next : ℕ} {name : Span}
     {key x : List ℕ}
     → IsElementAt parts at (Default name next) → at < next → key ≡ span_bytes name s → look key ≡ Some x
@@ -97,14 +97,14 @@ goes_on_there {parts = parts} {s = s} {look = look} {at = at} {next = next}
           (visited_parts-from_jump parts (at + 1) next s look (omega arith));
     }
 
--- in a default whose name has no value an expansion goes on at the first part
+-- in a default whose name has no value, it continues at the first part
 pub goes_on_inside : {parts : List Part} {s : List ℕ} {look : LookUp} {at next : ℕ} {name : Span}
     {key : List ℕ}
     → IsElementAt parts at (Default name next) → key ≡ span_bytes name s → look key ≡ None
     → GoesOn parts s look at (Default name next) (at + 1)
 goes_on_inside {look = look} here named missing = goes_on_after here (rw (sym named, missing) refl)
 
--- where an expansion goes on after a part with a default that is at an index
+-- the index at which an expansion continues after a part with a default
 goes_on_default : (parts : List Part) (s : List ℕ) (look : LookUp) (at : ℕ) (name : Span) (next : ℕ)
     (found : Option (List ℕ)) → IsElementAt parts at (Default name next) → at < next
     → look (span_bytes name s) ≡ found
@@ -112,7 +112,7 @@ goes_on_default : (parts : List Part) (s : List ℕ) (look : LookUp) (at : ℕ) 
 goes_on_default parts s look at name next (Some x) here forward is = goes_on_there here forward refl is
 goes_on_default parts s look at name next None here forward is = goes_on_inside here refl is
 
--- where it goes on after any part
+-- the index at which it continues after any part
 pub goes_on : {parts : List Part} {s : List ℕ} {look : LookUp} {at : ℕ} (end : ℕ) (part : Part)
     → IsElementAt parts at part → JumpsWithin at end part
     → GoesOn parts s look at part (next_index part s look (at + 1))
@@ -122,13 +122,14 @@ goes_on end (Variable name) here jumps = goes_on_after here refl
 goes_on {parts = parts} {s = s} {look = look} {at = at} end (Default name next) here jumps =
     goes_on_default parts s look at name next (look (span_bytes name s)) here jumps.0 refl
 
--- what was found or not, the next index is after that of a part with a default, and within the list
+-- whether a value was found or not, the next index is after that of a part with a default, and within the
+-- list
 found_within : (at next end : ℕ) (found : Option (List ℕ)) → at < next → next ≤ end → at < end
     → (at < next_if_found found next (at + 1)) × (next_if_found found next (at + 1) ≤ end)
 found_within at next end (Some x) forward inside below = (forward, inside)
 found_within at next end None forward inside below = (omega arith, omega (arith, below))
 
--- so is it after any part
+-- the next index is after that of any part, and within the list
 pub next_within : {at end : ℕ} (s : List ℕ) (look : LookUp) (part : Part) → JumpsWithin at end part → at < end
     → (at < next_index part s look (at + 1)) × (next_index part s look (at + 1) ≤ end)
 next_within s look (Literal span) jumps below = (omega arith, omega (arith, below))
@@ -137,7 +138,7 @@ next_within s look (Variable name) jumps below = (omega arith, omega (arith, bel
 next_within {at = at} {end = end} s look (Default name next) jumps below =
     found_within at next end (look (span_bytes name s)) jumps.0 jumps.1 below
 
--- the index after a part, or that where its jump ends, is the one that an expansion goes on at
+-- an expansion continues at the end of a part's jump, or else at the index after the part
 pub after_jump : {Seen : Type 0} (look_up : List ℕ → Option Seen) (bytes : Seen → List ℕ) (s : List ℕ)
     (part : Part) (after : ℕ)
     → unwrap_or (jump_of look_up s part) after ≡ next_index part s (look_up_of bytes look_up) after
@@ -151,7 +152,7 @@ after_jump {Seen} look_up bytes s (Default name next) after = of (look_up (span_
     of (Some v) = refl
     of None = refl
 
--- where the map has a value for a name, the look-up has the bytes that the value gives
+-- if the map has a value for a name, the look-up has its bytes
 pub has_value : {V Seen : Type 0} (items : V → List ℕ) (see : V → Seen) (bytes : Seen → List ℕ)
     (look_up : List ℕ → Option Seen)
     {key x : List ℕ} (v : V) → ReadsAs items see bytes → Some (see v) ≡ look_up key → x ≡ items v
@@ -159,13 +160,13 @@ pub has_value : {V Seen : Type 0} (items : V → List ℕ) (see : V → Seen) (b
 has_value items see bytes look_up v reads has gives =
     ap (option_map bytes) (sym has) ∙ ap Some (sym (reads v) ∙ sym gives)
 
--- where the map has none, neither has the look-up
+-- if the map has none, neither has the look-up
 pub has_none : {Seen : Type 0} (bytes : Seen → List ℕ) (look_up : List ℕ → Option Seen) {key : List ℕ}
     → None ≡ look_up key
     → look_up_of bytes look_up key ≡ None
 has_none bytes look_up has = ap (option_map bytes) (sym has)
 
--- so a part has the step of these bytes that has that of what is found
+-- so the step of a part with a found value is that of these bytes
 pub found_gives : {V Seen : Type 0} (items : V → List ℕ) (see : V → Seen) (look_up : List ℕ → Option Seen)
     {key named x : List ℕ} (v : V) (others : List Step) → key ≡ named → Some (see v) ≡ look_up key
     → x ≡ items v → (bytes : Seen → List ℕ) → ReadsAs items see bytes

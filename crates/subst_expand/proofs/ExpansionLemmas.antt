@@ -1,4 +1,4 @@
--- From what was written of parts to what came of an expansion.
+-- From the output of parts to the outcome of an expansion.
 use Rattle.std.proofs.Common.{◌≡◌, ◌≤◌, ◌<◌, ℕ, ◌+◌, List, ◌++◌, Option, IfNone, IfSome, Ok, Err, Vec, Global, length, take, refl, ◌∙◌, subst}
 use Rattle.std.proofs.Math.Seq.{take-append_seam}
 use Rattle.std.specs.Prelude.{vec_capacity, vec_len}
@@ -23,13 +23,13 @@ use Rattle.subst_expand.specs.declared.writer.State.TheVariants.{Writing, Jumpin
 use Rattle.subst_language.proofs.PartsLemmas.{closed_of_fit}
 use Rattle.subst_expand.proofs.WriterLemmas.{begun, none_jumped, stopped_whole}
 
--- how the map is asked, and a `Vec` is written to
+-- the context of a map and a `Vec`
 abbrev pub into_vec : {V Seen : Type 0} → (V → List ℕ) → (List ℕ → Type 0) → (V → Seen)
     → (List ℕ → Option Seen) → Context V Seen (Vec ℕ Global) (Unit {0})
 into_vec read is_read see look_up =
     context_of read is_read see look_up (λ output _ x. output.items ≡ x) vec_len vec_capacity
 
--- what an error states that says where an expansion stopped
+-- the clauses of an error that states where an expansion stopped
 pub record StatesStop {V Seen W First : Type 0} (context : Context V Seen W First) (s : List ℕ)
     (parts : List Part) (before : W) (e : ExpandIntoError) : Type 0 where
   pub value : ByContext context (λ look. IfSome (expand_into_fault e) (IsMissing (parts_value parts s look)))
@@ -52,7 +52,7 @@ module _ {V Seen W First : Type 0} (context : Context V Seen W First) (s : List 
     missing = rw fault (_, _, stops.at.1, refl);
   }
 
-  -- where a variable is missing, its name is one in the source
+  -- the name of a missing variable is one in the source
   pub named_stop : (stopped : Stop) → StopsInParts context s stopped parts before after
       → IfMissing (Err stopped) (λ name. IsSpan s name × IsName (span_bytes name s))
   named_stop (Full e) stops = tt
@@ -63,7 +63,7 @@ module _ {V Seen : Type 0} (read : V → List ℕ) (is_read : List ℕ → Type 
   abbrev of_vec : Context V Seen (Vec ℕ Global) (Unit {0})
   of_vec = into_vec read is_read see look_up
 
-  -- all was written to a `Vec`
+  -- the whole output was written to a `Vec`
   pub expanded : WritesParts of_vec s parts before after
       → ExpandsParts read is_read see look_up s parts before.items after.items (vec_capacity before)
       (vec_len before) (Ok tt)
@@ -77,7 +77,7 @@ module _ {V Seen : Type 0} (read : V → List ℕ) (is_read : List ℕ → Type 
     missing = tt;
   }
 
-  -- writing stopped, and the items are as before
+  -- writing stopped, and the items are unchanged
   pub expanded_until : (stopped : Stop) (e : ExpandIntoError) (items : List ℕ)
       → StopsInParts of_vec s stopped parts before after → expand_into_fault e ≡ fault_of stopped s
       → items ≡ before.items
@@ -93,7 +93,7 @@ module _ {V Seen : Type 0} (read : V → List ℕ) (is_read : List ℕ → Type 
         missing = states.missing;
       }
 
--- A writer to a `Vec`, whose source and map are those at first, holds these parts.
+-- A writer to a `Vec` holds these parts, and has its first source and map.
 module _ {V Seen : Type 0} (read : V → List ℕ) (is_read : List ℕ → Type 0) (see : V → Seen)
     (look_up : List ℕ → Option Seen) (s : List ℕ) (n : ℕ) (state : State) (now written : Vec ℕ Global)
     (same : written ≡ now) (first : AtFirst Seen (Vec ℕ Global)) (parts : List Part)
@@ -109,7 +109,7 @@ module _ {V Seen : Type 0} (read : V → List ℕ) (is_read : List ℕ → Type 
   pub room_since : vec_capacity first.output ≤ vec_capacity written
   room_since = let (x, begins, capacity) = begun_since in capacity
 
-  -- cut to its length at first, it is as it was
+  -- cut to its first length, it has its first items
   pub cut_back : {items : List ℕ} {len : ℕ} → items ≡ take len written.items
       → len ≡ length first.output.items → items ≡ first.output.items
   cut_back is long =
@@ -131,7 +131,7 @@ module _ {V Seen : Type 0} (read : V → List ℕ) (is_read : List ℕ → Type 
       stopped_whole context first.source stopped first.output written parts
       (subst (λ st. HasWritten context first.source st first.output written parts) is has_written)
 
-  -- where it stopped at a variable that is missing, its name is one in the source
+  -- if it stopped at a missing variable, the name is one in the source
   pub named_since : {stopped : Stop} → state ≡ Stopped stopped
       → IfMissing (Err stopped) (λ name. IsSpan first.source name × IsName (span_bytes name first.source))
   named_since {stopped} is =
@@ -161,7 +161,7 @@ module _ {V Seen : Type 0} (read : V → List ℕ) (is_read : List ℕ → Type 
           (all_written state going has_written);
     }
 
-    -- it has, and the items are as before
+    -- it has, and the items are unchanged
     pub failed_since : {stopped : Stop} → state ≡ Stopped stopped → (e : ExpandIntoError) {items : List ℕ}
         → expand_into_fault e ≡ fault_of stopped first.source → items ≡ first.output.items
         → IsExpansion read is_read see first.look_up first.source first.output.items items

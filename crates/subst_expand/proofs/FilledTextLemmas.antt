@@ -1,4 +1,4 @@
--- A text with texts in the place of its marks is a text.
+-- A text with texts in place of its marks is a text.
 use Rattle.std.proofs.Common.{◌≡◌, ℕ, Some, None, Option, List, [], ◌∷◌, ◌++◌, sym, ◌∙◌, subst, append_assoc, arith}
 use Rattle.std.proofs.lemmas.Str.{IsUtf8-append}
 use Rattle.std.specs.Option.{option_map}
@@ -13,7 +13,7 @@ use Rattle.subst_language.specs.declared.part.Part.{Part}
 use Rattle.subst_language.proofs.Language.Utf8Lemmas.{cut_at, value_is_text, ascii_alone}
 use Rattle.subst_language.proofs.PartsLemmas.{same_value}
 
--- after the bytes u: where the text with marks is UTF-8, so is that with texts in their place
+-- after the bytes u: if the text with marks is UTF-8, so is the text with texts in their place
 marks_filled : (u : List ℕ) {x y : List ℕ} → IsFilled IsUtf8 x y → IsUtf8 (u ++ x) → IsUtf8 (u ++ y)
 marks_filled u empty is = is
 marks_filled u (kept b {x} {y} more) is =
@@ -31,7 +31,7 @@ marks_are_texts {Seen} look_up name x = of (look_up name)
     of (Some v) e = let same : mark ∷ [] ≡ x = cc in subst IsUtf8 same (ascii_alone mark (omega arith))
     of None e = absurd cc
 
--- what an expansion of a text has written is a text, where all bytes that it read were
+-- the output of an expansion of a text is a text, if all bytes that it read were
 pub output_is_text : {Seen : Type 0} (s : List ℕ) (parts : List Part) (look_up : List ℕ → Option Seen)
     (output : List ℕ) → IsTemplateOf s parts → IsUtf8 s
     → FillsMarks IsUtf8 (parts_value parts s (marks_of look_up)) output → IsUtf8 output
@@ -42,7 +42,7 @@ output_is_text s parts look_up output template is fills =
     (value_is_text t 0 look fills.marked template.spells.well_formed (marks_are_texts look_up)
     (subst IsUtf8 template.spells.spelled is) (sym (same_value template.mean look) ∙ fills.given))
 
--- a text with what was written appended is a text, and so is one that is as before
+-- a text with the output appended is a text, and so is one that is unchanged
 pub text_after : {Seen T E : Type 0} (s : List ℕ) (parts : List Part) (look_up : List ℕ → Option Seen)
     (result : Result T E) {before after : List ℕ} → IsTemplateOf s parts → IsUtf8 s → IsUtf8 before
     → OnErr result (after ≡ before)

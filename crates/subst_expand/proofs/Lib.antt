@@ -1,4 +1,4 @@
--- Lemmas on the expansion's own words.
+-- Lemmas on the expansion's own terms.
 pub mod ContextLemmas
 pub mod ExpandLemmas
 pub mod ExpansionLemmas

@@ -1,4 +1,4 @@
--- What the lists of variables, and of what is missing, say of the source's tree.
+-- The lists of variables, and of missing ones, as those of the source's tree.
 use Rattle.std.proofs.Common.{is_some, ◌≡◌, ◌≤◌, ℕ, length, List, [], ◌∷◌, map, Option, Result, Vec, Global, IfOk, ap, ◌∙◌}
 use Rattle.std.proofs.lemmas.Result.{IfOk-weaker}
 use Rattle.std.specs.List.{All, AllByRecursion, filter_map}
@@ -22,7 +22,7 @@ use Rattle.subst_expand.specs.Filled.{mark, marks_of}
 use Rattle.subst_language.specs.Parts.Meaning.{IsTemplateOf, variables_in, parts_missing}
 use Rattle.subst_language.specs.declared.part.Part.{Part}
 
--- a look-up of marks has something for the same names as the map
+-- a look-up of marks has values for the same names as the map
 pub marks_by_names : {Seen : Type 0} (look_up : List ℕ → Option Seen) (name : List ℕ)
     → is_some (marks_of look_up name) ≡ is_some (look_up name)
 marks_by_names look_up name = found_as_read (λ _. mark ∷ []) (look_up name)
@@ -38,7 +38,7 @@ module _ {E : Type 0} (s : List ℕ) (own : List Part) {parts : List Part} (temp
       is ∙ ap (λ (xs : List Part). variables_in xs s) same ∙ template.mean.same_variables
       ∙ ap (variables_of 0) (tree_unique s template.tree t template.spells spells))
 
-  -- what holds of each variable of the tree holds of each that is listed
+  -- a property of each variable of the tree holds of each listed one
   each_variable : (P : variables.Variable → Type 0) (result : Result (Vec declared.Variable Global) E)
       → AllByRecursion P (variables_of 0 template.tree)
       → IfOk result (λ list. map variable_of list.items ≡ variables_in own s)
@@ -47,7 +47,7 @@ module _ {E : Type 0} (s : List ℕ) (own : List Part) {parts : List Part} (temp
       IfOk-weaker result _ _ (λ list is. each_mapped variable_of P list.items
       (is ∙ ap (λ (xs : List Part). variables_in xs s) same ∙ template.mean.same_variables) each)
 
-  -- so each name that is listed ends within the source, at character boundaries of a text
+  -- so each listed name ends within the source, and begins and ends at character boundaries of a text
   pub variables_told : (result : Result (Vec declared.Variable Global) E)
       → IfOk result (λ list. map variable_of list.items ≡ variables_in own s)
       → IfOk result (λ list. ByTree s (λ t. map variable_of list.items ≡ variables_of 0 t))
@@ -64,7 +64,7 @@ module _ {E : Type 0} (s : List ℕ) (own : List Part) {parts : List Part} (temp
       (result : Result (Vec errors.NoSuchVariable Global) E)
       (lists : ByNames look_up (λ look. IfOk result
       (λ list. map missing_variable list.items ≡ parts_missing own s look))) where
-    -- a list of what the parts are missing is one of what the source's tree is missing
+    -- a list of the parts' missing variables is one of those of the source's tree
     lists_missing : ByNames look_up (λ look. ByTree s (λ t. IfOk result
         (λ list. map missing_variable list.items ≡ all_missing 0 t look)))
     lists_missing look names t spells =
@@ -74,7 +74,7 @@ module _ {E : Type 0} (s : List ℕ) (own : List Part) {parts : List Part} (temp
         ∙ ap (λ (u : Tree). all_missing 0 u look) (tree_unique s template.tree t template.spells spells))
         (lists look names)
 
-    -- what holds of each variable of the tree holds of each that is listed
+    -- a property of each variable of the tree holds of each listed one
     each_missing : (P : variables.Variable → Type 0)
         → AllByRecursion P (variables_of 0 template.tree)
         → IfOk result (λ list. All (λ e. P (missing_variable e)) list.items)
@@ -86,7 +86,7 @@ module _ {E : Type 0} (s : List ℕ) (own : List Part) {parts : List Part} (temp
         (missing_among P 0 template.tree look each))
         (lists look (marks_by_names look_up))
 
-    -- so each name that is listed ends within the source, at character boundaries of a text
+    -- so each listed name ends within the source, and begins and ends at character boundaries of a text
     pub missing_told :
         ByNames look_up (λ look. ByTree s (λ t. IfOk result
         (λ list. map missing_variable list.items ≡ all_missing 0 t look)))

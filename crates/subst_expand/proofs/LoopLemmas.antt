@@ -1,4 +1,4 @@
--- How far the expansion's loop has come.
+-- The progress of the expansion's loop.
 use Rattle.std.proofs.Common.{◌≡◌, ◌≤◌, ℕ, ◌+◌, List, [], ◌∷◌, ◌++◌, length, drop, unwrap_or, Ok, Err, append-nil, append_assoc, length-append, refl, sym, ap, ◌∙◌, arith}
 use Rattle.std.proofs.lemmas.List.{drop_all}
 use Rattle.subst_language.specs.Calls.VariableMap.{look_up_of}
@@ -11,8 +11,8 @@ use Rattle.subst_language.specs.declared.part.Part.{Part}
 use Rattle.subst_expand.proofs.ExpandLemmas.{goes_on, after_jump, visited_parts-here}
 use Rattle.subst_expand.proofs.WritingLemmas.{writes_none, writes_next, stops_next, writes_same}
 
--- An expansion of parts that is at the index `at` has visited those that are done, whatever bytes the map's
--- values give. What they give was written, and each was a turn.
+-- An expansion of parts at the index `at` has visited those that are done, whatever the bytes of the map's
+-- values. Their outputs were written, and each was a turn.
 pub record HasVisited {V Seen W First : Type 0} (context : Context V Seen W First) (s : List ℕ)
     (parts : List Part) (at : ℕ) (first now : W) (start turns : ℕ) : Type 0 where
   pub done : List Part
@@ -22,7 +22,7 @@ pub record HasVisited {V Seen W First : Type 0} (context : Context V Seen W Firs
   pub counted : turns ≡ start + length done
 
 module _ {V Seen W First : Type 0} (context : Context V Seen W First) (s : List ℕ) (parts : List Part) where
-  -- at first none
+  -- at first it has visited none
   pub visits_none : (output : W) (turns : ℕ) → HasVisited context s parts 0 output output turns turns
   visits_none output turns = record {
     done = [];
@@ -33,7 +33,7 @@ module _ {V Seen W First : Type 0} (context : Context V Seen W First) (s : List 
 
   module _ {at : ℕ} {first before : W} {start turns later : ℕ} (so_far : HasVisited context s parts at first
       before start turns) where
-    -- one more, after which it goes on at the next index or where its jump ends
+    -- one more, after which it continues at the end of its jump, or else at the next index
     pub visits_next : (part : Part) (after : W) (next : ℕ) → IsElementAt parts at part
         → FitsAt at (length parts) s part → WritesPart context s part before after
         → next ≡ unwrap_or (jump_of context.look_up s part) (at + 1) → later ≡ turns + 1
@@ -55,7 +55,7 @@ module _ {V Seen W First : Type 0} (context : Context V Seen W First) (s : List 
       counted = omega (arith, one, so_far.counted, length-append so_far.done (part ∷ []));
     }
 
-    -- after the last index all were visited
+    -- after the last index it has visited all
     pub visits_all : length parts ≤ at → later ≡ turns
         → AppendsParts context s parts (Ok tt) first before start later
     visits_all above same =

@@ -1,4 +1,4 @@
--- What was appended to an output.
+-- Bytes appended to an output.
 use Rattle.std.proofs.Common.{ℕ, List, [], ◌++◌, append-nil, append_assoc, sym, subst}
 use Rattle.subst_expand.specs.Output.{Puts, Appended}
 
@@ -22,7 +22,7 @@ module _ {W First : Type 0} {holds : W → First → List ℕ → Type 0} where
     given = given so_far.appended so_far.given;
   }
 
-  -- what was appended is seen otherwise
+  -- a property of the appended bytes, by another one
   pub same_appended : {P Q : List ℕ → Type 0} {before after : W} → Appended holds P before after
       → ((x : List ℕ) → P x → Q x) → Appended holds Q before after
   same_appended so_far given = record {

@@ -10,12 +10,12 @@ use Rattle.subst_language.specs.declared.part.Part.{Part}
 use Rattle.subst_expand.specs.Packed.{unpacked, unpacked_parts}
 use Rattle.subst_expand.specs.declared.packed_part.PackedPart.{PackedPart}
 
--- a packed part is put into the list
+-- a packed part replaces one in the list
 pub set_unpacked : {O : Type 0} (value : O → ℕ) (parts : List (PackedPart O)) (i : ℕ) (packed : PackedPart O)
     → unpacked_parts value (set parts i packed) ≡ set (unpacked_parts value parts) i (unpacked value packed)
 set_unpacked value parts i packed = map-set (unpacked value) parts i packed
 
--- a packed part that a loop over the list is at is there, unpacked
+-- a packed part that a loop over the list reads is at its index, unpacked
 pub unpacked_at : {O : Type 0} (value : O → ℕ) (list : List (PackedPart O)) {i : ℕ} (packed : PackedPart O)
     {part : Part} → i < length list → packed ≡ get_or list i packed → part ≡ unpacked value packed
     → IsElementAt (unpacked_parts value list) i part
@@ -24,7 +24,7 @@ unpacked_at value list {i = i} packed inside reads is =
     element_at
     (slice_get-map (unpacked value) list i ∙ ap (option_map (unpacked value)) read ∙ ap Some (sym is))
 
--- a packed part that was asked for by its index is there, unpacked
+-- a packed part that is read by its index is there, unpacked
 pub unpacked_read : {O : Type 0} (value : O → ℕ) (list : List (PackedPart O)) {i : ℕ} (packed : PackedPart O)
     {found part : Part} → true ≡ ltb i (length list) → packed ≡ get_or list i packed
     → found ≡ unpacked value packed → found ≡ part → IsElementAt (unpacked_parts value list) i part

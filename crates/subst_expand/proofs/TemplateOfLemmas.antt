@@ -1,4 +1,4 @@
--- What the parts of a template give, what is written for them, and how many of them are visited.
+-- The parts of a template: their value, their output, and the number of visited ones.
 use Rattle.std.proofs.Common.{◌≡◌, ◌≤◌, ℕ, Option, Result, Ok, Err, IfErr, IfSome, List, [], ◌∷◌, length, ap, subst, ◌∙◌}
 use Rattle.subst_error.specs.Fault.{Fault}
 use Rattle.subst_error.specs.Range.{range_of}
@@ -18,7 +18,7 @@ use Rattle.subst_language.proofs.Language.OneTreeLemmas.{tree_unique}
 use Rattle.subst_language.proofs.Language.RangeWithinLemmas.{expand_error_within}
 use Rattle.subst_language.proofs.PartsLemmas.{same_value}
 
--- the value of the source's tree, which is the only one
+-- the value of the parts is that of the source's tree, which is the only one
 pub template_value : (s : List ℕ) (parts : List Part) (t : Tree) (look : LookUp) → IsTemplateOf s parts
     → Spells t s
     → parts_value parts s look ≡ value 0 t look
@@ -26,7 +26,7 @@ template_value s parts t look template spells =
     same_value template.mean look
     ∙ ap (λ u. value 0 u look) (tree_unique s template.tree t template.spells spells)
 
--- what is written for the source's tree is written for the parts
+-- the bytes written for the source's tree are written for the parts
 pub template_written : (s : List ℕ) (parts : List Part) (t : Tree) (look : LookUp) → IsTemplateOf s parts
     → Spells t s
     → parts_written parts s look ≡ written 0 t look
@@ -34,7 +34,7 @@ template_written s parts t look template spells =
     ap steps_written (template.mean.same_steps look)
     ∙ ap (λ u. written 0 u look) (tree_unique s template.tree t template.spells spells)
 
--- the parts that an expansion visits are as many as it visits of the source's tree
+-- an expansion visits as many parts as it visits of the source's tree
 pub template_count : (s : List ℕ) (parts : List Part) (t : Tree) (look : LookUp) → IsTemplateOf s parts
     → Spells t s
     → length (visited_parts parts 0 0 s look) ≡ visited_count t look
@@ -42,8 +42,8 @@ template_count s parts t look template spells =
     template.mean.same_count look ∙ ap (λ u. visited_count u look)
     (tree_unique s template.tree t template.spells spells)
 
--- what the parts are missing where each value is a mark, the source's tree is missing under each look-up that
--- has something for the same names
+-- the missing variable of the parts, if each value is a mark: that of the source's tree under each look-up
+-- with values for the same names
 pub template_missing : {Seen : Type 0} (s : List ℕ) (parts : List Part) (t : Tree)
     (look_up : List ℕ → Option Seen) (stated : Option Fault) → IsTemplateOf s parts → Spells t s
     → IfSome stated (IsMissing (parts_value parts s (marks_of look_up)))
@@ -62,7 +62,7 @@ template_range s parts look_up stated template missing =
     expand_error_within s template.tree look stated template.spells
     (subst (λ v. IfSome stated (IsMissing v)) (same_value template.mean look) missing)
 
--- what the error of a result states as missing in the parts is missing in the source's tree
+-- a missing variable of the parts that the error of a result states is one of the source's tree
 pub errors_missing : {Seen T E : Type 0} (fault_of : E → Option Fault) (s : List ℕ) (parts : List Part)
     (t : Tree) (look_up : List ℕ → Option Seen) (result : Result T E) → IsTemplateOf s parts → Spells t s
     → IfErr result (λ e. IfSome (fault_of e) (IsMissing (parts_value parts s (marks_of look_up))))

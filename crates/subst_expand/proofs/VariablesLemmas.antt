@@ -1,4 +1,4 @@
--- How far a pass over the parts has come that lists their variables, or what is missing.
+-- The progress of a pass over the parts that lists their variables, or the missing ones.
 use Rattle.std.proofs.Common.{◌≡◌, ℕ, ◌+◌, Option, Some, None, List, [], ◌∷◌, ◌++◌, map, drop, append_assoc, refl, sym, ap, ◌∙◌}
 use Rattle.std.proofs.lemmas.List.{map-append}
 use Rattle.std.proofs.lemmas.List.Elements.{filter_map-append}
@@ -16,7 +16,7 @@ use Rattle.subst_language.specs.declared.part.Part.TheVariants.{Literal, Escaped
 use Rattle.subst_language.specs.Parts.Span.{span_bytes}
 use Rattle.subst_expand.proofs.ExpandLemmas.{goes_on}
 
--- the variables that are listed, and those of the parts from the index `at` on, are all
+-- the listed variables, and those of the parts from the index `at` on, are all
 pub record TellsSoFar (parts : List Part) (s : List ℕ) (list : List declared.Variable) (at : ℕ) : Type 0 where
   pub together : map variable_of list ++ variables_in (drop at parts) s ≡ variables_in parts s
 
@@ -31,7 +31,7 @@ tells_on {parts = parts} {s = s} {list = list} {at = at} so_far here none = reco
       ∙ so_far.together;
 }
 
--- after a part whose variable is put at the end of the list
+-- after a part whose variable is appended to the list
 pub tells_more : {parts : List Part} {s : List ℕ} {list grown : List declared.Variable} {at : ℕ}
     {part : Part} (v : declared.Variable)
     → TellsSoFar parts s list at → IsElementAt parts at part → part_variables part s ≡ variable_of v ∷ []
@@ -47,7 +47,7 @@ tells_more {parts = parts} {s = s} {list = list} {at = at} v so_far here this is
           ∙ so_far.together;
     }
 
--- what is listed, and what is missing of the parts from the index `at` on, is all that is missing
+-- the listed variables, and the missing ones of the parts from the index `at` on, are all missing ones
 pub record ListsSoFar (parts : List Part) (s : List ℕ) (look : LookUp) (list : List errors.NoSuchVariable)
     (at : ℕ)
     : Type 0 where
@@ -55,7 +55,7 @@ pub record ListsSoFar (parts : List Part) (s : List ℕ) (look : LookUp) (list :
       ++ filter_map lacked (steps_in (visited_parts (drop at parts) at 0 s look) s look)
       ≡ parts_missing parts s look
 
--- a part is missing what its steps lack
+-- a part's missing variable is that of its steps
 part_lacks : (part : Part) (s : List ℕ) (look : LookUp)
     → filter_map lacked (part_steps part s look) ≡ part_missing part s look
 part_lacks (Literal span) s look = own (span_bytes span s)
@@ -71,7 +71,7 @@ part_lacks (Default name next) s look = of (look (span_bytes name s))
     of (Some x) = refl
     of None = refl
 
--- and with others, first
+-- with other parts after it, it comes first
 missing_first : (part : Part) (rest : List Part) (s : List ℕ) (look : LookUp)
     → filter_map lacked (steps_in (part ∷ rest) s look)
     ≡ part_missing part s look ++ filter_map lacked (steps_in rest s look)
@@ -79,7 +79,7 @@ missing_first part rest s look =
     filter_map-append lacked (part_steps part s look) (steps_in rest s look)
     ∙ ap (λ missing. missing ++ filter_map lacked (steps_in rest s look)) (part_lacks part s look)
 
--- after a part, with what it is missing put at the end of the list
+-- after a part whose missing variable, if any, is appended to the list
 pub lists_next : {parts : List Part} {s : List ℕ} {look : LookUp} {list grown : List errors.NoSuchVariable}
     {at next : ℕ} (end : ℕ) (part : Part) (these : List errors.NoSuchVariable)
     → ListsSoFar parts s look list at → IsElementAt parts at part → FitsAt at end s part

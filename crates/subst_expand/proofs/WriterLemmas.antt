@@ -1,4 +1,4 @@
--- A writer's states, from one to the next.
+-- A writer's states, before and after each step.
 use Rattle.std.proofs.Common.{◌≡◌, ◌≤◌, ◌<◌, ℕ, ◌+◌, ◌⊎◌, Bool, true, false, List, [], ◌∷◌, ◌++◌, length, Option, Some, None, IfSome, is_some, inl, inr, append-nil, append_assoc, length-append, refl, sym, ap, ◌∙◌, subst, arith}
 use Rattle.std.proofs.lemmas.Bool.{false≢true}
 use Rattle.std.specs.Option.{option_map}
@@ -19,7 +19,7 @@ use Rattle.subst_expand.specs.declared.writer.State.TheVariants.{Writing, Jumpin
 use Rattle.subst_expand.proofs.OutputLemmas.{same_appended}
 use Rattle.subst_expand.proofs.WritingLemmas.{settled_append, settled_changed, settled_jump, visited_more, open_lacks, same_length, changed_parts, jumped_parts, writes_none, writes_next, stops_next, writes_same}
 
--- where a part of two lists concatenated is: in the first one
+-- a part of two lists concatenated is in the first one
 record IsInFront (xs ys zs : List Part) (z : Part) (ws : List Part) : Type 0 where
   own : List Part
   front : xs ≡ zs ++ z ∷ own
@@ -57,17 +57,17 @@ where_is (x ∷ xs) ys (y ∷ zs) z ws same =
     last : {x y : Part} {us vs : List Part} → x ≡ y → vs ≡ us → y ∷ vs ≡ x ∷ us
     last e f = cc
 
--- a part among closed ones is closed
+-- a part among closed ones has its jump
 closed_at : (end : ℕ) (xs : List Part) (part : Part) (rest : List Part) → AllClosed end (xs ++ part ∷ rest)
     → IsClosed end part
 closed_at end xs part rest closed = (each_parts (IsClosed end) xs (part ∷ rest) closed).1.0
 
--- an open default isn't among closed parts
+-- an open default isn't among parts with their jumps
 none_open : (end : ℕ) (xs : List Part) (name : Span) (rest : List Part)
     → AllClosed end (xs ++ Default name 0 ∷ rest) → ⊥
 none_open end xs name rest closed = omega (arith, (closed_at end xs (Default name 0) rest closed).0)
 
--- a closed part is settled
+-- a closed part has the jump that an expansion makes
 settled_of : {Seen : Type 0} (look_up : List ℕ → Option Seen) (s : List ℕ) (end : ℕ) (part : Part)
     → IsClosed end part → HasJump look_up s end part
 settled_of look_up s end (Literal span) closed = tt
@@ -84,7 +84,7 @@ count_last : (parts : List Part) (part : Part) → length (parts ++ part ∷ [])
 count_last parts part = length-append parts (part ∷ [])
 
 module _ {V Seen W First : Type 0} (context : Context V Seen W First) (s : List ℕ) where
-  -- one part more is written
+  -- one more part is written
   writes_part : (parts : List Part) (part : Part) (first before now : W)
       → IsWriting context s first before parts → WritesPart context s part before now
       → WritesParts context s (parts ++ part ∷ []) first now
@@ -93,7 +93,7 @@ module _ {V Seen W First : Type 0} (context : Context V Seen W First) (s : List 
       (λ look. visited_parts (parts ++ part ∷ []) 0 0 s look) part first before now writing.written
       (λ bytes. visited_more context.look_up bytes s parts part [] writing.settled) next
 
-  -- a part was written, passed over, or writing stopped at it
+  -- a part was written or skipped, or writing stopped at it
   pub took : (part : Part) (old : State) (first before : W) (found : Bool) (state : State) (now : W)
       (parts : List Part)
       → HasWritten context s old first before parts → WritesOn context s part old before found state now
@@ -146,7 +146,7 @@ module _ {V Seen W First : Type 0} (context : Context V Seen W First) (s : List 
         stops = has_stopped.stops;
       }))
 
-  -- a default opens whose name has a value: that was written
+  -- a default whose name has a value opens: the value was written
   pub jumped : (name : Span) (old : State) (first before : W) (state : State) (now : W) (parts : List Part)
       → HasWritten context s old first before parts
       → WritesOn context s (Default name 0) old before true state now
@@ -179,7 +179,7 @@ module _ {V Seen W First : Type 0} (context : Context V Seen W First) (s : List 
   jumped name (Stopped stopped) first before state now parts has_stopped written =
       absurd (false≢true (sym written.2))
 
-  -- a default whose name has no value is settled before it has its jump
+  -- a default whose name has no value makes no jump, so it needs none yet
   pub open_settled : (name : Span) (end : ℕ) (before now : W) (found : Bool) → found ≡ false
       → PartWritten context s (Default name 0) before found Writing now
       → HasJump context.look_up s end (Default name 0)
@@ -206,7 +206,7 @@ module _ {V Seen W First : Type 0} (context : Context V Seen W First) (s : List 
             (changed_parts context.look_up s before own name 0 next none) first now writing.written;
       }
 
-  -- while it is inside it, as its name has a value: it writes again
+  -- while the writer is inside it, as its name has a value: it writes again
   pub closed_jump : (index : ℕ) (first now : W) (before own : List Part) (name : Span) → index ≡ length before
       → AllClosed (length (before ++ Default name 0 ∷ own)) own
       → IsJumping context s index first now (before ++ Default name 0 ∷ own)
@@ -261,7 +261,7 @@ module _ {V Seen W First : Type 0} (context : Context V Seen W First) (s : List 
       of (part ∷ rest) front back =
           absurd (omega (arith, is, jumping.is, simp length-append at (ap length front)))
 
-  -- while it is inside another one: it stays there
+  -- while the writer is inside another one: it stays there
   pub closed_inside : (index : ℕ) (first now : W) (before own : List Part) (name : Span) (next : ℕ)
       → ¬ (index ≡ length before) → AllClosed (length (before ++ Default name 0 ∷ own)) own
       → IsJumping context s index first now (before ++ Default name 0 ∷ own)
@@ -371,7 +371,7 @@ module _ {V Seen W First : Type 0} (context : Context V Seen W First) (s : List 
   pub started : (output : W) → IsWriting context s output output []
   started output = record { settled = tt; written = writes_none context s output }
 
-  -- at the end writing stopped in the parts of the whole source
+  -- at the end, writing stopped in the parts of the whole source
   pub stopped_whole : (stopped : Stop) (first now : W) (parts : List Part)
       → HasStopped context s stopped first now parts → StopsInParts context s stopped parts first now
   stopped_whole stopped first now parts stops =
@@ -404,7 +404,7 @@ module _ {V Seen W First : Type 0} (context : Context V Seen W First) (s : List 
         (subst (λ k. IsClosed k part) (omega (arith, counts, held.count)) closed));
   }
 
-  -- a default opens whose name has no value, or that is passed over
+  -- a default opens whose name has no value, or that is skipped
   pub holds_opened : (name : Span) (old : State) (before : W) (found : Bool) (state : State) (now : W)
       (len next : ℕ) (first : AtFirst Seen W) (parts : List Part)
       → HoldsParts context s len old before first parts
@@ -436,7 +436,7 @@ module _ {V Seen W First : Type 0} (context : Context V Seen W First) (s : List 
         (subst (λ b. WritesOn context s (Default name 0) old before b state now) some written));
   }
 
-  -- the default closes that the writer is inside
+  -- the default that the writer is inside closes
   pub holds_resumed : (index len : ℕ) (now : W) (first : AtFirst Seen W) (before own : List Part)
       (name : Span)
       → index ≡ length before → AllClosed (length (before ++ Default name 0 ∷ own)) own
@@ -474,7 +474,7 @@ module _ {V Seen W First : Type 0} (context : Context V Seen W First) (s : List 
           (λ is. other (ap Jumping is)) closed jumping
       of (Stopped stopped) other stops = closed_stopped stopped first.output now before own name _ stops
 
-  -- whatever came of it, the output begins with what it held, and its capacity only grew
+  -- in each state, the output begins with its first bytes, and its capacity only grew
   pub begun : (state : State) (first now : W) (parts : List Part) → HasWritten context s state first now parts
       → Appended context.holds (λ _. Unit {0}) first now × (context.capacity first ≤ context.capacity now)
   begun Writing first now parts writing =

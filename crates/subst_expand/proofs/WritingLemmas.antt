@@ -1,4 +1,4 @@
--- What is written of parts that come one after the other.
+-- The output of parts, one after the other.
 use Rattle.std.proofs.Common.{◌≡◌, ◌≤◌, ◌<◌, ℕ, ◌+◌, List, [], ◌∷◌, ◌++◌, length, Option, Some, None, IfSome, inl, inr, append-nil, length-append, refl, sym, ap, ◌∙◌, subst, arith}
 use Rattle.std.proofs.lemmas.Bool.{cases_lt}
 use Rattle.std.specs.Option.{option_map}
@@ -26,7 +26,7 @@ use Rattle.subst_expand.proofs.FilledLemmas.{filled_append}
 use Rattle.subst_expand.proofs.OutputLemmas.{nothing_appended, more_appended, same_appended}
 use Rattle.subst_language.proofs.PartsLemmas.{Lands, visited_parts-before, visited_parts-from, visited_parts-lands, visited_parts-jumped, steps_in-append}
 
--- a part that is settled goes on no later than its end
+-- a part with its jump resumes at the end of the list or before it
 lands_settled : {Seen : Type 0} (look_up : List ℕ → Option Seen) (bytes : Seen → List ℕ) (s : List ℕ)
     (end : ℕ) (part : Part) → HasJump look_up s end part
     → resume_index part s (look_up_of bytes look_up) ≤ end
@@ -41,7 +41,7 @@ lands_settled {Seen} look_up bytes s end (Default name next) settled =
     of (Some v) settled = settled.1
     of None settled = omega arith
 
--- settled parts go on no later than their end
+-- so do all
 lands_all : {Seen : Type 0} (look_up : List ℕ → Option Seen) (bytes : Seen → List ℕ) (s : List ℕ)
     (end : ℕ) (parts : List Part) → AllHaveJumps look_up s end parts
     → Lands end s (look_up_of bytes look_up) parts
@@ -49,7 +49,7 @@ lands_all look_up bytes s end [] settled = tt
 lands_all look_up bytes s end (part ∷ rest) settled =
     (lands_settled look_up bytes s end part settled.0, lands_all look_up bytes s end rest settled.1)
 
--- a part that is settled up to an end is settled up to a later one
+-- a part with its jump up to an end has it up to a later one
 settled_later : {Seen : Type 0} (look_up : List ℕ → Option Seen) (s : List ℕ) (end later : ℕ) (part : Part)
     → end ≤ later → HasJump look_up s end part → HasJump look_up s later part
 settled_later look_up s end later part le settled = of (jump_of look_up s part) settled
@@ -59,14 +59,14 @@ settled_later look_up s end later part le settled = of (jump_of look_up s part) 
     of (Some next) settled = (settled.0, omega (arith, le, settled.1))
     of None settled = tt
 
--- so are all
+-- so do all
 settled_all : {Seen : Type 0} (look_up : List ℕ → Option Seen) (s : List ℕ) (end later : ℕ)
     (parts : List Part) → end ≤ later → AllHaveJumps look_up s end parts → AllHaveJumps look_up s later parts
 settled_all look_up s end later parts le settled =
     each_weaker (HasJump look_up s end) (HasJump look_up s later)
     (λ part. settled_later look_up s end later part le) parts settled
 
--- with one more part, all are settled up to the new end
+-- with one more part, all have their jumps up to the new end
 pub settled_append : {Seen : Type 0} (look_up : List ℕ → Option Seen) (s : List ℕ) (end later : ℕ)
     (parts : List Part) (part : Part) → end ≤ later → AllHaveJumps look_up s end parts
     → HasJump look_up s later part
@@ -76,7 +76,7 @@ settled_append look_up s end later parts part le settled last =
     (settled_all look_up s end later parts le settled) (last, tt)
 
 module _ {Seen : Type 0} (look_up : List ℕ → Option Seen) (bytes : Seen → List ℕ) (s : List ℕ) where
-  -- what is visited of settled parts, a part, and more parts
+  -- the visited parts of parts with their jumps, of a part, and of more parts
   pub visited_more : (parts : List Part) (part : Part) (rest : List Part)
       → AllHaveJumps look_up s (length parts) parts
       → visited_parts (parts ++ part ∷ rest) 0 0 s (look_up_of bytes look_up)
@@ -91,7 +91,7 @@ module _ {Seen : Type 0} (look_up : List ℕ → Option Seen) (bytes : Seen → 
       (ap (λ n. visited_parts (part ∷ rest) n 0 s look) (omega arith)
       ∙ visited_parts-from part rest (length parts) 0 s look (omega arith))
 
--- two values whose marks are filled in, joined
+-- two values whose marks are replaced, joined
 fills_joined : {Passes : List ℕ → Type 0} {v w : Value} {x y : List ℕ} → FillsMarks Passes v x
     → FillsMarks Passes w y → FillsMarks Passes (joined v w) (x ++ y)
 fills_joined some more = record {
@@ -120,7 +120,7 @@ writes_none context s output = record {
 module _ {V Seen W First : Type 0} (context : Context V Seen W First) (s : List ℕ)
     (xs ys : LookUp → List Part) (part : Part) (first before after : W)
     (so_far : WritesVisited context s xs first before) where
-  -- the steps of visited parts, as the map's values are read, and those of the part
+  -- the steps of visited parts, by the reading of the map's values, and those of the part
   abbrev seen : (LookUp → List Part) → (Seen → List ℕ) → List Step
   seen visited bytes =
       let look = look_up_of bytes context.look_up in steps_in (visited look) s look
@@ -128,7 +128,7 @@ module _ {V Seen W First : Type 0} (context : Context V Seen W First) (s : List 
   abbrev own : (Seen → List ℕ) → List Step
   own bytes = part_steps part s (look_up_of bytes context.look_up)
 
-  -- one part more is written
+  -- one more part is written
   pub writes_next : ((bytes : Seen → List ℕ) → ys (look_up_of bytes context.look_up)
       ≡ xs (look_up_of bytes context.look_up) ++ part ∷ [])
       → WritesPart context s part before after → WritesVisited context s ys first after
@@ -163,7 +163,7 @@ module _ {V Seen W First : Type 0} (context : Context V Seen W First) (s : List 
       value_next bytes =
           ap steps_value (steps_next bytes) ∙ steps_value-append (seen xs bytes) (own bytes)
 
-  -- or writing stops at it, whatever comes after it
+  -- or writing stops at it, whatever follows
   pub stops_next : (rest : LookUp → List Part)
       → ((bytes : Seen → List ℕ) → ys (look_up_of bytes context.look_up)
       ≡ xs (look_up_of bytes context.look_up) ++ part ∷ rest (look_up_of bytes context.look_up))
@@ -212,7 +212,7 @@ pub record GivesSame (s : List ℕ) (look : LookUp) (xs ys : List Part) : Type 0
   pub steps : steps_in xs s look ≡ steps_in ys s look
 
 module _ (s : List ℕ) (look : LookUp) where
-  -- as lists that are equal to such
+  -- lists that equal two such lists
   same_by : {xs ys us vs : List Part} → xs ≡ us → ys ≡ vs → GivesSame s look us vs → GivesSame s look xs ys
   same_by left right same = rw (left, right) same
 
@@ -229,7 +229,7 @@ module _ (s : List ℕ) (look : LookUp) where
   same_front [] same = same
   same_front (part ∷ front) same = same_after part (same_front front same)
 
-  -- a default whose name has no value gives the same whatever its jump is
+  -- the visited parts of a default whose name has no value don't depend on its jump
   changed : (before own : List Part) (name : Span) (next other i from : ℕ) → look (span_bytes name s) ≡ None
       → GivesSame s look (visited_parts (before ++ Default name next ∷ own) i from s look)
       (visited_parts (before ++ Default name other ∷ own) i from s look)
@@ -261,7 +261,7 @@ module _ (s : List ℕ) (look : LookUp) where
             (same_after part (changed before own name next other (i + 1) (resume_index part s look) none))
       ]
 
--- what was written for visited parts was written for others that give the same
+-- if the outputs of visited parts were written, so were those of others with the same steps
 pub writes_same : {V Seen W First : Type 0} (context : Context V Seen W First) (s : List ℕ)
     (xs ys : LookUp → List Part)
     → ((bytes : Seen → List ℕ) → GivesSame s (look_up_of bytes context.look_up)
@@ -279,7 +279,7 @@ writes_same context s xs ys same first now written = record {
 
 module _ {Seen : Type 0} (look_up : List ℕ → Option Seen) (s : List ℕ) (before own : List Part) (name : Span)
   where
-    -- the name of an open default that is settled has no value
+    -- the name of an open default, if all jumps are known, has no value
     pub open_lacks : (end : ℕ) → AllHaveJumps look_up s end (before ++ Default name 0 ∷ own)
         → look_up (span_bytes name s) ≡ None
     open_lacks end settled =
@@ -292,7 +292,7 @@ module _ {Seen : Type 0} (look_up : List ℕ → Option Seen) (s : List ℕ) (be
         of (Some v) is settled = absurd (omega (arith, settled.0))
         of None is settled = is
 
-    -- and stays settled when it gets a jump
+    -- all jumps stay known when the default gets its own
     pub settled_changed : (end next : ℕ) → look_up (span_bytes name s) ≡ None
         → AllHaveJumps look_up s end (before ++ Default name 0 ∷ own)
         → AllHaveJumps look_up s end (before ++ Default name next ∷ own)
@@ -301,7 +301,7 @@ module _ {Seen : Type 0} (look_up : List ℕ → Option Seen) (s : List ℕ) (be
         let here : HasJump look_up s end (Default name next) = rw none tt in
         each_append (HasJump look_up s end) before (Default name next ∷ own) split.0 (here, split.1.1)
 
-    -- it gives the same, whatever its jump is
+    -- the steps don't depend on the jump of this default
     pub changed_parts : (next other : ℕ) → look_up (span_bytes name s) ≡ None → (bytes : Seen → List ℕ)
         → GivesSame s (look_up_of bytes look_up)
         (visited_parts (before ++ Default name next ∷ own) 0 0 s (look_up_of bytes look_up))
@@ -309,7 +309,7 @@ module _ {Seen : Type 0} (look_up : List ℕ → Option Seen) (s : List ℕ) (be
     changed_parts next other none bytes =
         changed s (look_up_of bytes look_up) before own name next other 0 0 (ap (option_map bytes) none)
 
-    -- where its name has a value, its own parts are jumped over
+    -- if the name of a default has a value, its own parts are skipped
     pub jumped_parts : (next : ℕ) (v : Seen) → AllHaveJumps look_up s (length before) before
         → look_up (span_bytes name s) ≡ Some v → length before + 1 + length own ≤ next
         → (bytes : Seen → List ℕ)
@@ -335,7 +335,7 @@ pub same_length : (before own : List Part) (name : Span) (next other : ℕ)
 same_length before own name next other =
     length-append before (Default name next ∷ own) ∙ sym (length-append before (Default name other ∷ own))
 
--- parts are settled where a default whose name has a value has its jump to their end
+-- all jumps are known if a default whose name has a value has its jump to the end of its parts
 pub settled_jump : {Seen : Type 0} (look_up : List ℕ → Option Seen) (s : List ℕ) (before own : List Part)
     (name : Span) (next : ℕ) (v : Seen) → AllHaveJumps look_up s (length before) before
     → length before ≤ next → 0 < next → AllHaveJumps look_up s next own

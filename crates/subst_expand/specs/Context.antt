@@ -1,4 +1,4 @@
--- What a part gives by itself is appended to an output.
+-- The effect of writing a single part to an output.
 use Rattle.std.specs.Prelude.{◌≡◌, ℕ, ◌+◌, ◌<◌, ◌≤◌, List, length, Option, None}
 use Rattle.std.specs.Option.{option_map}
 use Rattle.subst_language.specs.Language.LookUp.{LookUp}
@@ -17,8 +17,9 @@ use Rattle.subst_expand.specs.declared.expand.Stop.TheVariants as stop
 use Rattle.subst_language.specs.declared.part.Part.{Part}
 use Rattle.subst_language.specs.declared.part.Part.TheVariants.{Default}
 
--- how a map is asked and its values are read, and what an output holds, how long that is, and for how much
--- there is capacity
+-- The ghost members of the reader, the map and the output of an expansion. Of the reader, `read` is the bytes
+-- of a value, and `is_read` a property of them. Of the map, `see` and `look_up` define the look-up. `holds`
+-- relates an output, its first state and its bytes; `len` and `capacity` are in bytes.
 pub record Context (V Seen W First : Type 0) : Type 1 where
   pub read : V → List ℕ
   pub is_read : List ℕ → Type 0
@@ -40,11 +41,11 @@ context_of read is_read see look_up holds len capacity = record {
   capacity = capacity;
 }
 
--- P holds of the map's look-up of bytes
+-- `ByLookUp` for the context's map: P holds of the map's look-up of bytes
 abbrev pub ByContext : {V Seen W First : Type 0} → Context V Seen W First → (LookUp → Type 0) → Type 0
 ByContext context P = ByLookUp context.read context.see context.look_up P
 
--- what these steps give was written, between two states of an output
+-- the value of `steps` was written to an output, whose states are `before` and `after`
 pub record Writes {V Seen W First : Type 0} (context : Context V Seen W First) (steps : LookUp → List Step)
     (before after : W) : Type 0 where
   pub given : ByContext context (λ look.
@@ -55,8 +56,8 @@ pub record Writes {V Seen W First : Type 0} (context : Context V Seen W First) (
       context.len after ≡ context.len before + length (steps_written (steps look)))
   pub capacity : context.capacity before ≤ context.capacity after
 
--- the same, where writing stopped: the output had no capacity for what was to be written, or the value is the
--- variable that is missing
+-- An expansion of the source s stopped in the steps. If it stopped for `Full`, the output's capacity is too
+-- small for their bytes. For `Missing`, their value is the missing variable whose name is in the span.
 abbrev pub StopsAt : {V Seen W First : Type 0} → Context V Seen W First → List ℕ → Stop
     → (LookUp → List Step) → W → Type 0
 StopsAt context s (Full e) steps before = ByContext context (λ look.
@@ -72,16 +73,16 @@ pub record Stops {V Seen W First : Type 0} (context : Context V Seen W First) (s
   pub at : StopsAt context s stopped steps before
   pub capacity : context.capacity before ≤ context.capacity after
 
--- what the part gives by itself was written
+-- the part of the source s was written to an output, whose states are `before` and `after`
 abbrev pub WritesPart : {V Seen W First : Type 0} → Context V Seen W First → List ℕ → Part → W → W → Type 0
 WritesPart context s part before after = Writes context (part_steps part s) before after
 
--- or writing stopped at it
+-- writing stopped at the part, for the reason `stopped`; `before` and `after` are the output's states
 abbrev pub StopsAtPart : {V Seen W First : Type 0} → Context V Seen W First → List ℕ → Part → Stop → W → W
     → Type 0
 StopsAtPart context s part stopped before after = Stops context s stopped (part_steps part s) before after
 
--- the jump that an expansion takes after a part: that of a default whose name has a value
+-- the index at which an expansion continues after a default whose name has a value; `None` for any other part
 abbrev pub jump_of : {Seen : Type 0} → (List ℕ → Option Seen) → List ℕ → Part → Option ℕ
 jump_of look_up s (Default name next) = option_map (λ _. next) (look_up (span_bytes name s))
 jump_of look_up s part = None

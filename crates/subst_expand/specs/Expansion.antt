@@ -1,4 +1,4 @@
--- What came of the expansion of a source, in terms of its parts.
+-- The outcome of an expansion, by the parts of its source.
 use Rattle.std.specs.Prelude.{◌≡◌, ℕ, ◌+◌, ◌<◌, List, length, Option, Result, IfErr, IfSome, OnErr, OnOk}
 use Rattle.subst_error.specs.ErrorFault.{expand_into_fault}
 use Rattle.subst_error.specs.declared.borrowed.ExpandIntoError.{ExpandIntoError}
@@ -10,8 +10,9 @@ use Rattle.subst_expand.specs.Output.{AppendsFilled}
 use Rattle.subst_language.specs.Parts.Meaning.{IsTemplateOf, parts_value, parts_written}
 use Rattle.subst_language.specs.declared.part.Part.{Part}
 
--- What the parts of a source give was appended to the items of an output, whose capacity and length were
--- these, or the error says why not.
+-- The outcome of an expansion of the parts of the source s. `read` and `is_read` are the reader's, and `see`
+-- and `look_up` the map's. `before` and `after` are the items of the output, and `capacity` and `len` are its
+-- capacity and length before.
 pub record ExpandsParts {V Seen : Type 0} (read : V → List ℕ) (is_read : List ℕ → Type 0) (see : V → Seen)
     (look_up : List ℕ → Option Seen) (s : List ℕ) (parts : List Part) (before after : List ℕ)
     (capacity len : ℕ) (outcome : Result (Unit {0}) ExpandIntoError) : Type 0 where
@@ -23,7 +24,7 @@ pub record ExpandsParts {V Seen : Type 0} (read : V → List ℕ) (is_read : Lis
   pub missing : IfErr outcome (λ e. IfSome (expand_into_fault e)
       (IsMissing (parts_value parts s (marks_of look_up))))
 
--- the same of the parts of the source's template
+-- `ExpandsParts` for the parts of a template of the source s
 pub record IsExpansion {V Seen : Type 0} (read : V → List ℕ) (is_read : List ℕ → Type 0) (see : V → Seen)
     (look_up : List ℕ → Option Seen) (s before after : List ℕ) (capacity len : ℕ)
     (outcome : Result (Unit {0}) ExpandIntoError) : Type 0 where
@@ -31,7 +32,8 @@ pub record IsExpansion {V Seen : Type 0} (read : V → List ℕ) (is_read : List
   pub template : IsTemplateOf s parts
   pub expands : ExpandsParts read is_read see look_up s parts before after capacity len outcome
 
--- what the parts of the source's template give was appended, with values in the place of marks
+-- The output of a template of the source s was appended to `before`. It is the output with a mark as each
+-- value, in which some marks are replaced by bytes of which `is_read` holds.
 abbrev pub AppendsTemplate : {Seen : Type 0} → (List ℕ → Type 0) → (List ℕ → Option Seen)
     → (s before after : List ℕ) → Type 0
 AppendsTemplate is_read look_up s before after = (parts : List Part) × IsTemplateOf s parts

@@ -1,25 +1,25 @@
--- What an expansion has written, without a way to read the bytes of all values: the values that it read,
--- each in the place of a mark, between bytes that come from the source.
+-- The output of an expansion with a map whose values no contract knows. It is the output with a mark as each
+-- value, in which marks are then replaced by the values that were read.
 use Rattle.std.specs.Prelude.{◌≡◌, ℕ, List, [], ◌∷◌, ◌++◌, Option}
 use Rattle.subst_language.specs.Calls.VariableMap.{look_up_of}
 use Rattle.subst_language.specs.Language.LookUp.{LookUp}
 use Rattle.subst_language.specs.Language.Value.{Value, Bytes}
 
--- the byte in the place of a value; any ASCII byte would do
+-- the byte that is used as each value if no contract knows the values; any ASCII byte would do
 abbrev pub mark : ℕ
 mark = 0
 
--- the look-up that has a mark for each name of a map
+-- the look-up with values for the same names as `look_up`, in which each value is a single mark
 abbrev pub marks_of : {Seen : Type 0} → (List ℕ → Option Seen) → LookUp
 marks_of look_up = look_up_of (λ _. mark ∷ []) look_up
 
--- the second text is the first, with bytes of which Passes holds in the place of some of its marks
+-- the second text is the first, with some of its marks replaced by bytes of which Passes holds
 pub data IsFilled (Passes : List ℕ → Type 0) : List ℕ → List ℕ → Type 0 where
   empty : IsFilled Passes [] []
   kept : (b : ℕ) {x y : List ℕ} → IsFilled Passes x y → IsFilled Passes (b ∷ x) (b ∷ y)
   filled : {x y : List ℕ} (v : List ℕ) → Passes v → IsFilled Passes x y → IsFilled Passes (mark ∷ x) (v ++ y)
 
--- the value is bytes, and the output is these with marks filled in
+-- the value v is bytes, and `output` is v with some marks replaced by bytes of which Passes holds
 pub record FillsMarks (Passes : List ℕ → Type 0) (v : Value) (output : List ℕ) : Type 0 where
   pub marked : List ℕ
   pub given : v ≡ Bytes marked

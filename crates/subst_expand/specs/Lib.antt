@@ -1,4 +1,4 @@
--- The expansion's own words: kept parts, and what was written. No contract of a public function cites them.
+-- The expansion's own terms: packed parts, and their output. No contract of a public function cites them.
 pub mod Context
 pub mod CountedParts
 pub mod Expansion

@@ -1,11 +1,11 @@
--- Parts as lists keep them.
+-- Packed parts as parts.
 use Rattle.std.specs.Prelude.{ℕ, List, map}
 use Rattle.subst_language.specs.declared.part.Part.{Part}
 use Rattle.subst_language.specs.declared.part.Part.TheVariants.{Literal, Escaped, Variable, Default}
 use Rattle.subst_expand.specs.declared.packed_part.PackedPart.{PackedPart}
 use Rattle.subst_expand.specs.declared.packed_part.PackedPart.TheVariants as packed
 
--- the part that is kept, where value says which number each of its fields is
+-- the part that a packed part unpacks to; `value` converts an offset or index into a number
 abbrev pub unpacked : {O : Type 0} → (O → ℕ) → PackedPart O → Part
 unpacked value (packed.Literal start end) = Literal (record { start = value start; end = value end })
 unpacked value (packed.Escaped b) = Escaped b
@@ -13,10 +13,10 @@ unpacked value (packed.Variable start end) = Variable (record { start = value st
 unpacked value (packed.Default start end next) =
     Default (record { start = value start; end = value end }) (value next)
 
--- the parts that are kept in a list, where value says which number each field is
+-- the parts that a list of packed parts unpacks to; `value` converts an offset or index into a number
 abbrev pub unpacked_parts : {O : Type 0} → (O → ℕ) → List (PackedPart O) → List Part
 unpacked_parts value parts = map (unpacked value) parts
 
--- which number a field is whose type is one of numbers
+-- the conversion of an offset or index that is a number already, as a `u32` or a `usize` is
 abbrev pub same_number : ℕ → ℕ
 same_number n = n

@@ -1,13 +1,13 @@
--- A slice that an expansion writes into.
+-- A slice to which an expansion writes.
 use Rattle.std.specs.Prelude.{◌≡◌, ◌≤◌, ℕ, List, ◌++◌, drop, length}
 
--- what a slice is at first: its bytes, and which reference it is
+-- the first state of a slice: its reference and its bytes
 pub record SliceAtFirst : Type 0 where
   pub name : ℕ
   pub bytes : List ℕ
 
--- The reference is the same. The bytes x were written, which is counted. Where they fit the slice begins with
--- them, and the rest is as at first.
+-- The slice is the same reference as in `first`, of the same length, and `written` is the length of the bytes
+-- x. If x fits in the slice, the slice begins with x, and the rest is as in `first`.
 abbrev pub SliceHolds : (name : ℕ) → (slice : List ℕ) → (written : ℕ) → SliceAtFirst → List ℕ → Type 0
 SliceHolds name slice written first x =
     (name ≡ first.name) × (written ≡ length x) × (length slice ≡ length first.bytes)

@@ -1,4 +1,4 @@
--- What was written of parts, by the loop over a list of them or by a writer that takes one after the other.
+-- The output of parts, written by the loop over a list or by a writer that takes one part after the other.
 use Rattle.std.specs.Prelude.{◌≡◌, ℕ, ◌+◌, ◌<◌, ◌≤◌, List, [], ◌∷◌, ◌++◌, length, Option, Some, IfSome, is_some, Bool, false, Result, IfErr, IfOk, OnOk}
 use Rattle.std.specs.List.{AllByRecursion}
 use Rattle.subst_language.specs.Language.LookUp.{LookUp}
@@ -12,35 +12,34 @@ use Rattle.subst_language.specs.declared.part.Part.TheVariants.{Default}
 use Rattle.subst_expand.specs.declared.writer.State.{State}
 use Rattle.subst_expand.specs.declared.writer.State.TheVariants.{Writing, Jumping, Stopped}
 
--- a part after which an expansion makes no jump, or one forward to this index at most
+-- if an expansion skips parts after `part`, the index at which it continues isn't 0, and is at most `end`
 abbrev pub HasJump : {Seen : Type 0} → (List ℕ → Option Seen) → List ℕ → ℕ → Part → Type 0
 HasJump look_up s end part = IfSome (jump_of look_up s part) (λ next. (0 < next) × (next ≤ end))
 
--- each part, which if it is that of a default whose name has a value has its jump, to this index at most
+-- `HasJump` for each part of the list
 abbrev pub AllHaveJumps : {Seen : Type 0} → (List ℕ → Option Seen) → List ℕ → ℕ → List Part → Type 0
 AllHaveJumps look_up s end parts = AllByRecursion (HasJump look_up s end) parts
 
--- what these parts give, each by itself, was written between two states of an output: those that an expansion
--- visits
+-- `visited` computes the visited parts, which were written to an output with the states `before` and `after`
 abbrev pub WritesVisited : {V Seen W First : Type 0} → Context V Seen W First → List ℕ → (LookUp → List Part)
     → W → W → Type 0
 WritesVisited context s visited before after =
     Writes context (λ look. steps_in (visited look) s look) before after
 
--- what parts give was written
+-- the parts of the source s were written to an output, whose states are `before` and `after`
 abbrev pub WritesParts : {V Seen W First : Type 0} → Context V Seen W First → List ℕ → List Part → W → W
     → Type 0
 WritesParts context s parts before after =
     WritesVisited context s (λ look. visited_parts parts 0 0 s look) before after
 
--- writing stopped within what parts give
+-- writing stopped within the parts of the source s, for the reason `stopped`
 abbrev pub StopsInParts : {V Seen W First : Type 0} → Context V Seen W First → List ℕ → Stop → List Part → W
     → W → Type 0
 StopsInParts context s stopped parts before after =
     Stops context s stopped (parts_steps parts s) before after
 
--- What came of appending what parts give: all was written, or writing stopped within it. Each part that was
--- visited was a turn.
+-- The outcome of writing the parts of the source s: all were written, or writing stopped within them. Each
+-- visited part was a turn.
 pub record AppendsParts {V Seen W First : Type 0} (context : Context V Seen W First) (s : List ℕ)
     (parts : List Part) (result : Result (Unit {0}) Stop) (before after : W) (turns_before turns_after : ℕ)
     : Type 0 where
@@ -52,14 +51,15 @@ pub record AppendsParts {V Seen W First : Type 0} (context : Context V Seen W Fi
       turns_after ≤ turns_before + length (visited_parts parts 0 0 s look))
   pub grown : turns_before ≤ turns_after
 
--- all parts were written
+-- all parts were written to an output with the states `first` and `now`, and no default that is skipped is
+-- still open
 pub record IsWriting {V Seen W First : Type 0} (context : Context V Seen W First) (s : List ℕ) (first now : W)
     (parts : List Part) : Type 0 where
   pub settled : AllHaveJumps context.look_up s (length parts) parts
   pub written : WritesParts context s parts first now
 
--- The parts up to one that has this index were written: it is that of a default that is open, whose name has
--- a value. Those after it are its own, and aren't written.
+-- The part at `index` is an open default whose name has a value. This part and those before it were written.
+-- The parts after it belong to the default, and were skipped.
 pub record IsJumping {V Seen W First : Type 0} (context : Context V Seen W First) (s : List ℕ) (index : ℕ)
     (first now : W) (parts : List Part) : Type 0 where
   pub before : List Part
@@ -72,7 +72,7 @@ pub record IsJumping {V Seen W First : Type 0} (context : Context V Seen W First
   pub found : context.look_up (span_bytes name s) ≡ Some value
   pub written : WritesParts context s (before ++ Default name 0 ∷ []) first now
 
--- writing stopped at a part
+-- writing stopped at one of the parts, for the reason `stopped`; the parts before it were written
 pub record HasStopped {V Seen W First : Type 0} (context : Context V Seen W First) (s : List ℕ)
     (stopped : Stop) (first now : W) (parts : List Part) : Type 0 where
   pub done : List Part
@@ -84,7 +84,8 @@ pub record HasStopped {V Seen W First : Type 0} (context : Context V Seen W Firs
   pub written : WritesParts context s done first before
   pub stops : StopsAtPart context s part stopped before now
 
--- what a writer in this state has written of these parts
+-- the parts that a writer has taken were written as its state requires: all parts, the parts up to a skipped
+-- default, or the parts before the one at which writing stopped
 abbrev pub HasWritten : {V Seen W First : Type 0} → Context V Seen W First → List ℕ → State → W → W
     → List Part → Type 0
 HasWritten context s Writing first now parts = IsWriting context s first now parts
@@ -96,7 +97,8 @@ abbrev pub NotStopped : State → Type 0
 NotStopped (Stopped stopped) = ⊥
 NotStopped state = Unit {0}
 
--- what came of writing a part, by the state after it
+-- The outcome of writing a part, by the writer's state afterwards: the part was written, or writing stopped
+-- at the part. `found` is whether the part was written and is a default whose name has a value.
 abbrev pub PartWritten : {V Seen W First : Type 0} → Context V Seen W First → List ℕ → Part → W → Bool → State
     → W
     → Type 0
@@ -106,7 +108,7 @@ PartWritten context s part before found (Jumping index) now = ⊥
 PartWritten context s part before found (Stopped stopped) now =
     StopsAtPart context s part stopped before now × (found ≡ false)
 
--- a part was written, if the state before was that of writing
+-- the outcome of writing a part, if the writer's state was `Writing`; in any other state nothing changed
 abbrev pub WritesOn : {V Seen W First : Type 0} → Context V Seen W First → List ℕ → Part → State → W → Bool
     → State
     → W → Type 0

@@ -1,4 +1,4 @@
-//! The parts of a template as the expansion sees them: the part at an index, each time for one turn.
+//! The list of parts that an expansion reads by index. Each part that is read adds a turn.
 
 ghost use Rattle.std.specs.Prelude.{◌≡◌, ◌+◌, ◌^◌, ◌<◌, ◌≤◌, Some, length, slice_get, IfSome, MatchOption};
 ghost use Rattle.subst_expand.specs.Packed.{unpacked_parts};
@@ -8,10 +8,10 @@ use crate::turns::Turns;
 use std::marker::Model;
 use subst_language::Part;
 
-/// A list of parts that is read one part at a time, with the counter of its turns. The expansion has no
-/// other way to the parts and no other counter, so each part that it looks at is counted.
+/// A list of parts that is read one part at a time, with the counter of its turns. The expansion has no other
+/// access to the parts and no other counter, so each part that it looks at is counted.
 ///
-/// Contracts see the parts, as they were before they were packed, and how many turns there have been.
+/// Contracts see the unpacked parts and the number of turns.
 #[derive(Drop)]
 pub(crate) struct CountedParts<'p, O: Offset> {
     packed: &'p [PackedPart<O>],
@@ -37,7 +37,7 @@ impl<'p, O: Offset> CountedParts<'p, O> {
         CountedParts { packed, counter }
     }
 
-    /// Returns the counter.
+    /// Returns the counter of turns.
     pub fn into_turns(self) -> Turns
         ensures { result ≡ self.entry.turns }
     {
@@ -45,7 +45,7 @@ impl<'p, O: Offset> CountedParts<'p, O> {
         counter
     }
 
-    /// Returns the part at an index and counts it as a turn, or nothing after the last part.
+    /// Returns the part at an index and counts a turn, or `None` after the last part.
     #[inline(always)]
     pub fn part_at(&mut self, index: usize) -> Option<Part>
         ensures part { MatchOption result (length self.old.parts ≤ index)

@@ -1,6 +1,7 @@
-//! The loop that expands a list of parts over its source, once for each width of parts and each output. It
-//! appends the value of the parts under the map's look-up, or stops at a missing variable or a full output,
-//! and counts its turns. Of any map, contracts say what is around the values, and which variable is missing.
+//! The loop that expands a list of parts over its source, compiled for each width of parts and each kind of
+//! output. It appends the value of the parts under the map's look-up, or stops at a missing variable or a
+//! full output, and counts its turns. For any map, contracts state the output around its values, and the
+//! missing variable.
 
 ghost use Rattle.std.specs.Prelude.{◌≡◌, ◌≤◌, ◌<◌, ◌+◌, ◌^◌, ◌++◌, length, Err, IfErr, IfOk, IfSome, OnOk};
 ghost use Rattle.std.specs.Prelude.{vec_capacity, vec_len};
@@ -30,16 +31,16 @@ use std::{mem, str};
 use subst_error::{ExpandError, ExpandIntoError, NoSuchVariableRef};
 use subst_language::{Part, Span, VariableMap};
 
-/// For how many bytes more than its source an output has capacity at first: values are often longer than
-/// their placeholders.
+/// The initial capacity of an output beyond its source's length, in bytes. Values are often longer than their
+/// placeholders.
 pub(crate) const MORE_CAPACITY: usize = 64;
 
-/// Why an expansion stopped.
+/// The reason why an expansion stopped.
 #[derive(Clone, Copy)]
 pub enum Stop {
-    /// The output is too short and can't grow.
+    /// The output is too small and can't grow.
     Full(AllocError),
-    /// The variable with the name at this range is needed and has no value.
+    /// The variable whose name is in this span of the source is needed and has no value.
     Missing(Span),
 }
 
@@ -51,12 +52,11 @@ impl From<AllocError> for Stop {
     }
 }
 
-/// Returns what the parts of a source give, with the values of `variables` as `R` reads them. Each part
-/// that is visited is a turn.
+/// Expands the parts of a source with the values of `variables`, read by `R`. Each visited part adds a turn.
 ///
 /// # Errors
 ///
-/// `NoSuchVariable` for the first needed name that `variables` has no value for, or out of memory.
+/// `NoSuchVariable` for the first needed name without a value, or out of memory.
 pub fn expand<'a, M: VariableMap<'a>, R: ReadValue<M::Value>>(
     alloc: Global,
     source: &[u8],
@@ -76,12 +76,11 @@ where
         (λ look. turns.new ≤ turns.old + length (visited_parts parts.now 0 0 source.now look)) }
     ensures grown { turns.old ≤ turns.new }
 
-    // What was written, without a way to read all values: values that R read, between what comes from the
-    // source.
+    // The output, even if no contract knows the values: values that R read, between bytes from the source.
     ensures filled { IfOk result (λ output. FillsMarks R.is_read
         (parts_value parts.now source.now (marks_of (M.look_up variables.now))) output.items) }
 
-    // Which variable is missing, without a way to read any value.
+    // The missing variable, even if no contract knows the values.
     ensures missing { IfErr result (λ e. IfSome (expand_fault e)
         (IsMissing (parts_value parts.now source.now (marks_of (M.look_up variables.now))))) }
 {
@@ -92,11 +91,11 @@ where
     }
 }
 
-/// Appends what `expand` returns to `output`.
+/// Appends the result of `expand` to `output`.
 ///
 /// # Errors
 ///
-/// As `expand`. The items of `output` are then as before.
+/// As `expand`. The items of `output` are then unchanged.
 #[inline(always)]
 pub fn expand_into<'s, 'a, M: VariableMap<'a>, R: ReadValue<M::Value>>(
     source: &'s [u8],
@@ -129,13 +128,13 @@ where
     }
 }
 
-/// Writes what `expand` returns from the front of a slice on, and returns how many bytes that takes. Where
-/// the slice is shorter, what it has is unspecified.
+/// Writes the result of `expand` to the start of a slice, and returns the length of the result in bytes. If
+/// the slice is shorter, its contents are unspecified.
 ///
 /// # Errors
 ///
-/// As `expand`, but out of memory only where the bytes are too many for a `usize`. What the slice has is then
-/// unspecified.
+/// As `expand`, but out of memory only if the output is too long for a `usize`. The contents of the slice are
+/// then unspecified.
 pub fn expand_into_slice<'s, 'a, M: VariableMap<'a>, R: ReadValue<M::Value>>(
     source: &'s [u8],
     parts: &CowParts<'_>,
@@ -168,7 +167,7 @@ where
     }
 }
 
-/// Appends what the parts of a source give, as `expand`, to any output.
+/// Appends the output of the parts of a source to `output`, or returns the reason why the expansion stopped.
 #[inline(always)]
 fn append<'a, M: VariableMap<'a>, R: ReadValue<M::Value>, W: Output>(
     source: &[u8],
@@ -195,7 +194,7 @@ where
     }
 }
 
-/// Appends what packed parts give, as `append`.
+/// Appends the output of packed parts of a source, as `append` does.
 #[inline(always)]
 fn append_packed<'a, M: VariableMap<'a>, R: ReadValue<M::Value>, O: Offset, W: Output>(
     source: &[u8],
@@ -219,8 +218,8 @@ where
     outcome
 }
 
-/// Appends what the parts of a list give, as `append`. Each arm goes on by itself, which takes fewer
-/// instructions than a test of what `append_part` returns.
+/// Appends the output of the parts of a list, as `append` does. Each arm advances the index itself, which
+/// takes fewer instructions than a test of the result of `append_part`.
 #[inline(always)]
 fn append_list<'a, M: VariableMap<'a>, R: ReadValue<M::Value>, O: Offset, W: Output>(
     source: &[u8],
@@ -266,7 +265,7 @@ where
     Ok(())
 }
 
-/// Returns the bytes of a range of the source.
+/// Returns the bytes of the source in a span.
 pub(crate) fn bytes_at(source: &[u8], span: Span) -> &[u8]
     requires { IsSpan source.now span }
     ensures { result.now ≡ span_bytes span source.now }
@@ -274,7 +273,7 @@ pub(crate) fn bytes_at(source: &[u8], span: Span) -> &[u8]
     &source[span.start..span.end]
 }
 
-/// Returns the name at a range of the source.
+/// Returns the variable's name in a span of the source.
 pub(crate) fn name_at(source: &[u8], name: Span) -> &str
     requires inside { IsSpan source.now name }
     requires name { IsName (span_bytes name source.now) }
@@ -284,7 +283,7 @@ pub(crate) fn name_at(source: &[u8], name: Span) -> &str
     unsafe { str::from_utf8_unchecked(bytes_at(source, name)) }
 }
 
-/// Returns the error for what an expansion stopped at.
+/// Returns the error of an expansion that stopped for the reason `stop`.
 pub fn error_of(source: &[u8], stop: Stop) -> ExpandIntoError<'_>
     requires { IfMissing (Err stop) (λ name.
         IsSpan source.now name × IsName (span_bytes name source.now)) }

@@ -1,5 +1,5 @@
-//! The loop over a source that is a text: its output, the value of the source's tree, is a text too, and
-//! the range of an error is in the source.
+//! The expansion of a source that is a text. The output is a text too, and the range of an error begins and
+//! ends at character boundaries of the source.
 
 ghost use Rattle.std.specs.Prelude.{◌≡◌, ◌+◌, ◌<◌, ◌≤◌, length, IfErr, IfSome, OnErr};
 ghost use Rattle.std.specs.Prelude.{string_bytes, string_capacity, string_len};
@@ -25,11 +25,11 @@ use std::mem;
 use subst_error::{ExpandError, ExpandIntoError};
 use subst_language::VariableMap;
 
-/// Returns the text that the parts of a text give, with the values of `variables`.
+/// Expands the parts of a text with the values of `variables`.
 ///
 /// # Errors
 ///
-/// `NoSuchVariable` for the first needed name that `variables` has no value for, or out of memory.
+/// `NoSuchVariable` for the first needed name without a value, or out of memory.
 pub fn expand_text<'a, M: VariableMap<'a>>(
     alloc: Global,
     source: &str,
@@ -53,11 +53,11 @@ where
     }
 }
 
-/// Appends what `expand_text` returns to `output`.
+/// Appends the result of `expand_text` to `output`.
 ///
 /// # Errors
 ///
-/// As `expand_text`. The text in `output` is then as before.
+/// As `expand_text`. The text in `output` is then unchanged.
 pub fn expand_text_into<'s, 'a, M: VariableMap<'a>>(
     source: &'s str,
     parts: &CowParts<'_>,
@@ -72,7 +72,7 @@ where
         (string_bytes output.new) (value 0 t look))) }
     ensures kept { OnErr result (string_bytes output.new ≡ string_bytes output.old) }
 
-    // Out of memory only with cause: the capacity is less than what is written.
+    // Out of memory only if the capacity is less than the output needs.
     ensures full { ByLookUp M.Value.text M.see (M.look_up variables.now)
         (λ look. ByTree source.now (λ t. OnOutOfMemory expand_into_fault result
         (string_capacity output.old < string_len output.old + length (written 0 t look)))) }
@@ -89,7 +89,7 @@ where
     outcome
 }
 
-/// Returns bytes that are UTF-8 as a text, without looking at them.
+/// Converts bytes that are UTF-8 into a text, without testing them.
 pub fn text_of(bytes: Vec<u8>) -> String
     requires { IsUtf8 bytes.items }
     ensures bytes { string_bytes result ≡ bytes.items }

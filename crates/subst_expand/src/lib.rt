@@ -1,5 +1,5 @@
-//! The expansion: parts are kept as a list, which is expanded over its source in one loop, or written as soon as
-//! they are parsed. Callers depend on `subst`, and not on this crate, whose public items are there for
+//! The expansion: parts are kept as a list, which is expanded over its source in one loop, or written as soon
+//! as they are parsed. Callers depend on `subst`, and not on this crate, whose public items are there for
 //! `subst_template`.
 #![tactic(auto)]
 

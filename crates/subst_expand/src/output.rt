@@ -1,14 +1,14 @@
-//! What an expansion appends to: a `Vec` that grows, or a slice past whose end bytes are still counted.
+//! Outputs of an expansion: a `Vec` that grows, or a slice, past whose end bytes are only counted.
 
 ghost use Rattle.std.specs.Prelude.{◌≡◌, ◌+◌, ◌<◌, ◌≤◌, ℕ, List, [], ◌∷◌, length, OnErr, OnOk};
 ghost use Rattle.subst_expand.specs.Output.{Puts};
 
 use std::alloc::AllocError;
 
-/// An output that bytes are appended to.
+/// An output to which bytes are appended.
 ///
-/// Contracts see which bytes it holds, from whatever it was at first (`holds`), how many these are (`len`),
-/// and how many it has capacity for (`capacity`).
+/// Contracts see three ghost members: `holds` relates an output, its first state and its bytes, `len` is the
+/// number of bytes, and `capacity` is the capacity in bytes.
 pub trait Output {
     ghost First: { Type 0 };
 
@@ -22,7 +22,7 @@ pub trait Output {
     ///
     /// # Errors
     ///
-    /// When the capacity is too small and can't grow. Nothing is appended then.
+    /// If the capacity is too small and can't grow. Nothing is appended then.
     fn append_bytes(&mut self, bytes: &[u8]) -> Result<(), AllocError>
         ensures ok { OnOk result (Puts holds self.old bytes.now self.new) }
         ensures err { OnErr result (Puts holds self.old [] self.new) }
@@ -66,7 +66,7 @@ impl Output for Vec<u8> {
     }
 }
 
-/// A slice that is written from its front on. Past its end bytes are counted, and what it has is then
+/// A slice that is written from its start. Bytes past its end are only counted, and its contents are then
 /// unspecified.
 #[derive(Drop)]
 pub struct SliceOutput<'r> {
@@ -74,7 +74,7 @@ pub struct SliceOutput<'r> {
     pub written: usize,
 }
 
-/// Contracts see a slice from what it was at first: it begins with what was written, and the rest stays.
+/// Contracts see a slice from its first state: it begins with the bytes written, and its rest is unchanged.
 impl<'r> Output for SliceOutput<'r> {
     ghost use Rattle.std.specs.Prelude.{◌-◌, ◌^◌};
     ghost use Rattle.subst_expand.specs.SliceOutput.{SliceHolds, SliceAtFirst};

@@ -1,5 +1,5 @@
-//! A part as lists keep it, with offsets and indexes of 32 bits, in 16 bytes, or of 64 bits, in 32.
-//! Contracts say which part it unpacks to.
+//! Packed parts: 16 bytes with offsets and indexes of 32 bits, or 32 bytes with those of 64 bits. Contracts
+//! state the part that a packed part unpacks to.
 
 ghost use Rattle.std.specs.Prelude.{◌≡◌, ◌<◌, ◌^◌, ℕ};
 ghost use Rattle.subst_expand.specs.Packed.{same_number, unpacked};
@@ -7,17 +7,17 @@ ghost use Rattle.subst_language.specs.Parts.Sink.{FitsBelow};
 
 use subst_language::{Part, Span};
 
-/// A type of the offsets and indexes in parts. It has the numbers below `limit`.
+/// A type for the offsets and indexes in parts. It has the numbers below `limit`.
 pub trait Offset: Copy {
     ghost value: { Self → ℕ };
 
     ghost limit: { ℕ };
 
-    /// Returns the number.
+    /// Converts into a `usize`.
     fn to_usize(self) -> usize
         ensures { result ≡ value self };
 
-    /// Returns the number as this type has it.
+    /// Converts from a `usize`.
     fn from_usize(number: usize) -> Self
         requires { number < limit }
         ensures { value result ≡ number };
@@ -55,7 +55,7 @@ impl Offset for usize {
     }
 }
 
-/// A part as a list keeps it, with offsets and indexes of type `O`.
+/// A packed part, with offsets and indexes of type `O`.
 #[derive(Clone, Copy)]
 pub(crate) enum PackedPart<O> {
     Literal { start: O, end: O },
@@ -64,11 +64,11 @@ pub(crate) enum PackedPart<O> {
     Default { start: O, end: O, next: O },
 }
 
-// Its fields are in the variants themselves, since a variant with a struct in it would take more.
+// The fields are in the variants themselves, since a struct in a variant would take more bytes.
 const _: () = prove!(size_of::<PackedPart<u32>>() == 16);
 
 impl<O: Offset> PackedPart<O> {
-    /// Returns the packed part.
+    /// Packs a part, whose offsets and indexes must be below the limit of `O`.
     #[inline(always)]
     pub fn pack(part: Part) -> Self
         requires { FitsBelow O.limit part }
@@ -95,7 +95,7 @@ impl<O: Offset> PackedPart<O> {
         }
     }
 
-    /// Returns the part.
+    /// Converts back into the part that was packed.
     #[inline(always)]
     pub fn unpack(self) -> Part
         ensures { result ≡ unpacked O.value self }
@@ -112,7 +112,7 @@ impl<O: Offset> PackedPart<O> {
     }
 }
 
-/// Returns the range with these ends.
+/// Returns the span from `start` to `end`, converted into `usize`.
 #[inline(always)]
 fn span<O: Offset>(start: O, end: O) -> Span
     ensures { result ≡ record { start = O.value start; end = O.value end } }

@@ -1,5 +1,5 @@
-//! The list of packed parts that the parser adds to, generic in their width. Contracts see it as the list
-//! of its parts.
+//! The list of packed parts that the parser appends to, with any type of offsets. Contracts see it as the
+//! list of its unpacked parts.
 
 ghost use Rattle.std.specs.Prelude.{◌≡◌, ◌<◌, ◌^◌, [], ◌∷◌, ◌++◌, length, slice_set, IfOk, OnErr, OnOk};
 ghost use Rattle.subst_language.specs.Parts.Sink.{FitsBelow};
@@ -10,8 +10,8 @@ use std::alloc::{AllocError, Global};
 use std::marker::Model;
 use subst_language::{Part, Sink, Span};
 
-/// A list of packed parts that grows at its end, with offsets and indexes of type `O`. Contracts see it as
-/// the list of its parts, as they were before they were packed.
+/// A growable list of packed parts, with offsets and indexes of type `O`. Contracts see it as the list of its
+/// unpacked parts.
 #[derive(Drop)]
 pub struct PackedVec<O: Offset> {
     list: Vec<PackedPart<O>>,
@@ -29,7 +29,7 @@ impl<O: Offset> Model for PackedVec<O> {
 }
 
 impl<O: Offset> PackedVec<O> {
-    /// Returns an empty list.
+    /// Creates an empty list.
     pub fn new(alloc: Global) -> Self
         ensures { result ≡ [] }
     {
@@ -38,7 +38,7 @@ impl<O: Offset> PackedVec<O> {
         }
     }
 
-    /// Returns a list of the same parts.
+    /// Copies a slice of packed parts into a list.
     pub(crate) fn from_slice(alloc: Global, parts: &[PackedPart<O>]) -> Result<Self, AllocError>
         ensures { IfOk result (λ list. list ≡ unpacked_parts O.value parts.now) }
     {
@@ -46,14 +46,14 @@ impl<O: Offset> PackedVec<O> {
         Ok(PackedVec { list })
     }
 
-    /// Returns the packed parts, borrowed.
+    /// Borrows the packed parts.
     pub(crate) fn as_slice(&self) -> &[PackedPart<O>]
         ensures { unpacked_parts O.value result.now ≡ self.now }
     {
         &self.list
     }
 
-    /// Returns how many parts there are.
+    /// Returns the number of parts.
     #[inline(always)]
     pub fn len(&self) -> usize
         ensures len { result ≡ length self.now }
@@ -62,14 +62,14 @@ impl<O: Offset> PackedVec<O> {
         self.list.len()
     }
 
-    /// Makes space for so many more parts.
+    /// Reserves capacity for `additional` more parts.
     pub fn reserve(&mut self, additional: usize) -> Result<(), AllocError>
         ensures { self.new ≡ self.old }
     {
         self.list.reserve(additional)
     }
 
-    /// Adds a part at the end.
+    /// Appends a part.
     #[inline(always)]
     pub fn push(&mut self, part: Part) -> Result<(), AllocError>
         requires { FitsBelow O.limit part }
@@ -80,7 +80,7 @@ impl<O: Offset> PackedVec<O> {
         Ok(())
     }
 
-    /// Puts a part at an index.
+    /// Replaces the part at an index.
     #[tactic(auto, using(crate::proofs::PackedLemmas::set_unpacked))]
     pub fn set(&mut self, index: usize, part: Part)
         requires inside { index < length self.old }

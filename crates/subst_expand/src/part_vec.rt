@@ -1,5 +1,5 @@
-//! Lists of parts as templates keep them, of either width: borrowed, owned, or one of the two. Contracts see
-//! each as the list of its parts.
+//! Lists of packed parts of either width: borrowed, owned, or either of both. Contracts see each as the list
+//! of its parts.
 
 ghost use Rattle.std.specs.Prelude.{◌≡◌, IfOk};
 
@@ -8,23 +8,23 @@ use crate::packed_vec::PackedVec;
 use std::alloc::{AllocError, Global};
 use std::marker::Model;
 
-/// A list of packed parts that is borrowed, narrow or wide.
+/// A borrowed list of packed parts, narrow or wide.
 #[derive(Clone, Copy)]
 pub(crate) enum PartSlice<'p> {
     Narrow(&'p [PackedPart<u32>]),
     Wide(&'p [PackedPart<usize>]),
 }
 
-/// A list of parts. Contracts see it as the list of its parts.
+/// An owned list of parts. Contracts see it as the list of its parts.
 ///
-/// A part is kept in 16 bytes where offsets and indexes of 32 bits are enough, as they are for a source of
-/// less than 4 GiB, and else in 32 bytes.
+/// A part takes 16 bytes if offsets and indexes fit in 32 bits, and 32 bytes otherwise. They fit for a source
+/// of less than 4 GiB.
 #[derive(Drop)]
 pub struct PartVec {
     list: EitherVec,
 }
 
-/// The parts, with offsets and indexes of 32 bits or of 64.
+/// The packed parts, with offsets and indexes of 32 bits or of 64.
 #[derive(Drop)]
 enum EitherVec {
     Narrow(PackedVec<u32>),
@@ -45,7 +45,7 @@ impl Model for PartVec {
 impl PartVec {
     ghost use Rattle.subst_expand.specs.PartLists.{slice_parts};
 
-    /// Returns a list of the same parts.
+    /// Copies a borrowed list.
     pub(crate) fn from_slice(alloc: Global, parts: PartSlice<'_>) -> Result<Self, AllocError>
         ensures { IfOk result (λ list. list ≡ slice_parts parts.entry) }
     {
@@ -56,7 +56,7 @@ impl PartVec {
         Ok(PartVec { list })
     }
 
-    /// Returns the parts, borrowed.
+    /// Borrows the parts.
     pub(crate) fn as_slice(&self) -> PartSlice<'_>
         ensures { slice_parts result ≡ self.now }
     {
@@ -99,7 +99,7 @@ impl Clone for PartVec {
     }
 }
 
-/// A list of parts that is borrowed or owned. Contracts see it as the list of its parts.
+/// A borrowed or owned list of parts. Contracts see it as the list of its parts.
 #[derive(Drop)]
 pub struct CowParts<'a> {
     list: CowList<'a>,
@@ -126,7 +126,7 @@ impl<'a> Model for CowParts<'a> {
 impl<'a> CowParts<'a> {
     ghost use Rattle.subst_expand.specs.PartLists.{slice_parts};
 
-    /// Returns a borrowed list of the parts of an owned one.
+    /// Borrows an owned list.
     pub fn borrowed(parts: &'a PartVec) -> CowParts<'a>
         ensures { result ≡ parts.now }
     {
@@ -135,14 +135,14 @@ impl<'a> CowParts<'a> {
         }
     }
 
-    /// Returns an owned list of the same parts.
+    /// Copies the parts into an owned list.
     pub fn to_vec(&self, alloc: Global) -> Result<PartVec, AllocError>
         ensures { IfOk result (λ parts. parts ≡ self.now) }
     {
         PartVec::from_slice(alloc, self.as_slice())
     }
 
-    /// Returns the parts, borrowed.
+    /// Borrows the parts.
     pub(crate) fn as_slice(&self) -> PartSlice<'_>
         ensures { slice_parts result ≡ self.now }
     {
@@ -152,7 +152,7 @@ impl<'a> CowParts<'a> {
         }
     }
 
-    /// Returns an owned list of the same parts. Memory is asked for only where the parts were borrowed.
+    /// Converts into an owned list of the same parts. Allocates only if the parts are borrowed.
     pub fn into_vec(self, alloc: Global) -> Result<PartVec, AllocError>
         ensures { IfOk result (λ parts. parts ≡ self.entry) }
     {

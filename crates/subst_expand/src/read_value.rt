@@ -1,14 +1,12 @@
-//! How the expansion reads the bytes of a variable's value: as those of a slice, or as those of a text,
-//! of which contracts know that they are UTF-8.
+//! Readers of the bytes of a variable's value, which is a byte slice or a text.
 
 ghost use Rattle.std.specs.Prelude.{◌≡◌, ℕ, List};
 
 use std::convert::{AsSlice, AsStr};
 
-/// A way to read the bytes of a value.
+/// A reader of the bytes of a value.
 ///
-/// Contracts see the bytes that a value has (`read`), and a property of all bytes that are read so
-/// (`is_read`).
+/// Contracts see the bytes of a value (`read`), and a property of all bytes that are read (`is_read`).
 pub trait ReadValue<V> {
     ghost read: { V → List ℕ };
 
@@ -20,7 +18,7 @@ pub trait ReadValue<V> {
         ensures property { is_read result.now };
 }
 
-/// Reads values that are slices of bytes.
+/// The reader of values that are byte slices.
 pub struct SliceBytes;
 
 impl<V: AsSlice<u8>> ReadValue<V> for SliceBytes {
@@ -33,7 +31,7 @@ impl<V: AsSlice<u8>> ReadValue<V> for SliceBytes {
     }
 }
 
-/// Reads values that are texts.
+/// The reader of values that are texts.
 pub struct TextBytes;
 
 impl<V: AsStr> ReadValue<V> for TextBytes {

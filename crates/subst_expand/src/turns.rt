@@ -1,13 +1,13 @@
-//! The counter of an expansion's steps. It takes no bytes at run time: only contracts see the count.
+//! The counter of an expansion's turns. It exists only in contracts and takes no memory.
 
 ghost use Rattle.std.specs.Prelude.{◌≡◌, ◌+◌};
 
 use std::marker::Model;
 use subst_language::Counter;
 
-/// The number of turns that an expansion makes.
+/// The number of turns of an expansion.
 ///
-/// A turn is one pass of the expansion's loop: one part that is visited.
+/// A turn is one pass of the expansion's loop: one visited part.
 #[derive(Drop)]
 pub struct Turns {
     counter: Counter,
@@ -31,7 +31,7 @@ impl Turns {
         }
     }
 
-    /// Counts one more turn.
+    /// Adds one turn.
     pub(crate) fn add_one(&mut self)
         ensures { self.new ≡ self.old + 1 }
     {

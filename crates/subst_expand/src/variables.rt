@@ -1,5 +1,5 @@
-//! The variables of a list of parts, and those that a map has nothing for. Each is one pass over the parts,
-//! and allocates its list alone.
+//! Lists of all variables of a source's parts, or of the missing ones. Each list is made in one pass over the
+//! parts, and only the list and its names are allocated.
 
 ghost use Rattle.std.specs.Prelude.{◌≡◌, ◌∷◌, ◌≤◌, [], IfOk, MatchOption};
 ghost use Rattle.std.specs.Prelude.{is_some, length, map, option_to_list};
@@ -23,11 +23,11 @@ use std::alloc::{AllocError, Global};
 use subst_error::{NoSuchVariable, NoSuchVariableRef};
 use subst_language::{Part, Variable, VariableKind, VariableMap};
 
-/// Returns the variables of the parts of a source, in the order of the source, also those in defaults.
+/// Returns the variables of the parts of a source, in the order of the source, including those in defaults.
 ///
 /// # Errors
 ///
-/// When allocation fails.
+/// If allocation fails.
 pub fn variables<'s>(
     alloc: Global,
     source: &'s [u8],
@@ -47,7 +47,7 @@ pub fn variables<'s>(
     }
 }
 
-/// Returns the variables of packed parts, as `variables`.
+/// Returns the variables of packed parts, in the order of the source.
 fn variables_of<'s, O: Offset>(
     alloc: Global,
     source: &'s [u8],
@@ -85,7 +85,7 @@ fn variable_at(source: &[u8], part: Part) -> Option<Variable<'_>>
     })
 }
 
-/// Returns the kind of the variable whose name a text follows: a question mark, or the colon of a default.
+/// Returns `Optional` if `text`, after a variable's name, begins with a question mark, or else `WithDefault`.
 fn kind_before(text: &[u8]) -> VariableKind
     ensures { kind_of result ≡ parts.kind_before text.now }
 {
@@ -95,12 +95,12 @@ fn kind_before(text: &[u8]) -> VariableKind
     }
 }
 
-/// Returns each variable that the parts of a source need and `variables` has nothing for, in the order of the
-/// source. No value is read.
+/// Returns each variable that the parts of a source need and `variables` has no value for, in the order of
+/// the source. No value is read.
 ///
 /// # Errors
 ///
-/// When allocation fails.
+/// If allocation fails.
 pub fn missing<'a, M: VariableMap<'a>>(
     alloc: Global,
     source: &[u8],
@@ -123,7 +123,7 @@ where
     }
 }
 
-/// Returns what packed parts are missing, as `missing`.
+/// Returns the missing variables of packed parts, in the order of the source.
 fn missing_of<'a, M: VariableMap<'a>, O: Offset>(
     alloc: Global,
     source: &[u8],
@@ -150,11 +150,11 @@ where
     Ok(list)
 }
 
-/// Returns the variable that a part needs and `variables` has nothing for, if there is one.
+/// Returns the variable that a part needs and `variables` has no value for, or `None` if there is none.
 ///
 /// # Errors
 ///
-/// When allocation fails.
+/// If allocation fails.
 fn missing_at<'a, M: VariableMap<'a>>(
     alloc: Global,
     source: &[u8],
@@ -178,7 +178,7 @@ where
     Ok(Some(NoSuchVariableRef { position, name }.into_owned(alloc)?))
 }
 
-/// Returns the index that an expansion goes on at after a part, which is `after` unless it jumps.
+/// Returns the index of the next visited part: `next` of a default whose name has a value, or else `after`.
 fn next_index<'a, M: VariableMap<'a>>(
     source: &[u8],
     part: Part,

@@ -1,4 +1,4 @@
-//! A sink that keeps no parts: it writes what they give at once.
+//! A sink that keeps no parts, but writes their output at once.
 
 ghost use Rattle.std.specs.Prelude.{◌≡◌, ◌+◌, ◌^◌, ℕ, List, [], IfErr, OnOk};
 ghost use Rattle.subst_language.specs.Parts.Meaning.{IsInSource};
@@ -12,14 +12,14 @@ use std::alloc::AllocError;
 use std::marker::PhantomData;
 use subst_language::{Part, Sink, Span, VariableMap};
 
-/// What a writer does with the next part.
+/// The state of a writer: how it treats the next part.
 #[derive(Clone, Copy)]
 pub(crate) enum State {
-    /// The writer writes the part.
+    /// The part is written.
     Writing,
-    /// The part is passed over: it is inside the default whose part has this index, whose name has a value.
+    /// The part is skipped. It is inside the default whose part has this index, and whose name has a value.
     Jumping(usize),
-    /// The part is passed over, since writing stopped.
+    /// The part is skipped, since writing has stopped.
     Stopped(Stop),
 }
 
@@ -27,7 +27,7 @@ impl State {
     ghost use Rattle.std.specs.Prelude.{◌≡◌, ◌↔◌, IsTrue};
     ghost use Rattle.subst_expand.specs.declared.writer.State.TheVariants as states;
 
-    /// Returns whether parts are passed over up to the end of the default whose part has this index.
+    /// Returns whether parts are skipped up to the end of the default whose part has this index.
     fn is_inside(self, index: usize) -> bool
         ensures { IsTrue result ↔ (self ≡ states.Jumping index) }
     {
@@ -38,13 +38,13 @@ impl State {
     }
 }
 
-/// Writes what parts give to an output, with the values of `variables` as `R` reads them.
+/// A writer of the output of parts, with the values of `variables` as `R` reads them.
 #[derive(Drop)]
 pub struct Writer<'s, 'a, M, R, W> {
     source: &'s [u8],
     variables: &'a M,
     output: W,
-    /// How many parts there were.
+    /// The number of parts taken so far.
     len: usize,
     state: State,
     reads: PhantomData<R>,
@@ -58,7 +58,7 @@ where
     ghost use Rattle.subst_expand.specs.Context.{context_of};
     ghost use Rattle.subst_expand.specs.Writer.{AtFirst, WriterHolds, output_of, state_of};
 
-    /// Returns a writer that has written nothing yet.
+    /// Creates a writer that has written nothing yet.
     pub fn new(source: &'s [u8], variables: &'a M, output: W) -> Self
         ensures { let first : AtFirst M.Seen W = record {
           source = source.now;
@@ -78,7 +78,7 @@ where
         }
     }
 
-    /// Returns the output, and why writing stopped, if it did.
+    /// Returns the output, and the reason why writing stopped, if it did.
     pub fn finish(self) -> (W, Result<(), Stop>)
         ensures output { result.0 ≡ output_of self.entry }
         ensures stopped { IfErr result.1 (λ stop. state_of self.entry ≡ states.Stopped stop) }
@@ -91,8 +91,8 @@ where
         }
     }
 
-    /// Writes what a part gives by itself, unless it is passed over, and returns whether it is that of a
-    /// default whose name has a value.
+    /// Writes the output of a single part, if the state is `Writing`. Returns whether the part was written
+    /// and is a default whose name has a value.
     #[inline(always)]
     fn write(&mut self, part: Part) -> bool
         requires { IsInSource self.old.source.now part }

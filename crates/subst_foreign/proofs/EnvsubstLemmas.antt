@@ -1,4 +1,4 @@
--- Texts of envsubst: none is refused, and only the chosen names matter.
+-- Texts of envsubst: none is refused, and of the choice only its names matter.
 use Rattle.std.proofs.Common.{rules, ◌≡◌, ◌∙◌, ◌↔◌, inl, inr, Bool, true, false, ℕ, List, [], ◌∷◌, ◌++◌, IsTrue, IfOk, Result, Ok, Err, refl, sym, subst, arith}
 use Rattle.subst_foreign.specs.Grammar.{Grammar, Head, grammar, has_operator, IsChosen, IsHead, IsRefused, OpensMessage}
 use Rattle.subst_foreign.specs.Grammar as head
@@ -20,11 +20,11 @@ use Rattle.subst_language.specs.Language.Bytes.{closing_brace}
 abbrev IsEnvsubst : Grammar → Type 0
 IsEnvsubst g = g.forms ≡ of.Envsubst
 
--- it has no operators
+-- envsubst's forms have no operator
 no_operator : (g : Grammar) → IsEnvsubst g → (op : Operator) → ¬ (IsTrue (has_operator g.forms op))
 no_operator g is op has = let e = subst (λ f. IsTrue (has_operator f op)) is has in absurd cc
 
--- nothing is refused outside of a text after an operator
+-- outside of defaults nothing is refused
 nothing_refused : (g : Grammar) → IsEnvsubst g → (f : ShellForm) (s : List ℕ) → ¬ (IsRefused g false f s)
 nothing_refused g is form.Brace s refused = absurd cc
 nothing_refused g is form.Dollar s refused = let e = sym is ∙ refused.0 in absurd cc
@@ -34,7 +34,7 @@ nothing_refused g is form.Unclosed s (inl refused) = no_operator g is refused.1 
 nothing_refused g is form.Unclosed s (inr refused) = cc
 nothing_refused g is f s refused = let e = subst (λ f. IsTrue (head.is_whole f g.all)) is refused.0 in absurd cc
 
--- so no text is refused
+-- no text of envsubst is refused
 pub none_refused : (g : Grammar) → IsEnvsubst g → {o p : ℕ} {s : List ℕ} {refused : List FormAt}
     → Reading g o p 0 s refused → refused ≡ []
 none_refused g is ended = refl
@@ -50,7 +50,7 @@ none_refused g is (token (Refused f front) x fits more) = absurd (nothing_refuse
 abbrev pub AreSame : (A B : Bool → List ℕ → Type 0) → Type 0
 AreSame A B = (operated : Bool) (n : List ℕ) → A operated n ↔ B operated n
 
--- the names that are chosen of them
+-- two choices of the same names choose the same names
 same_chosen : (all : Bool) (A B : Bool → List ℕ → Type 0) → AreSame A B → (operated : Bool) (n : List ℕ)
     → IsChosen all A operated n → IsChosen all B operated n
 same_chosen true A B same operated n is = tt
@@ -59,7 +59,7 @@ same_chosen false A B same operated n is = (same operated n).0 is
 other : {A B : Bool → List ℕ → Type 0} → AreSame A B → AreSame B A
 other same operated n = ((same operated n).1, (same operated n).0)
 
--- the heads
+-- grammars with the same names have the same heads
 same_head : (f : Forms) (all : Bool) (A B : Bool → List ℕ → Type 0) → AreSame A B → (h : Head) (x : List ℕ)
     → IsHead (grammar f all A) h x → IsHead (grammar f all B) h x
 same_head f all A B same head.Dollar x is = is
@@ -72,7 +72,7 @@ same_opens : (f : Forms) (all : Bool) (A B : Bool → List ℕ → Type 0) → A
     (s : List ℕ) → OpensMessage (grammar f all A) P s → OpensMessage (grammar f all B) P s
 same_opens f all A B same P s (n, op, x, message, is, taken, rest) = search (rules, same_head)
 
--- the refused forms
+-- grammars with the same names have the same refused forms
 same_refused : (f : Forms) (all : Bool) (A B : Bool → List ℕ → Type 0) → AreSame A B → (inside : Bool)
     (form : ShellForm) (s : List ℕ) → IsRefused (grammar f all A) inside form s
     → IsRefused (grammar f all B) inside form s
@@ -85,7 +85,7 @@ same_refused f all A B same inside form.Unclosed s (inr is) = inr is
 same_refused f all A B same inside refused s is = is
 
 mutual
-  -- the texts
+  -- grammars with the same names have the same texts
   same_item : (f : Forms) (all : Bool) (A B : Bool → List ℕ → Type 0) → AreSame A B → (inside : Bool) (item : Item)
       (x : List ℕ) → IsItem (grammar f all A) inside item x → IsItem (grammar f all B) inside item x
   same_item f all A B same inside (foreign.Byte b) x is = record {
@@ -110,7 +110,7 @@ mutual
   same_text f all A B same inside (foreign.Then item rest) x is =
       (same_item f all A B same inside item _ is.0, same_text f all A B same inside rest x is.1)
 
--- what was returned, if it was, is a template for the same names
+-- a template that was returned, if any, is one for the same names
 pub same_names : {X E : Type 0} (f : Forms) (all : Bool) (A B : Bool → List ℕ → Type 0) (unset : Missing)
     (s : List ℕ) (bytes : X → List ℕ) (r : Result X E) → AreSame A B
     → IfOk r (λ t. IsTemplate (grammar f all A) unset s (bytes t))

@@ -8,7 +8,7 @@ use Rattle.subst_foreign.specs.Grammar.{Grammar}
 use Rattle.subst_foreign.specs.Reading.{Token, Byte, IsAfterPlain, IsPlainAt, IsToken, Listing, VariableAt, depth_after, listed_at, token_text}
 use Rattle.subst_foreign.specs.Reading.Listing.{ended, token}
 
--- plain bytes before a text have no variable
+-- plain bytes have no variables
 list_plain : (g : Grammar) (depth p : ℕ) (run x : List ℕ) (variables : List VariableAt)
     → AllByRecursion (IsPlainAt depth) run → Listing g (p + length run) depth x variables
     → Listing g p depth (run ++ x) variables
@@ -18,7 +18,7 @@ list_plain g depth p (b ∷ run) x variables each more =
     (list_plain g depth (p + 1) run x variables each.1
     (subst (λ q. Listing g q depth x variables) (omega arith) more))
 
--- The variables of a text are listed up to what is left of it, where so many texts are open.
+-- The variables of a text are listed up to its rest, at this depth.
 pub record Lists (g : Grammar) (s rest : List ℕ) (found : List VariableAt) (depth : ℕ) : Type 0 where
   pub position : ℕ
   pub at : position + length rest ≡ length s
@@ -28,7 +28,7 @@ pub record Lists (g : Grammar) (s rest : List ℕ) (found : List VariableAt) (de
 pub starts : (g : Grammar) (s : List ℕ) → Lists g s s [] 0
 starts g s = record { position = 0; at = omega arith; listed = λ more is. is; few = omega arith }
 
--- plain bytes and a token more
+-- plain bytes and a token are passed
 pub passes : (g : Grammar) (s rest special : List ℕ) (found more : List VariableAt) (depth after : ℕ) (t : Token)
     (x : List ℕ) → Lists g s rest found depth → IsAfterPlain depth rest special → IsToken g depth t x
     → special ≡ token_text t ++ x → more ≡ found ++ listed_at (length s - length special) t
@@ -53,7 +53,7 @@ passes g s rest special found more depth after t x so_far (run, each, splits) is
       few = omega (arith, so_far.few, before, lengths, token_some g depth t x is, opens_one depth t, deeper);
     }
 
--- the end
+-- the whole text is listed
 pub ends : (g : Grammar) (s rest : List ℕ) (found : List VariableAt) (depth : ℕ) → Lists g s rest found depth
     → IsAfterPlain depth rest [] → Listing g 0 0 s found
 ends g s rest found depth so_far (run, each, splits) =

@@ -1,4 +1,4 @@
--- Names of a list, and of a set that is made of it.
+-- Names in a list, and in the set that is built of it.
 use Rattle.std.proofs.Common.{rules, ◌≡◌, ◌↔◌, ◌||◌, Bool, true, false, ℕ, List, [], ◌∷◌, IsTrue, Ordering, Less, Equal, Greater, refl, sym, ap, ◌∙◌}
 use Rattle.std.proofs.Math.Bool.{or_assoc, or_comm}
 use Rattle.std.proofs.lemmas.List.Folds.{Any-from_list_any, list_any-from_Any}
@@ -16,12 +16,12 @@ use Rattle.subst_foreign.specs.Foreign.{IsListed}
 abbrev pub is_listed : List ℕ → List (Bor (List ℕ)) → Bool
 is_listed name = list_any (is_at (λ key. slice_cmp nat_cmp name key.now))
 
--- a key is the name where it compares as equal
+-- a key is the name if they compare as equal
 key_iff : (name : List ℕ) (key : Bor (List ℕ)) → IsTrue (is_at (λ k. slice_cmp nat_cmp name k.now) key)
     ↔ (key.now ≡ name)
 key_iff name key = search (rules, is_eq-slice_cmp, bytes_eq-Decides)
 
--- a name is in the list where it compares as equal to a key of it
+-- a name is in the list if it compares as equal to one of its keys
 pub listed_iff : (name : List ℕ) (keys : List (Bor (List ℕ))) → IsTrue (is_listed name keys) ↔ IsListed keys name
 listed_iff name keys =
     let test = is_at (λ (k : Bor (List ℕ)). slice_cmp nat_cmp name k.now) in (
@@ -37,7 +37,7 @@ or_again true b = refl
 or_again false true = refl
 or_again false false = refl
 
--- a name that is inserted is there, and the others stay
+-- after an insertion the set has the name and all others
 pub listed-insert : (name : List ℕ) (keys : List (Bor (List ℕ))) (key : Bor (List ℕ))
     → is_listed name (insert_key (λ x y. slice_cmp nat_cmp x.now y.now) keys key)
     ≡ (is_listed name keys || is_at (λ k. slice_cmp nat_cmp name k.now) key)
@@ -57,7 +57,7 @@ listed-insert name (x ∷ keys) key = of (slice_cmp nat_cmp key.now x.now) refl 
         rw same (or_again _ (is_listed name keys))
     of Greater is more = rw more (sym (or_assoc _ (is_listed name keys) _))
 
--- lists that answer alike have the same names
+-- lists with the same membership test have the same names
 pub same_listed : (name : List ℕ) (x y : List (Bor (List ℕ))) → is_listed name x ≡ is_listed name y
     → IsListed x name ↔ IsListed y name
 same_listed name x y same = search (rules, listed_iff)

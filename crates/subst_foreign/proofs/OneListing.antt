@@ -1,4 +1,5 @@
--- A text has one listing of variables: for a text of the grammar those of its items, for which its template asks.
+-- A text has one listing of variables. For a text of the grammar it lists those of the items, as its template
+-- looks them up.
 use Rattle.std.proofs.Common.{rules, ◌≡◌, ℕ, ◌+◌, zero, suc, false, List, [], ◌∷◌, ◌++◌, length, map, Some, refl, sym, ap, ◌∙◌, append_assoc, append-nil, arith}
 use Rattle.std.proofs.lemmas.List.{length-map, map-append}
 use Rattle.std.proofs.lemmas.Simd.{map-map}
@@ -9,7 +10,7 @@ use Rattle.subst_foreign.specs.Grammar.{Grammar, Head, Short, Braced, Optional, 
 use Rattle.subst_foreign.specs.Reading.{Token, IsToken, Listing, VariableAt, depth_after, listed_at, token_text, without_place}
 use Rattle.subst_foreign.specs.Reading as tokens
 use Rattle.subst_foreign.specs.Reading.Listing.{ended, token}
-use Rattle.subst_foreign.specs.Template.{asked_name, IsTemplate}
+use Rattle.subst_foreign.specs.Template.{template_name, IsTemplate}
 use Rattle.subst_foreign.specs.Text.{Item, Text, Variable, Empty, Then, IsItem, IsText, item_spelling, item_variables, spelling, variables_of}
 use Rattle.subst_foreign.specs.Text as text
 use Rattle.subst_foreign.specs.declared.forms.Missing.{Missing}
@@ -20,7 +21,7 @@ use Rattle.subst_language.specs.Language.Sentence.{Spells}
 use Rattle.subst_language.specs.Language.Tree.{Tree}
 use Rattle.subst_language.specs.Language.Variables as template
 
--- two texts that are one have one listing
+-- equal texts have equal listings
 listings_same : (g : Grammar) (position depth : ℕ) (s z : List ℕ) (v w : List VariableAt)
     → Listing g position depth s v → Listing g position depth z w → s ≡ z → v ≡ w
 listings_same g position depth _ _ _ _ ended ended same = refl
@@ -38,12 +39,12 @@ pub same_listing : (g : Grammar) (position depth : ℕ) (s : List ℕ) (v w : Li
     → Listing g position depth s v → Listing g position depth s w → v ≡ w
 same_listing g position depth s v w is other = listings_same g position depth s s v w is other refl
 
--- a text from any position on has a listing, of these variables
+-- a text has a listing of these variables from any position on
 abbrev ListsOn : Grammar → (depth : ℕ) → List ℕ → List Variable → Type 0
 ListsOn g depth s variables =
     (position : ℕ) → (v : List VariableAt) × Listing g position depth s v × (map without_place v ≡ variables)
 
--- a token before it is its variable more
+-- a token adds its variable to the listing of the rest
 token_lists : (g : Grammar) (depth : ℕ) (t : Token) (x : List ℕ) (first more : List Variable) → IsToken g depth t x
     → ((position : ℕ) → map without_place (listed_at position t) ≡ first) → ListsOn g (depth_after depth t) x more
     → ListsOn g depth (token_text t ++ x) (first ++ more)
@@ -54,13 +55,13 @@ token_lists g depth t x first more is of next position =
       map-append without_place (listed_at position t) v ∙ cc (of position, same),
     )
 
--- the text of a text after an operator, or in braces, before its closing brace
+-- a closing brace adds no variable
 closes_list : (g : Grammar) (depth : ℕ) (x : List ℕ) (more : List Variable) → ListsOn g depth x more
     → ListsOn g (suc depth) (closing_brace ∷ x) more
 closes_list g depth x more next =
     token_lists g (suc depth) tokens.Closing x [] more (omega arith) (λ position. refl) next
 
--- the variable of a head
+-- the variable of a head is that of its item
 head_listed : (position : ℕ) (h : Head) → map without_place (listed_at position (tokens.Whole h))
     ≡ item_variables (text.Whole h)
 head_listed position (Short n) = refl
@@ -69,7 +70,7 @@ head_listed position (Optional n) = refl
 head_listed position _ = refl
 
 mutual
-  -- before what has a listing, an item is its variables more
+  -- an item adds its variables to the listing of the rest
   item_lists : (g : Grammar) (depth : ℕ) (item : Item) (x : List ℕ) (more : List Variable)
       → IsItem g (is_inside depth) item x → ListsOn g depth x more
       → ListsOn g depth (item_spelling item ++ x) (item_variables item ++ more)
@@ -94,7 +95,7 @@ mutual
       (omega arith, is.1) (λ position. refl)
       (text_lists g (suc (suc depth)) t (closing_brace ∷ x) more is.2 (closes_list g (suc depth) x more next)))
 
-  -- and so is a text
+  -- a text adds its variables to the listing of the rest
   text_lists : (g : Grammar) (depth : ℕ) (t : Text) (x : List ℕ) (more : List Variable)
       → IsText g (is_inside depth) t x → ListsOn g depth x more
       → ListsOn g depth (spelling t ++ x) (variables_of t ++ more)
@@ -115,18 +116,18 @@ text_is_listed g t is v listing =
     ∙ same ∙ append-nil (variables_of t)
 
 -- the variables of a template for a text are those of the text, in one order
-pub names_asked : (g : Grammar) (unset : Missing) (s source : List ℕ) → IsTemplate g unset s source → (tree : Tree)
-    → Spells tree source → (v : List VariableAt) → Listing g 0 0 s v
+pub names_in_template : (g : Grammar) (unset : Missing) (s source : List ℕ) → IsTemplate g unset s source
+    → (tree : Tree) → Spells tree source → (v : List VariableAt) → Listing g 0 0 s v
     → map template.name_of (template.variables_of 0 tree)
-    ≡ map (λ each. asked_name g.forms each.operator each.name) v
-names_asked g unset s source is tree spells v listing =
+    ≡ map (λ each. template_name g.forms each.operator each.name) v
+names_in_template g unset s source is tree spells v listing =
     search (rules, variable_names, tree_unique, text_is_listed, map-map, without_place)
 
--- so there are as many
+-- a template for a text has as many variables as the text
 pub as_many : (g : Grammar) (unset : Missing) (s source : List ℕ) → IsTemplate g unset s source → (tree : Tree)
     → Spells tree source → (v : List VariableAt) → Listing g 0 0 s v
     → length (template.variables_of 0 tree) ≡ length v
 as_many g unset s source is tree spells v listing =
     sym (length-map (template.variables_of 0 tree) template.name_of)
-    ∙ ap length (names_asked g unset s source is tree spells v listing)
-    ∙ length-map v (λ each. asked_name g.forms each.operator each.name)
+    ∙ ap length (names_in_template g unset s source is tree spells v listing)
+    ∙ length-map v (λ each. template_name g.forms each.operator each.name)

@@ -1,4 +1,4 @@
--- A text is read in one way: the forms that are refused in it are unique, and so are its items.
+-- A text is read in one way: its refused forms are unique, and so are its items.
 use Rattle.std.proofs.Common.{rules, ◌≡◌, ℕ, ◌+◌, zero, suc, true, false, List, [], ◌∷◌, ◌++◌, length, refl, sym, ap, ◌∙◌, subst, append_assoc, append-nil, arith}
 use Rattle.subst_foreign.proofs.OneToken.{same_token}
 use Rattle.subst_foreign.proofs.ReadingLemmas.{token_some}
@@ -14,17 +14,17 @@ use Rattle.subst_foreign.specs.declared.refused.TextError.TheVariants as error
 use Rattle.subst_language.proofs.Language.ListLemmas.{rest_same}
 use Rattle.subst_language.specs.Language.Bytes.{opening_brace, closing_brace}
 
--- a text is read to nothing refused, wherever it and the outermost open text begin
+-- a text is read without refused forms, wherever it and the outermost open variable begin
 abbrev ReadsOn : Grammar → (depth : ℕ) → List ℕ → Type 0
 ReadsOn g depth s = (outermost position : ℕ) → Reading g outermost position depth s []
 
--- the text of a text after an operator, or in braces, before its closing brace
+-- a closing brace is read before a text that is read
 closes_text : (g : Grammar) (depth : ℕ) (x : List ℕ) → ReadsOn g depth x → ReadsOn g (suc depth) (closing_brace ∷ x)
 closes_text g depth x next outermost position =
     token tokens.Closing x (omega arith) (next outermost (position + 1))
 
 mutual
-  -- before what is read, an item is read
+  -- an item is read before a text that is read
   item_reads : (g : Grammar) (depth : ℕ) (item : Item) (x : List ℕ) → IsItem g (is_inside depth) item x
       → ReadsOn g depth x → ReadsOn g depth (item_spelling item ++ x)
   item_reads g depth (text.Byte b) x is next outermost position =
@@ -47,7 +47,7 @@ mutual
       (text_reads g (suc (suc depth)) t (closing_brace ∷ x) is.2 (closes_text g (suc depth) x next)
       (outermost_at (suc depth) outermost position) (position + 1)))
 
-  -- and so is a text
+  -- a text is read before a text that is read
   text_reads : (g : Grammar) (depth : ℕ) (t : Text) (x : List ℕ) → IsText g (is_inside depth) t x
       → ReadsOn g depth x → ReadsOn g depth (spelling t ++ x)
   text_reads g depth Empty x is next = next
@@ -60,12 +60,12 @@ pub text_is_read : (g : Grammar) (t : Text) → IsText g false t [] → Reading 
 text_is_read g t is =
     rw (append-nil (spelling t)) at (text_reads g 0 t [] is (λ outermost position. ended) 0 0)
 
--- a token is no empty text
+-- a token isn't empty
 pub some_text : (g : Grammar) (depth : ℕ) (t : Token) (x y : List ℕ) → IsToken g depth t x
     → ¬ ([] ≡ token_text t ++ y)
 some_text g depth t x y is same = search (rules, token_some)
 
--- two texts that are one are read in one way
+-- equal texts are read in one way
 readings_same : (g : Grammar) (outermost position depth : ℕ) (s z : List ℕ) (r q : List FormAt)
     → Reading g outermost position depth s r → Reading g outermost position depth z q → s ≡ z → r ≡ q
 readings_same g outermost position _ _ _ _ _ ended ended same = refl
@@ -88,7 +88,7 @@ pub same_reading : (g : Grammar) (outermost position depth : ℕ) (s : List ℕ)
     → Reading g outermost position depth s r → Reading g outermost position depth s q → r ≡ q
 same_reading g outermost position depth s r q is other = search (rules, readings_same)
 
--- the token that an item begins with, and what comes after it in a text that goes on so
+-- the first token of an item, and the text after it
 abbrev first_token : Item → Token
 first_token (text.Byte b) = tokens.Byte b
 first_token (text.Whole h) = tokens.Whole h
@@ -116,7 +116,7 @@ first_spelled (text.Operated n op t) x = search (rules, append_assoc)
 first_spelled (text.Group t) x = ap (λ w. opening_brace ∷ w) (append_assoc (spelling t) (closing_brace ∷ []) x)
 first_spelled _ x = refl
 
--- where a text ends: at the end, or in the text after an operator at a closing brace
+-- the end of a text: at depth 0 that of all bytes, and otherwise a closing brace
 abbrev IsTextEnd : (depth : ℕ) → List ℕ → Type 0
 IsTextEnd zero x = x ≡ []
 IsTextEnd (suc depth) x = (y : List ℕ) × (x ≡ closing_brace ∷ y)
@@ -144,7 +144,7 @@ first_same_item g depth i j t u x y is other same =
     (sym (append_assoc (item_spelling i) (spelling t) x ∙ first_spelled i (spelling t ++ x)) ∙ same
     ∙ append_assoc (item_spelling j) (spelling u) y ∙ first_spelled j (spelling u ++ y))
 
--- two texts of one spelling, up to where they end, are one
+-- two texts with the same spelling up to their ends are equal
 same_text : (g : Grammar) (depth : ℕ) (t u : Text) (x y : List ℕ) → IsText g (is_inside depth) t x
     → IsText g (is_inside depth) u y → IsTextEnd depth x → IsTextEnd depth y → spelling t ++ x ≡ spelling u ++ y
     → (t ≡ u) × (x ≡ y)
@@ -187,14 +187,14 @@ pub one_text : (g : Grammar) (t u : Text) → IsText g false t [] → IsText g f
     → spelling t ≡ spelling u → t ≡ u
 one_text g t u is other same = (same_text g 0 t u [] [] is other refl refl (ap (λ s. s ++ []) same)).0
 
--- a text that is spelled from here on, with the texts that are open, up to where they end
+-- a text from here on, with those that are open, up to their ends
 abbrev IsSpelled : Grammar → (depth : ℕ) → List ℕ → Type 0
 IsSpelled g zero s = (t : Text) × IsText g false t [] × (s ≡ spelling t)
 IsSpelled g (suc depth) s =
     (t : Text) × (x : List ℕ) × IsText g true t (closing_brace ∷ x) × (s ≡ spelling t ++ closing_brace ∷ x)
     × IsSpelled g depth x
 
--- an item before it is one more of its items
+-- an item before a spelled text is one more of its items
 spelled_before : (g : Grammar) (depth : ℕ) (item : Item) (x : List ℕ) → IsItem g (is_inside depth) item x
     → IsSpelled g depth x → IsSpelled g depth (item_spelling item ++ x)
 spelled_before g zero item x is (t, each, spelled) = (
@@ -211,7 +211,7 @@ spelled_before g (suc depth) item x is (t, y, each, spelled, outer) = (
   outer,
 )
 
--- so is a token that isn't refused, with the text that it opens or closes
+-- a token that isn't refused, before a text, is part of an item of it
 token_spelled : (g : Grammar) (depth position : ℕ) (t : Token) (x : List ℕ) → IsToken g depth t x
     → refused_at position t ≡ [] → IsSpelled g (depth_after depth t) x → IsSpelled g depth (token_text t ++ x)
 token_spelled g depth position (tokens.Byte b) x is none rest = spelled_before g depth (text.Byte b) x is rest
@@ -231,7 +231,7 @@ token_spelled g zero position tokens.Closing x is none rest = absurd (omega (ari
 token_spelled g (suc depth) position tokens.Closing x is none rest = (Empty, x, tt, refl, rest)
 token_spelled g depth position (tokens.Refused f front) x is none rest = absurd cc
 
--- of two lists without an element neither has one
+-- if two lists joined have no element, neither has one
 no_front : {X : Type 0} (x y : List X) → x ++ y ≡ [] → (x ≡ []) × (y ≡ [])
 no_front [] y none = (refl, none)
 no_front (a ∷ x) y none = absurd cc
@@ -246,7 +246,7 @@ reading_spelled g outermost position depth _ _ (token {refused = rest} t x is ne
     (reading_spelled g (outermost_at depth outermost position) (position + length (token_text t))
     (depth_after depth t) x rest next parts.1)
 
--- where nothing is refused, a text is one of the grammar
+-- a text without refused forms is a text of the grammar
 pub read_text : (g : Grammar) (s : List ℕ) → IsReading g s []
     → (t : Text) × IsText g false t [] × (s ≡ spelling t)
 read_text g s reading = reading_spelled g 0 0 0 s [] reading refl

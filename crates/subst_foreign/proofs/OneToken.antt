@@ -1,10 +1,9 @@
--- A text begins with one token: one head, one message, one form that is refused, or a byte or brace that stands
--- for itself.
+-- A text begins with one token: one head, one message, one refused form, or one literal byte or brace.
 use Rattle.std.proofs.Common.{rules, ◌≡◌, ◌≢◌, ◌==◌, ◌||◌, inl, inr, ℕ, ◌<◌, zero, suc, Bool, false, cond, List, [], ◌∷◌, ◌++◌, drop, codes, IsTrue, refl, sym, ap, ◌∙◌, subst, append_assoc, append-nil, arith, ne_eqb, true≢false}
 use Rattle.std.proofs.lemmas.List.{append_cancel_left, append_cancel_right}
 use Rattle.std.specs.List.{AllByRecursion}
 use Rattle.subst_foreign.specs.Foreign.{IsShellName, is_inside}
-use Rattle.subst_foreign.specs.Grammar.{Grammar, is_whole, IsNameOf, minus, plus, operator_text, has_operator, takes_message, BeginsWithNone, Head, Dollar, Short, Braced, Optional, Opened, in_braces, head_text, IsHead, IsNoBrace, ClosesBraces, IsMessage, FollowsDollar, IsUnfit, HasForm, GoesOn, OpensMessage, IsRefused, IsEndless}
+use Rattle.subst_foreign.specs.Grammar.{Grammar, is_whole, IsNameOf, minus, plus, operator_text, has_operator, takes_message, BeginsWithNone, Head, Dollar, Short, Braced, Optional, Opened, in_braces, head_text, IsHead, IsNoBrace, ClosesBraces, IsMessage, FollowsDollar, IsOtherEnd, HasForm, GoesOn, OpensMessage, IsRefused, IsEndless}
 use Rattle.subst_foreign.specs.Grammar.ClosesBraces.{nothing, byte, opening, closing}
 use Rattle.subst_foreign.specs.Reading.{Token, IsFront, IsToken, token_text}
 use Rattle.subst_foreign.specs.Reading as tokens
@@ -20,8 +19,8 @@ use Rattle.subst_language.proofs.Language.NameLemmas.{closing_no_name, question_
 use Rattle.subst_language.specs.Language.Bytes.{dollar, colon, question_mark, opening_brace, closing_brace}
 use Rattle.subst_language.specs.Language.Name.{IsName, IsNameByte, BeginsWithNo}
 
--- what a text begins with: two dollars, a dollar before name bytes, which may be none, `${` before name bytes,
--- or anything else
+-- the kind of the beginning of a text: two dollars; a dollar before name bytes, or none; `${` before name
+-- bytes, or none; or anything else
 data Kind : Type 0 where
   Two : List ℕ → Kind
   Bare : (run rest : List ℕ) → Kind
@@ -38,12 +37,12 @@ abbrev kind : List ℕ → Kind
 kind [] = Other []
 kind (b ∷ s) = cond (b == dollar) (after_dollar s) (Other (b ∷ s))
 
--- the bytes of a name, up to a byte that is none, are those that are found
+-- a split after name bytes finds all of them
 runs : (n x : List ℕ) → AllByRecursion IsNameByte n → BeginsWithNo IsNameByte x
     → ((split (n ++ x)).0 ≡ n) × ((split (n ++ x)).1 ≡ x)
 runs n x each ends = search (rules, split_unique)
 
--- after a dollar, neither another nor an opening brace
+-- a dollar before neither a dollar nor an opening brace
 kind-bare : (b : ℕ) (s : List ℕ) → b ≢ dollar → b ≢ opening_brace
     → kind (dollar ∷ b ∷ s) ≡ Bare (split (b ∷ s)).0 (split (b ∷ s)).1
 kind-bare b s no_dollar no_brace = search (rules, ne_eqb)
@@ -63,7 +62,7 @@ kind-braces : (n end x : List ℕ) → IsName n → BeginsWithNo IsNameByte (end
     → kind (in_braces n end ++ x) ≡ Named n (end ++ x)
 kind-braces n end x named ends = search (rules, append_assoc, kind-named)
 
--- the kind that a head before the text makes
+-- the kind of a text that begins with this head
 abbrev head_kind : Head → List ℕ → Kind
 head_kind Dollar x = Two x
 head_kind (Short n) x = Bare n x
@@ -75,7 +74,7 @@ is_name : (forms : Forms) (n : List ℕ) → IsNameOf forms n → IsName n
 is_name of.Own n named = named
 is_name _ n named = named.0
 
--- an operator begins with no name byte
+-- an operator doesn't begin with a name byte
 operator_no_name : (op : Operator) (x : List ℕ) → BeginsWithNo IsNameByte (operator_text op ++ x)
 operator_no_name operator.Default x = λ is. cc
 operator_no_name _ x = λ is. cc
@@ -88,7 +87,7 @@ kind-head g (Optional n) x is =
     kind-braces n (question_mark ∷ closing_brace ∷ []) x (is_name g.forms n is.1.0) question_mark_no_name
 kind-head g (Opened n op) x is = search (rules, kind-braces, is_name, operator_no_name)
 
--- a head, and what comes after it
+-- a head, and the text after it
 pub data Start : Type 0 where
   start : Head → List ℕ → Start
 
@@ -109,7 +108,7 @@ named_start forms n (b ∷ x) =
     (cond (b == plus) (start (Opened n operator.Plus) x)
     (cond (b == question_mark) (start (Opened n operator.Question) x) (colon_start n x))))
 
--- the head that a text of the kind begins with, if it does with one
+-- the head at the beginning of a text of this kind, if there is one
 abbrev start_of : Forms → Kind → Start
 start_of forms (Two x) = start Dollar x
 start_of forms (Bare n x) = start (Short n) x
@@ -138,7 +137,7 @@ start-head g (Braced n) x is = start-braced g.forms n x
 start-head g (Optional n) x is = rw is.0 refl
 start-head g (Opened n op) x is = start-opened g.forms op n x is.0
 
--- one head begins a text
+-- a text begins with at most one head
 pub head_unique : (g : Grammar) (h k : Head) (x y : List ℕ) → IsHead g h x → IsHead g k y
     → head_text h ++ x ≡ head_text k ++ y → start h x ≡ start k y
 head_unique g h k x y is other same = search (rules, start-head, kind-head)
@@ -156,7 +155,7 @@ first_brace-plain (b ∷ m) x each =
 no_first_brace : (s : List ℕ) → AllByRecursion IsNoBrace s → first_brace s ≡ []
 no_first_brace s each = ap first_brace (sym (append-nil s)) ∙ first_brace-plain s [] each
 
--- a text from the brace on that closes so many
+-- a text from the first closing brace on that closes neither one of d open braces nor one opened in the text
 abbrev closing_at : ℕ → List ℕ → List ℕ
 closing_at d [] = []
 closing_at d (b ∷ s) =
@@ -171,7 +170,7 @@ closing_at-message d _ x (byte {b = b} {m = m} none closes) =
 closing_at-message d _ x (opening {m = m} closes) = closing_at-message (suc d) m x closes
 closing_at-message (suc d) _ x (closing {m = m} closes) = closing_at-message d m x closes
 
--- one message begins a text
+-- a text begins with at most one message
 message_end : (forms : Forms) (m k x y : List ℕ) → IsMessage forms m → IsMessage forms k
     → m ++ closing_brace ∷ x ≡ k ++ closing_brace ∷ y → closing_brace ∷ x ≡ closing_brace ∷ y
 message_end of.Shell m k x y is other same =
@@ -184,7 +183,7 @@ pub message_unique : (forms : Forms) (m k x y : List ℕ) → IsMessage forms m 
     → m ++ closing_brace ∷ x ≡ k ++ closing_brace ∷ y → m ≡ k
 message_unique forms m k x y is other same = search (rules, append_cancel_right, message_end)
 
--- a message isn't closed in one way
+-- a message is unclosed in one way
 endless_unique : (forms : Forms) (f h : ShellForm) (x : List ℕ) → IsEndless forms f x → IsEndless forms h x
     → f ≡ h
 endless_unique _ form.Unclosed form.Unclosed x is other = refl
@@ -201,7 +200,7 @@ endless_unique _ form.Unclosed _ x is other = absurd other
 endless_unique _ form.Message _ x is other = absurd other
 endless_unique _ _ _ x is other = absurd is
 
--- a message with its closing brace is not endless
+-- a message before its closing brace isn't unclosed
 closed_ends : (forms : Forms) (f : ShellForm) (m x : List ℕ) → IsMessage forms m
     → ¬ (IsEndless forms f (m ++ closing_brace ∷ x))
 closed_ends of.Shell form.Unclosed m x is never = never (m, x, is, refl)
@@ -213,7 +212,7 @@ closed_ends _ form.Message m x is (k, y, each, same) =
     cc (first_brace-plain m (closing_brace ∷ x) is, first, ap first_brace same)
 closed_ends _ _ m x is never = never
 
--- the form that what comes after a name in braces has
+-- the form of the text after a name in braces
 abbrev colon_form : List ℕ → ShellForm
 colon_form [] = form.Colon
 colon_form (b ∷ x) = cond (b == 61) form.ColonEquals (cond (b == plus) form.ColonPlus form.Colon)
@@ -248,24 +247,24 @@ form_of-form form.Message x has = absurd has
 form_of-form form.Brace x has = absurd has
 form_of-form _ x has = ap form_of has.1
 
--- a name of a shell's variable
+-- a name in a shell
 abbrev IsShells : List ℕ → Type 0
 IsShells n = IsName n × IsShellName n
 
--- a name of forms that are read as a whole is one
+-- in a grammar that refuses other forms after `${`, a variable's name is one of a shell
 shell_name : (forms : Forms) (all : Bool) (n : List ℕ) → IsTrue (is_whole forms all) → IsNameOf forms n
     → IsShells n
 shell_name of.Own all n whole named = absurd cc
 shell_name _ all n whole named = named
 
--- it begins where its first byte is
+-- a text begins with a shell's name if its first byte is one
 no_name_first : (x run rest : List ℕ) → x ≡ run ++ rest → BeginsWithNo (λ b. IsShells (b ∷ [])) x
     → ¬ (IsShells run)
 no_name_first x [] rest same none named = named.0
 no_name_first [] (c ∷ run) rest same none named = cc
 no_name_first (b ∷ x) (c ∷ run) rest same none named = search (rules, first_same)
 
--- a refused form of a text of the kind
+-- a refused form at the beginning of a text of this kind
 data Refusal (g : Grammar) : ShellForm → Kind → Type 0 where
   brace : (x : List ℕ) → g.forms ≢ of.Shell → Refusal g form.Brace (Other (opening_brace ∷ x))
   lone : (run rest : List ℕ) → g.forms ≡ of.Common → ¬ (IsShells run) → Refusal g form.Dollar (Bare run rest)
@@ -273,7 +272,7 @@ data Refusal (g : Grammar) : ShellForm → Kind → Type 0 where
       → Refusal g form.NoName (Named run rest)
   endless : (f : ShellForm) (n : List ℕ) (op : Operator) (x : List ℕ) → IsTrue (takes_message op)
       → IsHead g (Opened n op) x → IsEndless g.forms f x → Refusal g f (Named n (operator_text op ++ x))
-  goes_on : (f : ShellForm) (n x : List ℕ) → IsTrue (is_whole g.forms g.all) → IsShells n → IsUnfit g.forms x
+  goes_on : (f : ShellForm) (n x : List ℕ) → IsTrue (is_whole g.forms g.all) → IsShells n → IsOtherEnd g.forms x
       → HasForm f x → Refusal g f (Named n x)
 
 lone_dollar : (g : Grammar) (x : List ℕ) → g.forms ≡ of.Common → BeginsWithNo FollowsDollar x
@@ -289,8 +288,8 @@ opens_message g f P s ends (n, op, x, takes, is, spelled, holds) =
     rw (ap kind spelled ∙ kind-head g (Opened n op) x is) (endless f n op x takes is (ends x holds))
 
 form_goes_on : (g : Grammar) (f : ShellForm) (s : List ℕ) → GoesOn g f s → Refusal g f (kind s)
-form_goes_on g f s (whole, (n, x, named, first, spelled, stops, unfit, has)) =
-    rw (ap kind spelled ∙ kind-named n x named stops) (goes_on f n x whole (named, first) unfit has)
+form_goes_on g f s (whole, (n, x, named, first, spelled, stops, other_end, has)) =
+    rw (ap kind spelled ∙ kind-named n x named stops) (goes_on f n x whole (named, first) other_end has)
 
 refusal : (g : Grammar) (inside : Bool) (f : ShellForm) (s : List ℕ) → IsRefused g inside f s
     → Refusal g f (kind s)
@@ -303,12 +302,12 @@ refusal g inside form.Unclosed s (inl opens) = opens_message g _ _ s (λ x holds
 refusal g inside form.Unclosed s (inr goes) = form_goes_on g _ s goes
 refusal g inside _ s goes = form_goes_on g _ s goes
 
--- a message comes after the head, and never ends
+-- a head before a message that isn't closed
 abbrev EndsNever : Grammar → ShellForm → Start → Type 0
 EndsNever g f (start (Opened n op) x) = IsTrue (takes_message op) × IsEndless g.forms f x
 EndsNever g f (start _ x) = ⊥
 
--- where a head begins a text, nothing is refused but its message
+-- if a text begins with a head, only its message is refused
 refusal_head : (g : Grammar) (f : ShellForm) (k : Kind) (h : Head) (y : List ℕ) → Refusal g f k → IsHead g h y
     → k ≡ head_kind h y → EndsNever g f (start h y)
 refusal_head g _ _ h y (endless f n op x takes is ends) other same = search (rules, start-head)
@@ -317,12 +316,12 @@ refusal_head g _ _ (Short n) y (lone m x common none) is same = search (rules, s
 refusal_head g _ _ (Braced n) y (nameless m x whole none) is same = search (rules, shell_name)
 refusal_head g _ _ (Optional n) y (nameless m x whole none) is same = search (rules, shell_name)
 refusal_head g _ _ (Opened n op) y (nameless m x whole none) is same = search (rules, shell_name)
-refusal_head g _ _ (Braced n) y (goes_on f m x whole named unfit has) is same = absurd (unfit.0 y cc)
-refusal_head g _ _ (Optional n) y (goes_on f m x whole named unfit has) is same = search rules
-refusal_head g _ _ (Opened n op) y (goes_on f m x whole named unfit has) is same = search rules
+refusal_head g _ _ (Braced n) y (goes_on f m x whole named other_end has) is same = absurd (other_end.0 y cc)
+refusal_head g _ _ (Optional n) y (goes_on f m x whole named other_end has) is same = search rules
+refusal_head g _ _ (Opened n op) y (goes_on f m x whole named other_end has) is same = search rules
 refusal_head g _ _ _ y _ is same = absurd cc
 
--- of a kind one form is refused
+-- at the beginning of a text of a kind at most one form is refused
 refusal_unique : (g : Grammar) (f h : ShellForm) (k l : Kind) → Refusal g f k → Refusal g h l → k ≡ l → f ≡ h
 refusal_unique g _ h _ l (endless f n op x takes is ends) other same =
     endless_unique g.forms f h x ends (refusal_head g h l (Opened n op) x other is (sym same)).1
@@ -331,18 +330,18 @@ refusal_unique g f _ k _ other (endless h n op x takes is ends) same =
 refusal_unique g _ _ _ _ (brace x other) (brace y too) same = refl
 refusal_unique g _ _ _ _ (lone n x common none) (lone m y too unnamed) same = refl
 refusal_unique g _ _ _ _ (nameless n x whole none) (nameless m y too unnamed) same = refl
-refusal_unique g _ _ _ _ (nameless n x whole none) (goes_on h m y too named unfit has) same = search rules
-refusal_unique g _ _ _ _ (goes_on f n x whole named unfit has) (nameless m y too none) same = search rules
-refusal_unique g _ _ _ _ (goes_on f n x whole named unfit has) (goes_on h m y too other none holds) same =
+refusal_unique g _ _ _ _ (nameless n x whole none) (goes_on h m y too named other_end has) same = search rules
+refusal_unique g _ _ _ _ (goes_on f n x whole named other_end has) (nameless m y too none) same = search rules
+refusal_unique g _ _ _ _ (goes_on f n x whole named other_end has) (goes_on h m y too other none holds) same =
     search (rules, form_of-form)
 refusal_unique g _ _ _ _ _ _ same = absurd cc
 
--- one form of a text is refused
+-- at the beginning of a text at most one form is refused
 pub refused_unique : (g : Grammar) (inside : Bool) (f h : ShellForm) (s : List ℕ) → IsRefused g inside f s
     → IsRefused g inside h s → f ≡ h
 refused_unique g inside f h s is other = search (rules, refusal_unique, refusal)
 
--- one front of a form
+-- a refused form has one front
 front_unique : (f : ShellForm) (front x other y : List ℕ) → IsFront f front x → IsFront f other y
     → front ++ x ≡ other ++ y → front ≡ other
 front_unique form.Dollar front x other y is too same = is ∙ sym too
@@ -355,7 +354,7 @@ front_unique _ front x other y (n, named, stops, spelled) (m, called, ends, writ
     let names : n ≡ m = cc in
     spelled ∙ ap (λ n. in_braces n []) names ∙ sym written
 
--- a token from a head on: the head is it, or opens its text, or its message
+-- a token that begins with a head: the head alone, with its operator, or with its message
 data AfterHead (g : Grammar) : Token → List ℕ → Start → Type 0 where
   whole : (h : Head) (x : List ℕ) → IsWhole h → AfterHead g (tokens.Whole h) x (start h x)
   opens : (n : List ℕ) (op : Operator) (x : List ℕ) → takes_message op ≡ false
@@ -383,7 +382,7 @@ after_never g f _ _ _ (whole _ x is) never = never
 after_never g f _ _ _ (opens n op x none) never = true≢false (sym never.0 ∙ none)
 after_never g f _ _ _ (required n op m x takes each) never = closed_ends g.forms f m x each never.1
 
--- a token at the beginning of a text, and what comes after it
+-- a token at the beginning of a text, and the text after it
 data View (g : Grammar) (depth : ℕ) (s : List ℕ) : Token → List ℕ → Type 0 where
   a_byte : (b : ℕ) (x : List ℕ) → IsByte g (is_inside depth) b x → s ≡ b ∷ x
       → View g depth s (tokens.Byte b) x
@@ -437,7 +436,7 @@ opening_refused : (g : Grammar) (inside : Bool) (s x : List ℕ) (f : ShellForm)
     → s ≡ opening_brace ∷ x → ¬ (IsRefused g inside f s)
 opening_refused g inside s x f shell spelled bad = search (rules, brace_refused, refusal)
 
--- a byte that stands for itself is no other token
+-- a literal byte is no other token
 byte_alone : (g : Grammar) (depth : ℕ) (s : List ℕ) (b : ℕ) (x : List ℕ) (u : Token) (y : List ℕ)
     → IsByte g (is_inside depth) b x → s ≡ b ∷ x → View g depth s u y → tokens.Byte b ≡ u
 byte_alone g depth s b x _ _ is spelled (a_byte c y too written) = cc
@@ -476,7 +475,7 @@ view_unique g depth s _ _ _ _ (refused f front x bad fronts spelled) (a_closing 
 view_unique g depth s _ _ _ _ (refused f front x bad fronts spelled) (refused h other y too ends written) =
     search (rules, refused_unique, front_unique)
 
--- two tokens that begin one text are one, and so is what comes after them
+-- if two tokens begin the same text, they are equal, and so are the texts after them
 pub same_token : (g : Grammar) (depth : ℕ) (t u : Token) (x y : List ℕ) → IsToken g depth t x
     → IsToken g depth u y → token_text t ++ x ≡ token_text u ++ y → (t ≡ u) × (x ≡ y)
 same_token g depth t u x y is other same =

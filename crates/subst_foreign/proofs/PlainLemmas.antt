@@ -1,4 +1,4 @@
--- The bytes that a search passes over.
+-- The plain bytes that a search skips.
 use Rattle.std.proofs.Common.{◌≡◌, false, ℕ, ◌<◌, ◌≤◌, zero, suc, List, [], ◌∷◌, length, Option, Some, None, IfSome, IfNone, refl, sym, subst, get_or, take, arith}
 use Rattle.std.proofs.lemmas.Bool.Decides.{nat_tests}
 use Rattle.std.proofs.lemmas.Grind.{common_steps}
@@ -8,7 +8,7 @@ use Rattle.std.proofs.lemmas.List.Quantifiers.{position-Some}
 use Rattle.std.specs.List.{position, position_or_len, AllByRecursion}
 use Rattle.subst_foreign.specs.Reading.{IsPlainAt, is_special_inside}
 
--- what holds of the bytes before an index holds of each that is taken
+-- a property of all bytes before an index holds for each byte of that prefix
 each_before : (P : ℕ → Type 0) (x : List ℕ) (n : ℕ) → n ≤ length x → ((k : ℕ) → k < n → P (get_or x k 0))
     → AllByRecursion P (take n x)
 each_before P x zero inside each = tt

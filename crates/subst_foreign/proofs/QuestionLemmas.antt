@@ -1,4 +1,4 @@
--- Names that are no question.
+-- Names that are not questions.
 use Rattle.std.proofs.Common.{◌≡◌, ◌≢◌, ◌==◌, ◌<◌, false, ℕ, List, [], ◌∷◌, None, refl, ap, arith}
 use Rattle.std.proofs.lemmas.Bool.Decides.{nat_tests}
 use Rattle.std.proofs.lemmas.Str.Pattern.{strip_prefix_char}

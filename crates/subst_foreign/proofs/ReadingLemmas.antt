@@ -1,18 +1,18 @@
--- Texts read token by token, and the templates written meanwhile.
+-- Texts that are read token by token, and their templates.
 use Rattle.std.proofs.Common.{rules, ◌≡◌, ◌-◌, inl, inr, Bool, true, false, ℕ, ◌+◌, ◌<◌, ◌≤◌, zero, suc, List, [], ◌∷◌, ◌++◌, length, take, Some, None, refl, sym, ap, ◌∙◌, subst, append_assoc, append-nil, length-append, arith}
 use Rattle.std.proofs.lemmas.Bool.Decides.{nat_tests}
 use Rattle.std.proofs.Math.Seq.{take-append_seam}
 use Rattle.std.proofs.lemmas.Str.{IsUtf8-append, IsUtf8-nil}
 use Rattle.std.specs.List.{AllByRecursion}
 use Rattle.std.specs.Str.{IsUtf8}
-use Rattle.subst_foreign.proofs.TemplateLemmas.{asked_is_name, plain_case, text_fits, text_means, text_names}
+use Rattle.subst_foreign.proofs.TemplateLemmas.{plain_case, template_name_is_name, text_fits, text_means, text_names}
 use Rattle.subst_foreign.proofs.TokenLemmas.{braces_append, name_of, plain_byte}
 use Rattle.subst_foreign.specs.Foreign.{is_inside}
 use Rattle.subst_foreign.specs.Grammar.{Grammar, Head, Opened, head_text, has_operator, in_braces, is_whole, operator_text, takes_message, BeginsWithNoHead, GoesOn, IsHead, IsMessage, IsNoBrace, IsRefused}
 use Rattle.subst_foreign.specs.Grammar as head
 use Rattle.subst_foreign.specs.Reading.{Token, Byte, Closing, Opening, Opens, Refused, Required, Whole, IsAfterPlain, IsConverted, IsPlainAt, IsToken, Reading, depth_after, left_open, outermost_at, part, refused_at, token_text}
 use Rattle.subst_foreign.specs.Reading.Reading.{ended, token, unclosed}
-use Rattle.subst_foreign.specs.Template.{asked_name, is_escaped, item_of_byte, item_of_head, plain_item, tree_before, tree_of, IsTemplate}
+use Rattle.subst_foreign.specs.Template.{is_escaped, item_of_byte, item_of_head, plain_item, template_name, tree_before, tree_of, IsTemplate}
 use Rattle.subst_foreign.specs.Text.{Item, Text, IsByte, IsItem, IsText, item_spelling, spelling}
 use Rattle.subst_foreign.specs.Text as foreign
 use Rattle.subst_foreign.specs.declared.forms.Forms.{Forms}
@@ -32,7 +32,7 @@ use Rattle.subst_language.specs.Language.Name.{IsName, IsNameByte}
 use Rattle.subst_language.specs.Language.Tree.{Braced, Default, Empty, Optional, Plain, Short, Then, Tree, item_text, text}
 use Rattle.subst_language.specs.Language.Tree as template
 
--- the rest of a text where so many texts and braces are open, and of its template: a text that ends each of them
+-- the rest of a text at this depth, and the rest of its template: a text that ends each open one
 abbrev pub IsRest : Grammar → Missing → ℕ → List ℕ → List ℕ → Type 0
 IsRest g unset zero s y =
     (t : Text) × IsText g false t [] × (s ≡ spelling t) × (y ≡ text (tree_of g.forms unset t))
@@ -40,7 +40,7 @@ IsRest g unset (suc depth) s y = (t : Text) × (x z : List ℕ) × IsText g true
     × (s ≡ spelling t ++ closing_brace ∷ x) × (y ≡ text (tree_of g.forms unset t) ++ closing_brace ∷ z)
     × IsRest g unset depth x z
 
--- an item more, at the start, which is written so
+-- an item before the rest, with its spelling in the template
 rest_item : (g : Grammar) (unset : Missing) (depth : ℕ) (item : Item) (written x y : List ℕ)
     → IsItem g (is_inside depth) item x
     → ((next : Tree) → text (tree_before g.forms unset item next) ≡ written ++ text next)
@@ -64,13 +64,13 @@ rest_item g unset (suc depth) item written x y is writes (t, x', y', read, spell
   rest,
 )
 
--- a text after an operator that opens
+-- an operator before the rest opens a text
 rest_opened : (g : Grammar) (unset : Missing) (depth : ℕ) (n : List ℕ) (op : Operator) (x y : List ℕ)
     → takes_message op ≡ false → IsHead g (Opened n op) x → IsRest g unset (suc depth) x y
     → IsRest g unset depth (head_text (Opened n op) ++ x)
-    (in_braces (asked_name g.forms (Some op) n) (colon ∷ []) ++ y)
+    (in_braces (template_name g.forms (Some op) n) (colon ∷ []) ++ y)
 rest_opened g unset depth n op x y opens is (t, x', y', read, spelled, source, rest) =
-    let asks = asked_name g.forms (Some op) n in
+    let asks = template_name g.forms (Some op) n in
     let inner = text (tree_of g.forms unset t) in
     let written = in_braces asks (colon ∷ inner ++ closing_brace ∷ []) in
     let whole = rest_item g unset depth (foreign.Operated n op t) written x' y'
@@ -85,7 +85,7 @@ rest_opened g unset depth n op x y opens is (t, x', y', read, spelled, source, r
     subst (λ z. IsRest g unset depth z (in_braces asks (colon ∷ []) ++ y)) (sym texts)
     (subst (IsRest g unset depth (item_spelling (foreign.Operated n op t) ++ x')) (sym sources) whole)
 
--- a brace that opens
+-- a brace before the rest opens a text
 rest_group : (g : Grammar) (unset : Missing) (depth : ℕ) (x y : List ℕ) → 0 < depth → g.forms ≡ of.Shell
     → IsRest g unset (suc depth) x y → IsRest g unset depth (opening_brace ∷ x) (opening_brace ∷ y)
 rest_group g unset zero x y more shell rest = absurd (omega (arith, more))
@@ -103,7 +103,7 @@ rest_group g unset (suc depth) x y more shell (t, x', y', read, spelled, source,
     subst (λ z. IsRest g unset (suc depth) z (opening_brace ∷ y)) (sym texts)
     (subst (IsRest g unset (suc depth) (item_spelling (foreign.Group t) ++ x')) (sym sources) whole)
 
--- what is written for a token, before what is written for the rest, is written for both
+-- a token before the rest, with its spelling in the template
 pub rest_token : (g : Grammar) (unset : Missing) (depth position : ℕ) (t : Token) (x y : List ℕ)
     → IsToken g depth t x → refused_at position t ≡ [] → IsRest g unset (depth_after depth t) x y
     → IsRest g unset depth (token_text t ++ x) (part g.forms unset t ++ y)
@@ -114,19 +114,19 @@ rest_token g unset depth position (Whole h) x y is taken rest =
 rest_token g unset depth position (Opens n op) x y is taken rest = search (rules, rest_opened)
 rest_token g unset depth position (Required n op m) x y is taken rest =
     rest_item g unset depth (foreign.Required n op m)
-    (in_braces (asked_name g.forms (Some op) n) (closing_brace ∷ [])) x y is (λ next. refl) rest
+    (in_braces (template_name g.forms (Some op) n) (closing_brace ∷ [])) x y is (λ next. refl) rest
 rest_token g unset depth position Opening x y is taken rest = rest_group g unset depth x y is.0 is.1 rest
 rest_token g unset zero position Closing x y is taken rest = absurd (omega (arith, is))
 rest_token g unset (suc depth) position Closing x y is taken rest = (foreign.Empty, x, y, tt, refl, refl, rest)
 rest_token g unset depth position (Refused f front) x y is taken rest = absurd cc
 
--- the whole text has a template
+-- the rest of a text, before anything is read, has a template
 pub whole_template : {g : Grammar} {unset : Missing} {s source : List ℕ} → IsRest g unset 0 s source
     → IsTemplate g unset s source
 whole_template {g} {unset} (t, read, spelled, written) =
     search (rules, text_fits, text_means, text_names)
 
--- where nothing is open, it doesn't matter where the outermost text begins
+-- if nothing is open, the position of the outermost open variable doesn't matter
 pub any_outermost : {g : Grammar} {position : ℕ} {s : List ℕ} {refused : List FormAt} (o p : ℕ)
     → Reading g o position 0 s refused → Reading g p position 0 s refused
 any_outermost o p ended = ended
@@ -148,7 +148,7 @@ name_asciis : (n : List ℕ) → AllByRecursion IsNameByte n → AreAscii n
 name_asciis [] each = tt
 name_asciis (b ∷ n) each = (name_byte_ascii b each.0, name_asciis n each.1)
 
--- a variable in braces
+-- a variable in braces is ASCII
 braces_ascii : (n x : List ℕ) → IsName n → AreAscii x → AreAscii (in_braces n x)
 braces_ascii n x is each = search (rules, each_append, name_asciis, name_bytes)
 
@@ -158,7 +158,7 @@ operator_ascii operator.ColonPlus = (omega arith, (omega arith, tt))
 operator_ascii operator.ColonQuestion = (omega arith, (omega arith, tt))
 operator_ascii _ = (omega arith, tt)
 
--- `}` and `?}`
+-- `}` and `?}` are ASCII
 closing_ascii : AreAscii (closing_brace ∷ [])
 closing_ascii = (omega arith, tt)
 
@@ -168,13 +168,13 @@ optional_ascii = (omega arith, (omega arith, tt))
 plain_ascii : (forms : Forms) (unset : Missing) (item : template.Item) (n : List ℕ) → IsName n
     → AreAscii (item_text item) → AreAscii (item_text (plain_item forms unset item n))
 plain_ascii forms unset item n is each =
-    let asked = asked_is_name of.Shell None n is in
+    let asked = template_name_is_name of.Shell None n is in
     plain_case (λ item. AreAscii (item_text item)) forms unset item n each
     (braces_ascii n (question_mark ∷ closing_brace ∷ []) is optional_ascii)
     (braces_ascii (value_of ∷ n) (closing_brace ∷ []) asked closing_ascii)
     (braces_ascii (value_of ∷ n) (question_mark ∷ closing_brace ∷ []) asked optional_ascii)
 
--- a byte more, at the start
+-- a byte in UTF-8 may be escaped
 byte_utf8 : (u x : List ℕ) (b : ℕ) (escaped : Bool) → is_escaped b ≡ escaped → IsUtf8 (u ++ b ∷ x)
     → IsUtf8 (u ++ (item_text (item_of_byte escaped b) ++ x))
 byte_utf8 u x b true special is =
@@ -185,7 +185,7 @@ byte_utf8 u x b true special is =
     (IsUtf8-append (b ∷ []) x (ascii_alone b ascii) after))
 byte_utf8 u x b false plain is = is
 
--- ASCII bytes in place of others
+-- ASCII bytes in UTF-8 may be replaced by others
 swapped_utf8 : (u front written x : List ℕ) (b : ℕ) → b < 128 → AreAscii front → AreAscii written
     → IsUtf8 (u ++ (b ∷ front ++ x)) → IsUtf8 (u ++ (written ++ x))
 swapped_utf8 u front written x b ascii each all is =
@@ -213,7 +213,7 @@ head_utf8 g unset (head.Opened n op) x u is text =
     (braces_ascii n (operator_text op) (name_of g.forms n is.1.0) (operator_ascii op)).1
     (omega arith, (omega arith, tt)) text
 
--- what is written for a token of a text is UTF-8
+-- the spelling of a token in the template keeps it UTF-8
 token_utf8 : (g : Grammar) (unset : Missing) (depth position : ℕ) (t : Token) (x u : List ℕ) → IsToken g depth t x
     → refused_at position t ≡ [] → IsUtf8 (u ++ (token_text t ++ x)) → IsUtf8 (u ++ (part g.forms unset t ++ x))
 token_utf8 g unset depth position (Byte b) x u is taken text = byte_utf8 u x b (is_escaped b) refl text
@@ -221,9 +221,9 @@ token_utf8 g unset depth position (Whole h) x u is taken text = head_utf8 g unse
 token_utf8 g unset depth position (Opens n op) x u is taken text =
     let name = name_of g.forms n is.1.1.0 in
     swapped_utf8 u (opening_brace ∷ n ++ operator_text op)
-    (in_braces (asked_name g.forms (Some op) n) (colon ∷ [])) x dollar (omega arith)
+    (in_braces (template_name g.forms (Some op) n) (colon ∷ [])) x dollar (omega arith)
     (braces_ascii n (operator_text op) name (operator_ascii op)).1
-    (braces_ascii (asked_name g.forms (Some op) n) (colon ∷ []) (asked_is_name g.forms (Some op) n name)
+    (braces_ascii (template_name g.forms (Some op) n) (colon ∷ []) (template_name_is_name g.forms (Some op) n name)
     (omega arith, tt)) text
 token_utf8 g unset depth position (Required n op m) x u is taken text =
     let name = name_of g.forms n is.1.1.0 in
@@ -233,17 +233,17 @@ token_utf8 g unset depth position (Required n op m) x u is taken text =
     append_assoc opened (m ++ closing_brace ∷ []) x
     ∙ ap (λ z. opened ++ z) (append_assoc m (closing_brace ∷ []) x)
     ∙ sym (append_assoc opened m (closing_brace ∷ x)) in
-    let written = in_braces (asked_name g.forms (Some op) n) (closing_brace ∷ []) in
+    let written = in_braces (template_name g.forms (Some op) n) (closing_brace ∷ []) in
     IsUtf8-append u (written ++ x) before
     (IsUtf8-append written x
-    (ascii_text written (braces_ascii (asked_name g.forms (Some op) n) (closing_brace ∷ [])
-    (asked_is_name g.forms (Some op) n name) closing_ascii))
+    (ascii_text written (braces_ascii (template_name g.forms (Some op) n) (closing_brace ∷ [])
+    (template_name_is_name g.forms (Some op) n name) closing_ascii))
     ((cut_at (opened ++ m) x closing_brace (omega arith) (subst IsUtf8 splits after)).1))
 token_utf8 g unset depth position Opening x u is taken text = text
 token_utf8 g unset depth position Closing x u is taken text = text
 token_utf8 g unset depth position (Refused f front) x u is taken text = absurd cc
 
--- plain bytes before a text that is read are read too
+-- plain bytes are read before a text that is read
 read_plain : (g : Grammar) (depth o p : ℕ) (run x : List ℕ) (refused : List FormAt)
     → AllByRecursion (IsPlainAt (suc depth)) run → Reading g o (p + length run) (suc depth) x refused
     → Reading g o p (suc depth) (run ++ x) refused
@@ -267,7 +267,7 @@ read_plain_outside g o o' p (b ∷ run) x refused each more =
 plain_stays : (depth b : ℕ) → IsPlainAt depth b → is_escaped b ≡ false
 plain_stays depth b plain = let dollars = plain.0 in let escapes = plain.1 in grind (arith, nat_tests)
 
--- and they are written as they are
+-- plain bytes are the same in the template
 rest_plain : (g : Grammar) (unset : Missing) (depth : ℕ) (run x y : List ℕ)
     → AllByRecursion (IsPlainAt depth) run → IsRest g unset depth x y → IsRest g unset depth (run ++ x) (run ++ y)
 rest_plain g unset depth [] x y each rest = rest
@@ -277,12 +277,12 @@ rest_plain g unset depth (b ∷ run) x y each rest =
     (λ next. ap (λ escaped. item_text (item_of_byte escaped b) ++ text next) (plain_stays depth b each.0))
     (rest_plain g unset depth run x y each.1 rest)
 
--- lists that are empty together
+-- if two lists joined are empty, so is each
 pub both_empty : {X : Type 0} (x y : List X) → x ++ y ≡ [] → (x ≡ []) × (y ≡ [])
 both_empty [] y is = (refl, is)
 both_empty (a ∷ x) y is = absurd cc
 
--- A text is read up to what is left of it, where so many texts are open, and this is written and refused.
+-- A text is read up to its rest, at this depth, with this template and these refused forms so far.
 pub record Progress (g : Grammar) (unset : Missing) (s source rest : List ℕ) (refused : List FormAt)
     (depth outermost : ℕ) : Type 0 where
   pub position : ℕ
@@ -293,7 +293,7 @@ pub record Progress (g : Grammar) (unset : Missing) (s source rest : List ℕ) (
   pub is_text : refused ≡ [] → IsUtf8 s → IsUtf8 (source ++ rest)
   pub few : depth + length rest ≤ length s
 
--- plain bytes more
+-- plain bytes are read and appended
 passes_plain : (g : Grammar) (unset : Missing) (s source rest : List ℕ) (refused : List FormAt)
     (depth outermost : ℕ) (run x new : List ℕ) (first : ℕ) → Progress g unset s source rest refused depth outermost
     → AllByRecursion (IsPlainAt depth) run → rest ≡ run ++ x → new ≡ source ++ run
@@ -327,7 +327,7 @@ passes_plain g unset s source rest refused depth outermost run x new first so_fa
         read_plain g d outermost so_far.position run x more plain
         (subst (λ o. Reading g o (so_far.position + length run) (suc d) x more) is later)
 
--- each token has a byte
+-- a token has at least one byte
 pub token_some : (g : Grammar) (depth : ℕ) (t : Token) (x : List ℕ) → IsToken g depth t x
     → 0 < length (token_text t)
 token_some g depth (Refused form.Dollar front) x is = rw is.1 (omega arith)
@@ -335,13 +335,13 @@ token_some g depth (Refused form.Brace front) x is = rw is.1 (omega arith)
 token_some g depth (Refused form.NoName front) x is = rw is.1 (omega arith)
 token_some g depth (Refused form.Unclosed (b ∷ front)) x is = omega arith
 token_some g depth (Refused form.Unclosed []) x (inl (n, op, z, takes, head, spelled, never), none) = absurd cc
-token_some g depth (Refused form.Unclosed []) x (inr (whole, (n, z, named, shell, spelled, ends, unfit, has)), is) =
+token_some g depth (Refused form.Unclosed []) x (inr (whole, (n, z, named, shell, spelled, ends, other, has)), is) =
     absurd cc
 token_some g depth (Refused f front) x is = rw is.1.3 (omega arith)
 token_some g depth (Whole head.Dollar) x is = omega arith
 token_some g depth _ x is = omega arith
 
--- and opens one text at most
+-- a token opens at most one text
 pub opens_one : (depth : ℕ) (t : Token) → depth_after depth t ≤ depth + 1
 opens_one depth (Opens n op) = omega arith
 opens_one depth Opening = omega arith
@@ -349,7 +349,7 @@ opens_one zero Closing = omega arith
 opens_one (suc depth) Closing = omega arith
 opens_one depth _ = omega arith
 
--- a token more
+-- a token is read and its spelling appended
 passes_token : (g : Grammar) (unset : Missing) (s source rest : List ℕ) (refused : List FormAt)
     (depth outermost : ℕ) (t : Token) (x new : List ℕ) (more : List FormAt) (after first : ℕ)
     → Progress g unset s source rest refused depth outermost → IsToken g depth t x → rest ≡ token_text t ++ x
@@ -389,7 +389,7 @@ passes_token g unset s source rest refused depth outermost t x new more after fi
       few = omega (arith, so_far.few, lengths, token_some g depth t x is, opens_one depth t, deeper);
     }
 
--- of two positions in a row the first one counts no more
+-- of two tokens at one depth, the first one doesn't matter for the outermost open variable after the second
 outermost_again : (depth o p q : ℕ) → outermost_at depth (outermost_at depth o p) q ≡ outermost_at depth o q
 outermost_again zero o p q = refl
 outermost_again (suc depth) o p q = refl
@@ -398,14 +398,14 @@ open_still : (depth o p : ℕ) → left_open depth (outermost_at depth o p) ≡ 
 open_still zero o p = refl
 open_still (suc depth) o p = refl
 
--- A text is read so far, and the template has all but a run, which is before the rest in the text that waits.
+-- A text is read up to its rest, and the template lacks a run of bytes before the rest: the pending bytes.
 pub record Waits (g : Grammar) (unset : Missing) (s source pending rest : List ℕ) (refused : List FormAt)
     (depth outermost : ℕ) : Type 0 where
   pub run : List ℕ
   pub waits : pending ≡ run ++ rest
   pub so_far : Progress g unset s (source ++ run) rest refused depth outermost
 
--- what is known of the next token, after plain bytes
+-- the next token, after plain bytes
 pub record Passes (g : Grammar) (s rest special : List ℕ) (refused more : List FormAt)
     (depth after outermost first : ℕ) (t : Token) (x : List ℕ) : Type 0 where
   pub plain : IsAfterPlain depth rest special
@@ -415,7 +415,7 @@ pub record Passes (g : Grammar) (s rest special : List ℕ) (refused more : List
   pub deeper : after ≡ depth_after depth t
   pub opened : first ≡ outermost_at depth outermost (length s - length special)
 
--- plain bytes and a token more
+-- plain bytes and a token are read
 passes : (g : Grammar) (unset : Missing) (s source rest special : List ℕ) (refused more : List FormAt)
     (depth after outermost first : ℕ) (t : Token) (x : List ℕ)
     → Progress g unset s source rest refused depth outermost
@@ -431,7 +431,7 @@ passes g unset s source rest special refused more depth after outermost first t 
     passed.is passed.splits refl passed.told passed.deeper
     (passed.opened ∙ sym (outermost_again depth outermost (length s - length rest) (length s - length special)))
 
--- a token that the template has as it is in the text
+-- a token with the same spelling in the template stays pending
 pub waits_more : (g : Grammar) (unset : Missing) (s source pending rest special : List ℕ)
     (refused more : List FormAt) (depth after outermost first : ℕ) (t : Token) (x : List ℕ)
     → Waits g unset s source pending rest refused depth outermost
@@ -454,7 +454,7 @@ waits_more g unset s source pending rest special refused more depth after outerm
           waiting.so_far passed);
     }
 
--- a token that the template has otherwise, after all that waited
+-- a token with another spelling is appended, after the pending bytes
 pub waits_anew : (g : Grammar) (unset : Missing) (s source pending rest special : List ℕ)
     (refused more : List FormAt) (depth after outermost first : ℕ) (t : Token) (x kept written new : List ℕ)
     → Waits g unset s source pending rest refused depth outermost
@@ -481,7 +481,7 @@ waits_anew g unset s source pending rest special refused more depth after outerm
           waiting.so_far passed);
     }
 
--- the end
+-- the whole text is read
 ends : (g : Grammar) (unset : Missing) (s source rest : List ℕ) (refused more : List FormAt)
     (depth outermost : ℕ) → Progress g unset s source rest refused depth outermost → length rest ≡ 0
     → more ≡ refused ++ left_open depth outermost → IsConverted g unset s source more

@@ -1,4 +1,4 @@
--- The tree that stands for a text of another tool: it is well-formed, and gives what the text gives.
+-- The tree of a template for a text of another tool is well-formed, and has the value of the text.
 use Rattle.std.proofs.lemmas.Grind.{common_steps}
 use Rattle.std.proofs.Common.{rules, ◌≡◌, Bool, true, false, ℕ, ◌+◌, List, [], ◌∷◌, ◌++◌, length, map, Option, Some, None, unwrap_or, IsTrue, Ok, Err, refl, sym, ap, ◌∙◌, subst, append_assoc, arith}
 use Rattle.std.proofs.lemmas.Bool.Decides.{nat_tests}
@@ -8,7 +8,7 @@ use Rattle.subst_foreign.specs.Foreign.{Given, and_then, found, unplaced}
 use Rattle.subst_foreign.specs.Grammar.{Grammar, Head, has_operator, takes_message, IsHead, IsNameOf, IsNoBrace}
 use Rattle.subst_foreign.specs.Grammar as head
 use Rattle.subst_foreign.specs.Question.{negated, value_of, is_missing, is_empty}
-use Rattle.subst_foreign.specs.Template.{asked, asked_name, is_escaped, item_of_byte, item_of_head, plain_item, seen_by, told, told_name, tree_before, tree_of}
+use Rattle.subst_foreign.specs.Template.{is_escaped, item_of_byte, item_of_head, plain_item, renamed, seen_by, template_name, template_name_of, text_name, tree_before, tree_of}
 use Rattle.subst_foreign.specs.Text.{Item, Text, IsItem, IsText, IsWhole, found_or, if_found, head_value, item_spelling, item_value, item_variables, operated_value, plain_value, required_value, spelling, text_value, variables_of}
 use Rattle.subst_foreign.specs.Text as foreign
 use Rattle.subst_foreign.specs.declared.forms.Forms.{Forms}
@@ -36,28 +36,29 @@ use Rattle.subst_language.specs.Language.WellFormed.{EndsName, IsWellFormed}
 use Rattle.subst_language.specs.Language.WellFormed as formed
 use Rattle.subst_language.specs.Maps.{without_empty}
 
--- a name after a digit is a name
+-- a digit before a name makes a name
 after_digit : (b : ℕ) (n : List ℕ) → IsNameByte b → IsName n → IsName (b ∷ n)
 after_digit b n digit is = (digit, name_bytes n is)
 
--- the name under which a template asks is a name
-pub asked_is_name : (forms : Forms) (op : Option Operator) (n : List ℕ) → IsName n → IsName (asked_name forms op n)
-asked_is_name of.Shell None n is = after_digit value_of n refl is
-asked_is_name of.Shell (Some operator.Minus) n is = after_digit value_of n refl is
-asked_is_name of.Shell (Some operator.Question) n is = after_digit value_of n refl is
-asked_is_name of.Shell (Some operator.Plus) n is = after_digit is_missing n refl is
-asked_is_name of.Shell (Some operator.ColonPlus) n is = after_digit is_empty n refl is
-asked_is_name forms op n is = is
+-- the name that a template looks up is a name
+pub template_name_is_name : (forms : Forms) (op : Option Operator) (n : List ℕ) → IsName n
+    → IsName (template_name forms op n)
+template_name_is_name of.Shell None n is = after_digit value_of n refl is
+template_name_is_name of.Shell (Some operator.Minus) n is = after_digit value_of n refl is
+template_name_is_name of.Shell (Some operator.Question) n is = after_digit value_of n refl is
+template_name_is_name of.Shell (Some operator.Plus) n is = after_digit is_missing n refl is
+template_name_is_name of.Shell (Some operator.ColonPlus) n is = after_digit is_empty n refl is
+template_name_is_name forms op n is = is
 
 -- the item of a byte is well-formed
 pub byte_item : (b : ℕ) (next : Tree) → formed.IsItem (item_of_byte (is_escaped b) b) next
 byte_item b next = search (rules, nat_tests)
 
--- a name ends before the item of a byte, where it ends before the byte
+-- a name ends before the item of a byte if it ends before the byte
 byte_ends : (b : ℕ) (next : Tree) → ¬ (IsNameByte b) → EndsName (Then (item_of_byte (is_escaped b) b) next)
 byte_ends b next ends = search rules
 
--- what holds of a variable's item as it stands, and of the others that may stand for it
+-- a property of the item of a variable without an operator, by cases
 pub plain_case : (P : template.Item → Type 0) (forms : Forms) (unset : Missing) (item : template.Item) (n : List ℕ)
     → P item → P (Optional n) → P (Braced (value_of ∷ n)) → P (Optional (value_of ∷ n))
     → P (plain_item forms unset item n)
@@ -67,14 +68,14 @@ plain_case P of.Common unset item n same optional asked optional_asked = optiona
 plain_case P _ missing.Fault item n same optional asked optional_asked = same
 plain_case P _ missing.Nothing item n same optional asked optional_asked = optional
 
--- and before the item of a head
+-- a name ends before the item of a head
 head_ends : (forms : Forms) (unset : Missing) (h : Head) (next : Tree)
     → EndsName (Then (item_of_head forms unset h) next)
 head_ends forms unset (head.Short n) next = search (rules, plain_case)
 head_ends forms unset (head.Braced n) next = search (rules, plain_case)
 head_ends forms unset _ next = tt
 
--- a name ends before the tree of a text, where it ends before the text
+-- a name ends before the tree of a text if it ends before the text
 text_ends : (forms : Forms) (unset : Missing) (t : Text) (x : List ℕ) → BeginsWithNo IsNameByte (spelling t ++ x)
     → EndsName (tree_of forms unset t)
 text_ends forms unset foreign.Empty x ends = tt
@@ -84,12 +85,12 @@ text_ends forms unset (foreign.Then (foreign.Operated n op t) rest) x ends = tt
 text_ends forms unset (foreign.Then (foreign.Required n op m) rest) x ends = tt
 text_ends forms unset (foreign.Then (foreign.Group t) rest) x ends = opening_no_name
 
--- the item of a variable without an operator
+-- the item of a variable without an operator is well-formed
 plain_fits : (forms : Forms) (unset : Missing) (item : template.Item) (n : List ℕ) (next : Tree) → IsName n
     → formed.IsItem item next → formed.IsItem (plain_item forms unset item n) next
 plain_fits forms unset item n next is fits = search (rules, after_digit, plain_case)
 
--- the item of a head
+-- the item of a head is well-formed
 head_fits : (g : Grammar) (unset : Missing) (h : Head) (x : List ℕ) (next : Tree) → IsHead g h x
     → (BeginsWithNo IsNameByte x → EndsName next) → formed.IsItem (item_of_head g.forms unset h) next
 head_fits g unset head.Dollar x next is ends = refl
@@ -98,7 +99,7 @@ head_fits g unset (head.Braced n) x next is ends = search (rules, plain_fits, na
 head_fits g unset (head.Optional n) x next is ends = name_of g.forms n is.1.0
 head_fits g unset (head.Opened n op) x next is ends = refl
 
--- a byte that is no brace is balanced, also where it is escaped
+-- a byte that isn't a brace is balanced, even if it is escaped
 byte_balanced : (b : ℕ) → IsNoBrace b → IsBalanced (item_text (item_of_byte (is_escaped b) b))
 byte_balanced b none = search (rules, escape_balanced, byte, nat_tests, empty)
 
@@ -118,18 +119,18 @@ head_balanced g unset (head.Optional n) x is = optional_balanced n (name_of g.fo
 head_balanced g unset (head.Opened n op) x is = escape_balanced dollar
 
 mutual
-  -- braces match in what stands for the text after an operator
+  -- in a template, braces match inside a default
   item_balanced : (g : Grammar) (unset : Missing) (item : Item) (x : List ℕ) (next : Tree) → IsItem g true item x
       → IsBalanced (text next) → IsBalanced (text (tree_before g.forms unset item next))
   item_balanced g unset (foreign.Byte b) x next is more = balanced_append (byte_balanced b (is.no_brace refl)) more
   item_balanced g unset (foreign.Whole h) x next is more = balanced_append (head_balanced g unset h x is.1) more
   item_balanced g unset (foreign.Operated n op t) x next is more =
-      balanced_append (default_balanced (asked_name g.forms (Some op) n) (text (tree_of g.forms unset t))
-      (asked_is_name g.forms (Some op) n (name_of g.forms n is.1.1.0))
+      balanced_append (default_balanced (template_name g.forms (Some op) n) (text (tree_of g.forms unset t))
+      (template_name_is_name g.forms (Some op) n (name_of g.forms n is.1.1.0))
       (text_balanced g unset t (closing_brace ∷ x) is.2)) more
   item_balanced g unset (foreign.Required n op m) x next is more =
-      balanced_append (braced_balanced (asked_name g.forms (Some op) n)
-      (asked_is_name g.forms (Some op) n (name_of g.forms n is.1.1.0))) more
+      balanced_append (braced_balanced (template_name g.forms (Some op) n)
+      (template_name_is_name g.forms (Some op) n (name_of g.forms n is.1.1.0))) more
   item_balanced g unset (foreign.Group t) x next is more =
       subst (λ (z : List ℕ). IsBalanced (opening_brace ∷ z))
       (sym (text-join (tree_of g.forms unset t) (Then (Plain closing_brace) next)))
@@ -143,7 +144,7 @@ mutual
       (text_balanced g unset rest x is.1)
 
 mutual
-  -- the tree that stands for a text is well-formed
+  -- the tree of a template for a text is well-formed
   item_fits : (g : Grammar) (unset : Missing) (inside : Bool) (item : Item) (x : List ℕ) (next : Tree)
       → IsItem g inside item x → IsWellFormed next → (BeginsWithNo IsNameByte x → EndsName next)
       → IsWellFormed (tree_before g.forms unset item next)
@@ -151,14 +152,14 @@ mutual
   item_fits g unset inside (foreign.Whole h) x next is more ends = (head_fits g unset h x next is.1 ends, more)
   item_fits g unset inside (foreign.Operated n op t) x next is more ends = (
     (
-      asked_is_name g.forms (Some op) n (name_of g.forms n is.1.1.0),
+      template_name_is_name g.forms (Some op) n (name_of g.forms n is.1.1.0),
       text_fits g unset true t (closing_brace ∷ x) is.2,
       text_balanced g unset t (closing_brace ∷ x) is.2,
     ),
     more,
   )
   item_fits g unset inside (foreign.Required n op m) x next is more ends =
-      (asked_is_name g.forms (Some op) n (name_of g.forms n is.1.1.0), more)
+      (template_name_is_name g.forms (Some op) n (name_of g.forms n is.1.1.0), more)
   item_fits g unset inside (foreign.Group t) x next is more ends = (
     (omega arith, omega arith),
     well_formed_join (tree_of g.forms unset t) (Then (Plain closing_brace) next)
@@ -173,7 +174,7 @@ mutual
       item_fits g unset inside item (spelling rest ++ x) (tree_of g.forms unset rest) is.0
       (text_fits g unset inside rest x is.1) (text_ends g.forms unset rest x)
 
--- the names in trees joined
+-- the names in two trees joined
 names_in-join : (t u : Tree) → names_in (join t u) ≡ names_in t ++ names_in u
 names_in-join Empty u = refl
 names_in-join (Then item rest) u = search (rules, names_in_item, append_assoc, names_in, names_in-join rest u)
@@ -183,7 +184,7 @@ byte_names : (b : ℕ) → names_in_item (item_of_byte (is_escaped b) b) ≡ []
 byte_names b = search rules
 
 plain_names : (forms : Forms) (unset : Missing) (item : template.Item) (n : List ℕ) → names_in_item item ≡ n ∷ []
-    → names_in_item (plain_item forms unset item n) ≡ asked_name forms None n ∷ []
+    → names_in_item (plain_item forms unset item n) ≡ template_name forms None n ∷ []
 plain_names of.Own missing.Fault item n is = is
 plain_names of.Own missing.Nothing item n is = refl
 plain_names of.Envsubst missing.Fault item n is = is
@@ -192,9 +193,10 @@ plain_names of.Shell missing.Fault item n is = refl
 plain_names of.Shell missing.Nothing item n is = refl
 plain_names of.Common unset item n is = refl
 
--- the item of a head has the name of its variable
+-- the item of a head has the looked-up name of its variable
 head_names : (g : Grammar) (unset : Missing) (h : Head) (x : List ℕ) → IsWhole h → IsHead g h x
-    → names_in_item (item_of_head g.forms unset h) ≡ map (asked g.forms) (item_variables (foreign.Whole h))
+    → names_in_item (item_of_head g.forms unset h)
+    ≡ map (template_name_of g.forms) (item_variables (foreign.Whole h))
 head_names g unset head.Dollar x whole is = refl
 head_names g unset (head.Short n) x whole is = plain_names g.forms unset (Short n) n refl
 head_names g unset (head.Braced n) x whole is = plain_names g.forms unset (Braced n) n refl
@@ -202,14 +204,15 @@ head_names g unset (head.Optional n) x whole is = rw is.0 refl
 head_names g unset (head.Opened n op) x whole is = absurd whole
 
 mutual
-  -- the variables of the tree that stands for a text are those of the text
+  -- the names in the tree of a text's template are the looked-up names of its variables
   item_names : (g : Grammar) (unset : Missing) (inside : Bool) (item : Item) (x : List ℕ) (next : Tree)
       → IsItem g inside item x
-      → names_in (tree_before g.forms unset item next) ≡ map (asked g.forms) (item_variables item) ++ names_in next
+      → names_in (tree_before g.forms unset item next)
+      ≡ map (template_name_of g.forms) (item_variables item) ++ names_in next
   item_names g unset inside (foreign.Byte b) x next is = rw (byte_names b) refl
   item_names g unset inside (foreign.Whole h) x next is = rw (head_names g unset h x is.0 is.1) refl
   item_names g unset inside (foreign.Operated n op t) x next is =
-      ap (λ (z : List (List ℕ)). (asked_name g.forms (Some op) n ∷ z) ++ names_in next)
+      ap (λ (z : List (List ℕ)). (template_name g.forms (Some op) n ∷ z) ++ names_in next)
       (text_names g unset true t (closing_brace ∷ x) is.2)
   item_names g unset inside (foreign.Required n op m) x next is = refl
   item_names g unset inside (foreign.Group t) x next is =
@@ -217,23 +220,24 @@ mutual
       ∙ ap (λ z. z ++ names_in next) (text_names g unset true t (closing_brace ∷ x) is.2)
 
   pub text_names : (g : Grammar) (unset : Missing) (inside : Bool) (t : Text) (x : List ℕ) → IsText g inside t x
-      → names_in (tree_of g.forms unset t) ≡ map (asked g.forms) (variables_of t)
+      → names_in (tree_of g.forms unset t) ≡ map (template_name_of g.forms) (variables_of t)
   text_names g unset inside foreign.Empty x is = refl
   text_names g unset inside (foreign.Then item rest) x is =
       item_names g unset inside item (spelling rest ++ x) (tree_of g.forms unset rest) is.0
-      ∙ ap (λ z. map (asked g.forms) (item_variables item) ++ z) (text_names g unset inside rest x is.1)
-      ∙ sym (map-append (asked g.forms) (item_variables item) (variables_of rest))
+      ∙ ap (λ z. map (template_name_of g.forms) (item_variables item) ++ z) (text_names g unset inside rest x is.1)
+      ∙ sym (map-append (template_name_of g.forms) (item_variables item) (variables_of rest))
 
--- values joined, without positions
+-- two values joined, without positions
 unplaced_joined : (v w : Value) → unplaced (joined v w) ≡ and_then (unplaced v) (unplaced w)
 unplaced_joined (Lacks position name) w = refl
 unplaced_joined (Bytes x) (Lacks position name) = refl
 unplaced_joined (Bytes x) (Bytes y) = refl
 
-told_joined : (forms : Forms) (a b : Given) → told forms (and_then a b) ≡ and_then (told forms a) (told forms b)
-told_joined forms (Err n) b = refl
-told_joined forms (Ok x) (Err n) = refl
-told_joined forms (Ok x) (Ok y) = refl
+renamed_joined : (forms : Forms) (a b : Given)
+    → renamed forms (and_then a b) ≡ and_then (renamed forms a) (renamed forms b)
+renamed_joined forms (Err n) b = refl
+renamed_joined forms (Ok x) (Err n) = refl
+renamed_joined forms (Ok x) (Ok y) = refl
 
 and_then_assoc : (a b c : Given) → and_then (and_then a b) c ≡ and_then a (and_then b c)
 and_then_assoc (Err n) b c = refl
@@ -241,108 +245,110 @@ and_then_assoc (Ok x) (Err n) c = refl
 and_then_assoc (Ok x) (Ok y) (Err n) = refl
 and_then_assoc (Ok x) (Ok y) (Ok z) = ap Ok (append_assoc x y z)
 
--- what values joined give
-told_value : (forms : Forms) (v w : Value)
-    → told forms (unplaced (joined v w)) ≡ and_then (told forms (unplaced v)) (told forms (unplaced w))
-told_value forms v w = ap (told forms) (unplaced_joined v w) ∙ told_joined forms (unplaced v) (unplaced w)
+-- two values joined, with the names of the text
+renamed_value : (forms : Forms) (v w : Value)
+    → renamed forms (unplaced (joined v w)) ≡ and_then (renamed forms (unplaced v)) (renamed forms (unplaced w))
+renamed_value forms v w = ap (renamed forms) (unplaced_joined v w) ∙ renamed_joined forms (unplaced v) (unplaced w)
 
--- the item of a byte gives the byte
+-- the value of a byte's item is the byte
 byte_gives : (forms : Forms) (p b : ℕ) (look : LookUp)
-    → told forms (unplaced (valued.item_value p (item_of_byte (is_escaped b) b) look)) ≡ Ok (b ∷ [])
+    → renamed forms (unplaced (valued.item_value p (item_of_byte (is_escaped b) b) look)) ≡ Ok (b ∷ [])
 byte_gives forms p b look = search rules
 
--- a variable with a default, or with what stands for it
-told_default : (forms : Forms) (o : Option (List ℕ)) (v : Value)
-    → told forms (unplaced (valued.found_or o v)) ≡ found_or o (told forms (unplaced v))
-told_default forms (Some x) v = refl
-told_default forms None v = refl
+-- the value of a variable with a default
+renamed_default : (forms : Forms) (o : Option (List ℕ)) (v : Value)
+    → renamed forms (unplaced (valued.found_or o v)) ≡ found_or o (renamed forms (unplaced v))
+renamed_default forms (Some x) v = refl
+renamed_default forms None v = refl
 
-told_other : (forms : Forms) (o : Option (List ℕ)) (v : Value)
-    → told forms (unplaced (valued.found_or (negated o) v)) ≡ if_found o (told forms (unplaced v))
-told_other forms (Some x) v = refl
-told_other forms None v = refl
+renamed_other : (forms : Forms) (o : Option (List ℕ)) (v : Value)
+    → renamed forms (unplaced (valued.found_or (negated o) v)) ≡ if_found o (renamed forms (unplaced v))
+renamed_other forms (Some x) v = refl
+renamed_other forms None v = refl
 
--- a variable that is required, or optional
-told_found : (forms : Forms) (o : Option (List ℕ)) (position : ℕ) (asked n : List ℕ) → told_name forms asked ≡ n
-    → told forms (unplaced (valued.found_or o (Lacks position asked))) ≡ found o n
-told_found forms (Some x) position asked n same = refl
-told_found forms None position asked n same = ap Err same
+-- the value of a required variable, or the missing name
+renamed_found : (forms : Forms) (o : Option (List ℕ)) (position : ℕ) (asked n : List ℕ) → text_name forms asked ≡ n
+    → renamed forms (unplaced (valued.found_or o (Lacks position asked))) ≡ found o n
+renamed_found forms (Some x) position asked n same = refl
+renamed_found forms None position asked n same = ap Err same
 
-told_optional : (forms : Forms) (o : Option (List ℕ))
-    → told forms (unplaced (valued.found_or o (Bytes []))) ≡ Ok (unwrap_or o [])
-told_optional forms (Some x) = refl
-told_optional forms None = refl
+renamed_optional : (forms : Forms) (o : Option (List ℕ))
+    → renamed forms (unplaced (valued.found_or o (Bytes []))) ≡ Ok (unwrap_or o [])
+renamed_optional forms (Some x) = refl
+renamed_optional forms None = refl
 
--- an optional variable gives the same without the empty values
+-- an optional variable has the same value if empty values are unset
 optional_gives : (look : LookUp) (n : List ℕ)
-    → told of.Common (unplaced (valued.found_or (without_empty look n) (Bytes []))) ≡ Ok (unwrap_or (look n) [])
+    → renamed of.Common (unplaced (valued.found_or (without_empty look n) (Bytes []))) ≡ Ok (unwrap_or (look n) [])
 optional_gives look n =
-    grind (arith, common_steps, told, unplaced, found_or, without_empty, unwrap_or, nat_tests)
+    grind (arith, common_steps, renamed, unplaced, found_or, without_empty, unwrap_or, nat_tests)
 
--- what a variable without an operator gives
+-- the value of a variable without an operator
 plain_gives : (forms : Forms) (unset : Missing) (item : template.Item) (n : List ℕ) (p q : ℕ) (look : LookUp)
     → ((look : LookUp) → valued.item_value p item look ≡ valued.found_or (look n) (Lacks q n))
-    → told forms (unplaced (valued.item_value p (plain_item forms unset item n) (seen_by forms look)))
+    → renamed forms (unplaced (valued.item_value p (plain_item forms unset item n) (seen_by forms look)))
     ≡ plain_value forms unset look n
-plain_gives of.Own missing.Fault item n p q look is = rw (is look) (told_found of.Own (look n) q n n refl)
-plain_gives of.Own missing.Nothing item n p q look is = told_optional of.Own (look n)
-plain_gives of.Envsubst missing.Fault item n p q look is = rw (is look) (told_found of.Envsubst (look n) q n n refl)
-plain_gives of.Envsubst missing.Nothing item n p q look is = told_optional of.Envsubst (look n)
-plain_gives of.Shell missing.Fault item n p q look is = search (rules, told_found)
-plain_gives of.Shell missing.Nothing item n p q look is = told_optional of.Shell (look n)
+plain_gives of.Own missing.Fault item n p q look is = rw (is look) (renamed_found of.Own (look n) q n n refl)
+plain_gives of.Own missing.Nothing item n p q look is = renamed_optional of.Own (look n)
+plain_gives of.Envsubst missing.Fault item n p q look is =
+    rw (is look) (renamed_found of.Envsubst (look n) q n n refl)
+plain_gives of.Envsubst missing.Nothing item n p q look is = renamed_optional of.Envsubst (look n)
+plain_gives of.Shell missing.Fault item n p q look is = search (rules, renamed_found)
+plain_gives of.Shell missing.Nothing item n p q look is = renamed_optional of.Shell (look n)
 plain_gives of.Common unset item n p q look is = optional_gives look n
 
--- what a head gives
+-- the value of a head's item
 head_gives : (g : Grammar) (unset : Missing) (h : Head) (x : List ℕ) (p : ℕ) (look : LookUp) → IsWhole h
     → IsHead g h x
-    → told g.forms (unplaced (valued.item_value p (item_of_head g.forms unset h) (seen_by g.forms look)))
+    → renamed g.forms (unplaced (valued.item_value p (item_of_head g.forms unset h) (seen_by g.forms look)))
     ≡ head_value g.forms unset h look
 head_gives g unset head.Dollar x p look whole is = refl
 head_gives g unset (head.Short n) x p look whole is = grind (arith, common_steps, plain_gives)
 head_gives g unset (head.Braced n) x p look whole is = grind (arith, common_steps, plain_gives)
-head_gives g unset (head.Optional n) x p look whole is = rw is.0 (told_optional of.Own (look n))
+head_gives g unset (head.Optional n) x p look whole is = rw is.0 (renamed_optional of.Own (look n))
 head_gives g unset (head.Opened n op) x p look whole is = absurd whole
 
--- what a variable with an operator and a text gives
+-- the value of a variable with an operator and a text
 operated_gives : (forms : Forms) (op : Operator) (n : List ℕ) (look : LookUp) (v : Value) → IsNameOf forms n
     → IsTrue (has_operator forms op) → takes_message op ≡ false
-    → told forms (unplaced (valued.found_or (seen_by forms look (asked_name forms (Some op) n)) v))
-    ≡ operated_value op look n (told forms (unplaced v))
-operated_gives of.Own operator.Default n look v is has text = told_default of.Own (look n) v
+    → renamed forms (unplaced (valued.found_or (seen_by forms look (template_name forms (Some op) n)) v))
+    ≡ operated_value op look n (renamed forms (unplaced v))
+operated_gives of.Own operator.Default n look v is has text = renamed_default of.Own (look n) v
 operated_gives of.Own op n look v is has text = absurd cc
 operated_gives of.Envsubst op n look v is has text = absurd cc
 operated_gives of.Shell operator.Default n look v is has text = absurd cc
-operated_gives of.Shell operator.Minus n look v is has text = told_default of.Shell (look n) v
+operated_gives of.Shell operator.Minus n look v is has text = renamed_default of.Shell (look n) v
 operated_gives of.Shell operator.ColonMinus n look v is has text = search rules
-operated_gives of.Shell operator.Plus n look v is has text = told_other of.Shell (look n) v
-operated_gives of.Shell operator.ColonPlus n look v is has text = told_other of.Shell (without_empty look n) v
-operated_gives of.Common operator.ColonMinus n look v is has text = told_default of.Common (without_empty look n) v
+operated_gives of.Shell operator.Plus n look v is has text = renamed_other of.Shell (look n) v
+operated_gives of.Shell operator.ColonPlus n look v is has text = renamed_other of.Shell (without_empty look n) v
+operated_gives of.Common operator.ColonMinus n look v is has text =
+    renamed_default of.Common (without_empty look n) v
 operated_gives forms op n look v is has text = absurd cc
 
--- what a variable with an operator and a message gives
+-- the value of a variable with an operator and a message
 required_gives : (forms : Forms) (op : Operator) (n : List ℕ) (look : LookUp) (position : ℕ) → IsNameOf forms n
     → IsTrue (has_operator forms op) → takes_message op ≡ true
-    → told forms (unplaced (valued.found_or (seen_by forms look (asked_name forms (Some op) n))
-    (Lacks position (asked_name forms (Some op) n)))) ≡ required_value op look n
+    → renamed forms (unplaced (valued.found_or (seen_by forms look (template_name forms (Some op) n))
+    (Lacks position (template_name forms (Some op) n)))) ≡ required_value op look n
 required_gives of.Shell operator.Question n look position is has message = search rules
 required_gives of.Shell operator.ColonQuestion n look position is has message = search rules
 required_gives of.Common operator.ColonQuestion n look position is has message = search rules
 required_gives of.Own operator.Default n look position is has message = absurd cc
 required_gives _ op n look position is has message = absurd cc
 
--- the value of an item, and then that of what is after it
+-- the value of an item, followed by that of the rest
 after_item : (forms : Forms) (p : ℕ) (item : template.Item) (next : Tree) (look : LookUp) (a b : Given)
-    → told forms (unplaced (valued.item_value p item look)) ≡ a
-    → ((q : ℕ) → told forms (unplaced (value q next look)) ≡ b)
-    → told forms (unplaced (value p (Then item next) look)) ≡ and_then a b
-after_item forms p item next look a b first more = search (rules, told_value)
+    → renamed forms (unplaced (valued.item_value p item look)) ≡ a
+    → ((q : ℕ) → renamed forms (unplaced (value q next look)) ≡ b)
+    → renamed forms (unplaced (value p (Then item next) look)) ≡ and_then a b
+after_item forms p item next look a b first more = search (rules, renamed_value)
 
 mutual
-  -- the tree gives the value of the text
+  -- the tree has the value of the text
   item_means : (g : Grammar) (unset : Missing) (inside : Bool) (item : Item) (x : List ℕ) (p : ℕ) (next : Tree)
       (look : LookUp) (v : Given) → IsItem g inside item x
-      → ((q : ℕ) → told g.forms (unplaced (value q next (seen_by g.forms look))) ≡ v)
-      → told g.forms (unplaced (value p (tree_before g.forms unset item next) (seen_by g.forms look)))
+      → ((q : ℕ) → renamed g.forms (unplaced (value q next (seen_by g.forms look))) ≡ v)
+      → renamed g.forms (unplaced (value p (tree_before g.forms unset item next) (seen_by g.forms look)))
       ≡ and_then (item_value g.forms unset item look) v
   item_means g unset inside (foreign.Byte b) x p next look v is more =
       after_item g.forms p (item_of_byte (is_escaped b) b) next (seen_by g.forms look) (Ok (b ∷ [])) v
@@ -351,7 +357,7 @@ mutual
       after_item g.forms p (item_of_head g.forms unset h) next (seen_by g.forms look)
       (head_value g.forms unset h look) v (head_gives g unset h x p look is.0 is.1) more
   item_means g unset inside (foreign.Operated n op t) x p next look v is more =
-      let asks = asked_name g.forms (Some op) n in
+      let asks = template_name g.forms (Some op) n in
       let inner = tree_of g.forms unset t in
       after_item g.forms p (Default asks inner) next (seen_by g.forms look)
       (operated_value op look n (text_value g.forms unset t look)) v
@@ -359,17 +365,17 @@ mutual
       is.0 ∙ ap (operated_value op look n)
       (text_means g unset true t (closing_brace ∷ x) (p + 3 + length asks) look is.2)) more
   item_means g unset inside (foreign.Required n op m) x p next look v is more =
-      let asks = asked_name g.forms (Some op) n in
+      let asks = template_name g.forms (Some op) n in
       after_item g.forms p (Braced asks) next (seen_by g.forms look) (required_value op look n) v
       (required_gives g.forms op n look (p + 2) is.1.1.0 is.1.0 is.0) more
   item_means g unset inside (foreign.Group t) x p next look v is more =
       let inner = tree_of g.forms unset t in
       let seen = seen_by g.forms look in
       let closed = Then (Plain closing_brace) next in
-      let after : (q : ℕ) → told g.forms (unplaced (value q (join inner closed) seen))
+      let after : (q : ℕ) → renamed g.forms (unplaced (value q (join inner closed) seen))
       ≡ and_then (text_value g.forms unset t look) (and_then (Ok (closing_brace ∷ [])) v) = λ q.
-      ap (λ z. told g.forms (unplaced z)) (value-join q inner closed seen)
-      ∙ told_value g.forms (value q inner seen) (value (q + length (text inner)) closed seen)
+      ap (λ z. renamed g.forms (unplaced z)) (value-join q inner closed seen)
+      ∙ renamed_value g.forms (value q inner seen) (value (q + length (text inner)) closed seen)
       ∙ rw (
         text_means g unset true t (closing_brace ∷ x) q look is.2,
         after_item g.forms (q + length (text inner)) (Plain closing_brace) next seen (Ok (closing_brace ∷ [])) v
@@ -385,7 +391,7 @@ mutual
 
   pub text_means : (g : Grammar) (unset : Missing) (inside : Bool) (t : Text) (x : List ℕ) (p : ℕ) (look : LookUp)
       → IsText g inside t x
-      → told g.forms (unplaced (value p (tree_of g.forms unset t) (seen_by g.forms look)))
+      → renamed g.forms (unplaced (value p (tree_of g.forms unset t) (seen_by g.forms look)))
       ≡ text_value g.forms unset t look
   text_means g unset inside foreign.Empty x p look is = refl
   text_means g unset inside (foreign.Then item rest) x p look is =

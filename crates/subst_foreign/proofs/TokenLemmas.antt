@@ -1,10 +1,10 @@
--- The token that a text begins with.
+-- The first token of a text.
 use Rattle.std.proofs.lemmas.Grind.{common_steps}
 use Rattle.std.proofs.Common.{rules, ◌≡◌, ◌≢◌, ◌↔◌, inl, inr, Bool, true, false, IsTrue, ℕ, zero, suc, ◌<◌, ◌≤◌, ◌+◌, List, [], ◌∷◌, ◌++◌, length, get_or, take, drop, length-append, refl, sym, ap, ◌∙◌, subst, append_assoc, append-nil, arith}
 use Rattle.std.proofs.lemmas.List.{drop_more, take_more, take-append-drop}
 use Rattle.std.specs.List.{AllByRecursion}
 use Rattle.subst_foreign.specs.Foreign.{IsShellName, is_inside}
-use Rattle.subst_foreign.specs.Grammar.{BeginsWithNoHead, ClosesBraces, FollowsDollar, GoesOn, Grammar, Head, Dollar, Short, Braced, Optional, Opened, HasForm, IsEnd, IsEndless, IsHead, IsMessage, IsNameOf, IsNoBrace, IsRefused, IsStart, IsUnfit, IsVariable, NeverCloses, OpensMessage, has_operator, head_text, in_braces, is_whole, operator_text, takes_message}
+use Rattle.subst_foreign.specs.Grammar.{BeginsWithNoHead, ClosesBraces, FollowsDollar, GoesOn, Grammar, Head, Dollar, Short, Braced, Optional, Opened, HasForm, IsEnd, IsEndless, IsHead, IsMessage, IsNameOf, IsNoBrace, IsRefused, IsStart, IsOtherEnd, IsVariable, NeverCloses, OpensMessage, has_operator, head_text, in_braces, is_whole, operator_text, takes_message}
 use Rattle.subst_foreign.specs.Grammar.ClosesBraces.{nothing, byte, opening, closing}
 use Rattle.subst_foreign.specs.Reading.{after_message, IsFront, IsInner, IsLone, IsStep}
 use Rattle.subst_foreign.specs.Text.{IsByte}
@@ -23,7 +23,7 @@ use Rattle.subst_language.proofs.Language.NameLemmas.{closing_no_name, question_
 use Rattle.subst_language.specs.Language.Bytes.{dollar, question_mark, opening_brace, closing_brace}
 use Rattle.subst_language.specs.Language.Name.{IsName, IsNameByte, BeginsWithNo}
 
--- after a byte of a message that is no brace as many braces are open
+-- after a byte of a message that isn't a brace, as many braces are open
 no_brace_more : {d : ℕ} {m : List ℕ} → ClosesBraces d m → (b : ℕ) (x y : List ℕ) → IsNoBrace b
     → b ∷ x ≡ m ++ closing_brace ∷ y → (n : List ℕ) × ClosesBraces d n × (x ≡ n ++ closing_brace ∷ y)
 no_brace_more nothing b x y none is = absurd (none.1 (first_same is))
@@ -31,7 +31,7 @@ no_brace_more (byte {m = n} other closes) b x y none is = (n, closes, rest_same 
 no_brace_more (opening closes) b x y none is = absurd (none.0 (first_same is))
 no_brace_more (closing closes) b x y none is = absurd (none.1 (first_same is))
 
--- after an opening brace there is one more
+-- after an opening brace in a message, one more brace is open
 one_more : {d : ℕ} {m : List ℕ} → ClosesBraces d m → (x y : List ℕ) → opening_brace ∷ x ≡ m ++ closing_brace ∷ y
     → (n : List ℕ) × ClosesBraces (suc d) n × (x ≡ n ++ closing_brace ∷ y)
 one_more nothing x y is = absurd (omega (arith, first_same is))
@@ -39,7 +39,7 @@ one_more (byte {m = n} other closes) x y is = absurd (other.0 (sym (first_same i
 one_more (opening {m = n} closes) x y is = (n, closes, rest_same is)
 one_more (closing closes) x y is = absurd (omega (arith, first_same is))
 
--- and after a closing brace, where one is open, there is one less
+-- after a closing brace in a message, one brace less is open
 one_less : {d : ℕ} {m : List ℕ} → ClosesBraces (suc d) m → (x y : List ℕ)
     → closing_brace ∷ x ≡ m ++ closing_brace ∷ y
     → (n : List ℕ) × ClosesBraces d n × (x ≡ n ++ closing_brace ∷ y)
@@ -47,7 +47,7 @@ one_less (byte {m = n} other closes) x y is = absurd (other.1 (sym (first_same i
 one_less (opening closes) x y is = absurd (omega (arith, first_same is))
 one_less (closing {m = n} closes) x y is = (n, closes, rest_same is)
 
--- A message is read up to a byte, where so many of its braces are open.
+-- A message is read up to a byte, with this many of its braces open.
 pub record IsInMessage (forms : Forms) (depth : ℕ) (front rest text : List ℕ) : Type 0 where
   pub few : depth ≤ length front
   pub plain : forms ≢ of.Shell → (depth ≡ 0) × AllByRecursion IsNoBrace front
@@ -55,45 +55,45 @@ pub record IsInMessage (forms : Forms) (depth : ℕ) (front rest text : List ℕ
   pub goes_on : (m y : List ℕ) → ClosesBraces 0 m → text ≡ m ++ closing_brace ∷ y
       → (n : List ℕ) × ClosesBraces depth n × (rest ≡ n ++ closing_brace ∷ y)
 
--- after a byte that is no brace
+-- a byte of a message that isn't a brace is read
 pub message_byte : {forms : Forms} {depth : ℕ} {front rest text : List ℕ} (b : ℕ) → IsNoBrace b
     → IsInMessage forms depth front (b ∷ rest) text → IsInMessage forms depth (front ++ b ∷ []) rest text
 message_byte {depth} {front} {rest} b none so_far =
     search (rules, length-append, each_append, append_assoc, byte, no_brace_more)
 
--- after an opening brace, of a shell
+-- an opening brace in a shell's message is read
 message_opening : {depth : ℕ} {front rest text : List ℕ}
     → IsInMessage of.Shell depth front (opening_brace ∷ rest) text
     → IsInMessage of.Shell (suc depth) (front ++ opening_brace ∷ []) rest text
 message_opening {depth} {front} {rest} so_far =
     search (rules, length-append, append_assoc, opening, one_more)
 
--- after a closing brace of one that was opened
+-- a closing brace is read that closes one in the message
 pub message_closing : {forms : Forms} {depth : ℕ} {front rest text : List ℕ}
     → IsInMessage forms (suc depth) front (closing_brace ∷ rest) text
     → IsInMessage forms depth (front ++ closing_brace ∷ []) rest text
 message_closing {depth} {front} {rest} so_far =
     search (rules, length-append, append_assoc, closing, one_less)
 
--- whole, before the brace that closes it
+-- a message is whole before its closing brace
 pub message_whole : (forms : Forms) {front rest text : List ℕ} → IsInMessage forms 0 front rest text
     → IsMessage forms front
 message_whole of.Shell {front} so_far = subst (ClosesBraces 0) (append-nil front) (so_far.closes [] nothing)
 message_whole _ so_far = (so_far.plain (λ is. cc)).1
 
--- or never closed
+-- a message that is read to the end of the text is never closed
 pub message_endless : (forms : Forms) {depth : ℕ} {front text : List ℕ} → front ≡ text
     → IsInMessage forms depth front [] text → NeverCloses forms text
 message_endless of.Shell same so_far = search (rules, no_element)
 message_endless _ same so_far = subst (AllByRecursion IsNoBrace) same (so_far.plain (λ is. cc)).1
 
--- the byte at which a message goes on
+-- the next byte of a message is that at the index
 pub byte_next : (text : List ℕ) (at b : ℕ) {forms : Forms} {depth : ℕ} → at < length text → get_or text at 0 ≡ b
     → IsInMessage forms depth (take at text) (drop at text) text
     → IsInMessage forms depth (take at text) (b ∷ drop (at + 1) text) text
 byte_next text at b {forms} {depth} below is = search (rules, drop_more)
 
--- from the message up to one byte of a text to that up to the next
+-- one turn reads one byte of a message
 pub message_turn : (text : List ℕ) (at b : ℕ) {forms : Forms} {depth next : ℕ} → at < length text
     → get_or text at 0 ≡ b
     → (IsInMessage forms depth (take at text) (b ∷ drop (at + 1) text) text
@@ -103,7 +103,7 @@ pub message_turn : (text : List ℕ) (at b : ℕ) {forms : Forms} {depth next : 
 message_turn text at b {forms} {depth} {next} below is step so_far =
     grind (arith, common_steps, take_more, byte_next)
 
--- over an opening brace of a shell's message
+-- one turn reads an opening brace of a shell's message
 pub message_more : (text : List ℕ) (at : ℕ) {forms : Forms} {depth next : ℕ} → next ≡ depth + 1
     → at < length text → get_or text at 0 ≡ opening_brace → forms ≡ of.Shell
     → IsInMessage forms depth (take at text) (drop at text) text
@@ -115,12 +115,12 @@ message_more text at {depth} {next} counts below is shell so_far =
     (message_turn text at opening_brace below is message_opening
     (subst (λ f. IsInMessage f depth (take at text) (drop at text) text) shell so_far)))
 
--- the text around a byte
+-- a text is split around a byte
 pub around_byte : (text : List ℕ) (at b : ℕ) → at < length text → get_or text at 0 ≡ b
     → text ≡ take at text ++ b ∷ drop (at + 1) text
 around_byte text at b below is = search (rules, take-append-drop, drop_more)
 
--- a message up to an opening brace, of no shell
+-- a message of other forms than a shell's has an opening brace
 pub message_opens : (forms : Forms) {depth : ℕ} {front text : List ℕ} (rest : List ℕ) → forms ≢ of.Shell
     → text ≡ front ++ opening_brace ∷ rest → IsInMessage forms depth front (opening_brace ∷ rest) text
     → IsEndless forms form.Message text
@@ -132,32 +132,32 @@ pub name_of : (forms : Forms) (n : List ℕ) → IsNameOf forms n → IsName n
 name_of of.Own n named = named
 name_of _ n named = named.0
 
--- no operator begins with a name byte
+-- an operator doesn't begin with a name byte
 pub operator_ends : (op : Operator) (x : List ℕ) → BeginsWithNo IsNameByte (operator_text op ++ x)
 operator_ends operator.Default x = λ is. cc
 operator_ends _ x = λ is. cc
 
--- or with a closing brace
+-- an operator doesn't begin with a closing brace
 operator_differs : (op : Operator) (x y : List ℕ) → ¬ (operator_text op ++ x ≡ closing_brace ∷ y)
 operator_differs operator.Default x y is = omega (arith, first_same is)
 operator_differs _ x y is = omega (arith, first_same is)
 
--- what is after a name in braces, moved out of it
+-- the text after a name in braces may be appended later
 pub braces_append : (n x y : List ℕ) → in_braces n x ++ y ≡ in_braces n (x ++ y)
 braces_append n x y = ap (λ z. dollar ∷ opening_brace ∷ z) (append_assoc n x y)
 
--- a name in braces, and what is after it, are the same however they were split
+-- a name in braces, and the text after it, are split in one way
 same_braced : (n m x y : List ℕ) → AllByRecursion IsNameByte n → AllByRecursion IsNameByte m
     → BeginsWithNo IsNameByte x → BeginsWithNo IsNameByte y → in_braces n x ≡ in_braces m y → (n ≡ m) × (x ≡ y)
 same_braced n m x y each all ended ends is = split_unique n m x y each all ended ends (rest_same (rest_same is))
 
--- a form that is refused after a name in braces
+-- a form is refused after a name in braces
 name_refused : (g : Grammar) (depth : ℕ) (f : ShellForm) (n x : List ℕ)
     → IsRefused g (is_inside depth) f (in_braces n x) → IsFront f (in_braces n []) x
     → IsStep g depth (in_braces n x) (seen.Refused f) x
 name_refused g depth f n x refused front = search (rules, braces_append)
 
--- what never closes goes to the end of the text
+-- if a brace never closes, the token reaches to the end of the text
 never_closed : (g : Grammar) (depth : ℕ) (s : List ℕ) → IsRefused g (is_inside depth) form.Unclosed s
     → IsStep g depth s (seen.Refused form.Unclosed) []
 never_closed g depth s refused =
@@ -168,7 +168,7 @@ never_closed g depth s refused =
       taken = taken;
     }
 
--- messages of no shell are in common forms
+-- messages in other forms than a shell's are in common forms
 takes_common : (forms : Forms) (op : Operator) → IsTrue (takes_message op) → IsTrue (has_operator forms op)
     → forms ≢ of.Shell → forms ≡ of.Common
 takes_common of.Own operator.Question takes has differs = absurd cc
@@ -178,7 +178,7 @@ takes_common of.Envsubst op takes has differs = absurd cc
 takes_common of.Shell op takes has differs = absurd (differs refl)
 takes_common of.Common op takes has differs = refl
 
--- a message with an opening brace is of no shell
+-- a message that is refused for an opening brace isn't in a shell's forms
 message_common : (forms : Forms) (x : List ℕ) → IsEndless forms form.Message x
     → (forms ≢ of.Shell) × ((m y : List ℕ) × AllByRecursion IsNoBrace m × (x ≡ m ++ opening_brace ∷ y))
 message_common of.Shell x endless = absurd endless
@@ -209,39 +209,39 @@ message_refused g depth f n after x op takes head is endless = of f endless
         (takes_common g.forms op takes head.0 differs, (n, op, x, takes, head, opens, at)) (n, named, ended, refl)
     of _ none = absurd none
 
--- the name is none of a variable's with this end
+-- with this end, the name isn't that of a variable
 abbrev pub IsNotOf : Grammar → List ℕ → SeenEnd → Type 0
 IsNotOf g n (ends.Closed x) = ¬ (IsVariable g false n)
 IsNotOf g n (ends.Optional x) = ¬ (IsVariable g true n)
 IsNotOf g n (ends.Operated op x) = ¬ (IsVariable g true n)
-IsNotOf g n ends.Unfit = Unit {0}
+IsNotOf g n ends.Other = Unit {0}
 
--- before a closing brace
+-- a name that isn't a variable's before a closing brace
 not_closed : (g : Grammar) (n after : List ℕ) (end : SeenEnd) → IsEnd g.forms after end → IsNotOf g n end
     → (x : List ℕ) → after ≡ closing_brace ∷ x → ¬ (IsVariable g false n)
 not_closed g n after (ends.Closed y) at none x is named = none named
 not_closed g n after (ends.Optional y) at none x is named = omega (arith, first_same (sym is ∙ at.1))
 not_closed g n after (ends.Operated op y) at none x is named = operator_differs op y.now x (sym at.2 ∙ is)
-not_closed g n after ends.Unfit at none x is named = at.0 x is
+not_closed g n after ends.Other at none x is named = at.0 x is
 
--- before a question mark and a closing brace
+-- a name that isn't a variable's before a question mark and a closing brace
 not_optional : (g : Grammar) (n after : List ℕ) (end : SeenEnd) → IsEnd g.forms after end → IsNotOf g n end
     → (x : List ℕ) → g.forms ≡ of.Own → after ≡ question_mark ∷ closing_brace ∷ x → ¬ (IsVariable g true n)
 not_optional g n after (ends.Closed y) at none x own is named = omega (arith, first_same (sym is ∙ at))
 not_optional g n after (ends.Optional y) at none x own is named = none named
 not_optional g n after (ends.Operated op y) at none x own is named = none named
-not_optional g n after ends.Unfit at none x own is named = at.1 own x is
+not_optional g n after ends.Other at none x own is named = at.1 own x is
 
--- before an operator
+-- a name that isn't a variable's before an operator
 not_operated : (g : Grammar) (n after : List ℕ) (end : SeenEnd) → IsEnd g.forms after end → IsNotOf g n end
     → (op : Operator) (x : List ℕ) → IsTrue (has_operator g.forms op) → IsStart op x
     → after ≡ operator_text op ++ x → ¬ (IsVariable g true n)
 not_operated g n after (ends.Closed y) at none op x has start is named = operator_differs op x y.now (sym is ∙ at)
 not_operated g n after (ends.Optional y) at none op x has start is named = none named
 not_operated g n after (ends.Operated other y) at none op x has start is named = none named
-not_operated g n after ends.Unfit at none op x has start is named = at.2 op x has start is
+not_operated g n after ends.Other at none op x has start is named = at.2 op x has start is
 
--- no head begins with name bytes in braces that are no variable's with what is after them
+-- no head begins with a name in braces that isn't a variable's with this end
 pub no_braced_head : (g : Grammar) (n after : List ℕ) (end : SeenEnd) → AllByRecursion IsNameByte n
     → BeginsWithNo IsNameByte after → IsEnd g.forms after end → IsNotOf g n end
     → BeginsWithNoHead g (in_braces n after)
@@ -262,7 +262,7 @@ no_braced_head g n after end run ended at none (Opened m op) x is (has, head, st
     (is ∙ braces_append m (operator_text op) x) in
     not_operated g n after end at none op x has start rest (subst (IsVariable g true) (sym same) head)
 
--- no text is of a form that is refused: what begins it is no head, and none of the forms of a whole shell's text
+-- a dollar is no refused form if it begins no head and none of the forms that are refused after it
 none_refused : (g : Grammar) (inside : Bool) (x : List ℕ) → BeginsWithNoHead g (dollar ∷ x)
     → (g.forms ≡ of.Common → ¬ (BeginsWithNo FollowsDollar x))
     → (IsTrue (is_whole g.forms g.all) → (y : List ℕ) → x ≡ opening_brace ∷ y
@@ -284,27 +284,27 @@ none_refused g inside x none dollars names goes_on = of
     of form.Unclosed (inr goes) = goes_on form.Unclosed goes
     of f goes = goes_on f goes
 
--- a dollar that begins nothing
+-- a dollar that begins nothing is a literal byte
 dollar_byte : (g : Grammar) (depth : ℕ) (x : List ℕ) → BeginsWithNoHead g (dollar ∷ x)
     → ((f : ShellForm) → ¬ (IsRefused g (is_inside depth) f (dollar ∷ x)))
     → IsStep g depth (dollar ∷ x) (seen.Byte dollar) x
 dollar_byte g depth x none taken = search rules
 
--- texts of common forms are read as a whole
+-- in common forms, other forms after `${` are refused
 common_whole : (forms : Forms) (all : Bool) → forms ≡ of.Common → IsTrue (is_whole forms all)
 common_whole forms all common = subst (λ f. IsTrue (is_whole f all)) (sym common) refl
 
--- a dollar where no text is read as a whole
+-- if other forms after `${` aren't refused, a dollar that begins no head is a literal byte
 pub unread_dollar : (g : Grammar) (depth : ℕ) (x : List ℕ) → is_whole g.forms g.all ≡ false
     → BeginsWithNoHead g (dollar ∷ x) → IsStep g depth (dollar ∷ x) (seen.Byte dollar) x
 unread_dollar g depth x unread none =
     search (rules, dollar_byte, none_refused, common_whole)
 
--- where a text is read as a whole it isn't of own forms
+-- own forms refuse no other forms after `${`
 whole_differs : (forms : Forms) (all : Bool) → IsTrue (is_whole forms all) → forms ≢ of.Own
 whole_differs forms all whole own = let none = subst (λ f. IsTrue (is_whole f all)) own whole in cc
 
--- other forms than own ones have no operator with a start of its own
+-- in other forms than own ones, any text may follow an operator
 started : (forms : Forms) (op : Operator) (x : List ℕ) → forms ≢ of.Own → IsTrue (has_operator forms op)
     → IsStart op x
 started of.Own op x differs has = absurd (differs refl)
@@ -313,33 +313,33 @@ started of.Shell operator.Default x differs has = absurd cc
 started of.Common operator.Default x differs has = absurd cc
 started _ _ x differs has = tt
 
--- so what may not follow a name is all that is no end of a variable
-unfit_end : (forms : Forms) (all : Bool) (x : List ℕ) → IsTrue (is_whole forms all)
-    → IsUnfit forms x ↔ IsEnd forms x ends.Unfit
-unfit_end forms all x whole = search (rules, whole_differs, started)
+-- if other forms after `${` are refused, a text may not follow a name if it doesn't end a variable
+other_ends : (forms : Forms) (all : Bool) (x : List ℕ) → IsTrue (is_whole forms all)
+    → IsOtherEnd forms x ↔ IsEnd forms x ends.Other
+other_ends forms all x whole = search (rules, whole_differs, started)
 
--- no name of a shell begins with name bytes that are none
+-- name bytes that aren't a shell's name don't begin with one
 no_shell_name : (n x : List ℕ) → AllByRecursion IsNameByte n → BeginsWithNo IsNameByte x
     → ¬ (IsName n × IsShellName n) → BeginsWithNo (λ b. IsName (b ∷ []) × IsShellName (b ∷ [])) (n ++ x)
 no_shell_name [] [] run ended none = tt
 no_shell_name [] (b ∷ x) run ended none = λ first. ended first.0.0
 no_shell_name (b ∷ n) x run ended none = λ first. none (run, first.1)
 
--- and one begins with those that are
+-- name bytes that are a shell's name begin with one
 shell_name : (n x : List ℕ) → IsName n → IsShellName n
     → ¬ (BeginsWithNo (λ b. IsName (b ∷ []) × IsShellName (b ∷ [])) (n ++ x))
 shell_name [] x named shell = absurd named
 shell_name (b ∷ n) x named shell = λ none. none ((named.0, tt), shell)
 
--- a dollar and an opening brace before no name of a shell
+-- `${` before no name of a shell is refused
 pub nameless : (g : Grammar) (depth : ℕ) (n x : List ℕ) → IsTrue (is_whole g.forms g.all)
     → AllByRecursion IsNameByte n → BeginsWithNo IsNameByte x → ¬ (IsName n × IsShellName n)
     → IsStep g depth (in_braces n x) (seen.Refused form.NoName) (n ++ x)
 nameless g depth n x whole run ended none = search (rules, no_shell_name)
 
--- a dollar before a brace, a name and an end of a variable that isn't chosen
+-- a dollar is literal before a brace, a name that isn't chosen, and the end of a variable
 pub fit_dollar : (g : Grammar) (depth : ℕ) (n x : List ℕ) → IsTrue (is_whole g.forms g.all) → IsName n
-    → IsShellName n → BeginsWithNo IsNameByte x → ¬ (IsEnd g.forms x ends.Unfit)
+    → IsShellName n → BeginsWithNo IsNameByte x → ¬ (IsEnd g.forms x ends.Other)
     → BeginsWithNoHead g (in_braces n x)
     → IsStep g depth (in_braces n x) (seen.Byte dollar) (opening_brace ∷ n ++ x)
 fit_dollar g depth n x whole named shell ended fit none =
@@ -351,19 +351,19 @@ fit_dollar g depth n x whole named shell ended fit none =
     fits)
   where
     fits : (f : ShellForm) → ¬ (GoesOn g f (in_braces n x))
-    fits f (_, (m, y, other, _, is, ends, unfit, _)) =
+    fits f (_, (m, y, other, _, is, ends, other_end, _)) =
         let same : x ≡ y = (same_braced n m x y (name_bytes n named) (name_bytes m other) ended ends is).1 in
-        fit ((unfit_end g.forms g.all x whole).0 (subst (IsUnfit g.forms) (sym same) unfit))
+        fit ((other_ends g.forms g.all x whole).0 (subst (IsOtherEnd g.forms) (sym same) other_end))
 
--- what may not follow a name is refused by its form
-pub unfit_refused : (g : Grammar) (depth : ℕ) (n x : List ℕ) (f : ShellForm) → IsTrue (is_whole g.forms g.all)
-    → IsName n → IsShellName n → BeginsWithNo IsNameByte x → IsEnd g.forms x ends.Unfit → HasForm f x
+-- a text that may not follow a name is refused by its form
+pub other_end_refused : (g : Grammar) (depth : ℕ) (n x : List ℕ) (f : ShellForm) → IsTrue (is_whole g.forms g.all)
+    → IsName n → IsShellName n → BeginsWithNo IsNameByte x → IsEnd g.forms x ends.Other → HasForm f x
     → IsStep g depth (in_braces n x) (seen.Refused f) x
-unfit_refused g depth n x f whole named shell ended end has = of f has
+other_end_refused g depth n x f whole named shell ended end has = of f has
   where
     goes_on : (f : ShellForm) → HasForm f x → GoesOn g f (in_braces n x)
     goes_on f has =
-        (whole, (n, x, named, shell, refl, ended, (unfit_end g.forms g.all x whole).1 end, has))
+        (whole, (n, x, named, shell, refl, ended, (other_ends g.forms g.all x whole).1 end, has))
 
     front : (m : List ℕ) × IsName m × BeginsWithNo IsNameByte x × (in_braces n [] ≡ in_braces m [])
     front = (n, named, ended, refl)
@@ -378,7 +378,7 @@ unfit_refused g depth n x f whole named shell ended end has = of f has
         (never_closed g depth (in_braces n x) (inr (goes_on form.Unclosed has)))
     of f has = name_refused g depth f n x (goes_on f has) front
 
--- no head begins with a dollar that begins none of these: two dollars, a name, an opening brace
+-- no head begins with a dollar before neither a dollar, a variable's name nor an opening brace
 no_lone_head : (g : Grammar) (n x : List ℕ) → AllByRecursion IsNameByte n → BeginsWithNo IsNameByte x
     → (IsTrue (is_whole g.forms g.all) → (y : List ℕ) → ¬ (n ++ x ≡ dollar ∷ y)) → ¬ (IsVariable g false n)
     → ((y : List ℕ) → ¬ (n ++ x ≡ opening_brace ∷ y)) → BeginsWithNoHead g (dollar ∷ n ++ x)
@@ -389,18 +389,18 @@ no_lone_head g n x run ended one none brace (Braced m) y is head = search (rules
 no_lone_head g n x run ended one none brace (Optional m) y is head = search rules
 no_lone_head g n x run ended one none brace (Opened m op) y is head = search (rules, rest_same)
 
--- what follows a dollar that begins nothing
+-- no byte follows that forms something with a dollar
 no_follower : (n x : List ℕ) → ((y : List ℕ) → ¬ (n ++ x ≡ dollar ∷ y))
     → ((y : List ℕ) → ¬ (n ++ x ≡ opening_brace ∷ y))
     → BeginsWithNo (λ b. IsName (b ∷ []) × IsShellName (b ∷ [])) (n ++ x) → BeginsWithNo FollowsDollar (n ++ x)
 no_follower n x = search rules
 
--- a shell's name follows a dollar
+-- the first byte of a shell's name forms something with a dollar
 follows : (n x : List ℕ) → IsName n × IsShellName n → ¬ (BeginsWithNo FollowsDollar (n ++ x))
 follows [] x named = λ none. named.0
 follows (b ∷ n) x named = λ none. none (inr (inr ((named.0.0, tt), named.1)))
 
--- a dollar that begins no variable, and no brace follows it
+-- a dollar that begins no variable, without a brace after it
 pub lone_step : (g : Grammar) (depth : ℕ) (n x : List ℕ) (t : SeenToken) → AllByRecursion IsNameByte n
     → BeginsWithNo IsNameByte x → (IsTrue (is_whole g.forms g.all) → (y : List ℕ) → ¬ (n ++ x ≡ dollar ∷ y))
     → ¬ (IsVariable g false n) → ((y : List ℕ) → ¬ (n ++ x ≡ opening_brace ∷ y)) → IsLone g.forms n t
@@ -434,27 +434,27 @@ pub head_first : (h : Head) (b : ℕ) (x y : List ℕ) → b ∷ x ≡ head_text
 head_first Dollar b x y is = first_same is
 head_first _ b x y is = first_same is
 
--- a byte that is no dollar, and in a text after an operator no brace, stands for itself
+-- a byte is literal if it isn't a dollar, and inside a default isn't a brace
 pub plain_byte : (g : Grammar) (inside : Bool) (b : ℕ) (x : List ℕ) → b ≢ dollar → (IsTrue inside → IsNoBrace b)
     → IsByte g inside b x
 plain_byte g inside b x differs none = search (rules, head_first, first_same)
 
--- a text is open
+-- at a depth above 0 a default is open
 pub depth_inside : (depth : ℕ) → 0 < depth → IsTrue (is_inside depth)
 depth_inside zero more = absurd (omega (arith, more))
 depth_inside (suc depth) more = refl
 
--- none is
+-- at depth 0 no default is open
 outside : (depth : ℕ) → depth ≡ 0 → ¬ (IsTrue (is_inside depth))
 outside zero closed is = cc
 outside (suc depth) closed is = absurd (omega (arith, closed))
 
--- a byte that is no dollar, where no text is open
+-- the token of a byte that isn't a dollar, outside of defaults
 pub outer_step : (g : Grammar) (depth b : ℕ) (x : List ℕ) → b ≢ dollar → depth ≡ 0
     → IsStep g depth (b ∷ x) (seen.Byte b) x
 outer_step g depth b x differs closed = search (rules, plain_byte, outside)
 
--- where one is open
+-- the token of a byte that isn't a dollar, inside a default
 pub inner_step : (g : Grammar) (depth b : ℕ) (x : List ℕ) (t : SeenToken) → b ≢ dollar → 0 < depth
     → IsInner g.forms b t → IsStep g depth (b ∷ x) t x
 inner_step g depth b x (seen.Byte c) differs more (is, none) =

@@ -1,11 +1,11 @@
--- Answers for names that begin with a digit, as those of a shell don't: a digit is a question about the
--- variable whose name comes after it.
+-- Lookups of names that begin with a digit, which no shell's name does: the digit is a question about the
+-- variable whose name follows it.
 use Rattle.std.specs.Prelude.{◌==◌, if◌then◌else◌, ℕ, List, [], ◌∷◌, Option, Some, None}
 use Rattle.subst_language.specs.Language.LookUp.{LookUp}
 use Rattle.subst_language.specs.Maps.{without_empty}
 
--- `1`, `2` and `3` before a name: its value, also where that is empty; whether it is missing; whether it is
--- missing or empty
+-- the digits of the questions: the value, even if it is empty; whether the variable is unset; whether it is
+-- unset or empty
 abbrev pub value_of : ℕ
 value_of = 49
 
@@ -15,12 +15,13 @@ is_missing = 50
 abbrev pub is_empty : ℕ
 is_empty = 51
 
--- no bytes where nothing was found, and nothing where something was
+-- no bytes if there is no value, and `None` if there is one
 abbrev pub negated : Option (List ℕ) → Option (List ℕ)
 negated (Some x) = None
 negated None = Some []
 
--- what a look-up answers to the question that a name is, or else what it has but for no bytes at all
+-- the look-up of a `ShellMap` over `look`: for a name that is a question, the answer; for any other name, its
+-- value, unless that is empty
 abbrev pub by_question : LookUp → LookUp
 by_question look [] = without_empty look []
 by_question look (b ∷ name) =

@@ -1,11 +1,11 @@
--- The texts that refusals of texts are shown as.
+-- The error texts of refused forms.
 use Rattle.std.specs.Prelude.{ℕ, List, codes}
 use Rattle.subst_foreign.specs.declared.refused.TextError.{TextError}
 use Rattle.subst_foreign.specs.declared.refused.TextError.TheVariants as error
 use Rattle.subst_foreign.specs.declared.refused.ShellForm.{ShellForm}
 use Rattle.subst_foreign.specs.declared.refused.ShellForm.TheVariants as form
 
--- what a form is shown as
+-- the error text of a form
 abbrev pub display_of_form : ShellForm → List ℕ
 display_of_form form.Dollar = codes "a dollar that begins no variable can't be given here"
 display_of_form form.NoName = codes "`${` without a name can't be given here"
@@ -24,7 +24,7 @@ display_of_form form.Message = codes "a message with an opening brace can't be g
 display_of_form form.Brace = codes "an opening brace in a default can't be given here"
 display_of_form form.Unclosed = codes "a variable without its closing brace can't be given here"
 
--- what an error is shown as
+-- the text of an error
 abbrev pub display_of_error : TextError → List ℕ
 display_of_error (error.Refused at) = display_of_form at.form
 display_of_error (error.OutOfMemory e) = codes "out of memory"

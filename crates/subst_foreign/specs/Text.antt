@@ -1,4 +1,4 @@
--- Texts of other tools, and what each gives under a look-up.
+-- Texts of other tools, and the value of each under a look-up.
 use Rattle.std.specs.Prelude.{◌≡◌, ℕ, Bool, true, false, List, [], ◌∷◌, ◌++◌, Option, Some, None, Ok, IsTrue, unwrap_or}
 use Rattle.subst_foreign.specs.Foreign.{Given, and_then, found}
 use Rattle.subst_foreign.specs.Grammar.{Grammar, Head, Short, Braced, Optional, Opened, head_text, takes_message, IsHead, IsMessage, IsNoBrace, IsRefused, BeginsWithNoHead}
@@ -13,18 +13,18 @@ use Rattle.subst_language.specs.Language.Bytes.{dollar, opening_brace, closing_b
 use Rattle.subst_language.specs.Language.LookUp.{LookUp}
 use Rattle.subst_language.specs.Maps.{without_empty}
 
--- A text is a list of items. The text after an operator is again one.
+-- A text is a list of items; so is the text after an operator.
 mutual
   pub data Item : Type 0 where
-    -- a byte that stands for itself
+    -- a literal byte
     Byte : ℕ → Item
-    -- a head that is whole: two dollars, or a variable without an operator
+    -- a whole head: two dollars, or a variable without an operator
     Whole : Head → Item
     -- a variable with an operator and the text after it
     Operated : (name : List ℕ) → Operator → Text → Item
     -- a variable with an operator and its message
     Required : (name : List ℕ) → Operator → (message : List ℕ) → Item
-    -- a text in braces, in the text after an operator
+    -- a text in braces, inside the text after an operator
     Group : Text → Item
 
   pub data Text : Type 0 where
@@ -32,7 +32,8 @@ mutual
     Then : Item → Text → Text
 
 abbrev mutual
-  -- `b`, a head, `${name:-text}` and `${name:?message}` with their kin, `{text}`
+  -- The spelling of an item: a byte, `$$`, a variable such as `$name` or `${name}`, or `{text}`. With an
+  -- operator, a variable has its text or message, as in `${name:-text}` or `${name:?message}`.
   pub item_spelling : Item → List ℕ
   item_spelling (Byte b) = b ∷ []
   item_spelling (Whole head) = head_text head
@@ -40,25 +41,25 @@ abbrev mutual
   item_spelling (Required n op m) = head_text (Opened n op) ++ (m ++ closing_brace ∷ [])
   item_spelling (Group t) = opening_brace ∷ spelling t ++ closing_brace ∷ []
 
-  -- the spellings of its items, concatenated
+  -- the spelling of a text: those of its items, concatenated
   pub spelling : Text → List ℕ
   spelling Empty = []
   spelling (Then item rest) = item_spelling item ++ spelling rest
 
--- a byte stands for itself before the text x, in a default or not: no head begins with it, nothing is refused
--- there, and in a default it is no brace
+-- b is a literal byte before the text x: no head begins with it, no form is refused there, and in a default
+-- it isn't a brace
 pub record IsByte (g : Grammar) (inside : Bool) (b : ℕ) (x : List ℕ) : Type 0 where
   pub no_head : BeginsWithNoHead g (b ∷ x)
   pub taken : (form : ShellForm) → ¬ (IsRefused g inside form (b ∷ x))
   pub no_brace : IsTrue inside → IsNoBrace b
 
--- the head is no beginning of a text or a message
+-- the head is complete: no text or message follows it
 abbrev pub IsWhole : Head → Type 0
 IsWhole (Opened n op) = ⊥
 IsWhole head = Unit {0}
 
 abbrev mutual
-  -- an item, in a default or not, before the text x
+  -- the item is one of the grammar before the text x; `inside` is whether it is in a default
   pub IsItem : Grammar → (inside : Bool) → Item → (x : List ℕ) → Type 0
   IsItem g inside (Byte b) x = IsByte g inside b x
   IsItem g inside (Whole head) x = IsWhole head × IsHead g head x
@@ -68,40 +69,40 @@ abbrev mutual
       × IsHead g (Opened n op) (m ++ closing_brace ∷ x) × IsMessage g.forms m
   IsItem g inside (Group t) x = IsTrue inside × (g.forms ≡ of.Shell) × IsText g true t (closing_brace ∷ x)
 
-  -- a text of the grammar, in a default or not, before the text x
+  -- the items are a text of the grammar before the text x; `inside` is whether it is in a default
   pub IsText : Grammar → (inside : Bool) → Text → (x : List ℕ) → Type 0
   IsText g inside Empty x = Unit {0}
   IsText g inside (Then item rest) x = IsItem g inside item (spelling rest ++ x) × IsText g inside rest x
 
--- what was found, or else v
+-- the value that was found, or else v
 abbrev pub found_or : Option (List ℕ) → Given → Given
 found_or (Some x) v = Ok x
 found_or None v = v
 
--- v, where something was found
+-- v if a value was found, or else nothing
 abbrev pub if_found : Option (List ℕ) → Given → Given
 if_found (Some x) v = v
 if_found None v = Ok []
 
--- what a variable without an operator gives: its value, or where it has none, nothing or a fault
+-- the value of a variable without an operator; if it is unset, nothing or a missing name
 abbrev pub plain_value : Forms → Missing → LookUp → List ℕ → Given
 plain_value of.Common unset look n = Ok (unwrap_or (look n) [])
 plain_value _ missing.Fault look n = found (look n) n
 plain_value _ missing.Nothing look n = Ok (unwrap_or (look n) [])
 
--- what a variable gives with an operator and a text whose value is v
+-- the value of the variable n with an operator; v is the value of the text after the operator
 abbrev pub operated_value : Operator → LookUp → List ℕ → Given → Given
 operated_value operator.ColonMinus look n v = found_or (without_empty look n) v
 operated_value operator.Plus look n v = if_found (look n) v
 operated_value operator.ColonPlus look n v = if_found (without_empty look n) v
 operated_value _ look n v = found_or (look n) v
 
--- what a variable gives with an operator and a message
+-- the value of the variable n with an operator and a message; if it is missing, its name
 abbrev pub required_value : Operator → LookUp → List ℕ → Given
 required_value operator.ColonQuestion look n = found (without_empty look n) n
 required_value _ look n = found (look n) n
 
--- what a head gives that is whole
+-- the value of a whole head
 abbrev pub head_value : Forms → Missing → Head → LookUp → Given
 head_value forms unset (Short n) look = plain_value forms unset look n
 head_value forms unset (Braced n) look = plain_value forms unset look n
@@ -118,19 +119,19 @@ abbrev mutual
   item_value forms unset (Group t) look =
       and_then (Ok (opening_brace ∷ [])) (and_then (text_value forms unset t look) (Ok (closing_brace ∷ [])))
 
-  -- the values of its items, concatenated, or the first missing name from the left
+  -- the value of a text: those of its items, concatenated, or the first missing name from the left
   pub text_value : Forms → Missing → Text → LookUp → Given
   text_value forms unset Empty look = Ok []
   text_value forms unset (Then item rest) look =
       and_then (item_value forms unset item look) (text_value forms unset rest look)
 
--- a variable of a text: its name, and its operator, if it has one
+-- a variable of a text: its name, and its operator, if any
 pub record Variable : Type 0 where
   pub name : List ℕ
   pub operator : Option Operator
 
 abbrev mutual
-  -- the variable of an item, and those of its text
+  -- the variables of an item: its own, and those of the text after its operator
   pub item_variables : Item → List Variable
   item_variables (Whole (Short n)) = record { name = n; operator = None } ∷ []
   item_variables (Whole (Braced n)) = record { name = n; operator = None } ∷ []
@@ -140,7 +141,7 @@ abbrev mutual
   item_variables (Group t) = variables_of t
   item_variables _ = []
 
-  -- the variables of a text, in its order, also those in defaults
+  -- the variables of a text, in order, including those in defaults
   pub variables_of : Text → List Variable
   variables_of Empty = []
   variables_of (Then item rest) = item_variables item ++ variables_of rest

@@ -1,4 +1,4 @@
-//! Writing a template for a text.
+//! Conversion of a text into a template.
 
 ghost use Rattle.std.specs.Prelude.{◌≡◌, ◌+◌, ◌^◌, ◌<◌, ◌++◌, ◌≤◌, ℕ, List, [], length, string_bytes, take, IfOk, IfNone, IfSome, OnOk};
 ghost use Rattle.std.specs.List.{position, AllByRecursion};
@@ -7,7 +7,7 @@ ghost use Rattle.std.specs.Prelude.{Some};
 ghost use Rattle.subst_language.specs.Language.Tree.{Item, item_text};
 ghost use Rattle.subst_foreign.specs.Grammar.{in_braces};
 ghost use Rattle.subst_foreign.specs.Reading.{depth_after, grammar_of, left_open, outermost_at as spec_outermost, part, refused_at, token_of, token_text, IsAfterPlain, IsConverted, IsPlainAt, IsStep, is_special_inside};
-ghost use Rattle.subst_foreign.specs.Template.{asked_name, plain_item};
+ghost use Rattle.subst_foreign.specs.Template.{plain_item, template_name};
 
 use crate::forms::{Forms, Missing, Operator};
 use crate::names::Names;
@@ -17,18 +17,18 @@ use crate::token::{Step, Token, step_at};
 use memchr::memchr2;
 use std::alloc::{AllocError, Global};
 
-/// A text that was read: a template for it, which counts only where nothing is refused, and all that is.
+/// The result of a conversion: a template, valid only if nothing is refused, and the refused forms.
 #[derive(Drop)]
 pub(crate) struct Converted {
     pub template: Vec<u8>,
     pub refused: Vec<FormAt>,
 }
 
-/// Reads a text, and writes a template for it.
+/// Converts a text into a template, and lists the forms that are refused.
 ///
 /// # Errors
 ///
-/// When allocation fails.
+/// If allocation fails.
 pub(crate) fn convert<N: Names>(
     alloc: Global,
     text: &[u8],
@@ -39,11 +39,11 @@ pub(crate) fn convert<N: Names>(
 {
     let mut template = Vec::with_capacity(alloc, text.len())?;
     let mut refused = Vec::new(alloc);
-    // The text from the first byte on that the template hasn't yet.
+    // The end of the text that isn't in the template yet.
     let mut pending = text;
     let mut rest = text;
     let mut depth = 0;
-    // The position of the outermost text after an operator that is open.
+    // The offset of the outermost open variable.
     let mut outermost = 0;
     while let Some((special, (token, after))) = next_step(rest, depth, style) {
         let position = text.len() - special.len();
@@ -62,15 +62,15 @@ pub(crate) fn convert<N: Names>(
     Ok(Converted { template, refused })
 }
 
-/// Returns the position of the outermost text that is open after a token at this position.
+/// Returns the offset of the outermost open variable after a token: `position` at depth 0, or `outermost`.
 fn outermost_at(depth: usize, outermost: usize, position: usize) -> usize
     ensures { result ≡ spec_outermost depth outermost position }
 {
     if depth == 0 { position } else { outermost }
 }
 
-/// Skips plain bytes. Returns the text from the first other byte on, with its token, or `None` if every byte
-/// is plain.
+/// Skips plain bytes, which are the same in the template. Returns the rest of the text, the first token of
+/// this rest, and the text after the token. Returns `None` if all bytes are plain.
 pub(crate) fn next_step<'t, N: Names>(
     text: &'t [u8],
     depth: usize,
@@ -85,7 +85,7 @@ pub(crate) fn next_step<'t, N: Names>(
     Some((special, step_at(special, depth, style)))
 }
 
-/// Returns the index of the first byte that isn't plain, or `None` if every byte is.
+/// Returns the index of the first `$` or `\`, or of a brace if `depth` isn't 0, or `None` if there is none.
 fn find_special(text: &[u8], depth: usize) -> Option<usize>
     ensures some { IfSome result (λ at. AllByRecursion (IsPlainAt depth) (take at text.now)) }
     ensures within { IfSome result (λ at. at < length text.now) }
@@ -98,21 +98,21 @@ fn find_special(text: &[u8], depth: usize) -> Option<usize>
     }
 }
 
-/// Returns the index of the first byte that doesn't stand for itself in the text after an operator.
+/// Returns the index of the first `$`, `\` or brace, or `None` if there is none.
 fn find_inner(text: &[u8]) -> Option<usize>
     ensures { result ≡ position is_special_inside text.now }
 {
     text.iter().position(|byte| is_special(*byte))
 }
 
-/// Returns whether a byte doesn't stand for itself in the text after an operator.
+/// Returns whether a byte is `$`, `\` or a brace.
 fn is_special(byte: u8) -> bool
     ensures { result ≡ is_special_inside byte }
 {
     matches!(byte, b'$' | b'\\' | b'{' | b'}')
 }
 
-/// Returns how many texts and braces are open after a token.
+/// Returns the nesting depth after a token: the number of open variables and braces.
 pub(crate) fn next_depth(depth: usize, token: Token<'_>) -> usize
     requires few { depth + 1 < 2 ^ 64 }
     ensures { (front : List ℕ) → (result ≡ depth_after depth (token_of front token.entry)) }
@@ -124,11 +124,11 @@ pub(crate) fn next_depth(depth: usize, token: Token<'_>) -> usize
     }
 }
 
-/// Appends what is refused at a position.
+/// Appends the refused form of a token at `position`, or nothing if the token isn't refused.
 ///
 /// # Errors
 ///
-/// When allocation fails.
+/// If allocation fails.
 fn append_refused(
     refused: &mut Vec<FormAt>,
     token: Token<'_>,
@@ -143,11 +143,11 @@ fn append_refused(
     }
 }
 
-/// Appends the outermost text after an operator that is open at the end, if one is.
+/// Appends the refused form of an unclosed variable at `outermost`, if the text ends at a depth above 0.
 ///
 /// # Errors
 ///
-/// When allocation fails.
+/// If allocation fails.
 fn append_unclosed(
     refused: &mut Vec<FormAt>,
     depth: usize,
@@ -164,22 +164,22 @@ fn append_unclosed(
     Ok(())
 }
 
-/// How a template has a token that it doesn't have as the text does.
+/// The spelling of a token in the template, if it differs from the spelling in the text.
 #[derive(Clone, Copy)]
 struct Replacement<'t> {
-    /// All before a name, with the digit of a question.
+    /// All bytes before the name, including a digit that a `ShellMap` reads.
     front: &'static [u8],
-    /// The name, or nothing.
+    /// The name, or no bytes.
     name: &'t [u8],
-    /// All after the name.
+    /// All bytes after the name.
     end: &'static [u8],
 }
 
-/// Appends a replacement.
+/// Appends a replacement to the template.
 ///
 /// # Errors
 ///
-/// When allocation fails. A part may have been appended then.
+/// If allocation fails. Part of the replacement may then have been appended.
 fn append(template: &mut Vec<u8>, written: Replacement<'_>) -> Result<(), AllocError>
     ensures { OnOk result (template.new.items
         ≡ template.old.items
@@ -190,7 +190,7 @@ fn append(template: &mut Vec<u8>, written: Replacement<'_>) -> Result<(), AllocE
     template.extend_from_slice(written.end)
 }
 
-/// Returns how a template has a token, or `None` if it has the token as the text does.
+/// Returns the spelling of a token in the template, or `None` if the token is spelled as in the text.
 fn rewritten<'t>(token: Token<'t>, forms: Forms, missing: Missing) -> Option<Replacement<'t>>
     ensures some { IfSome result (λ written. (front : List ℕ)
         → (part forms missing (token_of front token.entry)
@@ -214,7 +214,7 @@ fn rewritten<'t>(token: Token<'t>, forms: Forms, missing: Missing) -> Option<Rep
     Some(Replacement { front, name, end })
 }
 
-/// Returns all before and after the name of a variable without an operator, or `None` if it stays as it is.
+/// Returns the template's bytes around the name of a variable without an operator, or `None` if unchanged.
 fn plain_ends(forms: Forms, missing: Missing) -> Option<(&'static [u8], &'static [u8])>
     ensures some { IfSome result (λ ends. (item : Item) (n : List ℕ)
         → (item_text (plain_item forms missing item n) ≡ ends.0.now ++ n ++ ends.1.now)) }
@@ -230,10 +230,11 @@ fn plain_ends(forms: Forms, missing: Missing) -> Option<(&'static [u8], &'static
     }
 }
 
-/// Returns all before the name of a variable with an operator: the digit asks a `ShellMap` a question.
+/// Returns the template's bytes before the name of a variable with an operator. In a shell's forms they may
+/// end in a digit, which makes the name a question to a `ShellMap`.
 fn opening(forms: Forms, operator: Operator) -> &'static [u8]
     ensures { (n end : List ℕ)
-        → (in_braces (asked_name forms (Some operator) n) end ≡ result.now ++ n ++ end) }
+        → (in_braces (template_name forms (Some operator) n) end ≡ result.now ++ n ++ end) }
 {
     match (forms, operator) {
         (Forms::Shell, Operator::Minus | Operator::Question) => b"${1",
@@ -243,7 +244,7 @@ fn opening(forms: Forms, operator: Operator) -> &'static [u8]
     }
 }
 
-/// Returns the text that the bytes are, without a check.
+/// Converts bytes that are UTF-8 into a text, without testing them.
 pub(crate) fn text_of(bytes: Vec<u8>) -> String
     requires { IsUtf8 bytes.items }
     ensures { string_bytes result ≡ bytes.items }

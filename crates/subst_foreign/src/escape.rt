@@ -1,4 +1,4 @@
-//! Escaping texts, so that templates give them as they are: a backslash is put before each special byte.
+//! Escaping of texts: a template that expands to a given text, whatever the variables.
 
 ghost use Rattle.std.specs.Prelude.{◌≡◌, ◌≤◌, ◌<◌, ◌+◌, ◌++◌, ℕ, List, ◌∷◌, length, IfOk, OnOk, OnErr};
 ghost use Rattle.std.specs.Prelude.{string_bytes, string_capacity, string_len};
@@ -8,12 +8,12 @@ ghost use Rattle.subst_language.specs.Language.Escaped as language;
 
 use std::alloc::{AllocError, Global};
 
-/// Returns the text with a backslash before each `\`, `$`, `{`, `}` and `:`. As a template, and as a default,
-/// it gives the text, whatever the variables.
+/// Returns the text with a backslash before each `\`, `$`, `{`, `}` and `:`. The result expands to the text,
+/// whatever the variables, as a template or in a default.
 ///
 /// # Errors
 ///
-/// When allocation fails.
+/// If allocation fails.
 pub fn escaped(alloc: Global, text: &str) -> Result<String, AllocError>
     ensures escaped { IfOk result (λ template. string_bytes template ≡ language.escaped text.now) }
 {
@@ -22,12 +22,11 @@ pub fn escaped(alloc: Global, text: &str) -> Result<String, AllocError>
     Ok(output)
 }
 
-/// Appends to `output` what [`escaped`] returns. Memory is asked for only where the output's capacity doesn't
-/// suffice.
+/// Appends the text to `output`, escaped as by [`escaped`]. Allocates only if the capacity doesn't suffice.
 ///
 /// # Errors
 ///
-/// When the output has to grow and allocation fails. The output's text is as it was then.
+/// If the output has to grow and allocation fails. The output then keeps its text.
 pub fn escape_into(text: &str, output: &mut String) -> Result<(), AllocError>
     ensures escaped { OnOk result
         (string_bytes output.new ≡ string_bytes output.old ++ language.escaped text.now) }
@@ -44,11 +43,11 @@ pub fn escape_into(text: &str, output: &mut String) -> Result<(), AllocError>
     result
 }
 
-/// Appends to `output` what [`escaped`] returns.
+/// Appends the text to `output`, escaped as by [`escaped`].
 ///
 /// # Errors
 ///
-/// When the output has to grow and allocation fails. A part may have been appended then.
+/// If the output has to grow and allocation fails. Part of the text may then have been appended.
 fn append_escaped(text: &str, output: &mut String) -> Result<(), AllocError>
     ensures escaped { OnOk result
         (string_bytes output.new ≡ string_bytes output.old ++ language.escaped text.now) }
@@ -70,7 +69,7 @@ fn append_escaped(text: &str, output: &mut String) -> Result<(), AllocError>
 ///
 /// # Errors
 ///
-/// When the output has to grow and allocation fails. The backslash may have been appended then.
+/// If the output has to grow and allocation fails. The backslash may then have been appended.
 fn append_after_backslash(text: &str, output: &mut String) -> Result<(), AllocError>
     ensures escaped { OnOk result
         (string_bytes output.new ≡ string_bytes output.old ++ backslash ∷ text.now) }
@@ -83,14 +82,14 @@ fn append_after_backslash(text: &str, output: &mut String) -> Result<(), AllocEr
     output.push_str(text)
 }
 
-/// Returns the index of the first byte that a backslash escapes.
+/// Returns the index of the first byte to escape, or `None` if there is none.
 fn first_special(text: &str) -> Option<usize>
     ensures { result ≡ position language.is_special text.now }
 {
     text.as_bytes().iter().position(|byte| is_special(*byte))
 }
 
-/// Returns whether a backslash escapes the byte.
+/// Returns whether a byte has to be escaped.
 fn is_special(byte: u8) -> bool
     ensures { result ≡ language.is_special byte }
 {

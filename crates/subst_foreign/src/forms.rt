@@ -1,56 +1,56 @@
-//! The forms and operators of variables, and how an unset variable expands.
+//! Forms of variables, their operators, and how an unset variable expands.
 
 ghost use Rattle.std.specs.Prelude.{◌≡◌};
 ghost use Rattle.subst_foreign.specs.Grammar.{has_operator, operator_text, takes_message};
 
-/// The forms of variables that a text has.
+/// The forms of variables that a text may contain.
 #[derive(Clone, Copy, Debug, PartialEq, Eq)]
 pub enum Forms {
-    /// The template language's own, without its escapes: `$NAME`, `${NAME}`, `${NAME?}`, `${NAME:default}`. A
-    /// default that begins with `-`, `=`, `?` or `+` makes it no variable.
+    /// The template language's own forms, without its escapes: `$NAME`, `${NAME}`, `${NAME?}`,
+    /// `${NAME:default}`. If a default begins with `-`, `=`, `?` or `+`, the form is literal text.
     Own,
     /// The forms of GNU envsubst: `$NAME`, `${NAME}`.
     Envsubst,
     /// The forms of a shell: `$NAME`, `${NAME}`, `${NAME:-default}`, `${NAME-default}`, `${NAME:+other}`,
-    /// `${NAME+other}`, `${NAME:?message}`, `${NAME?message}`. Of all names they are the whole language of
-    /// Docker Compose: `$$` is a dollar, and every other form after `${` is refused.
+    /// `${NAME+other}`, `${NAME:?message}`, `${NAME?message}`. With all names chosen, this is the language of
+    /// Docker Compose: `$$` is a dollar, and any other form after `${` is refused.
     Shell,
-    /// The forms that shells and Docker Compose read alike and that need no `ShellMap`: `$NAME`, `${NAME}`,
-    /// `${NAME:-default}`, `${NAME:?message}`, `$$`. Every other form is refused. The template is for a map
-    /// without its empty values, a `NoEmpty`.
+    /// The forms that shells and Docker Compose share, and that need no `ShellMap`: `$NAME`, `${NAME}`,
+    /// `${NAME:-default}`, `${NAME:?message}`, `$$`. Any other form is refused. Expand the template with a
+    /// `NoEmpty`, a map that treats empty values as unset.
     Common,
 }
 
 /// How an unset variable without an operator expands.
 #[derive(Clone, Copy, Debug, PartialEq, Eq)]
 pub enum Missing {
-    /// To the error that there is no such variable.
+    /// To an error: there is no such variable.
     Fault,
     /// To nothing.
     Nothing,
 }
 
-/// The operator after a name in braces, which a text or a message follows.
+/// The operator after a name in braces. A text or a message follows it.
 #[derive(Clone, Copy, Debug, PartialEq, Eq)]
 pub enum Operator {
-    /// `:` of own forms: the default of an unset variable.
+    /// `:` of `Forms::Own`: the default of an unset variable.
     Default,
     /// `-`: the default of an unset variable.
     Minus,
     /// `:-`: the default of an unset or empty variable.
     ColonMinus,
-    /// `+`: what stands for a variable that is set.
+    /// `+`: the replacement of a variable that is set.
     Plus,
-    /// `:+`: what stands for a variable that is set and not empty.
+    /// `:+`: the replacement of a variable that is set and not empty.
     ColonPlus,
-    /// `?`: the message of the error of an unset variable.
+    /// `?`: the error message of an unset variable.
     Question,
-    /// `:?`: the message of the error of an unset or empty variable.
+    /// `:?`: the error message of an unset or empty variable.
     ColonQuestion,
 }
 
 impl Forms {
-    /// Returns whether a text of these forms has the operator.
+    /// Returns whether these forms include the operator.
     pub(crate) fn has(self, operator: Operator) -> bool
         ensures { result ≡ has_operator self operator }
     {
@@ -64,7 +64,7 @@ impl Forms {
 }
 
 impl Operator {
-    /// Returns whether a message follows the operator, and no text of the same forms.
+    /// Returns whether the text after the operator is an error message, and not a default or replacement.
     pub fn takes_message(self) -> bool
         ensures takes { result ≡ takes_message self }
     {

@@ -1,12 +1,12 @@
-//! Laws of the definitions by which a text is read, and of what the look-up of `ShellMap` has. Each is the
-//! contract of a function that does nothing.
+//! Laws about the reading of texts and the lookups of `ShellMap`. Each is the contract of a function that
+//! does nothing.
 
 ghost use Rattle.std.specs.Prelude.{◌≡◌, ◌<◌, ◌≤◌, ℕ, List, [], false, length, map};
 ghost use Rattle.std.specs.List.{AllByRecursion};
 ghost use Rattle.subst_foreign.specs.Foreign.{IsShellName};
 ghost use Rattle.subst_foreign.specs.Question.{by_question};
 ghost use Rattle.subst_foreign.specs.Reading.{end_of, grammar_of, IsReading, IsRefusalOf, Listing, VariableAt, without_place};
-ghost use Rattle.subst_foreign.specs.Template.{asked, asked_name, told_name, IsTemplate};
+ghost use Rattle.subst_foreign.specs.Template.{template_name, template_name_of, text_name, IsTemplate};
 ghost use Rattle.subst_foreign.specs.Text.{Text, IsText, spelling, variables_of as items_variables};
 ghost use Rattle.subst_foreign.specs.declared.refused.FormAt.{FormAt as SpecFormAt};
 ghost use Rattle.subst_foreign.specs.declared.refused.TextError.TheVariants.{Refused};
@@ -22,8 +22,8 @@ use crate::style::Style;
 use std::convert::{AsSlice, AsStr};
 use subst_language::{BytesMap, OneOf, VariableMap};
 
-/// The law of one reading. In a text one list of forms is refused. Where nothing is, it is the spelling of
-/// exactly one text of the grammar. In the spelling of a text of the grammar nothing is refused.
+/// The law of one reading. Each text has one list of refused forms. If the list is empty, exactly one list of
+/// items of the grammar spells the text. In a text that such a list spells, nothing is refused.
 pub fn one_reading<N: Names>(style: Style<'_, N>)
     ensures one_list { let g = grammar_of N.all N.counts style.entry in
         (s : List ℕ) (one other : List SpecFormAt) → IsReading g s one → IsReading g s other
@@ -41,9 +41,9 @@ pub fn one_reading<N: Names>(style: Style<'_, N>)
         → spelling one ≡ spelling other → one ≡ other }
 {}
 
-/// The law of listed variables. A text has one list of them. Of a text of the grammar they are the variables
-/// of its items, in order, as those of its template are; and the name that a template misses is that of the
-/// variable, without the digit of a question. Listed variables lie in the text, and so do refused forms.
+/// The law of listed variables. Each text has one list of variables. If items of the grammar spell the text,
+/// the list has their variables, in order. A template looks up each variable by its name, before which there
+/// may be a digit that a `ShellMap` reads. Listed variables and refused forms lie within the text.
 pub fn one_listing<N: Names>(style: Style<'_, N>)
     ensures one_list { let g = grammar_of N.all N.counts style.entry in
         (s : List ℕ) (one other : List VariableAt) → Listing g 0 0 s one → Listing g 0 0 s other
@@ -51,10 +51,10 @@ pub fn one_listing<N: Names>(style: Style<'_, N>)
     ensures variables { let g = grammar_of N.all N.counts style.entry in
         (text : Text) (listed : List VariableAt) → IsText g false text []
         → Listing g 0 0 (spelling text) listed → map without_place listed ≡ items_variables text }
-    ensures told { let g = grammar_of N.all N.counts style.entry in
+    ensures named { let g = grammar_of N.all N.counts style.entry in
         (text : Text) → IsText g false text []
-        → AllByRecursion (λ v. told_name style.entry.forms (asked style.entry.forms v) ≡ v.name)
-        (items_variables text) }
+        → AllByRecursion (λ v. text_name style.entry.forms
+        (template_name_of style.entry.forms v) ≡ v.name) (items_variables text) }
     ensures within { let g = grammar_of N.all N.counts style.entry in
         (s : List ℕ) (listed : List VariableAt) → Listing g 0 0 s listed
         → AllByRecursion (λ v. end_of v ≤ length s) listed }
@@ -63,22 +63,22 @@ pub fn one_listing<N: Names>(style: Style<'_, N>)
         → AllByRecursion (λ at. at.position < length s) refused }
 {}
 
-/// The law of one order. The variables of a template for a text are as many as those of the text, in the same
-/// order: each has the name by which the template asks for that of the text.
+/// The law of one order. A template for a text has as many variables as the text, in the same order. Each
+/// variable of the template has the name by which the template looks up the text's variable.
 pub fn variables_are_in_one_order<N: Names>(style: Style<'_, N>)
     ensures of_template { let g = grammar_of N.all N.counts style.entry in
         (s source : List ℕ) → IsTemplate g style.entry.missing s source
         → (tree : Tree) → Spells tree source → (listed : List VariableAt) → Listing g 0 0 s listed
         → map name_of (tree_variables 0 tree)
-        ≡ map (λ v. asked_name style.entry.forms v.operator v.name) listed }
+        ≡ map (λ v. template_name style.entry.forms v.operator v.name) listed }
     ensures as_many { let g = grammar_of N.all N.counts style.entry in
         (s source : List ℕ) → IsTemplate g style.entry.missing s source
         → (tree : Tree) → Spells tree source → (listed : List VariableAt) → Listing g 0 0 s listed
         → length (tree_variables 0 tree) ≡ length listed }
 {}
 
-/// The law of maps of bytes that answer questions. For each name `ShellMap` has the bytes of the answer, by
-/// the bytes that its map has.
+/// The law of a `ShellMap` over a map of bytes. For each name, the `ShellMap` has the bytes that
+/// `by_question` computes from the bytes in the underlying map.
 pub fn questions_are_answered<'a, M: BytesMap<'a> + 'a>()
 where
     M::Value: AsSlice<u8> + Drop,
@@ -87,8 +87,8 @@ where
         (λ map. by_question (M.look_up_bytes map.map.now)) }
 {}
 
-/// The law of maps of texts that answer questions: the same of the texts, if the bytes of a value are those
-/// of its text.
+/// The law of a `ShellMap` over a map of texts. For each name, the `ShellMap` has the text that `by_question`
+/// computes from the values in the underlying map. Each value must be the same as a text and as bytes.
 pub fn questions_are_answered_by_texts<'a, M: BytesMap<'a> + 'a>()
 where
     M::Value: AsSlice<u8> + AsStr + Drop,
@@ -98,7 +98,7 @@ where
         (λ shell. by_question (M.look_up_bytes shell.map.now)) }
 {}
 
-/// The law of other names. For a name that doesn't begin with a digit `ShellMap` has what `NoEmpty` has.
+/// The law of other names. For a name that doesn't begin with a digit, `ShellMap` agrees with `NoEmpty`.
 pub fn shell_names_are_no_questions()
     ensures no_empty { (look : LookUp) (name : List ℕ) → IsShellName name
         → by_question look name ≡ without_empty look name }

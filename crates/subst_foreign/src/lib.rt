@@ -1,5 +1,5 @@
-//! Templates for texts that were written for another tool: some forms of chosen names are variables there,
-//! and all else is text.
+//! Templates for texts written for other tools: some forms of chosen names are variables, and all else is
+//! literal text.
 #![tactic(auto)]
 
 ghost use Rattle.std.specs.Prelude.{false, string_bytes, true, IfOk};
@@ -29,11 +29,11 @@ mod style;
 mod token;
 mod variables;
 
-/// Returns a template for a text in which GNU envsubst finds variables: each `$NAME` and `${NAME}` whose name
-/// doesn't begin with a digit is a variable, and all else is text. The template gives the text with the
-/// values of these variables in their places. No text is refused.
+/// Returns a template for a text written for GNU envsubst. Each `$NAME` and `${NAME}` whose name doesn't
+/// begin with a digit is a variable; all else is literal text. The template expands to the text with the
+/// values of these variables. No text is refused.
 ///
-/// A template for what this returns is another one: there the backslashes are text.
+/// Don't convert a result again: its backslashes would become literal text.
 ///
 /// ```rust
 /// let output = foreign::from_envsubst(alloc, "$5 for ${name}")?;
@@ -42,7 +42,7 @@ mod variables;
 ///
 /// # Errors
 ///
-/// When allocation fails.
+/// If allocation fails.
 pub fn from_envsubst(alloc: Global, text: &str) -> Result<String, AllocError>
     ensures template { IfOk result (λ template. IsTemplate (grammar Envsubst true
         (λ operated name. Unit {0})) Fault text.now (string_bytes template)) }
@@ -50,9 +50,9 @@ pub fn from_envsubst(alloc: Global, text: &str) -> Result<String, AllocError>
     unrefused(alloc, text, &AllNames)
 }
 
-/// Returns a template for a text in which `$NAME` and `${NAME}` of the names are variables, and all else is
-/// text, also dollars and backslashes. The template gives the text with the values of these variables in
-/// their places. No text is refused. A set is made of the names: for many texts and the same names, make an
+/// Returns a template for a text in which only the given names are variables, as `$NAME` or `${NAME}`. All
+/// else is literal text, including dollars and backslashes. The template expands to the text with the values
+/// of these variables. No text is refused. Each call builds a set of the names: for many texts, make an
 /// [`OnlyNames`] once, and a [`Style`] with it.
 ///
 /// ```rust
@@ -62,7 +62,7 @@ pub fn from_envsubst(alloc: Global, text: &str) -> Result<String, AllocError>
 ///
 /// # Errors
 ///
-/// When allocation fails.
+/// If allocation fails.
 pub fn with_only(alloc: Global, text: &str, names: &[&str]) -> Result<String, AllocError>
     ensures template { IfOk result (λ template. IsTemplate (grammar Envsubst false
         (λ operated. IsListed names.now)) Fault text.now (string_bytes template)) }
@@ -71,11 +71,11 @@ pub fn with_only(alloc: Global, text: &str, names: &[&str]) -> Result<String, Al
     unrefused(alloc, text, &only)
 }
 
-/// Returns a template for a text in which GNU envsubst's forms of chosen names are variables.
+/// Returns a template for a text in which envsubst's forms of the chosen names are variables.
 ///
 /// # Errors
 ///
-/// When allocation fails.
+/// If allocation fails.
 fn unrefused<N: Names>(alloc: Global, text: &str, names: &N) -> Result<String, AllocError>
     ensures { IfOk result (λ template. IsTemplate (grammar Envsubst (N.all names.now)
         (N.counts names.now)) Fault text.now (string_bytes template)) }

@@ -1,4 +1,4 @@
-//! Which names are those of variables.
+//! The choice of the names that are variables.
 
 ghost use Rattle.std.specs.Prelude.{◌≡◌, ◌↔◌, ◌++◌, ◌∷◌, ℕ, Bool, List, IfOk, IfSome, IfNone, IsTrue, []};
 ghost use Rattle.subst_language.specs.Language.Name.{IsName};
@@ -8,8 +8,8 @@ use std::alloc::{AllocError, Global};
 use std::collections::BTreeSet;
 use subst_language::VariableMap;
 
-/// A choice of names: those of variables. An implementation gives two ghost members: `all`, whether every
-/// name is chosen, and `counts`, which names are, with an operator or without one.
+/// A choice of the names that are variables. Implementations define two ghost members: `all`, whether every
+/// name is chosen, and `counts`, which names are chosen before an operator, and which without one.
 pub trait Names {
     ghost all: { Self → Bool };
 
@@ -19,13 +19,13 @@ pub trait Names {
     fn are_all(&self) -> bool
         ensures every { result ≡ all self.now };
 
-    /// Returns whether a name is chosen, of a variable with an operator, or without one.
+    /// Returns whether a name is chosen, given whether an operator follows it.
     fn has(&self, name: &[u8], operated: bool) -> bool
         requires named { IsName name.now }
         ensures chosen { IsTrue result ↔ counts self.now operated name.now };
 }
 
-/// All names.
+/// The choice of all names.
 #[derive(Clone, Copy)]
 pub struct AllNames;
 
@@ -45,18 +45,18 @@ impl Names for AllNames {
     }
 }
 
-/// Some names alone, in a set that is made once and used for many texts.
+/// A choice of listed names: a set that is built once and used for many texts.
 #[derive(Drop)]
 pub struct OnlyNames<'a> {
     names: BTreeSet<&'a [u8]>,
 }
 
 impl<'a> OnlyNames<'a> {
-    /// Returns the names of a list.
+    /// Builds the set of the listed names.
     ///
     /// # Errors
     ///
-    /// When allocation fails.
+    /// If allocation fails.
     pub fn new(alloc: Global, names: &[&'a str]) -> Result<OnlyNames<'a>, AllocError>
         ensures listed { IfOk result (λ only. (operated : Bool) (name : List ℕ)
             → (⟦<OnlyNames<'a> as Names>⟧.counts only operated name ↔ IsListed names.now name)) }
@@ -86,7 +86,7 @@ impl Names for OnlyNames<'_> {
     }
 }
 
-/// The names that have a value in a map, and of variables with an operator all names.
+/// The choice of the names that a map has a value for, and of all names with an operator.
 #[derive_where(Clone, Copy)]
 pub struct KnownNames<'a, M> {
     pub map: &'a M,

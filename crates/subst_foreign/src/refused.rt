@@ -1,4 +1,4 @@
-//! Forms of texts that are refused.
+//! Refused forms and errors of texts.
 
 ghost use Rattle.std.specs.Prelude.{◌≡◌, Some};
 ghost use Rattle.subst_foreign.specs.declared.refused.TextError.TheVariants as refusing;
@@ -7,26 +7,26 @@ ghost use Rattle.subst_foreign.specs.RefusedDisplay.{display_of_error, display_o
 use std::alloc::AllocError;
 use std::fmt;
 
-/// A form that has no template.
+/// A form that no template can spell.
 #[derive(Clone, Copy, Debug, PartialEq, Eq)]
 pub enum ShellForm {
-    /// A dollar before no name, dollar or opening brace, as in `$1`, `$@`, `$(command)` or `5 $`.
+    /// A dollar that no name, dollar or opening brace follows, as in `$1`, `$@`, `$(command)` or `5 $`.
     Dollar,
-    /// `${` before no name, as in `${}`, `${1}` or `${#NAME}`.
+    /// `${` that no name follows, as in `${}`, `${1}` or `${#NAME}`.
     NoName,
     /// `${NAME-default}`.
     Minus,
     /// `${NAME?message}`.
     Question,
-    /// `${NAME=default}`, which sets the variable.
+    /// `${NAME=default}`, which assigns the variable.
     Equals,
     /// `${NAME+other}`.
     Plus,
-    /// `${NAME:=default}`, which sets the variable.
+    /// `${NAME:=default}`, which assigns the variable.
     ColonEquals,
     /// `${NAME:+other}`.
     ColonPlus,
-    /// `${NAME:1:2}`, a part of the value, and any other colon.
+    /// `${NAME:1:2}`, a substring, and any other colon.
     Colon,
     /// `${NAME#pattern}`.
     Hash,
@@ -36,7 +36,7 @@ pub enum ShellForm {
     Slash,
     /// Anything else after a name in braces.
     Other,
-    /// A message of `${NAME:?message}` with an opening brace.
+    /// An opening brace in the message of `${NAME:?message}`.
     Message,
     /// An opening brace in a default.
     Brace,
@@ -44,16 +44,16 @@ pub enum ShellForm {
     Unclosed,
 }
 
-/// A refused form, and where it begins.
+/// A refused form and its offset.
 #[derive(Clone, Copy, Debug, PartialEq, Eq)]
 pub struct FormAt {
-    /// The byte offset in the text of the dollar with which the form begins, or of the brace.
+    /// The byte offset of the dollar or brace that begins the form.
     pub position: usize,
     /// The form.
     pub form: ShellForm,
 }
 
-/// Why a text has no template.
+/// The error of a conversion into a template.
 #[derive(Clone, Copy, Debug, PartialEq, Eq)]
 pub enum TextError {
     /// A form is refused.
@@ -70,7 +70,7 @@ impl From<AllocError> for TextError {
     }
 }
 
-/// Returns the text that a form is shown as.
+/// Returns the error text of a refused form.
 fn text_of(form: ShellForm) -> &'static str
     ensures { result.now ≡ display_of_form form }
 {

@@ -1,4 +1,4 @@
-//! `ShellMap`, a map for the templates of shell-style texts.
+//! `ShellMap`, the map for templates of shell-style texts.
 
 ghost use Rattle.std.specs.Prelude.{◌≡◌};
 ghost use Rattle.std.specs.Option.{option_map};
@@ -8,13 +8,13 @@ ghost use Rattle.subst_language.specs.Maps.{of_one, without_empty};
 use std::convert::AsSlice;
 use subst_language::{BytesMap, OneOf, VariableMap};
 
-/// A map for the templates of shell-style texts: a name that begins with the digit 1, 2 or 3 is a question
-/// about the variable whose name comes after it.
+/// A map for templates of shell-style texts. A name that begins with the digit 1, 2 or 3 is a question about
+/// the variable whose name follows the digit.
 ///
-/// - `1X` has the value of `X`, also an empty one.
-/// - `2X` has the empty text if `X` is missing, and nothing if it is there.
-/// - `3X` has the empty text if `X` is missing or empty, and nothing otherwise.
-/// - Any other name has its value, unless it is empty.
+/// - `1X` is the value of `X`, even if it is empty.
+/// - `2X` is empty if `X` is unset, and unset otherwise.
+/// - `3X` is empty if `X` is unset or empty, and unset otherwise.
+/// - Any other name has its value, but is unset if the value is empty.
 ///
 /// ```rust
 /// let mut variables = BTreeMap::new(alloc);
@@ -29,7 +29,7 @@ pub struct ShellMap<'a, M> {
     pub map: &'a M,
 }
 
-/// The answer to the question that the name is, or else the value of the map, unless it is empty.
+/// Looks up the answer if the name is a question. Any other name has its value, unless that value is empty.
 impl<'a, M: BytesMap<'a>> VariableMap<'a> for ShellMap<'a, M>
 where
     M::Value: AsSlice<u8> + Drop,
@@ -61,7 +61,7 @@ where
     }
 }
 
-/// The bytes of the answers.
+/// Looks up the bytes of the answer if the name is a question, or else of its value, unless that is empty.
 impl<'a, M: BytesMap<'a>> BytesMap<'a> for ShellMap<'a, M>
 where
     M::Value: AsSlice<u8> + Drop,
@@ -75,7 +75,7 @@ where
     ghost reads = { ((λ bytes. bytes), (λ v. refl), (λ self name. sym (option_map_id _))) };
 }
 
-/// Returns the value of a name.
+/// Returns the value of a name, or `None` if it is unset.
 fn value_of<'a, M: BytesMap<'a>>(map: &'a M, name: &str) -> Option<M::Value>
 where
     M::Value: AsSlice<u8> + Drop,
@@ -84,7 +84,7 @@ where
     map.get(name)
 }
 
-/// Returns the value of a name, unless it is empty.
+/// Returns the value of a name, or `None` if it is unset or empty.
 fn filled_value_of<'a, M: BytesMap<'a>>(map: &'a M, name: &str) -> Option<M::Value>
 where
     M::Value: AsSlice<u8> + Drop,
@@ -98,7 +98,7 @@ where
     }
 }
 
-/// Returns the empty text if there is no value, and nothing otherwise.
+/// Returns the empty text if there is no value, and `None` otherwise.
 fn negated<'a, V: AsSlice<u8> + Drop>(value: Option<V>) -> Option<OneOf<V, &'a str>>
     ensures { option_map (of_one V.items (λ text. text.now)) result
         ≡ question.negated (option_map V.items value) }

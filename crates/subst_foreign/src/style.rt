@@ -1,4 +1,4 @@
-//! The choices that a text is read by.
+//! The style of a text: the forms and names of its variables, and how an unset variable expands.
 
 ghost use Rattle.std.specs.Prelude.{◌≡◌, ◌↔◌, ◌∷◌, ℕ, List, IfErr, IfOk, IsTrue, string_bytes, [], true};
 ghost use Rattle.std.specs.List.{AllByRecursion};
@@ -15,24 +15,24 @@ use crate::names::Names;
 use crate::refused::{FormAt, TextError};
 use std::alloc::{AllocError, Global};
 
-/// The choice of the variables of a text, and how one expands that is unset: all else is text.
+/// The style of a text: the forms and names of its variables, and how an unset one expands. All else is
+/// literal text.
 #[derive_where(Clone, Copy)]
 pub struct Style<'n, N> {
     /// The forms of variables.
     pub forms: Forms,
-    /// The names that are chosen.
+    /// The choice of the names that are variables.
     pub names: &'n N,
     /// How an unset variable without an operator expands.
     pub missing: Missing,
 }
 
 impl<'n, N: Names> Style<'n, N> {
-    /// Returns a template for a text.
+    /// Converts a text into a template.
     ///
     /// # Errors
     ///
-    /// [`TextError::Refused`] with the first form that is refused, and [`TextError::OutOfMemory`] when
-    /// allocation fails.
+    /// [`TextError::Refused`] with the first refused form, or [`TextError::OutOfMemory`] if allocation fails.
     pub fn template(&self, alloc: Global, text: &str) -> Result<String, TextError>
         ensures template { IfOk result (λ template. IsTemplate (grammar_of N.all N.counts self.now)
             self.now.missing text.now (string_bytes template)) }
@@ -41,16 +41,16 @@ impl<'n, N: Names> Style<'n, N> {
         Ok(text_of(self.byte_template(alloc, text.as_bytes())?))
     }
 
-    /// Returns a template for bytes, as [`template`](Style::template) for a text.
+    /// Converts bytes into a template, as [`template`](Style::template) converts a text.
     ///
     /// # Errors
     ///
-    /// The same as of [`template`](Style::template).
+    /// As [`template`](Style::template).
     pub fn byte_template(&self, alloc: Global, source: &[u8]) -> Result<Vec<u8>, TextError>
         ensures template { IfOk result (λ template. IsTemplate (grammar_of N.all N.counts self.now)
             self.now.missing source.now template.items) }
 
-        // A template for a text is a text.
+        // If the source is UTF-8, so is the template.
         ensures is_text { IfOk result (λ template. IsUtf8 source.now → IsUtf8 template.items) }
         ensures refused { IfErr result (IsRefusalOf (grammar_of N.all N.counts self.now)
             source.now) }
@@ -62,12 +62,12 @@ impl<'n, N: Names> Style<'n, N> {
         }
     }
 
-    /// Returns the refused forms of a text, in its order. Reading goes on after the beginning of each, but
-    /// not after a message that never closes. A variable that never closes comes last.
+    /// Lists the refused forms of a text, in order. Reading resumes after the beginning of each, except after
+    /// a message that never closes. An unclosed variable comes last.
     ///
     /// # Errors
     ///
-    /// When allocation fails.
+    /// If allocation fails.
     pub fn refusals(&self, alloc: Global, source: &[u8]) -> Result<Vec<FormAt>, AllocError>
         ensures refused { IfOk result (λ refused. IsReading (grammar_of N.all N.counts self.now)
             source.now refused.items) }
@@ -75,7 +75,7 @@ impl<'n, N: Names> Style<'n, N> {
         Ok(convert(alloc, source, *self)?.refused)
     }
 
-    /// Returns whether a shell's text is read as a whole.
+    /// Returns whether `$$` is a dollar, and `${` is refused if it begins none of the style's forms.
     pub(crate) fn is_whole(&self) -> bool
         ensures { result ≡ is_whole self.now.forms (N.all self.now.names.now) }
     {
@@ -86,7 +86,7 @@ impl<'n, N: Names> Style<'n, N> {
         }
     }
 
-    /// Returns whether name bytes are the name of a variable, with an operator or without one.
+    /// Returns whether name bytes are the name of a variable. `operated` is whether an operator follows them.
     pub(crate) fn has(&self, name: &[u8], operated: bool) -> bool
         requires { AllByRecursion IsNameByte name.now }
         ensures { IsTrue result ↔ IsVariable (grammar_of N.all N.counts self.now) operated
@@ -96,7 +96,7 @@ impl<'n, N: Names> Style<'n, N> {
     }
 }
 
-/// Returns whether name bytes are a name in texts of these forms.
+/// Returns whether name bytes are a name in these forms.
 pub(crate) fn is_name_of(name: &[u8], forms: Forms) -> bool
     requires { AllByRecursion IsNameByte name.now }
     ensures { IsTrue result ↔ IsNameOf forms name.now }

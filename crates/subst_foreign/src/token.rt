@@ -1,14 +1,14 @@
-//! The token that a text begins with.
+//! Tokens of texts of other tools: literal bytes, variables, braces and refused forms.
 
 ghost use Rattle.std.specs.Prelude.{◌≡◌, ◌↔◌, ◌++◌, ◌<◌, ◌∷◌, ℕ, List, length, IfErr, IfOk, IfSome, IfNone, IsTrue, codes, false};
 ghost use Rattle.std.specs.List.{AllByRecursion};
 ghost use Rattle.subst_language.specs.Language.Bytes.{closing_brace, colon, dollar, opening_brace, question_mark};
 ghost use Rattle.subst_language.specs.Language.Name.{BeginsWithNo, IsName, IsNameByte};
 ghost use Rattle.subst_foreign.specs.Foreign.{IsShellName};
-ghost use Rattle.subst_foreign.specs.Grammar.{has_operator, in_braces, minus, operator_text, BeginsWithNoHead, BeginsWithNone, HasForm, IsEnd, IsEndless, IsHead, IsMessage, IsUnfit, Opened};
+ghost use Rattle.subst_foreign.specs.Grammar.{has_operator, in_braces, minus, operator_text, BeginsWithNoHead, BeginsWithNone, HasForm, IsEnd, IsEndless, IsHead, IsMessage, IsOtherEnd, Opened};
 ghost use Rattle.subst_foreign.specs.Reading.{after_message, grammar_of, IsInner, IsLone, IsStep};
 ghost use Rattle.subst_foreign.specs.declared.forms.Forms.TheVariants.{Common, Own, Shell};
-ghost use Rattle.subst_foreign.specs.declared.token.End.TheVariants.{Unfit};
+ghost use Rattle.subst_foreign.specs.declared.token.End.TheVariants.{Other};
 ghost use Rattle.subst_foreign.specs.declared.forms.Operator.{Operator as SpecOperator};
 
 use crate::forms::{Forms, Operator};
@@ -20,7 +20,7 @@ use subst_language::name_len;
 /// A token of a text.
 #[derive(Clone, Copy)]
 pub(crate) enum Token<'t> {
-    /// A byte that stands for itself.
+    /// A literal byte.
     Byte(u8),
     /// `$$`, a dollar.
     Dollars,
@@ -28,37 +28,37 @@ pub(crate) enum Token<'t> {
     Short(&'t [u8]),
     /// `${NAME}`.
     Braced(&'t [u8]),
-    /// `${NAME?}` of own forms.
+    /// `${NAME?}` of `Forms::Own`.
     Optional(&'t [u8]),
-    /// `${NAME` and an operator, which a text follows.
+    /// `${NAME` and an operator, before a default or a replacement.
     Opens(&'t [u8], Operator),
     /// `${NAME`, an operator, its message and the closing brace.
     Required(&'t [u8], Operator, &'t [u8]),
-    /// An opening brace in the text after an operator.
+    /// An opening brace inside a default.
     Opening,
-    /// A closing brace in the text after an operator.
+    /// A closing brace inside a default.
     Closing,
-    /// The beginning of a form that is refused.
+    /// The beginning of a refused form.
     Refused(ShellForm),
 }
 
 /// A token, and the text after it.
 pub(crate) type Step<'t> = (Token<'t>, &'t [u8]);
 
-/// How a variable goes on after its name in braces, with the rest of the text.
+/// The end of a variable after its name in braces, with the text that follows.
 #[derive(Clone, Copy)]
 enum End<'t> {
     /// The closing brace.
     Closed(&'t [u8]),
-    /// A question mark and the closing brace, of own forms.
+    /// A question mark and the closing brace, in `Forms::Own`.
     Optional(&'t [u8]),
-    /// An operator of the forms.
+    /// One of the operators of the forms.
     Operated(Operator, &'t [u8]),
     /// Anything else.
-    Unfit,
+    Other,
 }
 
-/// Returns the token that a text begins with, if so many texts after operators and braces in them are open.
+/// Returns the first token of a text, inside `depth` open variables and braces, and the text after the token.
 pub(crate) fn step_at<'t, N: Names>(text: &'t [u8], depth: usize, style: Style<'_, N>) -> Step<'t>
     requires { 0 < length text.now }
     ensures { IsStep (grammar_of N.all N.counts style.entry) depth text.now result.0 result.1.now }
@@ -75,7 +75,7 @@ pub(crate) fn step_at<'t, N: Names>(text: &'t [u8], depth: usize, style: Style<'
     (token, rest)
 }
 
-/// Returns the token of a byte that is no dollar, in the text after an operator.
+/// Returns the token of the byte `first` inside a default, where `first` isn't a dollar.
 fn inner_token<'t>(first: u8, forms: Forms) -> Token<'t>
     ensures { IsInner forms first result }
 {
@@ -87,7 +87,7 @@ fn inner_token<'t>(first: u8, forms: Forms) -> Token<'t>
     }
 }
 
-/// Returns the token that begins with a dollar, which is before the text.
+/// Returns the token that begins with a dollar, and the text after the token. `text` follows the dollar.
 fn dollar_step<'t, N: Names>(text: &'t [u8], style: Style<'_, N>) -> Step<'t>
     ensures { (depth : ℕ) → IsStep (grammar_of N.all N.counts style.entry) depth (dollar ∷ text.now)
         result.0 result.1.now }
@@ -105,7 +105,7 @@ fn dollar_step<'t, N: Names>(text: &'t [u8], style: Style<'_, N>) -> Step<'t>
     }
 }
 
-/// Returns the text after the second of two dollars, or `None` if they aren't one dollar.
+/// Returns `text` without its first byte if that is the second dollar of a token `$$`, or `None` otherwise.
 fn second_dollar(text: &[u8], is_whole: bool) -> Option<&[u8]>
     ensures some { IfSome result (λ rest. IsTrue is_whole × (text.now ≡ dollar ∷ rest.now)) }
     ensures none { IfNone result (IsTrue is_whole → (rest : List ℕ)
@@ -117,7 +117,7 @@ fn second_dollar(text: &[u8], is_whole: bool) -> Option<&[u8]>
     }
 }
 
-/// Returns the token of a dollar that begins no variable, before these name bytes.
+/// Returns the token of a dollar that begins no variable. `name` is the name bytes after the dollar.
 fn lone_dollar<'t>(name: &[u8], forms: Forms) -> Token<'t>
     requires { AllByRecursion IsNameByte name.now }
     ensures { IsLone forms name.now result }
@@ -129,8 +129,7 @@ fn lone_dollar<'t>(name: &[u8], forms: Forms) -> Token<'t>
     }
 }
 
-/// Returns the token that begins with a dollar and an opening brace. The text is after the dollar, and
-/// `braced` after the brace.
+/// Returns the token that begins with `${`. `text` follows the dollar, and `braced` follows the brace.
 fn braced_step<'t, N: Names>(text: &'t [u8], braced: &'t [u8], style: Style<'_, N>) -> Step<'t>
     requires { text.now ≡ opening_brace ∷ braced.now }
     ensures { (depth : ℕ) → IsStep (grammar_of N.all N.counts style.entry) depth (dollar ∷ text.now)
@@ -140,11 +139,11 @@ fn braced_step<'t, N: Names>(text: &'t [u8], braced: &'t [u8], style: Style<'_, 
     let end = end_at(after, style.forms);
     match head_step(name, after, end, style) {
         Some(step) => step,
-        None => unfit_step(text, name, after, matches!(end, End::Unfit), style),
+        None => lone_brace_step(text, name, after, matches!(end, End::Other), style),
     }
 }
 
-/// Returns the token of a name in braces that ends so, or `None` if it is no variable's.
+/// Returns the token of `${`, `name` and `end`, or `None` if that is no variable. `after` follows `name`.
 fn head_step<'t, N: Names>(
     name: &'t [u8],
     after: &'t [u8],
@@ -170,20 +169,20 @@ fn head_step<'t, N: Names>(
     }
 }
 
-/// Returns the token of a dollar and an opening brace that begin no variable. The text is after the dollar,
-/// and goes on after the brace with a name, which may be empty.
-fn unfit_step<'t, N: Names>(
+/// Returns the token of `${` that begins no variable, and the text after the token. `text` follows the
+/// dollar: a brace, `name`, which may be empty, and `after`. `is_other` is whether `after` ends no variable.
+fn lone_brace_step<'t, N: Names>(
     text: &'t [u8],
     name: &'t [u8],
     after: &'t [u8],
-    is_unfit: bool,
+    is_other: bool,
     style: Style<'_, N>,
 ) -> Step<'t>
     requires text { text.now ≡ opening_brace ∷ name.now ++ after.now }
     requires run { AllByRecursion IsNameByte name.now }
     requires ended { BeginsWithNo IsNameByte after.now }
     requires no_head { BeginsWithNoHead (grammar_of N.all N.counts style) (dollar ∷ text.now) }
-    requires unfit { IsTrue is_unfit ↔ IsEnd style.forms after.now Unfit }
+    requires other_end { IsTrue is_other ↔ IsEnd style.forms after.now Other }
     ensures { (depth : ℕ) → IsStep (grammar_of N.all N.counts style.entry) depth (dollar ∷ text.now)
         result.0 result.1.now }
 {
@@ -193,15 +192,14 @@ fn unfit_step<'t, N: Names>(
     if !is_name_of(name, Forms::Shell) {
         return (Token::Refused(ShellForm::NoName), &text[1..]);
     }
-    if is_unfit {
+    if is_other {
         (Token::Refused(form_at(after)), after)
     } else {
         (Token::Byte(b'$'), text)
     }
 }
 
-/// Returns the token of a name in braces with an operator. The operator begins the text after the name, and
-/// the rest comes after it.
+/// Returns the token of a name in braces with an operator. `after` follows `name`, and `rest` the operator.
 fn operated_step<'t, N: Names>(
     name: &'t [u8],
     operator: Operator,
@@ -223,8 +221,8 @@ fn operated_step<'t, N: Names>(
     }
 }
 
-/// Returns the text after a message that isn't closed. One that never closes goes to the end of the text; of
-/// another the text after its name is read.
+/// Returns the text at which reading resumes after an unclosed message: the empty text if the message never
+/// closes, or else `after`, which follows the name.
 fn rest_of_message(form: ShellForm, after: &[u8]) -> &[u8]
     ensures { result.now ≡ after_message form after.now }
 {
@@ -234,17 +232,17 @@ fn rest_of_message(form: ShellForm, after: &[u8]) -> &[u8]
     }
 }
 
-/// Returns the message that a text begins with and what comes after the brace that closes it.
+/// Returns the message at the start of a text, and the text after its closing brace.
 ///
 /// # Errors
 ///
-/// The form of a message that isn't closed.
+/// The refused form, if the message isn't closed.
 fn message_at(text: &[u8], forms: Forms) -> Result<(&[u8], &[u8]), ShellForm>
     ensures ok { IfOk result (λ found. IsMessage forms found.0.now
         × (text.now ≡ found.0.now ++ closing_brace ∷ found.1.now)) }
     ensures err { IfErr result (λ form. IsEndless forms form text.now) }
 {
-    // How many braces of the message are open.
+    // The number of open braces in the message.
     let mut open = 0usize;
     for (at, byte) in text.iter().enumerate() {
         match *byte {
@@ -258,7 +256,7 @@ fn message_at(text: &[u8], forms: Forms) -> Result<(&[u8], &[u8]), ShellForm>
     Err(ShellForm::Unclosed)
 }
 
-/// Returns how a variable goes on after its name in braces.
+/// Returns the end of a variable in braces. `text` follows the variable's name.
 fn end_at(text: &[u8], forms: Forms) -> End<'_>
     ensures { IsEnd forms text.now result }
 {
@@ -273,24 +271,24 @@ fn end_at(text: &[u8], forms: Forms) -> End<'_>
     if matches!(forms, Forms::Own) {
         own_end_at(text)
     } else {
-        End::Unfit
+        End::Other
     }
 }
 
-/// Returns how a variable of own forms goes on after its name in braces, but for a closing brace.
+/// Returns the end of a variable of own forms that isn't a closing brace.
 fn own_end_at(text: &[u8]) -> End<'_>
     requires { (x : List ℕ) → ¬ (text.now ≡ closing_brace ∷ x) }
     ensures { IsEnd Own text.now result }
 {
     match text {
         [b'?', b'}', rest @ ..] => End::Optional(rest),
-        [b':', b'-' | b'=' | b'?' | b'+', ..] => End::Unfit,
+        [b':', b'-' | b'=' | b'?' | b'+', ..] => End::Other,
         [b':', rest @ ..] => End::Operated(Operator::Default, rest),
-        _ => End::Unfit,
+        _ => End::Other,
     }
 }
 
-/// Returns the operator of a shell that a text begins with, and what comes after it.
+/// Returns a shell's operator at the start of a text, and the text after it, or `None` if there is none.
 fn operator_at(text: &[u8]) -> Option<(Operator, &[u8])>
     ensures some { IfSome result (λ found. IsTrue (has_operator Shell found.0)
         × (text.now ≡ operator_text found.0 ++ found.1.now)) }
@@ -308,10 +306,10 @@ fn operator_at(text: &[u8]) -> Option<(Operator, &[u8])>
     }
 }
 
-/// Returns the form of what comes after a name in braces and may not follow it.
+/// Returns the refused form of a name in braces, by the text after the name.
 fn form_at(text: &[u8]) -> ShellForm
     requires no_name { BeginsWithNo IsNameByte text.now }
-    requires unfit { IsUnfit Common text.now }
+    requires other_end { IsOtherEnd Common text.now }
     ensures { HasForm result text.now }
 {
     let Some((first, rest)) = text.split_first() else {
@@ -330,7 +328,7 @@ fn form_at(text: &[u8]) -> ShellForm
     }
 }
 
-/// Returns the form of what comes after a name in braces and a colon, and may not follow these.
+/// Returns the refused form of a name in braces and a colon, by the text after the colon.
 fn colon_form_at(text: &[u8]) -> ShellForm
     requires no_default { (x : List ℕ) → ¬ (text.now ≡ minus ∷ x) }
     requires no_message { (x : List ℕ) → ¬ (text.now ≡ question_mark ∷ x) }

@@ -1,4 +1,4 @@
-//! The variables of a text.
+//! Lists of the variables of texts of other tools.
 
 ghost use Rattle.std.specs.Prelude.{◌≡◌, ◌++◌, ◌+◌, ◌<◌, ◌^◌, ℕ, List, IfOk, OnOk, map};
 ghost use Rattle.subst_foreign.specs.Reading.{grammar_of, listed_at, token_of, variable_of, IsListing};
@@ -10,26 +10,26 @@ use crate::style::Style;
 use crate::token::Token;
 use std::alloc::{AllocError, Global};
 
-/// A variable of a text.
+/// A variable of a text, and its position.
 #[derive(Clone, Copy, Debug, PartialEq, Eq)]
 pub struct TextVariable<'t> {
-    /// The byte offset of its name in the text.
+    /// The byte offset of the name in the text.
     pub position: usize,
-    /// Its name.
+    /// The name of the variable.
     pub name: &'t [u8],
-    /// Its operator, if it has one.
+    /// The operator after the name, or `None` if there is none.
     pub operator: Option<Operator>,
-    /// Its message, which is empty if it has none.
+    /// The message after the operator, or no bytes if there is none.
     pub message: &'t [u8],
 }
 
 impl<N: Names> Style<'_, N> {
-    /// Lists the variables of a text in its order, also those in defaults. If the text isn't refused, the
-    /// first of these is the first one of its template, and so on.
+    /// Lists the variables of a text, in order, including those in defaults. If nothing is refused, the
+    /// template has as many variables, in the same order.
     ///
     /// # Errors
     ///
-    /// When allocation fails.
+    /// If allocation fails.
     pub fn variables<'t>(
         &self,
         alloc: Global,
@@ -50,11 +50,11 @@ impl<N: Names> Style<'_, N> {
     }
 }
 
-/// Appends the variable of a token at this position.
+/// Appends the variable of a token, if it has one. `position` is the token's byte offset.
 ///
 /// # Errors
 ///
-/// When allocation fails.
+/// If allocation fails.
 fn append_variable<'t>(
     variables: &mut Vec<TextVariable<'t>>,
     token: Token<'t>,

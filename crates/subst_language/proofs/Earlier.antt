@@ -1,4 +1,4 @@
--- Lemmas on the earlier language, and on what the present one keeps of it.
+-- Lemmas on the earlier language, and on its relation to the present one.
 pub mod ExtendedLemmas
 pub mod ExtensionLemmas
 pub mod FaultLemmas

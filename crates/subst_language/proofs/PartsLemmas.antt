@@ -1,4 +1,4 @@
--- Lists of parts: where they fit, what an expansion visits of them, and what they give.
+-- Lists of parts: whether they fit, which parts an expansion visits, and their values.
 use Rattle.std.proofs.Common.{◌≡◌, ℕ, ◌+◌, ◌<◌, ◌≤◌, suc, lt-ltb, le-ltb, false, Option, Some, None, inl, inr, List, [], ◌∷◌, ◌++◌, drop, length, map, length-append, append-nil, append_assoc, refl, sym, ap, ◌∙◌, subst, arith}
 use Rattle.std.proofs.lemmas.Bool.{cases_lt}
 use Rattle.subst_language.specs.Language.Name.{IsName}
@@ -34,7 +34,7 @@ pub steps_in-append : (xs ys : List Part) (s : List ℕ) (look : LookUp)
 steps_in-append [] ys s look = refl
 steps_in-append (part ∷ xs) ys s look = rw (steps_in-append xs ys s look, append_assoc) refl
 
--- a part that jumps within a list at its index does so at an earlier one, and within a longer list
+-- a part that jumps within a list from its index does so from an earlier one, and within a longer list
 pub jumps_wider : (j i end wider : ℕ) (part : Part) → j ≤ i → end ≤ wider → JumpsWithin i end part
     → JumpsWithin j wider part
 jumps_wider j i end wider (Literal span) from to jumps = tt
@@ -53,7 +53,7 @@ fit_widen i end wider s (part ∷ rest) le fit = (
       fit.1,
 )
 
--- two lists of parts concatenated fit where each of them does
+-- two lists of parts concatenated fit if each of them does
 pub fit_append : (i end : ℕ) (s : List ℕ) (xs ys : List Part) → AllFit i end s xs
     → AllFit (i + length xs) end s ys
     → AllFit i end s (xs ++ ys)
@@ -61,7 +61,7 @@ fit_append i end s [] ys fit rest = subst (λ n. AllFit n end s ys) (omega arith
 fit_append i end s (part ∷ xs) ys fit rest =
     (fit.0, fit_append (i + 1) end s xs ys fit.1 (subst (λ n. AllFit n end s ys) (omega arith) rest))
 
--- each of two lists of parts fits where both, concatenated, do
+-- each of two lists of parts fits if both, concatenated, do
 pub fit_split : (i end : ℕ) (s : List ℕ) (xs ys : List Part) → AllFit i end s (xs ++ ys)
     → AllFit i end s xs × AllFit (i + length xs) end s ys
 fit_split i end s [] ys fit = (tt, subst (λ n. AllFit n end s ys) (omega arith) fit)
@@ -69,7 +69,7 @@ fit_split i end s (part ∷ xs) ys fit =
     let split = fit_split (i + 1) end s xs ys fit.1 in
     ((fit.0, split.0), subst (λ n. AllFit n end s ys) (omega arith) split.1)
 
--- a part of a list that fits, fits where it is
+-- a part of a list that fits, fits at its index
 pub fit_at : (i end : ℕ) (s : List ℕ) (xs : List Part) (part : Part) (ys : List Part)
     → AllFit i end s (xs ++ part ∷ ys) → FitsAt (i + length xs) end s part
 fit_at i end s xs part ys fit = (fit_split i end s xs (part ∷ ys) fit).1.0
@@ -80,7 +80,7 @@ closed_of_fit i end s [] fit = tt
 closed_of_fit i end s (part ∷ rest) fit =
     (jumps_wider 0 i end end part (omega arith) (omega arith) fit.0.1, closed_of_fit (i + 1) end s rest fit.1)
 
--- a part before the index where an expansion goes on is jumped over
+-- a part before the index where an expansion resumes is skipped
 pub visited_parts-before : (part : Part) (rest : List Part) (i from : ℕ) (s : List ℕ) (look : LookUp)
     → i < from
     → visited_parts (part ∷ rest) i from s look ≡ visited_parts rest (i + 1) from s look
@@ -92,14 +92,14 @@ pub visited_parts-from : (part : Part) (rest : List Part) (i from : ℕ) (s : Li
     ≡ part ∷ visited_parts rest (i + 1) (resume_index part s look) s look
 visited_parts-from part rest i from s look above = rw (le-ltb i from above) refl
 
--- its steps are first, and then those of what is visited after it
+-- the steps of a visited part come first, then those of the parts visited after it
 steps_in-first : (part : Part) (rest : List Part) (i from : ℕ) (s : List ℕ) (look : LookUp) → from ≤ i
     → steps_in (visited_parts (part ∷ rest) i from s look) s look
     ≡ part_steps part s look ++ steps_in (visited_parts rest (i + 1) (resume_index part s look) s look) s look
 steps_in-first part rest i from s look above =
     ap (λ visited. steps_in visited s look) (visited_parts-from part rest i from s look above)
 
--- an expansion that goes on no later than a list begins visits as much of it as one that goes on anywhere
+-- an expansion visits the same parts of a list wherever it resumes, up to the list's start
 pub visited_parts-anywhere : (parts : List Part) (i from : ℕ) (s : List ℕ) (look : LookUp) → from ≤ i
     → visited_parts parts i from s look ≡ visited_parts parts i 0 s look
 visited_parts-anywhere [] i from s look above = refl
@@ -107,7 +107,7 @@ visited_parts-anywhere (part ∷ rest) i from s look above =
     visited_parts-from part rest i from s look above
     ∙ sym (visited_parts-from part rest i 0 s look (omega arith))
 
--- a part goes on no later than its end, where it fits
+-- a part that fits resumes at its end or before it
 pub goes_on_within : (i end : ℕ) (s : List ℕ) (part : Part) (look : LookUp) → JumpsWithin i end part
     → resume_index part s look ≤ end
 goes_on_within i end s (Literal span) look jumps = omega arith
@@ -119,20 +119,20 @@ goes_on_within i end s (Default name next) look jumps = of (look (span_bytes nam
     of (Some x) = jumps.1
     of None = omega arith
 
--- each part goes on no later than an end
+-- each part resumes at this end or before it
 abbrev pub Lands : ℕ → List ℕ → LookUp → List Part → Type 0
 Lands end s look [] = Unit {0}
 Lands end s look (part ∷ rest) = (resume_index part s look ≤ end) × Lands end s look rest
 
--- as parts do that fit
+-- parts that fit do so
 lands_fitting : (i end : ℕ) (s : List ℕ) (xs : List Part) (look : LookUp) → AllFit i end s xs
     → Lands end s look xs
 lands_fitting i end s [] look fit = tt
 lands_fitting i end s (part ∷ rest) look fit =
     (goes_on_within i end s part look fit.0.1, lands_fitting (i + 1) end s rest look fit.1)
 
--- of two lists concatenated, where the jumps of the first end no later than the second begins, an expansion
--- visits what it visits of the first, and then what it visits of the second by itself
+-- an expansion of two lists visits the first's parts, then the second's, if no jump of the first leads past
+-- its end
 pub visited_parts-lands : (i end from : ℕ) (s : List ℕ) (xs ys : List Part) (look : LookUp)
     → Lands end s look xs → end ≤ i + length xs → from ≤ i + length xs
     → visited_parts (xs ++ ys) i from s look
@@ -160,7 +160,7 @@ visited_parts-lands i end from s (part ∷ xs) ys look lands inside above =
           (visited_parts-from part xs i from s look after))
     ]
 
--- of two lists of parts that fit, concatenated, an expansion visits what it visits of each
+-- of two lists of parts that fit, concatenated, an expansion visits its parts of each
 pub visited_parts-append : (i end from : ℕ) (s : List ℕ) (xs ys : List Part) (look : LookUp)
     → AllFit i end s xs → end ≤ i + length xs → from ≤ i + length xs
     → visited_parts (xs ++ ys) i from s look
@@ -168,7 +168,7 @@ pub visited_parts-append : (i end from : ℕ) (s : List ℕ) (xs ys : List Part)
 visited_parts-append i end from s xs ys look fit inside above =
     visited_parts-lands i end from s xs ys look (lands_fitting i end s xs look fit) inside above
 
--- of parts that are all before the index where it goes on, an expansion visits none
+-- an expansion visits no part before the index where it resumes
 pub visited_parts-jumped : (i from : ℕ) (s : List ℕ) (xs : List Part) (look : LookUp) → i + length xs ≤ from
     → visited_parts xs i from s look ≡ []
 visited_parts-jumped i from s [] look above = refl
@@ -185,8 +185,8 @@ mean_nothing s i p = record {
   same_count = λ look. refl;
 }
 
--- two lists of parts concatenated mean the two trees that they mean, concatenated, where no run of plain
--- bytes goes on from the first into the second
+-- two lists of parts concatenated mean their two trees, concatenated, if no run of plain bytes continues from
+-- the first into the second
 pub mean_append : (s : List ℕ) (i : ℕ) (xs ys : List Part) (p : ℕ) (t u : Tree)
     → ((look : LookUp) → visited_count_after (ends_plain false t) u look ≡ visited_count u look)
     → PartsMean s i xs p t → PartsMean s (i + length xs) ys (p + length (text t)) u
@@ -218,7 +218,7 @@ mean_append s i xs ys p t u apart first second = record {
       );
 }
 
--- a part that goes on after itself, and has the steps of an item, means the item
+-- a part with the steps of an item, after which an expansion continues at the next part, means the item
 mean_one : (s : List ℕ) (i : ℕ) (part : Part) (p : ℕ) (item : Item) → FitsAt i (i + 1) s part
     → ((look : LookUp) → part_steps part s look ≡ item_steps p item look)
     → part_variables part s ≡ item_variables p item
@@ -232,7 +232,7 @@ mean_one s i part p item fits same has one = record {
   same_count = λ look. ap length (visited_parts-from part [] i 0 s look (omega arith)) ∙ sym (one look);
 }
 
--- a literal means the bytes of its range, each for itself, where there are some
+-- a literal means the plain bytes of its range, if there are any
 pub mean_literal : (s : List ℕ) (i : ℕ) (span : Span) (p : ℕ) (x : List ℕ) → 0 < length x → IsSpan s span
     → span_bytes span s ≡ x
     → PartsMean s i (Literal span ∷ []) p (plains x)
@@ -283,7 +283,7 @@ mean_optional s i name p inside named starts kind =
     ((inside, named), (omega arith, omega arith))
     (λ look. refl) (rw (starts, kind) refl) (λ look. refl)
 
--- the steps of a default's part and of the parts after it: what was found, or else the steps of the parts
+-- the steps of a default's part and of the parts after it: the found value, or else the steps of these parts
 steps_in-default : (found : Option (List ℕ)) (parts : List Part) (i : ℕ) (s : List ℕ) (look : LookUp)
     → given_or found [] ++ steps_in (visited_parts parts i (if_found found (i + length parts)) s look) s look
     ≡ given_or found (steps_in (visited_parts parts i 0 s look) s look)
@@ -292,7 +292,7 @@ steps_in-default (Some x) parts i s look =
     (visited_parts-jumped i (i + length parts) s parts look (omega arith))
 steps_in-default None parts i s look = refl
 
--- the parts of a default are visited where nothing was found
+-- the parts of a default are visited if no value was found
 default_count : (found : Option (List ℕ)) (parts : List Part) (i : ℕ) (s : List ℕ) (look : LookUp)
     → length (visited_parts parts i (if_found found (i + length parts)) s look)
     ≡ if_missing found (length (visited_parts parts i 0 s look))
@@ -300,7 +300,7 @@ default_count (Some x) parts i s look =
     ap length (visited_parts-jumped i (i + length parts) s parts look (omega arith))
 default_count None parts i s look = refl
 
--- a default's part that jumps over the parts after it means the name with the tree that those mean
+-- a default's part that jumps over the parts after it means the name with the tree of these parts
 pub mean_default : (s : List ℕ) (i : ℕ) (name : Span) (parts : List Part) (p : ℕ) (t : Tree) → IsSpan s name
     → IsName (span_bytes name s) → name.start ≡ p + 2 → kind_before (drop name.end s) ≡ OrDefault
     → PartsMean s (i + 1) parts (p + 3 + length (span_bytes name s)) t
@@ -336,6 +336,6 @@ mean_default s i name parts p t inside named starts kind mean = record {
 
 module _ {s : List ℕ} {i : ℕ} {parts : List Part} {p : ℕ} {t : Tree} (mean : PartsMean s i parts p t)
     (look : LookUp) where
-  -- parts give the value of the tree that they mean
+  -- the value of parts is that of the tree that they mean
   pub same_value : steps_value (steps_in (visited_parts parts i 0 s look) s look) ≡ value p t look
   same_value = ap steps_value (mean.same_steps look) ∙ sym (value-steps look t p)

@@ -21,7 +21,8 @@ use Rattle.subst_language.specs.Lemmas.Closing.{Completes}
 use Rattle.subst_language.proofs.Language.ClosesOrNotLemmas.{BraceKind, escapes, opens, closes, counts_not, brace_kind}
 use Rattle.subst_language.proofs.Language.ClosingLemmas.{closes_balanced, closes_nothing, closes_one, completes_byte, completes_escape, completes_opening, completes_closing}
 
--- a test for a text that closes so many open braces and is balanced after them; a backslash may be before it
+-- a test for a text that closes this many open braces and is balanced after them; a backslash may be before
+-- it
 abbrev completes : (after_backslash : Bool) (open_braces : ℕ) → List ℕ → Bool
 completes false zero [] = true
 completes false (suc d) [] = false
@@ -33,7 +34,7 @@ completes false d (b ∷ x) =
     if b == closing_brace then elim d [ zero ↦ false | suc e ↦ completes false e x ] else
     completes false d x
 
--- what passes it, after one byte, by which of the four kinds the byte is
+-- the test is right after one byte, by the kind of the byte
 completes_step : {b : ℕ} → BraceKind b → (d : ℕ) (x : List ℕ)
     → ((a : Bool) (e : ℕ) → IsTrue (completes a e x) → Completes e (if a then backslash ∷ x else x))
     → IsTrue (completes false d (b ∷ x)) → Completes d (b ∷ x)
@@ -46,7 +47,7 @@ completes_step (counts_not {b = b} n o c) d x rest h =
     rw (ne_eqb b backslash n, ne_eqb b opening_brace o, ne_eqb b closing_brace c) in
     completes_byte d x b n o c (rest false d (sym same ∙ h))
 
--- what passes it
+-- the test is right
 completes_from_test : (a : Bool) (d : ℕ) (x : List ℕ) → IsTrue (completes a d x)
     → Completes d (if a then backslash ∷ x else x)
 completes_from_test false zero [] h = empty
@@ -60,7 +61,7 @@ completes_from_test false d (b ∷ x) h =
 abbrev pub is_balanced : List ℕ → Bool
 is_balanced x = completes false 0 x
 
--- what passes it
+-- the test is right
 pub balanced_from_test : (x : List ℕ) → IsTrue (is_balanced x) → IsBalanced x
 balanced_from_test x h = completes_from_test false 0 x h
 
@@ -79,14 +80,14 @@ abbrev pub is_name : List ℕ → Bool
 is_name [] = false
 is_name (b ∷ bytes) = is_name_byte b && are_name_bytes bytes
 
--- what passes the test for name bytes
+-- the test for name bytes is right
 name_bytes_from_test : (bytes : List ℕ) → IsTrue (are_name_bytes bytes) → AllByRecursion IsNameByte bytes
 name_bytes_from_test [] h = tt
 name_bytes_from_test (b ∷ bytes) h =
     let p = and_parts (is_name_byte b) (are_name_bytes bytes) h in
     (p.0, name_bytes_from_test bytes p.1)
 
--- what passes the test for a name
+-- the test for a name is right
 pub name_from_test : (n : List ℕ) → IsTrue (is_name n) → IsName n
 name_from_test [] h = true≢false (sym h)
 name_from_test (b ∷ bytes) h = search (rules, and_parts, is_name_byte, are_name_bytes, name_bytes_from_test)
@@ -96,7 +97,7 @@ abbrev ends_name : Tree → Bool
 ends_name (Then (Plain b) rest) = not (is_name_byte b)
 ends_name _ = true
 
--- what passes it
+-- the test is right
 ends_name_from_test : (t : Tree) → IsTrue (ends_name t) → EndsName t
 ends_name_from_test Empty h = tt
 ends_name_from_test (Then (Plain b) rest) h = λ e. cc
@@ -126,7 +127,7 @@ other_byte : (b c : ℕ) → IsTrue (not (b == c)) → b ≢ c
 other_byte b c h = eqb-false b c (not-true (b == c) h)
 
 mutual
-  -- what passes the test for an item
+  -- the test for an item is right
   item_from_test : (item : Item) (rest : Tree) → IsTrue (is_item item rest) → IsItem item rest
   item_from_test (Plain b) rest h =
       let p = and_parts (not (b == dollar)) (not (b == backslash)) h in
@@ -142,7 +143,7 @@ mutual
       let q = and_parts (is_well_formed t) (is_balanced (text t)) p.1 in
       (name_from_test n p.0, well_formed_from_test t q.0, balanced_from_test (text t) q.1)
 
-  -- what passes the test for a well-formed tree
+  -- the test for a well-formed tree is right
   pub well_formed_from_test : (t : Tree) → IsTrue (is_well_formed t) → IsWellFormed t
   well_formed_from_test Empty h = tt
   well_formed_from_test (Then item rest) h =

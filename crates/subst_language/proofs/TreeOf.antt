@@ -1,5 +1,5 @@
--- The tree of a source that is written out, computed: a caller with such a source writes `refl`, and no tree.
--- How a tree is written by hand.
+-- The computed tree of a source that is written out: a caller with such a source writes `refl`, and no tree.
+-- Functions to write a tree by hand.
 use Rattle.std.proofs.Common.{rules, ◌≡◌, IsTrue, inr, ℕ, zero, suc, ◌==◌, Bool, true, false, ◌&&◌, if◌then◌else◌, List, [], ◌∷◌, Option, Some, None, option_map, bytes_eq, refl, subst}
 use Rattle.std.proofs.lemmas.Bool.{and_parts}
 use Rattle.std.proofs.lemmas.Slice.Eq.{bytes_eq-Decides}
@@ -22,7 +22,7 @@ abbrev after_name : List ℕ → List ℕ × List ℕ
 after_name [] = ([], [])
 after_name (b ∷ s) = if is_name_byte b then before b (after_name s) else ([], b ∷ s)
 
--- the text up to the brace that closes a default, and what is after that, where `open_braces` more are open
+-- the text up to the brace that closes a default, and the rest after that, if `open_braces` more are open
 abbrev cut : (after_backslash : Bool) (open_braces : ℕ) → List ℕ → List ℕ × List ℕ
 cut after_backslash n [] = ([], [])
 cut true n (b ∷ s) = before b (cut false n s)
@@ -32,7 +32,7 @@ cut false n (b ∷ s) =
     if b == closing_brace then elim n [ zero ↦ ([], s) | suc m ↦ before b (cut false m s) ] else
     before b (cut false n s)
 
--- what is after `${name`, where `next` reads a text
+-- the tree of the text after `${name`; `next` reads the rest
 abbrev in_braces : (next : List ℕ → Tree) → List ℕ × List ℕ → Tree
 in_braces next (n, []) = Empty
 in_braces next (n, b ∷ s) =
@@ -41,14 +41,14 @@ in_braces next (n, b ∷ s) =
     if b == question_mark then elim s [ [] ↦ Empty | (c ∷ rest) ↦ Then (Optional n) (next rest) ] else
     Empty
 
--- what is after a dollar
+-- the tree of the text after a dollar
 abbrev after_dollar : (next : List ℕ → Tree) → List ℕ → Tree
 after_dollar next [] = Empty
 after_dollar next (b ∷ s) =
     if b == opening_brace then in_braces next (after_name s) else
     (let (n, rest) = after_name (b ∷ s) in Then (Short n) (next rest))
 
--- what is after a backslash
+-- the tree of the text after a backslash
 abbrev after_backslash : (next : List ℕ → Tree) → List ℕ → Tree
 after_backslash next [] = Empty
 after_backslash next (b ∷ s) = Then (Escaped b) (next s)
@@ -66,11 +66,11 @@ read_within (_ ∷ within) (b ∷ s) =
 abbrev tested : List ℕ → Tree → Option Tree
 tested s t = if is_well_formed t && bytes_eq s (text t) then Some t else None
 
--- the tree that is read of a text, where it passes the test; a text that is no sentence has none
+-- the tree of a text, if it passes the test; a text that is no sentence has none
 abbrev pub tree_of : List ℕ → Option Tree
 tree_of s = tested s (read_within s s)
 
--- what passes the test is the text's tree
+-- a tree that passes the test is the text's tree
 passed : (s : List ℕ) (u t : Tree) (test : Bool) → (is_well_formed u && bytes_eq s (text u)) ≡ test
     → (if test then Some u else None) ≡ Some t → Spells t s
 passed s u t true is found =
@@ -80,7 +80,7 @@ passed s u t true is found =
     (record { well_formed = well_formed_from_test u formed; spelled = (bytes_eq-Decides s (text u)).0 same })
 passed s u t false is found = absurd cc
 
--- a tree that is found is the source's tree
+-- a computed tree is the source's tree
 pub spelled : (s : List ℕ) (t : Tree) → tree_of s ≡ Some t → Spells t s
 spelled s t found = passed s (read_within s s) t _ refl found
 
@@ -93,7 +93,7 @@ computed : (s : List ℕ) (look : LookUp) (v : Value) → value_of s look ≡ So
     → (t : Tree) × Spells t s × (value 0 t look ≡ v)
 computed s look v is = search (rules, tree_of, spelled, option_map, value)
 
--- a source whose value is bytes gives them
+-- if the computed value of a source is bytes, these are its answer
 pub computed_gives : (s x : List ℕ) (look : LookUp) → value_of s look ≡ Some (Bytes x)
     → Answers s look (Gives x)
 computed_gives s x look is = computed s look (Bytes x) is
@@ -103,7 +103,7 @@ pub computed_missing : (s : List ℕ) (position : ℕ) (name : List ℕ) (look :
     → value_of s look ≡ Some (Missing position name) → Answers s look (Refuses (NoSuchVariable position name))
 computed_missing s position name look is = search (rules, computed, inr)
 
--- a tree that passes the test, and whose value under the look-up is bytes: its text gives them
+-- if a tree passes the test and its value under the look-up is bytes, these are the answer of its text
 pub gives : (s x : List ℕ) (look : LookUp) (t : Tree) → IsTrue (is_well_formed t) → s ≡ text t
     → value 0 t look ≡ Bytes x → Answers s look (Gives x)
 gives s x look t w e v = (t, record { well_formed = well_formed_from_test t w; spelled = e }, v)

@@ -1,4 +1,4 @@
--- Worked examples of the definitions: what they say of written-out sources. The code isn't named here.
+-- Worked examples of the definitions, for sources that are written out. No code is named here.
 use Rattle.std.proofs.Common.{◌≡◌, ◌≢◌, ℕ, cond, inl, List, [], ◌∷◌, ◌++◌, length, Some, None, bytes_eq, codes, refl, ap, arith}
 use Rattle.std.specs.Char.{encode_utf8}
 use Rattle.std.specs.List.{range_with_len}
@@ -35,7 +35,7 @@ looking_up (pair ∷ pairs) name = cond (bytes_eq name pair.0) (Some pair.1) (lo
 abbrev a_is_1 : LookUp
 a_is_1 = looking_up ((codes "a", codes "1") ∷ [])
 
--- Each form, and what stands for itself.
+-- Each form, and plain bytes.
 
 -- a name without braces is the longest run of letters, digits and underscores
 pub longest_name : Answers (codes "$a_1-")
@@ -47,7 +47,7 @@ pub value_verbatim : Answers (codes "$a") (looking_up ((codes "a", codes "$b" ++
     (Gives (codes "$b" ++ 0xFF ∷ []))
 value_verbatim = computed_gives _ _ _ refl
 
--- a value may be empty, and then no default is written
+-- a value may be empty, and then no default is used
 pub empty_value : Answers (codes "x${a:b}y$a") (looking_up ((codes "a", []) ∷ [])) (Gives (codes "xy"))
 empty_value = computed_gives _ _ _ refl
 
@@ -55,7 +55,8 @@ empty_value = computed_gives _ _ _ refl
 pub unused_default : Answers (codes "${a:$z}") a_is_1 (Gives (codes "1"))
 unused_default = computed_gives _ _ _ refl
 
--- a default may have variables, and a dash has no meaning in it; braces separate a name from what follows
+-- a default may have variables, and a dash has no meaning in it; braces separate a name from the text after
+-- it
 pub variable_in_default : Answers (codes "${b:-${a}0}") a_is_1 (Gives (codes "-10"))
 variable_in_default = computed_gives _ _ _ refl
 
@@ -63,7 +64,7 @@ variable_in_default = computed_gives _ _ _ refl
 pub five_escapes : (look : LookUp) → Answers (codes "\\\\\\$\\{\\}\\:") look (Gives (codes "\\${}:"))
 five_escapes look = computed_gives _ _ _ refl
 
--- every byte but the dollar and the backslash stands for itself, whatever the look-up
+-- every byte but the dollar and the backslash is plain, whatever the look-up
 pub all_other_bytes : (look : LookUp)
     → Answers (range_with_len 0 36 ++ range_with_len 37 55 ++ range_with_len 93 163) look
     (Gives (range_with_len 0 36 ++ range_with_len 37 55 ++ range_with_len 93 163))
@@ -92,12 +93,13 @@ pub nested_with_inner : Answers (codes "Hello ${a:cruel ${b:world}}!")
     (looking_up ((codes "b", codes "sea") ∷ [])) (Gives (codes "Hello cruel sea!"))
 nested_with_inner = computed_gives _ _ _ refl
 
--- two names and four runs of plain bytes are its parts; those of a default that isn't used are not visited
+-- its parts are two names and four runs of plain bytes; the parts of a default that isn't used are not
+-- visited
 pub nested_parts : (part_count nested ≡ 6) × (visited_count nested nothing ≡ 6)
     × (visited_count nested a_is_1 ≡ 3)
 nested_parts = (refl, refl, refl)
 
--- the first closing brace ends the default, and the second stands for itself
+-- the first closing brace ends the default, and the second is plain
 pub brace_after_default : Answers (codes "${b:}}") nothing (Gives (codes "}"))
 brace_after_default = computed_gives _ _ _ refl
 
@@ -111,25 +113,25 @@ escaped_in_default = computed_gives _ _ _ refl
 
 -- Optional variables.
 
--- without a value they give nothing, and with one they give it
+-- they expand to nothing without a value, and else to the value
 pub optional : Answers (codes "-${a?}${b?}-") a_is_1 (Gives (codes "-1-"))
 optional = computed_gives _ _ _ refl
 
--- so a default of one may be empty
+-- an optional variable may be empty in a default
 pub optional_in_default : Answers (codes "${b:${c?}}") nothing (Gives [])
 optional_in_default = computed_gives _ _ _ refl
 
--- a question mark elsewhere stands for itself
+-- a question mark elsewhere is plain
 pub plain_question_marks : Answers (codes "$a?{?}${b:?}") a_is_1 (Gives (codes "1?{?}?"))
 plain_question_marks = computed_gives _ _ _ refl
 
--- Names that are needed and have no value: the first counts, at the position of its first byte.
+-- Missing variables: the first needed name without a value, at the position of the name.
 
 -- the position is that of the name, and not of the dollar or the opening brace
 pub missing_name : Answers (codes "Hello ${name}!") nothing (Refuses (NoSuchVariable 8 (codes "name")))
 missing_name = computed_missing _ _ _ _ refl
 
--- the first that has none, though a name in a default that isn't used has none either
+-- the first needed one, though a name in a default that isn't used has no value either
 pub first_missing : Answers (codes "${a:$x}$y$z") a_is_1 (Refuses (NoSuchVariable 8 (codes "y")))
 first_missing = computed_missing _ _ _ _ refl
 
@@ -148,7 +150,7 @@ pub backslash_before_letter : (look : LookUp)
     → Answers (codes "\\x") look (Refuses (InvalidEscapeSequence 0 (Some (Char 120))))
 backslash_before_letter look = inl (fault_after Empty tt (escape (λ h. cc) (ascii_in_front 120 [] refl)))
 
--- a dollar at the end, after a variable whose value nobody asks for
+-- a dollar at the end, after a variable whose value isn't looked up
 pub lone_dollar : (look : LookUp) → Answers (codes "$x$") look (Refuses (MissingVariableName 2 1))
 lone_dollar look = inl (fault_after (only (Short (codes "x"))) (((refl, tt), tt), tt) dollar_at_end)
 
@@ -168,7 +170,7 @@ empty_braces look = inl (fault_after Empty tt (brace_alone (λ h. cc)))
 pub unclosed_name : (look : LookUp) → Answers (codes "${a") look (Refuses (MissingClosingBrace 1))
 unclosed_name look = inl (fault_after Empty tt (name_at_end (codes "a") (refl, tt)))
 
--- a name in braces before another byte, with what was expected in words
+-- a name in braces before another byte, with the message of what was expected
 pub byte_after_name : (look : LookUp) → Answers (codes "${a-b}") look
     (Refuses (UnexpectedCharacter 3 (Char 45)
     (codes "a closing brace ('}'), colon (':') or question mark ('?')")))
@@ -181,7 +183,7 @@ byte_after_name look =
 pub unclosed_optional : (look : LookUp) → Answers (codes "${a?") look (Refuses (MissingClosingBrace 1))
 unclosed_optional look = inl (fault_after Empty tt (optional_at_end (codes "a") (refl, tt)))
 
--- a byte after a question mark, with what was expected in words
+-- a byte after a question mark, with the message of what was expected
 pub byte_after_question_mark : (look : LookUp) → Answers (codes "${a?:d}") look
     (Refuses (UnexpectedCharacter 4 (Char 58) (codes "a closing brace ('}')")))
 byte_after_question_mark look = inl (fault_after Empty tt
@@ -192,7 +194,7 @@ pub unclosed_default : (look : LookUp) → Answers (codes "${a:{}") look (Refuse
 unclosed_default look = inl (fault_after Empty tt
     (unclosed (codes "a") (codes "{}") (refl, tt) (balanced_never_closes _ refl)))
 
--- the outermost placeholder that is never closed counts, and not what is wrong in its default
+-- the fault is the outermost placeholder that is never closed, and not one in its default
 pub unclosed_before_inner : (look : LookUp)
     → Answers (codes "${a:${b)}") look (Refuses (MissingClosingBrace 1))
 unclosed_before_inner look = inl (fault_after Empty tt
@@ -204,9 +206,9 @@ fault_in_default look = inl (fault_after (only_plain (codes "-")) ((omega arith,
     (inside (codes "a") (codes "$") _ (refl, tt) (balanced_from_test _ refl)
     (fault_after Empty tt dollar_at_end)))
 
--- Past ASCII.
+-- Bytes that aren't ASCII.
 
--- a byte past ASCII ends a name: `$a` and U+00E9
+-- a byte that isn't ASCII ends a name: `$a` and U+00E9
 pub name_before_past_ascii : Answers (codes "$a" ++ 0xC3 ∷ 0xA9 ∷ []) a_is_1
     (Gives (codes "1" ++ 0xC3 ∷ 0xA9 ∷ []))
 name_before_past_ascii = computed_gives _ _ _ refl
@@ -217,15 +219,15 @@ pub escaped_character : (look : LookUp) → Answers (codes "\\" ++ 0xE2 ∷ 0x9D
 unfolding encode_utf8
 escaped_character look = inl (fault_after Empty tt (escape (λ h. cc) (refl, ([], refl))))
 
--- without its last byte no character is there, and the first byte is named
+-- without its last byte there is no character, and the first byte is in the fault
 pub escaped_byte : (look : LookUp)
     → Answers (codes "\\" ++ 0xE2 ∷ 0x9D ∷ []) look (Refuses (InvalidEscapeSequence 0 (Some (Byte 0xE2))))
 unfolding encode_utf8 chars
 escaped_byte look = inl (fault_after Empty tt (escape (λ h. cc) (byte_in_front 0xE2 _ refl)))
 
--- What is no answer: a source has one at most.
+-- Wrong answers: a source has at most one.
 
--- another answer than that of the source
+-- an answer that differs from the source's
 not_answered : (a b : Answer) (s : List ℕ) (look : LookUp) → Answers s look a → a ≢ b
     → ¬ (Answers s look b)
 not_answered a b s look h n k = n (answer_unique s look a b h k)
@@ -246,7 +248,7 @@ empty_default_counts =
     not_answered (Gives (codes "}")) (Refuses (NoSuchVariable 2 (codes "b"))) _ _ brace_after_default
     (λ e. cc)
 
--- a missing variable isn't the answer where the source has a fault after it
+-- a missing variable isn't the answer if the source has a fault after it
 pub missing_before_fault : ¬ (Answers (codes "$x$") nothing (Refuses (NoSuchVariable 1 (codes "x"))))
 missing_before_fault =
     not_answered (Refuses (MissingVariableName 2 1)) (Refuses (NoSuchVariable 1 (codes "x"))) _ _
@@ -254,7 +256,7 @@ missing_before_fault =
 
 -- Sources for the laws.
 
--- `$a` and then `b` are another variable, so sentences don't always join
+-- `$a` and then `b` are another variable, so not all sentences join
 pub name_goes_on : Answers (codes "$a" ++ codes "b") a_is_1 (Refuses (NoSuchVariable 1 (codes "ab")))
 name_goes_on = computed_missing _ _ _ _ refl
 
@@ -262,7 +264,7 @@ name_goes_on = computed_missing _ _ _ _ refl
 pub specials_escaped : escaped (codes "a$b{c}:\\?" ++ 0xC3 ∷ []) ≡ codes "a\\$b\\{c\\}\\:\\\\?" ++ 0xC3 ∷ []
 specials_escaped = refl
 
--- what lacks a closing brace in `a${b` is the `${` after `a`
+-- the missing closing brace in `a${b` is that of the `${` after `a`
 pub brace_after_sentence : OpensAt 0 (codes "a${b") 2
 brace_after_sentence = record {
   before = codes "a";
@@ -284,6 +286,6 @@ optional_earlier look =
     inl (earlier.HasFault.fault_after earlier_tree.Empty tt
     (earlier.IsBad.name_alone (codes "a") _ (refl, tt) (λ h. cc) (omega arith) (omega arith) here))
 
--- what is expected after a name is said in other words now
+-- the message of what is expected after a name has changed
 pub other_message : earlier.brace_or_colon ≢ after_name
 other_message same = omega (arith, ap length same)

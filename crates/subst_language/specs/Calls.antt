@@ -1,4 +1,4 @@
--- What callers see beside the language: look-ups that maps have, and results as answers.
+-- The terms of public contracts besides those of the language: look-ups of maps, and results as answers.
 pub mod Clauses
 pub mod Outcome
 pub mod VariableMap

@@ -1,5 +1,5 @@
--- The template language: what is right, without the code. No definition here has a cursor, a counter, a
--- stack or a jump.
+-- The template language, defined without the code: no definition here has a cursor, a counter, a stack or a
+-- jump.
 pub mod Answer
 pub mod BadItem
 pub mod Balanced

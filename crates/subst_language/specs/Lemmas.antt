@@ -1,3 +1,3 @@
--- Words that lemmas use, here and in crates above. No contract of a public function cites them.
+-- Terms of lemmas, here and in crates that depend on this one. No contract of a public function cites them.
 pub mod Closing
 pub mod PlainEnds

@@ -1,6 +1,6 @@
--- What the maps of the library have under each name: the value of the key whose text is the name.
--- Of keys that are owned the standard library's `get_by_text` says so. An `IndexMap` is seen as a
--- `HashMap`, and an `Env` as its pairs.
+-- The look-ups of the library's maps: the value of the key whose text is the name. For owned keys this is the
+-- standard library's `get_by_text`. In contracts an `IndexMap` is a `HashMap`, and an `Env` the list of its
+-- pairs.
 use denote.Ref.{Bor}
 use Rattle.std.proofs.Common.{inl, inr}
 use Rattle.std.specs.Prelude.{◌≡◌, ◌⊎◌, ◌==◌, ℕ, List, length, Option, Some, None, String, string_bytes, find, option_and_then, if◌then◌else◌}
@@ -15,39 +15,40 @@ use Rattle.subst_language.specs.Language.LookUp.{LookUp}
 use Rattle.subst_language.specs.declared.maps.layered.OneOf.{OneOf}
 use Rattle.subst_language.specs.declared.maps.layered.OneOf.TheVariants.{First, Second}
 
--- the value of the first pair with this name, where these two give the name and the value of a pair
+-- the value of the first pair with the name; `name_of` and `value_of` are the name and the value of a pair
 abbrev pub first_value_by : {P : Type 0} → (P → List ℕ) → (P → List ℕ) → List P → LookUp
 first_value_by name_of value_of pairs name =
     option_map value_of (find (λ pair. bytes_eq name (name_of pair)) pairs)
 
--- the value of the first pair with this name, of pairs of texts that are owned
+-- the value of the first pair with the name, in a list of pairs of owned texts
 abbrev pub first_value : {X : Type 0} → List (String X × String X) → LookUp
 first_value pairs = first_value_by (λ pair. string_bytes pair.0) (λ pair. string_bytes pair.1) pairs
 
--- the value of a `BTreeMap` under the key, a borrowed text, whose bytes are the name
-abbrev pub btree_get_by_lent_text : {V : Type 0} → BTreeMap (Bor (List ℕ)) V → List ℕ → Option V
-btree_get_by_lent_text map name = btree_get_by (λ key. slice_cmp nat_cmp name key.now) map
+-- the value of a `BTreeMap` under the borrowed key whose bytes are the name
+abbrev pub btree_get_by_borrowed_text : {V : Type 0} → BTreeMap (Bor (List ℕ)) V → List ℕ → Option V
+btree_get_by_borrowed_text map name = btree_get_by (λ key. slice_cmp nat_cmp name key.now) map
 
--- the value of a `HashMap`, or an `IndexMap`, under the key, a borrowed text, whose bytes are the name
-abbrev pub hash_get_by_lent_text : {V S : Type 0} → HashMap (Bor (List ℕ)) V S → List ℕ → Option V
-hash_get_by_lent_text map name = hash_get_by (λ key. bytes_eq name key.now) map
+-- the value of a `HashMap` or an `IndexMap` under the borrowed key whose bytes are the name
+abbrev pub hash_get_by_borrowed_text : {V S : Type 0} → HashMap (Bor (List ℕ)) V S → List ℕ → Option V
+hash_get_by_borrowed_text map name = hash_get_by (λ key. bytes_eq name key.now) map
 
--- what these two give of a value of one of two types
+-- the result of the function for the type of the value, applied to that value
 abbrev pub of_one : {A B C : Type 0} → (A → C) → (B → C) → OneOf A B → C
 of_one first second (First a) = first a
 of_one first second (Second b) = second b
 
--- what the first of two maps has under the name, or else what the second has
+-- the value that the first look-up has for the name, or else that of the second
 abbrev pub layered : {S T : Type 0} → (List ℕ → Option S) → (List ℕ → Option T) → List ℕ → Option (S ⊎ T)
 layered first second name =
     option_or (option_map (λ s. inl s) (first name)) (option_map (λ t. inr t) (second name))
 
--- what the look-up has under the name, but for no bytes at all
+-- the look-up `look`, but `None` for each name whose value is empty
 abbrev pub without_empty : LookUp → LookUp
 without_empty look name =
     option_and_then (λ bytes. (if length bytes == 0 then None else Some bytes)) (look name)
 
--- The values of maps, read as bytes in some way, are what these look-ups have.
+-- Some function `bytes` reads the bytes of each value v, `items v`, from `see v`, which v is identified with.
+-- It also reads the bytes that `look_up_bytes` has for each name from what `look_up` has for that name.
 abbrev pub AreReadAs : {Map Value Seen : Type 0} → (Value → List ℕ) → (Value → Seen)
     → (Map → List ℕ → Option Seen) → (Map → LookUp) → Type 0
 AreReadAs {Map} {Value} {Seen} items see look_up look_up_bytes = (bytes : Seen → List ℕ)

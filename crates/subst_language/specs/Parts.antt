@@ -1,5 +1,5 @@
--- The parts that a source is parsed into: what they mean, and what a sink does with them. They are the code's
--- own words: no contract of a public call cites them.
+-- The parts that a source is parsed into: their meaning, and the sink that takes them. No contract of a
+-- public call cites these terms.
 pub mod Meaning
 pub mod Sink
 pub mod Span

@@ -1,10 +1,10 @@
-//! A number that only proofs read.
+//! A counter that only proofs read.
 
 ghost use Rattle.std.specs.Prelude.{◌≡◌, ◌+◌, ℕ};
 
 use std::marker::Model;
 
-/// A number that only proofs read, and that only `add` changes. It takes no memory.
+/// A number that only proofs read and only `add` changes. It takes no memory.
 #[derive(Drop)]
 pub struct Counter {
     ghost count: { ℕ },
@@ -18,7 +18,7 @@ impl Model for Counter {
 
     ghost view = { λ counter. counter.count };
 
-    // It owns no memory. A ghost field may hold a number only where this is said.
+    // It owns no memory, which must be stated if a ghost field holds a number.
     ghost also_owns = { λ _. ftrue };
 }
 
@@ -30,7 +30,7 @@ impl Counter {
         Counter {}
     }
 
-    /// Adds `n`.
+    /// Adds `n` to the counter.
     pub fn add(&mut self, n: usize)
         ensures { self.new ≡ self.old + n }
     {

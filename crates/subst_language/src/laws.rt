@@ -1,4 +1,4 @@
-//! Laws of the definitions that the contracts cite. Each is the contract of a function that does nothing.
+//! Laws of the definitions that contracts cite. Each is the contract of an empty function.
 
 ghost use Rattle.std.specs.Prelude.{◌≡◌, ◌↔◌, ◌≤◌, ◌+◌, ◌∷◌, ◌++◌, [], ℕ, List, Some, None, IsSome};
 ghost use Rattle.std.specs.Prelude.{length, map, sum_by};
@@ -28,17 +28,17 @@ ghost use Rattle.subst_language.specs.Language.Written.{written};
 ghost use Rattle.subst_language.specs.Language.Counts.{part_count, visited_count};
 
 /// The law of one reading. Each byte string is a sentence of the template language or has a fault, never
-/// both: a sentence is the text of exactly one well-formed tree, and any other byte string has exactly one
-/// fault at each position that it may be at.
+/// both. A sentence is the text of exactly one well-formed tree. Any other byte string has exactly one fault,
+/// for each position at which it may begin in a source.
 pub fn law_1()
     ensures reading { (s : List ℕ) → OneTreeOrOneFault s }
 {}
 
-/// The law of joined sentences. Where two sentences are written one after the other, and the second doesn't
-/// go on with a name at the end of the first, they are a sentence: its tree is their two trees joined, and
-/// where they give bytes, it gives these joined. A fault of what follows a sentence is that of the whole,
-/// with its position moved by the length of the sentence; so is a missing variable, where the sentence gives
-/// bytes. A missing variable of the first sentence is that of the whole.
+/// The law of joined sentences. Let a text follow a sentence, and not continue a name at its end. If the text
+/// has a fault, the whole has that fault, its position moved by the sentence's length. If the text is a
+/// sentence, so is the whole, with the two trees joined and the two outputs concatenated. If then a variable
+/// of the first is missing, the whole is refused for it. If only variables of the second are missing, the
+/// whole is refused for the first of these, its position moved likewise.
 pub fn law_2()
     ensures tree { (t u : Tree) (a b : List ℕ) → Spells t a → Spells u b → IsFollowed t b
         → Spells (join t u) (a ++ b) }
@@ -55,9 +55,9 @@ pub fn law_2()
         → Answers (a ++ b) look (Refuses f) }
 {}
 
-/// The law of escaped texts. A text with a backslash before each special byte is a sentence that gives the
-/// text under every look-up. As a default it gives the text under every look-up that has nothing for the
-/// name.
+/// The law of escaped texts. If a backslash is put before each special byte of a text, a sentence results
+/// that expands to the text, under every look-up. As the default of a placeholder, this sentence also expands
+/// to the text, if the look-up has no value for the placeholder's name.
 pub fn law_3()
     ensures alone { (x : List ℕ) (look : LookUp) → Answers (escaped x) look (Gives x) }
     ensures as_default { (n x : List ℕ) (look : LookUp) → IsName n → look n ≡ None
@@ -65,9 +65,9 @@ pub fn law_3()
         (Gives x) }
 {}
 
-/// The law of names. Only the names in a tree matter: two look-ups that have the same for each of them give
-/// the tree one value. A value that is bytes stays bytes under a look-up that has something for at least the
-/// same of these names, though perhaps other bytes.
+/// The law of names. A tree has the same value under two look-ups that agree on all names in the tree.
+/// Suppose instead that the second has at least a value for each of these names that the first has one for.
+/// If the value under the first is bytes, so is the value under the second, perhaps with other bytes.
 pub fn law_4()
     ensures same { (p : ℕ) (t : Tree) (a b : LookUp) → All (λ n. a n ≡ b n) (names_in t)
         → value p t a ≡ value p t b }
@@ -76,9 +76,9 @@ pub fn law_4()
         → (y : List ℕ) × (value p t b ≡ Bytes y) }
 {}
 
-/// The law of late faults. A source that lacks a closing brace is a sentence, then `${` with the brace that
-/// the fault is at, and then anything. In a source with an escape that has no character, the backslash is
-/// the last byte.
+/// The law of late faults. If a source's fault is a missing closing brace, the source begins with a sentence
+/// and `${`, whose brace is at the fault's position. If the fault is an escape without a character, the
+/// backslash is the source's last byte.
 pub fn law_5()
     ensures brace { (p position : ℕ) (s : List ℕ) → HasFault p s (MissingClosingBrace position)
         → OpensAt p s position }
@@ -86,9 +86,9 @@ pub fn law_5()
         → HasFault p s (InvalidEscapeSequence position None) → position + 1 ≡ p + length s }
 {}
 
-/// The law of settled faults. A text keeps its fault whatever is written after it, if that is an escape with
-/// its character, an unexpected character, or a missing name that ends before the text does. For any other
-/// fault there is a text after which the source has another fault, or none.
+/// The law of settled faults. These faults stay, whatever is appended to the text: an escape with its
+/// character, an unexpected character, and a missing name if its `$` or `${` doesn't end the text. For any
+/// other fault, some text can be appended so that the source has another fault, or none.
 pub fn law_6()
     ensures settled { (p : ℕ) (s more : List ℕ) (f : Fault) → IsUtf8 s → HasFault p s f
         → IsSettled (p + length s) f → HasFault p (s ++ more) f }
@@ -97,31 +97,30 @@ pub fn law_6()
         → (more : List ℕ) × IsUtf8 more × (¬ (HasFault p (s ++ more) f)) }
 {}
 
-/// The law of ranges. Each refusal of a text has a range whose ends are character boundaries of the text, so
-/// neither is past its end. So what the line and the underline of an error ask is so of each error that a
-/// substitution of the text returns.
+/// The law of ranges. The range of each refusal of a text begins and ends at character boundaries of the
+/// text, so it is in the text. Every error of substituting the text can therefore be underlined in it.
 pub fn law_7()
     ensures range { (s : List ℕ) (look : LookUp) (f : Fault) → IsUtf8 s → Answers s look (Refuses f)
         → IsRangeIn s (range_of (Some f)) }
 {}
 
-/// The law of plain texts. A source without dollars and backslashes is a sentence that gives itself under
-/// every look-up.
+/// The law of plain texts. A source without `$` and `\` is a sentence that expands to itself under every
+/// look-up.
 pub fn law_8()
     ensures itself { (s : List ℕ) (look : LookUp) → All IsPlain s → Answers s look (Gives s) }
 {}
 
-/// The law of extension. Each sentence of the earlier language, which had no `${name?}`, is a sentence, with
-/// the same tree, item for item, and the same value at each position under each look-up. A byte string
-/// without a question mark is a sentence of both languages or of neither; and if of neither, its faults in
-/// the two are equal but for the message of what was expected.
+/// The law of extension. Each sentence of the earlier language, which had no `${name?}`, is a sentence. It
+/// has the same tree, item for item, and the same value at each position under each look-up. A byte string
+/// without a question mark is a sentence of both languages or of neither. If of neither, its faults in the
+/// two languages are equal except for the message of what was expected.
 pub fn law_9()
     ensures kept { (s : List ℕ) → KeepsReading s }
 {}
 
-/// The law of missing variables. A variable that a source is refused for is one that the look-up has nothing
-/// for. A look-up that has something for each name in a sentence is never refused. So once a look-up has
-/// something for the variable that was missing, the source isn't refused for it again, at any position.
+/// The law of missing variables. A source is refused for a variable only if the look-up has no value for it.
+/// A sentence is never refused under a look-up with a value for each of its names. Once the look-up has a
+/// value for the missing variable, the source isn't refused for it again, at any position.
 pub fn missing_variables_are_missing()
     ensures missing { (s : List ℕ) (look : LookUp) (position : ℕ) (name : List ℕ)
         → Answers s look (Refuses (NoSuchVariable position name)) → look name ≡ None }
@@ -131,11 +130,11 @@ pub fn missing_variables_are_missing()
         → ¬ (Answers s look (Refuses (NoSuchVariable position name))) }
 {}
 
-/// The law of all that is missing. Nothing is missing exactly where the value is bytes; otherwise the first
-/// is the variable that the value is missing, which an expansion is refused for. What is missing is the
-/// required variables of the tree, without some, in their order and at their positions. Each is one that the
-/// look-up has nothing for. A look-up that has something for each, and for all that the first one has
-/// something for, gives bytes. And the names of a tree's variables are the names in the tree.
+/// The law of all missing variables. The list of a tree's missing variables is empty if and only if the
+/// tree's value is bytes. Otherwise the list begins with the variable that an expansion is refused for. It
+/// has only required variables of the tree, in order, that the look-up has no value for. A second look-up
+/// with values for these variables, and for all names with a value in the first, expands the tree to bytes.
+/// The names of a tree's variables are the names in the tree.
 pub fn missing_lists_are_whole()
     ensures none { (p : ℕ) (t : Tree) (look : LookUp)
         → (all_missing p t look ≡ [] ↔ ((x : List ℕ) × (value p t look ≡ Bytes x))) }
@@ -153,16 +152,16 @@ pub fn missing_lists_are_whole()
     ensures names { (p : ℕ) (t : Tree) → map name_of (variables_of p t) ≡ names_in t }
 {}
 
-/// The law of turns. An expansion visits at most as many parts as the source has, and a source has at most
-/// as many parts as bytes.
+/// The law of turns. An expansion visits no more parts than the source has, and the source has no more parts
+/// than bytes.
 pub fn turns_are_bounded()
     ensures visited { (t : Tree) (look : LookUp) → visited_count t look ≤ part_count t }
     ensures parts { (t : Tree) → part_count t ≤ length (text t) }
 {}
 
-/// The law of lengths. The length of an output is that of the plain and escaped bytes of the tree and of the
-/// values of the variables that are visited. It is at most that of the source, with the length of a value
-/// for each variable that is visited; and of these there is at most one for each name in the tree.
+/// The law of lengths. The length of an output is the number of the tree's visited plain and escaped bytes,
+/// plus the lengths of the values of visited variables. It is at most the source's length plus these lengths.
+/// Their sum is at most that for all names in the tree, repeated names included.
 pub fn outputs_are_bounded()
     ensures exact { (p : ℕ) (t : Tree) (look : LookUp) (x : List ℕ) → value p t look ≡ Bytes x
         → value_length t look ≡ length x }
@@ -172,9 +171,9 @@ pub fn outputs_are_bounded()
         → visited_length t look ≤ sum_by (length_of look) (names_in t) }
 {}
 
-/// The law of writing. What an evaluation writes is the bytes of the value, where it is bytes. It is at most as
-/// long as the plain and escaped bytes of the tree and the values of the variables that are visited, also
-/// where a variable is missing.
+/// The law of writing. If a tree's value is bytes, an evaluation writes exactly these bytes. If a variable is
+/// missing, it writes at most the visited plain and escaped bytes of the tree and the values of the visited
+/// variables.
 pub fn writes_are_bounded()
     ensures exact { (p : ℕ) (t : Tree) (look : LookUp) (x : List ℕ) → value p t look ≡ Bytes x
         → written p t look ≡ x }
@@ -182,8 +181,8 @@ pub fn writes_are_bounded()
         → length (written p t look) ≤ value_length t look }
 {}
 
-/// The law of texts. Where a source is UTF-8, and so is each value of a look-up, the value of the source's
-/// tree is UTF-8 if it is bytes: no character is cut.
+/// The law of texts. If a source and all values of a look-up are UTF-8, so is the output: no character is
+/// cut.
 pub fn texts_give_texts()
     ensures text { (s x : List ℕ) (p : ℕ) (look : LookUp) → IsUtf8 s → GivesTexts look
         → ByTree s (λ t. value p t look ≡ Bytes x → IsUtf8 x) }

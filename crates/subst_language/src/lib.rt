@@ -1,9 +1,13 @@
-//! The template language: its definitions, its laws, the lemmas on it, its names, the variables that templates
-//! list, the maps that give them values, and the parts that a source is parsed into.
+//! The template language: its definitions, laws and lemmas, its names, variables and maps, and the parts that
+//! a source is parsed into.
 //!
-//! The definitions are in `specs/`: `Language` says what is right, `Earlier` what the language was before
-//! `${name?}`, `Calls` what maps and results mean in contracts of public calls, `Maps` what each map has, and
-//! `Parts` what parts mean.
+//! The definitions are in `specs/`:
+//!
+//! - `Language`: the template language.
+//! - `Earlier`: the language before `${name?}`.
+//! - `Calls`: maps and results in contracts of public calls.
+//! - `Maps`: the look-up of each map.
+//! - `Parts`: the meaning of parts.
 #![tactic(auto)]
 
 mod counter;

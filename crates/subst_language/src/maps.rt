@@ -1,5 +1,4 @@
-//! Maps from names of variables to their values: the trait `VariableMap`, whose `get` returns what the
-//! map's look-up has, and the maps that are there.
+//! Maps from variable names to values: the trait `VariableMap` and its implementations.
 
 ghost use Rattle.std.specs.Prelude.{◌≡◌, ℕ, List, Option};
 ghost use Rattle.std.specs.Option.{option_map};
@@ -20,16 +19,16 @@ mod layered;
 mod never;
 mod no_empty;
 
-/// A map from names of variables to their values.
+/// A map from variable names to values.
 ///
-/// Contracts see a map as a look-up: a function, which need not be finite, from each name, as its bytes, to
-/// nothing or to what the value is identified with. An implementation gives three ghost members:
+/// Contracts see a map as a look-up: a function from the bytes of a name to `None`, or to what its value is
+/// identified with. Infinitely many names may have values. An implementation has three ghost members:
 ///
-/// - `Seen`: what values are identified with. A reference is identified with the value that it points to,
-///   since no contract says which address it has. The bytes of a value have to follow from this, or the
-///   contracts of the calls say nothing of the map.
-/// - `see`: what a value is identified with.
-/// - `look_up`: what the map has for each name.
+/// - `Seen`: the type that values are identified with. A reference is identified with the value that it
+///   points to, as no contract knows its address. If the bytes of a value don't follow from what it is
+///   identified with, contracts state no output under the map.
+/// - `see`: the function from a value to what it is identified with.
+/// - `look_up`: the look-up, as a function of the map and a name.
 pub trait VariableMap<'a> {
     /// The type of the values that [`get`](VariableMap::get) returns.
     type Value;
@@ -40,7 +39,7 @@ pub trait VariableMap<'a> {
 
     ghost look_up: { Self → List ℕ → Option Seen };
 
-    /// Returns the value of the variable with this name, or nothing where the map has none.
+    /// Returns the value of the variable `key`, or `None` if the map has no value for this name.
     fn get(&'a self, key: &str) -> Option<Self::Value>
         ensures value { option_map see result ≡ look_up self.now key.now };
 }

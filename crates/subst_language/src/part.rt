@@ -1,23 +1,23 @@
-//! What a source is parsed into.
+//! The parts that a source is parsed into.
 
-/// A range of bytes of the source.
+/// A byte range of the source.
 #[derive(Clone, Copy)]
 pub struct Span {
     pub start: usize,
     pub end: usize,
 }
 
-/// One step of an expansion.
+/// A part of a template: one step of an expansion.
 #[derive(Clone, Copy)]
 pub enum Part {
-    /// Bytes of the source, as they are.
+    /// A range of the source that is copied to the output.
     Literal(Span),
-    /// A byte that came after a backslash.
+    /// The byte after a backslash.
     Escaped(u8),
-    /// A variable that has to have a value.
+    /// A required variable: the range of its name.
     Variable(Span),
-    /// A variable with a default, whose parts come right after this one, up to the index `next` of the
-    /// list. Where the map has a value for the name, they are jumped over. An optional variable has the
-    /// empty default, so `next` is the index right after it.
+    /// A variable with a default. The parts of the default follow, up to the index `next`, and are skipped if
+    /// the map has a value for the name. An optional variable has an empty default, so `next` is the index
+    /// after this part.
     Default { name: Span, next: usize },
 }

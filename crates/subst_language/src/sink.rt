@@ -1,4 +1,4 @@
-//! What the parser gives the parts of a source to.
+//! The sink that the parser appends parts to.
 
 ghost use Rattle.std.specs.Prelude.{◌+◌, List, ℕ, IfOk, OnErr, OnOk};
 ghost use Rattle.subst_language.specs.Parts.Sink.{Adds, CanClose, CanTake, ClosesDefault, HasLength, IsClosed, Keeps};
@@ -8,12 +8,14 @@ ghost use Rattle.subst_language.specs.declared.part.Part.TheVariants as parts;
 use crate::part::{Part, Span};
 use std::alloc::AllocError;
 
-/// What takes parts, one after the other, as a list that grows at its end does. A default is opened, and
-/// closed after its parts were taken.
+/// A sink for parsed parts, appended in order. A default is opened before its parts and closed after them.
 ///
-/// Contracts see which lists of parts a sink holds, from whatever it was at first (`holds`), of which source
-/// these are (`source`), that the numbers in parts are below a limit (`limit`), and whether the sink asks for
-/// memory (`asks`).
+/// Contracts see a sink by four ghost members:
+///
+/// - `holds`: the relation of a sink, its first state, and the parts that the sink holds.
+/// - `source`: the relation of the first state and the source of these parts.
+/// - `limit`: the bound that each offset and index in a part has to be below.
+/// - `asks`: the statement that the sink may allocate. It is false if the sink never does.
 pub trait Sink {
     ghost First: { Type 0 };
 
@@ -25,11 +27,11 @@ pub trait Sink {
 
     ghost asks: { Type 0 };
 
-    /// Takes a part.
+    /// Appends a part.
     ///
     /// # Errors
     ///
-    /// Out of memory. The sink is then as before.
+    /// If allocation fails. The sink is then unchanged.
     fn take(&mut self, part: Part) -> Result<(), AllocError>
         requires fits { CanTake holds source limit self.old (λ _. part) }
         requires closed { (index : ℕ) → IsClosed (index + 1) part }
@@ -37,12 +39,11 @@ pub trait Sink {
         ensures kept { OnErr result (Keeps holds self.old self.new) }
         ensures cause { OnErr result asks };
 
-    /// Takes the part of an optional variable: a default without parts, whose jump leads to the part right
-    /// after it.
+    /// Appends an optional variable: a default without parts, whose `next` is its own index plus 1.
     ///
     /// # Errors
     ///
-    /// Out of memory. The sink is then as before.
+    /// If allocation fails. The sink is then unchanged.
     fn take_optional(&mut self, name: Span) -> Result<(), AllocError>
         requires { CanTake holds source limit self.old (λ index. parts.Default name (index + 1)) }
         ensures taken { OnOk result
@@ -50,11 +51,11 @@ pub trait Sink {
         ensures kept { OnErr result (Keeps holds self.old self.new) }
         ensures cause { OnErr result asks };
 
-    /// Takes the part of a default that opens, and returns its index.
+    /// Appends a default and opens it: parts appended until it is closed are its own. Returns its index.
     ///
     /// # Errors
     ///
-    /// Out of memory. The sink is then as before.
+    /// If allocation fails. The sink is then unchanged.
     fn open(&mut self, name: Span) -> Result<usize, AllocError>
         requires { CanTake holds source limit self.old (λ _. parts.Default name 0) }
         ensures taken { OnOk result (Adds holds self.old (λ _. parts.Default name 0) self.new) }
@@ -62,8 +63,7 @@ pub trait Sink {
         ensures kept { OnErr result (Keeps holds self.old self.new) }
         ensures cause { OnErr result asks };
 
-    /// Closes the innermost default that is open, whose part has this index and this name: its parts end
-    /// here.
+    /// Closes the innermost open default, which has this index and name. All later parts belong to it.
     fn close(&mut self, index: usize, name: Span)
         requires { CanClose holds limit self.old index name }
         ensures { ClosesDefault holds self.old index name self.new };

@@ -1,23 +1,23 @@
-//! Variables, as templates list them.
+//! The variables of a template.
 
 /// A variable of a template.
 #[derive(Clone, Copy, Debug, PartialEq, Eq)]
 pub struct Variable<'t> {
-    /// The name.
+    /// The name of the variable.
     pub name: &'t str,
-    /// The byte offset of the first byte of the name.
+    /// The byte offset of the name in the source.
     pub position: usize,
-    /// What there is in its place where it has no value.
+    /// How the variable expands if it is unset.
     pub kind: VariableKind,
 }
 
-/// What there is in the place of a variable that has no value.
+/// How an unset variable expands.
 #[derive(Clone, Copy, Debug, PartialEq, Eq)]
 pub enum VariableKind {
-    /// `$name` or `${name}`: it is a fault that it has none.
+    /// `$name` or `${name}`: to an error.
     Required,
-    /// `${name?}`: nothing.
+    /// `${name?}`: to nothing.
     Optional,
-    /// `${name:default}`: its default.
+    /// `${name:default}`: to its default.
     WithDefault,
 }

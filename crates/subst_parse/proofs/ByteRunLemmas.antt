@@ -1,4 +1,4 @@
--- Runs of bytes of one kind.
+-- Runs of bytes with a property.
 use Rattle.std.proofs.Common.{◌≡◌, ◌==◌, ◌||◌, true, ℕ, zero, suc, ◌+◌, ◌-◌, ◌<◌, ◌≤◌, List, [], ◌∷◌, ◌++◌, length, get_or, take, drop, slice_range, refl, ap, ◌∙◌, subst, append_assoc, length-append, arith}
 use Rattle.std.proofs.Math.Seq.{take-append_seam}
 use Rattle.std.proofs.lemmas.List.{drop_more}
@@ -30,18 +30,18 @@ run_by_count P s from (suc count) fits each =
       ends = omega (arith, rest.ends);
     }
 
--- bytes that are each of the kind are a run
+-- bytes that each have the property are a run
 pub run_of : (P : ℕ → Type 0) (s : List ℕ) (from to : ℕ) → from ≤ to → to ≤ length s
     → ((k : ℕ) → k < to - from → P (get_or (drop from s) k 0))
     → IsRun P s from to
 run_of P s from to ordered within each =
     subst (λ n. IsRun P s from n) (omega arith) (run_by_count P s from (to - from) (omega arith) each)
 
--- a byte that a search for dollars and backslashes passes over is plain
+-- a byte that a search for dollars and backslashes skips is plain
 pub plain_of : (b : ℕ) → ¬ ((b == dollar || b == backslash) ≡ true) → IsPlain b
 plain_of b no_match = (λ is. no_match (rw is refl), λ is. no_match (rw is refl))
 
--- the bytes from one end of a run to the other are the run
+-- the bytes from a run's start to its end are the run
 pub slice_of_run : {P : ℕ → Type 0} {s : List ℕ} {from to : ℕ} (r : IsRun P s from to)
     → slice_range s from to ≡ r.run
 slice_of_run {P} {s} {from} {to} r =
@@ -54,11 +54,11 @@ slice_of_run {P} {s} {from} {to} r =
 pub run_nothing : (P : ℕ → Type 0) (s : List ℕ) (at : ℕ) → IsRun P s at at
 run_nothing P s at = record { run = []; each = tt; spelled = refl; ends = omega arith }
 
--- a run from the front on ends within the source
+-- a run from the start of the source ends within the source
 pub run_within : {P : ℕ → Type 0} {s : List ℕ} {to : ℕ} → IsRun P s 0 to → to ≤ length s
 run_within {s = s} {to = to} r = omega (arith, r.ends, ap length r.spelled, length-append r.run (drop to s))
 
--- one byte of the kind is a run
+-- one byte with the property is a run
 pub run_one : {P : ℕ → Type 0} {s : List ℕ} {at b : ℕ} → P b → drop at s ≡ b ∷ drop (at + 1) s
     → IsRun P s at (at + 1)
 run_one {P} {s} {at} {b} is reads = record { run = b ∷ []; each = (is, tt); spelled = reads; ends = refl }

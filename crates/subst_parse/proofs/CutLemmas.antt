@@ -1,5 +1,5 @@
--- Bad items before a closing brace: what is wrong at the start of a text is wrong, too, where the text is cut
--- before any of its closing braces.
+-- Bad items before a closing brace: a bad item at the start of a text stays one if the text is cut before any
+-- of its closing braces.
 use Rattle.std.proofs.Common.{◌≡◌, ◌≢◌, ℕ, List, [], ◌∷◌, ◌++◌, refl, sym, ◌∙◌, subst, arith}
 use Rattle.std.specs.List.{AllByRecursion}
 use Rattle.std.proofs.lemmas.List.{append-nil}
@@ -15,7 +15,7 @@ use Rattle.subst_language.proofs.Language.ListLemmas.{first_same, rest_same, no_
 use Rattle.subst_language.proofs.Language.NameLemmas.{name_bytes, name_byte_plain}
 use Rattle.subst_language.proofs.Language.BeginningLemmas.{bad_dollar, bad_braces}
 
--- a text that is cut before a closing brace keeps each prefix in which there is none
+-- a text that is cut before a closing brace keeps each prefix without one
 cut_after : (n : List ℕ) {r : List ℕ} (x q : List ℕ) → AllByRecursion (λ b. b ≢ closing_brace) n
     → n ++ r ≡ x ++ closing_brace ∷ q
     → (y : List ℕ) × (x ≡ n ++ y) × (r ≡ y ++ closing_brace ∷ q)
@@ -38,19 +38,19 @@ name_uncut (b ∷ n) each = ((name_byte_plain b each.0).2, name_uncut n each.1)
 braced_uncut : (n : List ℕ) → IsName n → AllByRecursion (λ b. b ≢ closing_brace) (dollar ∷ opening_brace ∷ n)
 braced_uncut n named = (omega arith, (omega arith, name_uncut n (name_bytes n named)))
 
--- a text that doesn't begin with a byte of some kind has no prefix that does
+-- a text that doesn't begin with such a byte has no prefix that does
 begins_no_front : (P : ℕ → Type 0) (x y : List ℕ) {r : List ℕ} → BeginsWithNo P r → r ≡ x ++ y
     → BeginsWithNo P x
 begins_no_front P [] y none e = tt
 begins_no_front P (a ∷ x) y none e = subst (BeginsWithNo P) e none
 
--- the fault of the bad item isn't one of a default
+-- the fault of the bad item isn't that of a default
 abbrev pub IsSimple : {p : ℕ} {r : List ℕ} {f : Fault} → IsBad p r f → Type 0
 IsSimple (unclosed n w h i) = ⊥
 IsSimple (inside n w v h b i) = ⊥
 IsSimple _ = Unit {0}
 
--- a bad item whose fault isn't one of a default is as bad where the text is cut before a closing brace
+-- a bad item whose fault isn't that of a default has it, too, if the text is cut before a closing brace
 cut_bad : {p : ℕ} {r : List ℕ} {f : Fault} (bad : IsBad p r f) → IsSimple bad → (x q : List ℕ)
     → r ≡ x ++ closing_brace ∷ q → IsBad p x f
 cut_bad escape_at_end simple x q e = absurd (uncut (backslash ∷ []) x q (omega arith, tt) e)
@@ -87,6 +87,6 @@ cut_bad (optional_alone {b = b} {c = c} n r named no_close beginning) simple x q
 cut_bad (unclosed n w h i) simple x q e = absurd simple
 cut_bad (inside n w v h b i) simple x q e = absurd simple
 
--- a bad item whose fault isn't one of a default is bad wherever a default around it ends
+-- a bad item whose fault isn't that of a default has it wherever a default around it ends
 pub bad_however : {p : ℕ} {r : List ℕ} {f : Fault} (bad : IsBad p r f) → IsSimple bad → IsBadWhenCut p r f
 bad_however bad simple = record { bad = bad; cut = cut_bad bad simple }

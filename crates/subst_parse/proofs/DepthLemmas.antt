@@ -1,4 +1,4 @@
--- What a text does to the braces that are open before it.
+-- The effect of a text on the braces that are open before it.
 use Rattle.std.proofs.Common.{◌≡◌, ◌≢◌, ℕ, suc, ◌+◌, List, [], ◌∷◌, ◌++◌, subst, append_assoc, arith}
 use Rattle.subst_language.specs.Language.Balanced.{IsBalanced}
 use Rattle.subst_language.specs.Language.Balanced.IsBalanced.{empty, byte}
@@ -7,7 +7,7 @@ use Rattle.subst_language.specs.Lemmas.Closing.{ChangesDepth}
 use Rattle.subst_language.specs.Language.Bytes.{backslash, closing_brace, opening_brace}
 use Rattle.subst_language.proofs.Language.ClosingLemmas.{closes_balanced, closes_opening, closes_closing, completes_balanced, completes_opening, completes_closing}
 
--- the same number of braces, in another spelling
+-- the same number of braces, written differently
 again : (v : List ℕ) (m n : ℕ) → m ≡ n → ClosesAll m v → ClosesAll n v
 again v m n same closes = subst (λ count. ClosesAll count v) same closes
 

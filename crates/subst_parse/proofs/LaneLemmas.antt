@@ -11,7 +11,7 @@ use Rattle.subst_language.specs.Language.Bytes.{IsPlain, dollar, backslash, open
 use Rattle.subst_parse.specs.Inner.{IsInner}
 use Rattle.subst_parse.proofs.ByteRunLemmas.{run_of, plain_of}
 
--- 255 where one of two tests passes
+-- 255 if one of two tests passes
 pub either_lane : (a b : Bool) → bit_or (cond a 255 0) (cond b 255 0) ≡ cond (a || b) 255 0
 either_lane true true = refl
 either_lane true false = refl
@@ -43,7 +43,7 @@ begins_outside P s at within outside =
     let front = drop-cons s at 0 within in
     subst (BeginsWithNo P) (sym front) outside
 
--- up to the lowest bit of a mask there is a run
+-- the bytes before the lowest bit of a mask are a run
 pub run_to_lowest : {P : ℕ → Type 0} {s : List ℕ} {from to mask : ℕ} (low : ℕ) → MarksOutside P s from to mask
     → to ≤ length s → bit_at mask low ≡ 1 → ((k : ℕ) → k < low → bit_at mask k ≡ 0)
     → IsRun P s from (from + low) × BeginsWithNo P (drop (from + low) s) × (from + low < to)

@@ -1,4 +1,4 @@
--- Lemmas on the parser's own words.
+-- Lemmas on the parser's own terms.
 pub mod ByteRunLemmas
 pub mod CutLemmas
 pub mod DepthLemmas

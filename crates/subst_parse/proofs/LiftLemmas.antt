@@ -1,4 +1,4 @@
--- From what the parser has read to the fault of the whole source.
+-- The fault of the whole source, from the state of the parser.
 use Rattle.std.proofs.Common.{◌≡◌, ℕ, suc, ◌+◌, ◌-◌, ◌<◌, false, List, [], ◌∷◌, ◌++◌, length, drop, refl, sym, ap, ◌∙◌, subst, append_assoc, arith}
 use Rattle.std.proofs.lemmas.List.{append_cancel_right}
 use Rattle.subst_language.specs.Language.Bytes.{colon, closing_brace, dollar, opening_brace}
@@ -25,29 +25,29 @@ use Rattle.subst_language.proofs.Language.ItemLemmas.{default_balanced, default_
 use Rattle.subst_language.proofs.Language.NameLemmas.{name_balanced}
 use Rattle.subst_parse.proofs.StackHoldsLemmas.{holds_some}
 
--- a bad item after a tree is the fault of the text that begins where the tree does
+-- a bad item after a tree is the fault of the text from the tree's start on
 fault_at : {s : List ℕ} {from at : ℕ} {t : Tree} (r : List ℕ) (f : Fault) → IsTreeAt s from at t
     → IsBad at r f
     → HasFault from (text t ++ r) f
 fault_at {t = t} r f at_tree bad =
     fault_after t at_tree.well_formed (subst (λ p. IsBad p r f) at_tree.ends bad)
 
--- what is wrong inside a closed default is wrong with its placeholder, for any text after it
+-- a fault inside a closed default is one of its placeholder, before any text
 inside_closed : (p : ℕ) (n w v : List ℕ) (f : Fault) → IsName n → IsBalanced w
     → HasFault (p + 3 + length n) w f
     → IsBad p ((dollar ∷ opening_brace ∷ n ++ (colon ∷ w ++ closing_brace ∷ [])) ++ v) f
 inside_closed p n w v f valid balanced fault =
     subst (λ r. IsBad p r f) (sym (default_text n w v)) (inside n w v valid balanced fault)
 
--- what is after a colon, cut at a closing brace
+-- the text after a colon, cut at a closing brace
 cut_again : {whole after z : List ℕ} (read y v q : List ℕ) → whole ≡ read ++ after → after ≡ y ++ z
     → z ≡ v ++ closing_brace ∷ q
     → whole ≡ (read ++ (y ++ v)) ++ closing_brace ∷ q
 cut_again read y v q is_whole is_after is_cut =
     is_whole ∙ rw (is_after, is_cut, append_assoc, append_assoc) refl
 
--- A bad item at the byte offset `at` is the fault of the source, where all open braces close after it: what
--- of it is before any closing brace is as bad.
+-- A bad item at the byte offset `at` is the fault of the source under two conditions: all open braces close
+-- after it, and it is as bad when cut before any closing brace.
 pub lift : (s : List ℕ) (defaults : List OpenDefault) (depth : ℕ) (parts : List Part) (literal_start at : ℕ)
     (y z : List ℕ) (f : Fault)
     → StackHoldsFlushed s defaults depth parts literal_start at → drop at s ≡ y ++ z → IsBalanced y
@@ -94,8 +94,7 @@ depth_front d n valid =
     (depth_append (suc d) (suc d) (suc d) n (colon ∷ []) (depth_balanced (suc d) (name_balanced n valid))
     (depth_byte (suc d) colon (λ is. omega (arith, is)) (λ is. omega (arith, is)) (λ is. omega (arith, is)))))
 
--- the outermost default: what is before its part, and that all braces which are open after what was read
--- close where it does
+-- the outermost default: the parts before its own, and if it closes, all open braces close after `at`
 record IsOutermost (s : List ℕ) (outermost : OpenDefault) (depth : ℕ) (at : ℕ) : Type 0 where
   before : List Part
   position : ℕ
@@ -103,7 +102,7 @@ record IsOutermost (s : List ℕ) (outermost : OpenDefault) (depth : ℕ) (at : 
   current : IsParsedWithTail false s 0 position position 0 before
   closes : Closes (drop (outermost.name.end + 1) s) → ClosesAll depth (drop at s)
 
--- where the outermost default is
+-- the position of the outermost default
 find_outermost : (s : List ℕ) (inner : List OpenDefault) (outermost : OpenDefault) (depth : ℕ)
     (parts : List Part) (literal_start at : ℕ)
     → StackHoldsFlushed s (inner ++ outermost ∷ []) depth parts literal_start at
@@ -150,7 +149,7 @@ pub outermost_starts : (s : List ℕ) (inner : List OpenDefault) (outermost : Op
 outermost_starts s inner outermost depth parts literal_start at within =
     omega (arith, (find_outermost s inner outermost depth parts literal_start at within).head.starts)
 
--- Where not all open braces close, the outermost default is the fault of the source.
+-- If not all open braces close, the fault of the source is the outermost default.
 pub unclosed_outermost : (s : List ℕ) (inner : List OpenDefault) (outermost : OpenDefault) (depth : ℕ)
     (parts : List Part) (literal_start at : ℕ)
     → StackHoldsFlushed s (inner ++ outermost ∷ []) depth parts literal_start at

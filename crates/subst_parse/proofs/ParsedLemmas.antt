@@ -1,4 +1,4 @@
--- One text that is being read: how a run of plain bytes gets its part, and how an item is added.
+-- One text that is being read: a run of plain bytes becomes a part, and an item is added.
 use Rattle.std.proofs.Common.{◌≡◌, ℕ, ◌+◌, ◌<◌, ◌≤◌, Bool, true, false, List, [], ◌∷◌, ◌++◌, length, drop, refl, ap, ◌∙◌, subst, append_assoc, length-append, arith}
 use Rattle.subst_language.specs.Language.Tree.{Tree, text}
 use Rattle.subst_language.specs.Language.Followed.{IsFollowed}
@@ -18,7 +18,7 @@ use Rattle.subst_parse.proofs.ByteRunLemmas.{slice_of_run, run_nothing}
 use Rattle.subst_language.proofs.PartsLemmas.{mean_append, mean_literal}
 use Rattle.subst_language.proofs.Language.PlainLemmas.{plains, text-plains, well_formed_plains}
 
--- two trees of which one is after the other
+-- two trees, one after the other
 pub tree_at_append : {s : List ℕ} {from at to : ℕ} {t u : Tree} → IsTreeAt s from at t → IsTreeAt s at to u
     → IsTreeAt s from to (join t u)
 tree_at_append {s} {from} {at} {to} {t} {u} first second = record {
@@ -29,7 +29,7 @@ tree_at_append {s} {from} {at} {to} {t} {u} first second = record {
   ends = omega (arith, first.ends, second.ends, simp length-append at (ap length (text-join t u)));
 }
 
--- what was read, with a tree after it and the parts that mean it
+-- the parsed tree, with a tree after it and the parts that mean this
 pub add_tree : {s : List ℕ} {start at to i : ℕ} {own new : List Part} {t : Tree}
     (level : IsParsed s start at i own) → IsTreeAt s at to t
     → ((look : LookUp) → visited_count_after (ends_plain false level.tree) t look ≡ visited_count t look)
@@ -42,7 +42,7 @@ add_tree {s} {start} {at} {to} {i} {own} {new} {t} level added apart mean = reco
       (subst (λ p. PartsMean s (i + length own) new p t) level.read.ends mean);
 }
 
--- where all plain bytes have their parts, an item is added with its part
+-- if all plain bytes have their parts, an item is added with its part
 pub add_item : {pending : Bool} {s : List ℕ} {start at to i : ℕ} {own new : List Part} {t : Tree}
     → IsParsedWithTail pending s start at at i own
     → IsTreeAt s at to t → HasNoPlainEnds t → PartsMean s (i + length own) new at t
@@ -58,13 +58,13 @@ add_item {s = s} {to = to} {t = t} current added apart mean = record {
       ∙ ends_plain-apart (ends_plain false current.level.tree) t apart;
 }
 
--- what is fresh, taken as fresh or not
+-- a text with pending bytes is one without that condition
 pub current_any : {s : List ℕ} {start literal_start at i : ℕ} {own : List Part}
     → IsParsedWithTail true s start literal_start at i own
     → IsParsedWithTail false s start literal_start at i own
 current_any current = record { level = current.level; run = current.run; begins = λ pending. absurd cc }
 
--- what may follow plain bytes
+-- any text may follow plain bytes
 pub followed_plains : (x y : List ℕ) → IsFollowed (plains x) y
 followed_plains [] y = tt
 followed_plains (b ∷ x) y = followed_plains x y
@@ -78,7 +78,7 @@ run_tree_at {s} {at} {to} r = record {
   ends = rw text-plains r.ends;
 }
 
--- the plain bytes get their part
+-- the plain bytes become a part
 pub give_part : {s : List ℕ} {start literal_start at i : ℕ} {own : List Part} → literal_start < at
     → at ≤ length s
     → IsParsedWithTail true s start literal_start at i own
@@ -96,7 +96,7 @@ give_part {s} {start} {literal_start} {at} {i} {own} some inside current =
       begins = λ pending. absurd cc;
     }
 
--- where there are no plain bytes nothing has to be done
+-- if there are no plain bytes, nothing changes
 pub no_part : {s : List ℕ} {start literal_start at i : ℕ} {own : List Part} → at ≤ literal_start
     → IsParsedWithTail true s start literal_start at i own
     → IsParsedWithTail false s start at at i own
@@ -108,7 +108,7 @@ no_part {s} {start} {literal_start} {at} {i} {own} none current =
       begins = λ pending. absurd cc;
     }
 
--- what was read, with the bytes that have no part yet, is the text of a tree
+-- the parsed tree, with the bytes that have no part yet, is the text of a tree
 pub current_tree_at : {pending : Bool} {s : List ℕ} {start literal_start at i : ℕ} {own : List Part}
     (current : IsParsedWithTail pending s start literal_start at i own)
     → IsTreeAt s start at (join current.level.tree (plains current.run.run))

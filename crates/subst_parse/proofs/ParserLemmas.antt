@@ -1,4 +1,4 @@
--- The parser's states, from one to the next.
+-- The states of the parser, before and after each step.
 use Rattle.std.proofs.Common.{◌≡◌, ◌≢◌, ℕ, suc, ◌+◌, ◌-◌, ◌<◌, ◌≤◌, true, List, [], ◌∷◌, ◌++◌, length, drop, take, reverse, Option, Some, None, Result, Ok, Err, OnErr, OnOk, Vec, Global, Bor, refl, sym, ap, ◌∙◌, subst, append-nil, length-append, length-drop, arith}
 use Rattle.std.proofs.Math.Decide.{ℕ_discrete}
 use Rattle.std.proofs.lemmas.List.{reverse-append, drop_all, take-append-drop}
@@ -41,7 +41,7 @@ dollar_if_not_plain b special other = of (ℕ_discrete b dollar)
     of (yes e) = e
     of (no n) = absurd (special (n, other))
 
--- reads leave what has been read as it is
+-- reads change nothing else of the state
 reading_with : {S : Type 0} {holds : S → List Part → Type 0} {limit : ℕ} (p : Parser S) (tape : Tape)
     → tape.source ≡ p.tape.source
     → IsReading holds limit p
@@ -57,12 +57,12 @@ reading_with p tape same reading = record {
   nested = rw same reading.nested;
 }
 
--- one part more, of at least one byte
+-- one more part, of at least one byte
 one_more : (parts : List Part) (part : Part) {at end : ℕ} → length parts ≤ at → at < end
     → length (parts ++ part ∷ []) ≤ end
 one_more parts part few forward = omega (arith, few, forward, length-append parts (part ∷ []))
 
--- the plain bytes get their part, or there are none
+-- the plain bytes become a part, if there are any
 pub flushed_some : {S : Type 0} {holds : S → List Part → Type 0} {limit : ℕ} (p : Parser S) (sink : S)
     → (reading : IsReading holds limit p) → p.literal_start < p.at
     → holds sink (reading.parts ++ Literal (record { start = p.literal_start; end = p.at }) ∷ [])
@@ -126,7 +126,7 @@ reading_added old mid sink part end reading given held is within forward =
       forward,
     )
 
--- a step of the parser, from whatever its sink was at first
+-- a step of the parser, for each first state of its sink
 pub stepped : {S First : Type 0} {holds : HoldsFrom S First} {limit : ℕ} (old new : Parser S) (first : First)
     → IsReading (since holds first) limit old
     → ((first : First) → IsReading (since holds first) limit old
@@ -135,7 +135,7 @@ pub stepped : {S First : Type 0} {holds : HoldsFrom S First} {limit : ℕ} (old 
 stepped old new first reading step =
     let stepped = step first reading in (λ first reading. (step first reading).0, stepped.1, stepped.2)
 
--- a step after what was read before
+-- a step after others
 pub steps_after : {S First : Type 0} {holds : HoldsFrom S First} {limit : ℕ} (asks : Type 0)
     (old mid : Parser S) (result : Result (Unit {0}) Halt) (new : Parser S) → ReadsOn holds limit old mid
     → mid.tape.source ≡ old.tape.source → old.at ≤ mid.at → StepsOrFails holds limit asks mid result new
@@ -151,7 +151,7 @@ steps_after asks old mid (Err e) new reads same forward fails = (
   λ none. rw (← same) (fails.2 none),
 )
 
--- what the sink still holds after a step that failed, after what was read before
+-- the sink's parts after a step that failed, after others
 pub still_after : {S First : Type 0} {holds : HoldsFrom S First} {limit : ℕ} (old mid : Parser S)
     (result : Result (Unit {0}) Halt) (new : Parser S) → ReadsOn holds limit old mid
     → OnErr result (FromReading holds limit mid (HoldsSome holds new.sink))
@@ -159,7 +159,7 @@ pub still_after : {S First : Type 0} {holds : HoldsFrom S First} {limit : ℕ} (
 still_after old mid (Ok done) new reads still = tt
 still_after old mid (Err e) new reads still = λ first reading. still first (reads first reading)
 
--- the end of the source after what was read before
+-- the end of the source, after other steps
 pub finishes_after : {S First : Type 0} {holds : HoldsFrom S First} {limit : ℕ} (old mid : Parser S)
     (result : Result (Unit {0}) Halt) (new : Parser S) → ReadsOn holds limit old mid
     → mid.tape.source ≡ old.tape.source
@@ -172,7 +172,7 @@ finishes_after {holds = holds} old mid (Ok done) new reads same finishes = λ fi
     (finishes first (reads first reading))
 finishes_after old mid (Err e) new reads same finishes = tt
 
--- the end of a source after what was read from its start
+-- the end of a source that was read from its start
 pub finishes_from : {S First : Type 0} {holds : HoldsFrom S First} {limit : ℕ} (s : List ℕ) (p new : Parser S)
     (Starts : First → Type 0)
     → ((first : First) → Starts first → IsReading (since holds first) limit p) → p.tape.source.now ≡ s
@@ -181,11 +181,11 @@ pub finishes_from : {S First : Type 0} {holds : HoldsFrom S First} {limit : ℕ}
 finishes_from {holds = holds} s p new Starts reads same finishes first starts =
     subst (λ x. HoldsTemplate (since holds first) x new.sink) same (finishes first (reads first starts))
 
--- an optional variable lies in the source
+-- an optional variable is in the source
 optional_inside : (s : List ℕ) (at : ℕ) (name : Span) → IsOptional s at name → name.end + 2 ≤ length s
 optional_inside s at name is = omega (arith, simp length-drop at (ap length is.closed))
 
--- the part of an optional variable is added, whose jump is to the next part
+-- the part of an optional variable is added, whose jump leads to the next part
 pub reading_optional : {S : Type 0} {holds : S → List Part → Type 0} {limit : ℕ} (old mid : Parser S)
     (sink : S) (name : Span) (end : ℕ)
     → IsReading holds limit old → (given : IsFlushed holds old mid)
@@ -201,7 +201,7 @@ reading_optional old mid sink name end reading given is held ends =
     (rw ends (optional_part s old.at name i is)) (rw ends (optional_inside s old.at name is))
     (omega (arith, ends, is.head.starts, is.head.named.ends))
 
--- the front of a placeholder with a default lies in the source
+-- the head of a placeholder with a default is in the source
 pub head_inside : (s : List ℕ) (at : ℕ) (name : Span) (b : ℕ) → IsInBraces s at name b → at ≤ length s
     → name.end + 1 ≤ length s
 head_inside s at name b front inside =
@@ -213,7 +213,7 @@ head_inside s at name b front inside =
       simp (length-drop, length-append) at (ap length front.spelled),
     )
 
--- the byte after a name in braces is one of the source
+-- the byte after a name in braces is in the source
 pub head_contains : (s : List ℕ) (at : ℕ) (name : Span) (b : ℕ) → IsInBraces s at name b → Contains s b
 head_contains s at name b front =
     rw (← take-append-drop at s, front.spelled) (Contains-append_right (take at s) _ b
@@ -261,7 +261,7 @@ reading_opened old mid sink defaults name index reading given front counts held 
       omega (arith, front.starts, front.named.ends),
     )
 
--- a default opens, where the innermost default is known
+-- the state after a flush, by the innermost default
 given_innermost : {S : Type 0} {holds : S → List Part → Type 0} (old mid : Parser S)
     (front : List OpenDefault)
     (innermost : OpenDefault)
@@ -272,13 +272,13 @@ given_innermost old mid front innermost given split =
     subst (λ ds. StackHoldsFlushed old.tape.source.now ds old.depth given.parts old.at old.at)
     (ap reverse split ∙ reverse_last front innermost) given.nested
 
--- a name in the source fits
+-- the offsets of a name in the source are below the limit
 pub name_fits : {s : List ℕ} {limit : ℕ} {name : Span} → IsNameAt s name → length s < limit
     → (name.start < limit) × (name.end < limit)
 name_fits named fits =
     (omega (arith, fits, named.inside.within, named.ends), omega (arith, fits, named.inside.within))
 
--- the part of the innermost default is one that a sink can close
+-- a sink can close the part of the innermost default
 pub innermost_closes : {S First : Type 0} {holds : HoldsFrom S First} {limit : ℕ} (old mid : Parser S)
     (front : List OpenDefault) (innermost : OpenDefault) (first : First)
     → IsReading (since holds first) limit old → IsFlushed (since holds first) old mid
@@ -301,7 +301,7 @@ innermost_closes {holds = holds} {limit = limit} old mid front innermost first r
       );
     }
 
--- the state after a default has closed, whose parts are these
+-- the state with these parts, after a default has closed
 closed_state : {S : Type 0} {holds : S → List Part → Type 0} {limit : ℕ} (old mid : Parser S)
     (front : List OpenDefault) (sink : S) (defaults : Vec OpenDefault Global) (depth : ℕ) (parts : List Part)
     → IsReading holds limit old → mid.tape ≡ old.tape → mid.at ≡ old.at → old.at < length old.tape.source.now
@@ -377,7 +377,7 @@ reading_closed {holds = holds} old mid front sink defaults innermost reading giv
       omega (arith, at),
     )
 
--- a bare brace closes: the last default is not the one whose brace this is
+-- a bare brace closes: it isn't that of the last default
 pub reading_bare : {S : Type 0} {holds : S → List Part → Type 0} {limit : ℕ} (p : Parser S)
     (innermost : OpenDefault) → IsReading holds limit p
     → p.at < length p.tape.source.now
@@ -406,7 +406,7 @@ reading_bare p innermost reading inside some reads last other =
           reading.nested));
     }
 
--- inside a default, a run of bytes that have no meaning, and other reads
+-- inside a default, a run of inner bytes, and other reads
 pub reading_inner : {S : Type 0} {holds : S → List Part → Type 0} {limit : ℕ} (p : Parser S) (tape : Tape)
     (to : ℕ)
     → tape.source ≡ p.tape.source → IsReading holds limit p → 0 < p.depth
@@ -454,7 +454,7 @@ reading_opening p reading inside some reads =
           reading.nested));
     }
 
--- where no brace is open, a run of plain bytes, and other reads
+-- if no brace is open, a run of plain bytes, and other reads
 pub reading_run : {S : Type 0} {holds : S → List Part → Type 0} {limit : ℕ} (p : Parser S) (tape : Tape)
     (to : ℕ)
     → tape.source ≡ p.tape.source → IsReading holds limit p → p.depth ≡ 0
@@ -478,7 +478,7 @@ reading_run p tape to same reading top within run =
       nested = rw (stack, top) (holds_run s reading.parts p.literal_start p.at to run nested);
     })
 
--- how far the parser has read, whether the innermost text is fresh or not
+-- the parser's state, without the condition on pending bytes
 reading_within : {S : Type 0} {holds : S → List Part → Type 0} {limit : ℕ} (p : Parser S)
     → (reading : IsReading holds limit p)
     → StackHoldsFlushed p.tape.source.now (reverse p.defaults.items) p.depth reading.parts p.literal_start
@@ -487,7 +487,7 @@ reading_within p reading =
     holds_any p.tape.source.now
     (reverse p.defaults.items) p.depth reading.parts p.literal_start p.at reading.nested
 
--- how far the parser has read, where the outermost default is known
+-- the parser's state, by the outermost default
 reading_outermost : {S : Type 0} {holds : S → List Part → Type 0} {limit : ℕ} (p : Parser S)
     (outermost : OpenDefault) → (reading : IsReading holds limit p)
     → slice_get p.defaults.items 0 ≡ Some outermost
@@ -521,7 +521,7 @@ outermost_after p outermost reading first =
     let (inner, within) = reading_outermost p outermost reading first in
     outermost_starts p.tape.source.now inner outermost p.depth reading.parts p.literal_start p.at within
 
--- what is bad at the byte offset that was reached is the fault of the source, where all open braces close
+-- a bad item at the parser's offset is the fault of the source, if all open braces close
 pub fault_closed : {S : Type 0} {holds : S → List Part → Type 0} {limit : ℕ} (p : Parser S) (f : Fault)
     → IsReading holds limit p
     → IsBadWhenCut p.at (drop p.at p.tape.source.now) f
@@ -531,7 +531,7 @@ fault_closed p f reading bad closes =
     lift s (reverse p.defaults.items) p.depth reading.parts p.literal_start p.at [] (drop p.at s) f
     (reading_within p reading) refl empty bad.bad bad.cut closes
 
--- where no default is open, no brace is
+-- if no default is open, no brace is
 pub closes_top : {S : Type 0} {holds : S → List Part → Type 0} {limit : ℕ} (p : Parser S)
     → IsReading holds limit p → p.defaults.items ≡ []
     → ClosesAll p.depth (drop p.at p.tape.source.now)
@@ -542,7 +542,7 @@ closes_top p reading none =
     reading.nested in
     subst (λ d. ClosesAll d (drop p.at s)) (sym nested.0) tt
 
--- where a default is open, some brace is
+-- if a default is open, some brace is
 depth_open : {S : Type 0} {holds : S → List Part → Type 0} {limit : ℕ} (p : Parser S)
     (outermost : OpenDefault)
     → IsReading holds limit p
@@ -551,14 +551,14 @@ depth_open p outermost reading first =
     let (inner, within) = reading_outermost p outermost reading first in
     holds_some p.tape.source.now inner outermost p.depth reading.parts p.literal_start p.at within
 
--- where a default is open, some byte has been read
+-- if a default is open, some byte has been read
 pub read_before_open : {S : Type 0} {holds : S → List Part → Type 0} {limit : ℕ} (p : Parser S)
     (outermost : OpenDefault) → IsReading holds limit p
     → slice_get p.defaults.items 0 ≡ Some outermost → 0 < p.at
 read_before_open p outermost reading first =
     omega (arith, reading.shallow, depth_open p outermost reading first)
 
--- at the end of the source, a default that is open is never closed
+-- at the end of the source, an open default is never closed
 pub fault_at_end : {S : Type 0} {holds : S → List Part → Type 0} {limit : ℕ} (p : Parser S)
     (outermost : OpenDefault) → IsReading holds limit p
     → length p.tape.source.now ≤ p.at
@@ -572,7 +572,7 @@ fault_at_end p outermost reading end first =
     (subst (λ d. ClosesAll d []) depth
     (subst (ClosesAll p.depth) (drop_all p.at p.tape.source.now end) closes)))
 
--- the fault that was found, where all open braces close
+-- the fault of the bad item, if all open braces close
 pub fault_known : {S : Type 0} {holds : S → List Part → Type 0} {limit : ℕ} (p : Parser S) (e : Halt)
     → IsReading holds limit p
     → IsSomeAnd (halt_fault e) (IsBadWhenCut p.at (drop p.at p.tape.source.now))
@@ -585,7 +585,7 @@ fault_known p e reading bad closes = of (halt_fault e) bad
     of (Some f) known = fault_closed p f reading known closes
     of None known = known
 
--- at the end of the source, where no default is open, the sink holds the parts of its template
+-- at the end of the source, if no default is open, the sink holds the parts of its template
 pub holds_template : {S : Type 0} {holds : S → List Part → Type 0} {limit : ℕ} (old mid : Parser S)
     → IsReading holds limit old → IsFlushed holds old mid → length old.tape.source.now ≤ old.at
     → old.defaults.items ≡ []
@@ -609,7 +609,7 @@ holds_template old mid reading given end none =
       };
     }
 
--- the part of an optional variable is one that a sink can take
+-- a sink can take the part of an optional variable
 pub optional_fits : {S First : Type 0} {holds : HoldsFrom S First} {source : First → List ℕ → Type 0}
     {limit : ℕ} (old mid : Parser S) (name : Span) (first : First) → source first old.tape.source.now
     → IsReading (since holds first) limit old
@@ -641,7 +641,7 @@ optional_fits old mid name first known reading given is = record {
   );
 }
 
--- the plain bytes are a part that a sink can take
+-- a sink can take the plain bytes as a part
 pub literal_fits : {S First : Type 0} {holds : HoldsFrom S First} {source : First → List ℕ → Type 0}
     {limit : ℕ}
     (p : Parser S) (first : First) → source first p.tape.source.now → IsReading (since holds first) limit p
@@ -658,7 +658,7 @@ literal_fits p first known reading some = record {
   few = omega (arith, reading.few, reading.small, reading.within, some);
 }
 
--- the part of the bytes that come next is one that a sink can take
+-- a sink can take the part of the next bytes
 pub part_fits : {S First : Type 0} {holds : HoldsFrom S First} {source : First → List ℕ → Type 0} {limit : ℕ}
     (old mid : Parser S) (part : Part) (end : ℕ) (first : First) → source first old.tape.source.now
     → IsReading (since holds first) limit old → (given : IsFlushed (since holds first) old mid)
@@ -677,7 +677,7 @@ part_fits old mid part end first known reading given fits is within forward = re
   few = omega (arith, given.few, reading.small, within, forward);
 }
 
--- the part of a default that opens is one that a sink can take
+-- a sink can take the part of a default that opens
 pub open_fits : {S First : Type 0} {holds : HoldsFrom S First} {source : First → List ℕ → Type 0} {limit : ℕ}
     (old mid : Parser S) (name : Span) (first : First) → source first old.tape.source.now
     → IsReading (since holds first) limit old → (given : IsFlushed (since holds first) old mid)

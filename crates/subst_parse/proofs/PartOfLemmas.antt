@@ -51,7 +51,7 @@ braced_part s at name i is = record {
   mean = mean_braced s i name at is.named.inside is.named.valid is.starts;
 }
 
--- a name in braces with a question mark, whose jump is to the next part
+-- a name in braces with a question mark, whose jump leads to the next part
 pub optional_part : (s : List ℕ) (at : ℕ) (name : Span) (i : ℕ) → IsOptional s at name
     → IsPart s at (name.end + 2) i (Default name (i + 1))
 optional_part s at name i is = record {
@@ -64,6 +64,6 @@ optional_part s at name i is = record {
       (ap kind_before (after_name s at name question_mark is.head));
 }
 
--- an escape lies in the source
+-- an escape is in the source
 pub escape_within : (s : List ℕ) (at b : ℕ) → IsEscape s at b → at ≤ length s → at + 2 ≤ length s
 escape_within s at b is inside = omega (arith, simp length-drop at (ap length is.spelled))

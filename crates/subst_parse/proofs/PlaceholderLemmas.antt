@@ -64,11 +64,11 @@ module _ (s : List ℕ) (start end : ℕ) (run : IsRun IsNameByte s start end) w
     ends = run.ends ∙ ap (λ (n : List ℕ). start + length n) (sym run_bytes);
   }
 
-  -- after the range the source goes on
+  -- from `start` on, the source is the range's bytes and then the rest
   run_tree_at : drop start s ≡ span_bytes (record { start = start; end = end }) s ++ drop end s
   run_tree_at = run.spelled ∙ ap (λ (n : List ℕ). n ++ drop end s) (sym run_bytes)
 
--- a dollar before something else than an opening brace, with no name
+-- a dollar with no opening brace and no name after it
 nameless_dollar : (p : ℕ) (r : List ℕ) → BeginsWithNo (λ b. b ≡ opening_brace) r → BeginsWithNo IsNameByte r
     → IsBadWhenCut p (dollar ∷ r) (MissingVariableName p 1)
 nameless_dollar p [] unbraced unnamed = bad_however dollar_at_end tt
@@ -92,7 +92,7 @@ module _ (s : List ℕ) (at end : ℕ) (begins : drop at s ≡ dollar ∷ drop (
     longest = longest;
   }
 
-  -- a dollar before no name
+  -- a dollar with no name after it
   pub nameless_dollar_at : BeginsWithNo (λ b. b ≡ opening_brace) (drop (at + 1) s) → at + 1 ≡ end
       → IsBadWhenCut at (drop at s) (MissingVariableName at 1)
   nameless_dollar_at unbraced none =
@@ -100,7 +100,7 @@ module _ (s : List ℕ) (at end : ℕ) (begins : drop at s ≡ dollar ∷ drop (
 
 module _ (s : List ℕ) (at end : ℕ) (begins : drop at s ≡ dollar ∷ opening_brace ∷ drop (at + 2) s)
     (run : IsRun IsNameByte s (at + 2) end) where
-  -- a dollar and an opening brace before a name, and what may follow that
+  -- a dollar and an opening brace before a name, and a byte that may follow it
   pub in_braces_at : (a b : ℕ) → at + 2 ≢ end → end ≤ length s → drop end s ≡ a ∷ drop (end + 1) s → a ≡ b
       → IsInBraces s at (record { start = at + 2; end = end }) b
   in_braces_at a b some within follows is = record {
@@ -111,7 +111,7 @@ module _ (s : List ℕ) (at end : ℕ) (begins : drop at s ≡ dollar ∷ openin
         (follows ∙ ap (λ (k : ℕ). k ∷ drop (end + 1) s) is));
   }
 
-  -- a dollar and an opening brace before no name
+  -- a dollar and an opening brace with no name after them
   pub nameless_braces_at : BeginsWithNo IsNameByte (drop end s) → at + 2 ≡ end
       → IsBadWhenCut at (drop at s) (MissingVariableName at 2)
   nameless_braces_at longest none = rw begins (nameless_braces at (drop (at + 2) s) (rw none longest))
@@ -124,7 +124,7 @@ module _ (s : List ℕ) (at end : ℕ) (begins : drop at s ≡ dollar ∷ openin
       run.spelled ∙ ap (λ (x : List ℕ). run.run ++ x) ends ∙ append-nil run.run in
       rw (begins, whole) (bad_however (name_at_end run.run (run_named s (at + 2) end run some)) tt)
 
-  -- a byte after a name in braces that may not follow it
+  -- an unexpected byte after a name in braces
   pub unexpected_byte_at : (b : ℕ) (c : CharOrByte) (expected : List ℕ) → at + 2 ≢ end
       → BeginsWithNo IsNameByte (drop end s)
       → drop end s ≡ b ∷ drop (end + 1) s → b ≢ closing_brace → b ≢ colon → b ≢ question_mark

@@ -5,14 +5,14 @@ use Rattle.subst_language.specs.Lemmas.Closing.{ClosesAll}
 use Rattle.subst_language.specs.Language.Bytes.{backslash, closing_brace, opening_brace}
 use Rattle.subst_language.proofs.Language.ClosingLemmas.{closes_byte, closes_escape, closes_opening, closes_closing, closes_nothing, closes_lone_backslash, then_also}
 
--- the search began at a byte offset with so many open braces, and has come to another with so many: what
--- closes the former is what closes the latter
+-- the search began at `from` with `count` open braces, and is at `at` with `unclosed`: the rests of the
+-- source close either or neither
 pub record IsScan (s : List ℕ) (from count at unclosed : ℕ) : Type 0 where
   pub shallow : unclosed ≤ at
   pub inside : at ≤ length s + 1
   pub same : ClosesAll count (drop from s) ↔ ClosesAll unclosed (drop at s)
 
--- what closes some braces after a backslash and the byte after it
+-- a text closes braces after a backslash and a byte if it does so without these
 after_backslash : (n : ℕ) (v : List ℕ) → ClosesAll (suc n) (backslash ∷ v) ↔ ClosesAll (suc n) (drop 1 v)
 after_backslash n [] = (λ h. absurd (closes_lone_backslash n h), λ h. absurd (closes_nothing n h))
 after_backslash n (b ∷ v) = closes_escape n v b
@@ -25,7 +25,7 @@ module _ {s : List ℕ} {from count at : ℕ} where
   scan_end {unclosed = suc n} scan some ends =
       λ closed. closes_nothing n (subst (λ (v : List ℕ). ClosesAll (suc n) v) ends (scan.same.0 closed))
 
-  -- a backslash takes the byte after it along
+  -- a backslash escapes the byte after it
   pub scan_escape : {unclosed b : ℕ} → IsScan s from count at unclosed → 0 < unclosed → at < length s
       → drop at s ≡ b ∷ drop (at + 1) s → b ≡ backslash → IsScan s from count (at + 2) unclosed
   scan_escape {unclosed = zero} scan some within front slash = absurd (omega arith)
@@ -36,7 +36,7 @@ module _ {s : List ℕ} {from count at : ℕ} where
       rw (front, slash, ← further) (after_backslash n (drop (at + 1) s)) in
       record { shallow = omega arith; inside = omega arith; same = then_also scan.same step }
 
-  -- an opening brace is one more to close
+  -- an opening brace adds one brace to close
   pub scan_opening : {unclosed b : ℕ} → IsScan s from count at unclosed → 0 < unclosed → at < length s
       → drop at s ≡ b ∷ drop (at + 1) s → b ≡ opening_brace → IsScan s from count (at + 1) (unclosed + 1)
   scan_opening {unclosed = zero} scan some within front opens = absurd (omega arith)
@@ -46,7 +46,7 @@ module _ {s : List ℕ} {from count at : ℕ} where
       rw (front, opens, more) (closes_opening n (drop (at + 1) s)) in
       record { shallow = omega arith; inside = omega arith; same = then_also scan.same step }
 
-  -- a closing brace is one less
+  -- a closing brace removes one
   pub scan_closing : {unclosed b : ℕ} → IsScan s from count at unclosed → 0 < unclosed → at < length s
       → drop at s ≡ b ∷ drop (at + 1) s → b ≡ closing_brace → IsScan s from count (at + 1) (unclosed - 1)
   scan_closing {unclosed = zero} scan some within front closes = absurd (omega arith)

@@ -1,4 +1,4 @@
--- How the parser's steps change what it has read: each step changes the innermost text alone.
+-- The effect of the parser's steps on the text that is read: each changes the innermost text alone.
 use Rattle.std.proofs.Common.{◌≡◌, ℕ, suc, ◌+◌, ◌-◌, ◌<◌, ◌≤◌, Bool, true, false, List, [], ◌∷◌, ◌++◌, length, drop, refl, sym, ap, ◌∙◌, subst, append_assoc, append-nil, length-append, arith}
 use Rattle.subst_language.specs.Language.Bytes.{colon, closing_brace, opening_brace}
 use Rattle.subst_language.specs.Language.Tree.{Tree, Empty, Then, text}
@@ -60,7 +60,7 @@ change_inside {s = s} {default = default}
       around = inside.around;
     }
 
--- a step that leaves all braces as they are
+-- a step that opens and closes no braces
 change : {pending pending' : Bool} (s : List ℕ) (defaults : List OpenDefault) (depth : ℕ) (parts : List Part)
     (literal_start at : ℕ)
     (z : List ℕ) (new : List Part) (literal_start' at' : ℕ)
@@ -77,7 +77,7 @@ change s (default ∷ defaults) depth parts literal_start at z new literal_start
     change_inside z new depth literal_start' at' inside reads step inside.bare inside.braces
     (takes inside.bare)
 
--- the bytes that have no part yet are not past the position
+-- the pending bytes don't begin after the position
 pub holds_ordered : (s : List ℕ) (defaults : List OpenDefault) (depth : ℕ) (parts : List Part)
     (literal_start at : ℕ)
     → StackHolds true s defaults depth parts literal_start at → literal_start ≤ at
@@ -85,7 +85,7 @@ holds_ordered s [] depth parts literal_start at within = omega (arith, within.1.
 holds_ordered s (default ∷ defaults) depth parts literal_start at within =
     omega (arith, within.current.run.ends)
 
--- the plain bytes get their part
+-- the plain bytes become a part
 pub holds_given : (s : List ℕ) (defaults : List OpenDefault) (depth : ℕ) (parts : List Part)
     (literal_start at : ℕ)
     → literal_start < at → at ≤ length s → StackHolds true s defaults depth parts literal_start at
@@ -96,7 +96,7 @@ holds_given s defaults depth parts literal_start at some inside within =
     (Literal (record { start = literal_start; end = at }) ∷ []) at at refl
     (λ start i own position current. give_part some inside current) (λ d. depth_balanced d empty) within
 
--- where there are none, nothing has to be done
+-- if there are none, nothing changes
 pub holds_same : (s : List ℕ) (defaults : List OpenDefault) (depth : ℕ) (parts : List Part)
     (literal_start at : ℕ)
     → at ≤ literal_start → StackHolds true s defaults depth parts literal_start at
@@ -119,7 +119,7 @@ holds_tree s defaults depth parts new at to t at_tree balanced apart mean within
     (subst (λ k. PartsMean s k new at t) (sym position) mean))
     (λ d. depth_balanced d balanced) within
 
--- a run of plain bytes where no default is open
+-- a run of plain bytes, if no default is open
 pub holds_run : (s : List ℕ) (parts : List Part) (literal_start at to : ℕ) → IsRun IsPlain s at to
     → StackHolds true s [] 0 parts literal_start at → StackHolds true s [] 0 parts literal_start to
 holds_run s parts literal_start at to run within =
@@ -214,7 +214,7 @@ holds_default s defaults depth parts at name front within = record {
   around = within;
 }
 
--- what was read of a default with no bare brace open is balanced
+-- the text of a default, up to a point where no bare brace is open, is balanced
 read_balanced : (s : List ℕ) (default : OpenDefault) (depth : ℕ) (parts : List Part) (at : ℕ)
     (Around : List Part → ℕ → Type 0)
     (inside : IsOpenDefault false s default depth parts at at Around) → default.depth + 1 ≡ depth
@@ -227,7 +227,7 @@ read_balanced s default depth parts at Around inside closes =
     let balanced = inside.change.completed [] (subst (λ d. Completes d []) none empty) in
     subst IsBalanced same (rw append-nil at balanced)
 
--- a default closes: its part gets its jump
+-- a default closes: its part's jump is set
 pub holds_closed : (s : List ℕ) (default : OpenDefault) (defaults : List OpenDefault) (depth : ℕ)
     (parts : List Part) (at : ℕ)
     → default.depth + 1 ≡ depth → drop at s ≡ closing_brace ∷ drop (at + 1) s
@@ -263,7 +263,7 @@ holds_closed s default defaults depth parts at closes reads inside =
     (rw append-nil (default_balanced n (text t) inside.head.named.valid balanced))
     (no_plain_ends (tree.Default n t) refl) mean inside.around
 
--- what is fresh, taken as fresh or not
+-- a state with pending bytes is one without that condition
 pub holds_any : (s : List ℕ) (defaults : List OpenDefault) (depth : ℕ) (parts : List Part)
     (literal_start at : ℕ)
     → StackHolds true s defaults depth parts literal_start at
@@ -275,7 +275,7 @@ holds_any s defaults depth parts literal_start at within =
     (sym (append-nil own)) (current_any current))
     (λ d. depth_balanced d empty) within)
 
--- where nothing but plain bytes has been read
+-- the state in which only plain bytes have been read
 pub holds_start : (s : List ℕ) (at : ℕ) → IsRun IsPlain s 0 at → StackHolds true s [] 0 [] 0 at
 holds_start s at plain = (
   refl,
@@ -290,7 +290,7 @@ holds_start s at plain = (
   },
 )
 
--- where some brace is open, some default is
+-- if some brace is open, some default is
 pub holds_open : (s : List ℕ) (defaults : List OpenDefault) (depth : ℕ) (parts : List Part)
     (literal_start at : ℕ)
     → 0 < depth
@@ -299,7 +299,7 @@ pub holds_open : (s : List ℕ) (defaults : List OpenDefault) (depth : ℕ) (par
 holds_open s [] depth parts literal_start at some within = absurd (omega (arith, within.0))
 holds_open s (default ∷ rest) depth parts literal_start at some within = (default, rest, refl)
 
--- where none is open, no default is
+-- if no brace is open, no default is
 pub holds_top : (s : List ℕ) (defaults : List OpenDefault) (depth : ℕ) (parts : List Part)
     (literal_start at : ℕ)
     → depth ≡ 0
@@ -307,7 +307,7 @@ pub holds_top : (s : List ℕ) (defaults : List OpenDefault) (depth : ℕ) (part
 holds_top s [] depth parts literal_start at none within = refl
 holds_top s (default ∷ rest) depth parts literal_start at none within = absurd (omega (arith, within.braces))
 
--- where a default is open, some brace is
+-- if a default is open, some brace is
 pub holds_some : (s : List ℕ) (inner : List OpenDefault) (outermost : OpenDefault) (depth : ℕ)
     (parts : List Part) (literal_start at : ℕ)
     → StackHoldsFlushed s (inner ++ outermost ∷ []) depth parts literal_start at → 0 < depth

@@ -1,4 +1,4 @@
--- What reading adds to the count of reads.
+-- The number of reads of the parser's steps.
 use Rattle.std.specs.Prelude.{◌≡◌, ℕ, ◌+◌, ◌-◌, ◌*◌, ◌≤◌, length, drop, min, Result, Ok, Err}
 use Rattle.subst_language.specs.Language.Name.{BeginsWithNo}
 use Rattle.subst_parse.specs.ByteRun.{IsRun}
@@ -8,12 +8,12 @@ use Rattle.subst_parse.specs.declared.item.Placeholder.TheVariants.{Short, Brace
 use Rattle.subst_parse.specs.declared.parse.Parser.{Parser}
 use Rattle.subst_parse.specs.declared.tape.Tape.{Tape}
 
--- a count goes from old to new, by at least low and at most high
+-- a count grows from old to new, by at least low and at most high
 abbrev pub GrowsBetween : (low high old new : ℕ) → Type 0
 GrowsBetween low high old new = (old + low ≤ new) × (new ≤ old + high)
 
--- The run of such bytes from one position on ends at another one. It was read up to there, and the byte there
--- too, if there is one.
+-- The run of bytes with the property P that begins at `from` ends at `to`. The bytes of the run were read,
+-- and the byte after the run, if there is one. The tape was `before` and is `after`.
 pub record FindsEnd (P : ℕ → Type 0) (before : Tape) (from to : ℕ) (after : Tape) : Type 0 where
   pub run : IsRun P before.source.now from to
   pub end : BeginsWithNo P (drop to before.source.now)
@@ -21,23 +21,24 @@ pub record FindsEnd (P : ℕ → Type 0) (before : Tape) (from to : ℕ) (after 
   pub same : after.source ≡ before.source
   pub cost : after.reads + from ≡ before.reads + min (to + 1) (length before.source.now)
 
--- where the name in a placeholder ends, with its question mark
+-- the end of a placeholder's name, or of its question mark if it has one
 abbrev pub end_of_name : Placeholder → ℕ
 end_of_name (Short name) = name.end
 end_of_name (Braced name) = name.end
 end_of_name (Optional name) = name.end + 1
 end_of_name (Default name) = name.end
 
--- A step of the parser adds at least one read and at most three for each byte that it goes on; where it ends
--- in an error, at least one, and at most two for each byte that is left and eight more.
+-- A step of the parser that advances n bytes makes at least n and at most 3 * n reads. A step with n bytes
+-- left that ends in an error makes at least one and at most 2 * n + 8 reads.
 abbrev pub StepReads : {S : Type 0} → Parser S → Result (Unit {0}) Halt → Parser S → Type 0
 StepReads before (Ok _) after =
     GrowsBetween (after.at - before.at) (3 * (after.at - before.at)) before.tape.reads after.tape.reads
 StepReads before (Err e) after =
     GrowsBetween 1 (2 * (length before.tape.source.now - before.at) + 8) before.tape.reads after.tape.reads
 
--- The same of a step whose first byte has been read already: at least one read for each byte after it, and
--- less than two for each byte.
+-- The reads of a step of the parser whose first byte has been read already. A step that advances n bytes
+-- makes at least n - 1 and at most 2 * n - 1 reads. A step with n bytes left that ends in an error makes at
+-- most 2 * n + 6 reads.
 abbrev pub StepReadsAfterFirst : {S : Type 0} → Parser S → Result (Unit {0}) Halt → Parser S → Type 0
 StepReadsAfterFirst before (Ok _) after =
     GrowsBetween (after.at - before.at - 1) (2 * (after.at - before.at) - 1)

@@ -1,11 +1,11 @@
--- Which fault the parser's own small error states, or nothing where memory ran out.
+-- The fault that the parser's own small error states, or `None` if memory ran out.
 use Rattle.std.specs.Prelude.{Option, Some, None}
 use Rattle.subst_error.specs.Fault.{Fault, InvalidEscapeSequence, MissingVariableName, UnexpectedCharacter, MissingClosingBrace}
 use Rattle.subst_language.specs.Language.BadItem.{after_name, after_question_mark}
 use Rattle.subst_parse.specs.declared.halt.Halt.{Halt}
 use Rattle.subst_parse.specs.declared.halt.Halt.TheVariants.{EscapeAtEnd, BadEscape, NoName, AfterName, AfterQuestionMark, Unclosed, OutOfMemory}
 
--- the fault, with its message where it has one
+-- the fault that a `Halt` states, with the message of what was expected, if any; `None` for out of memory
 abbrev pub halt_fault : Halt → Option Fault
 halt_fault (EscapeAtEnd position) = Some (InvalidEscapeSequence position None)
 halt_fault (BadEscape position c) = Some (InvalidEscapeSequence position (Some c))

@@ -1,4 +1,4 @@
--- Bytes inside a default that stand for themselves and are no braces.
+-- Bytes that are plain inside a default, and no braces.
 use Rattle.std.specs.Prelude.{ℕ, ◌==◌, Bool, not, ◌||◌, IsTrue}
 use Rattle.subst_language.specs.Language.Bytes.{dollar, backslash, opening_brace, closing_brace}
 

@@ -1,4 +1,4 @@
--- The parser's own words: its state and what it reads. No contract of a public function cites them.
+-- The parser's own terms: its state and its reads. No contract of a public function of `subst` cites them.
 pub mod ByteRun
 pub mod Cost
 pub mod Halt

@@ -1,4 +1,4 @@
--- How far the parser has read a source, and what its parts and its open defaults stand for.
+-- The part of a source that the parser has read, and the meaning of its parts and open defaults.
 use Rattle.std.specs.Prelude.{◌≡◌, ℕ, suc, ◌+◌, ◌^◌, ◌<◌, ◌≤◌, List, [], ◌∷◌, ◌++◌, length, drop, reverse, Bool, true, false, IsTrue, Result, Ok, Err, IfNone, IfSome, Contains}
 use Rattle.subst_language.specs.Language.Bytes.{colon, IsPlain}
 use Rattle.subst_language.specs.Language.Tree.{Tree, text}
@@ -19,31 +19,31 @@ use Rattle.subst_parse.specs.declared.halt.Halt.{Halt}
 use Rattle.subst_parse.specs.declared.parse.OpenDefault.{OpenDefault}
 use Rattle.subst_parse.specs.declared.parse.Parser.{Parser}
 
--- the source has the text of a well-formed tree from one position up to another, and what comes next may
--- follow it
+-- the source s has the text of the well-formed tree t in from..to, and doesn't continue a name at the tree's
+-- end
 pub record IsTreeAt (s : List ℕ) (from to : ℕ) (t : Tree) : Type 0 where
   pub well_formed : IsWellFormed t
   pub followed : IsFollowed t (drop to s)
   pub spelled : drop from s ≡ text t ++ drop to s
   pub ends : to ≡ from + length (text t)
 
--- the source is parsed from start to at: such a tree, and the parts that mean it, the first of which has
--- index i
+-- s has the text of a well-formed tree in start..at, which the parts mean; the first part has index i
 pub record IsParsed (s : List ℕ) (start at i : ℕ) (parts : List Part) : Type 0 where
   pub tree : Tree
   pub read : IsTreeAt s start at tree
   pub mean : PartsMean s i parts start tree
 
--- The same up to literal_start; from there to at come plain bytes that have no part yet. Where they may be
--- pending, the tree doesn't end in a plain item, so that they are a run of their own.
+-- The source s is parsed in start..literal_start, as in `IsParsed`, and then has plain bytes without a part,
+-- up to `at`. If `pending` is true, the tree before these bytes doesn't end in a plain item, so that the
+-- bytes are a run of their own.
 pub record IsParsedWithTail (pending : Bool) (s : List ℕ) (start literal_start at i : ℕ) (parts : List Part)
     : Type 0 where
   pub level : IsParsed s start literal_start i parts
   pub run : IsRun IsPlain s literal_start at
   pub begins : IsTrue pending → ends_plain false level.tree ≡ false
 
--- A default is open: before its part, which has no jump yet, are the parts of what is around it, after it
--- those of its own text so far, in which bare braces are open too.
+-- The default is open: its part's `next` isn't set yet. Before its part are those of the text around it, of
+-- which `Around` holds. After its part are those of its own text so far, in which bare braces may be open.
 pub record IsOpenDefault (pending : Bool) (s : List ℕ) (default : OpenDefault) (depth : ℕ) (parts : List Part)
     (literal_start at : ℕ) (Around : List Part → ℕ → Type 0) : Type 0 where
   pub before : List Part
@@ -60,8 +60,8 @@ pub record IsOpenDefault (pending : Bool) (s : List ℕ) (default : OpenDefault)
   pub change : ChangesDepth read 0 bare
   pub around : Around before position
 
--- The source has been read up to at. These defaults are open, the innermost first, and depth braces in all.
--- Plain bytes of the innermost text may be pending.
+-- The source s is read up to `at`, and its plain bytes from `literal_start` on have no part yet. The listed
+-- defaults are open, the innermost first, and `depth` braces in all. `pending` is as in `IsParsedWithTail`.
 abbrev pub StackHolds : Bool → List ℕ → List OpenDefault → ℕ → List Part → ℕ → ℕ → Type 0
 StackHolds pending s [] depth parts literal_start at =
     (depth ≡ 0) × IsParsedWithTail pending s 0 literal_start at 0 parts
@@ -69,13 +69,13 @@ StackHolds pending s (default ∷ defaults) depth parts literal_start at =
     IsOpenDefault pending s default depth parts literal_start at
     (λ before position. StackHolds false s defaults default.depth before position position)
 
--- the source has been read so, and no plain bytes are pending
+-- `StackHolds` after a flush, when the parts of the innermost text may end in plain bytes
 abbrev pub StackHoldsFlushed : List ℕ → List OpenDefault → ℕ → List Part → ℕ → ℕ → Type 0
 StackHoldsFlushed s defaults depth parts literal_start at =
     StackHolds false s defaults depth parts literal_start at
 
--- What the parser keeps from one item to the next, whose sink holds parts with offsets and indexes below a
--- limit. As each part is of at least one byte, the number of parts is one that a part can hold.
+-- The invariant of the parser between items. Its sink holds the parts so far, whose offsets and indexes are
+-- below the limit. Each part is of at least one byte, so no index is above the source's length.
 pub record IsReading {S : Type 0} (holds : S → List Part → Type 0) (limit : ℕ) (parser : Parser S)
     : Type 0 where
   pub parts : List Part
@@ -88,7 +88,7 @@ pub record IsReading {S : Type 0} (holds : S → List Part → Type 0) (limit : 
   pub nested : StackHolds true parser.tape.source.now (reverse parser.defaults.items) parser.depth
       parts parser.literal_start parser.at
 
--- the state after another one, when the plain bytes have got their part
+-- The state of the parser after a flush: the plain bytes that were pending in `before` have a part now.
 pub record IsFlushed {S : Type 0} (holds : S → List Part → Type 0) (before after : Parser S) : Type 0 where
   pub kept : after ≡ record before { sink = after.sink; literal_start = before.at }
   pub parts : List Part
@@ -97,8 +97,8 @@ pub record IsFlushed {S : Type 0} (holds : S → List Part → Type 0) (before a
   pub nested : StackHoldsFlushed before.tape.source.now (reverse before.defaults.items) before.depth
       parts before.at before.at
 
--- the part, which has index i, means a tree that is at this range of the source, and that leaves all braces
--- as they are
+-- The part with index i means a tree, whose text the source s has in from..to. The text is balanced, and the
+-- tree neither begins nor ends with a plain item.
 pub record IsPart (s : List ℕ) (from to i : ℕ) (part : Part) : Type 0 where
   pub tree : Tree
   pub at : IsTreeAt s from to tree
@@ -106,23 +106,24 @@ pub record IsPart (s : List ℕ) (from to i : ℕ) (part : Part) : Type 0 where
   pub ends : HasNoPlainEnds tree
   pub mean : PartsMean s i (part ∷ []) from tree
 
--- the parser is reading, whatever its sink was at first
+-- the invariant of the parser, `IsReading`, holds for some first state of its sink
 abbrev pub IsReadingSince : {S First : Type 0} → HoldsFrom S First → (First → List ℕ → Type 0) → ℕ → Parser S
     → Type 0
 IsReadingSince {First = First} holds source limit parser =
     (first : First) × source first parser.tape.source.now × IsReading (since holds first) limit parser
 
--- Q holds of whatever its sink was at first, from which the parser was reading
+-- Q holds of each first state of the sink for which the invariant held in the parser's state `old`
 abbrev pub FromReading : {S First : Type 0} → HoldsFrom S First → ℕ → Parser S → (First → Type 0) → Type 0
 FromReading {First = First} holds limit old Q =
     (first : First) → IsReading (since holds first) limit old → Q first
 
--- the parser goes on reading
+-- the parser's invariant still holds in the state `new`, for each first state of the sink for which it held
+-- in `old`
 abbrev pub ReadsOn : {S First : Type 0} → HoldsFrom S First → ℕ → Parser S → Parser S → Type 0
 ReadsOn holds limit old new = FromReading holds limit old (λ first. IsReading (since holds first) limit new)
 
--- One step of the parser: it goes on, or returns the fault of the source, or memory ran out; where the sink
--- asks for none, only if the source has a colon.
+-- One step of the parser: it advances, or returns the source's fault, or runs out of memory. If the sink
+-- never allocates, memory runs out only if the source has a colon.
 abbrev pub StepsOrFails : {S First : Type 0} → HoldsFrom S First → ℕ → (asks : Type 0) → Parser S
     → Result (Unit {0}) Halt → Parser S → Type 0
 StepsOrFails holds limit asks old (Ok _) new =

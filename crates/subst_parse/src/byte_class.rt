@@ -1,5 +1,5 @@
-//! Special bytes, and the classes of bytes of which there are runs: name bytes, plain bytes, and inner
-//! bytes, which mean nothing by themselves inside a default. Each test is that of the definition.
+//! Classes of bytes, which the parser finds runs of: bytes of names, plain bytes, and plain bytes except
+//! braces. Each class has the bytes of its definition in `specs/`.
 
 ghost use Rattle.std.specs.Prelude.{◌≡◌, ◌↔◌, ℕ, IsTrue};
 ghost use Rattle.subst_language.specs.Language.Bytes as bytes;
@@ -10,7 +10,7 @@ ghost use Rattle.subst_parse.specs.Lanes.{HasOutside};
 use crate::search::{either, equal_to};
 use std::simd::prelude::*;
 
-/// Each name byte at its own index, and a comma at every other.
+/// A table that has each byte of names at its own index, and commas elsewhere.
 static NAME_BYTES: [u8; 256] = *b"\
     ,,,,,,,,,,,,,,,,,,,,,,,,,,,,,,,,\
     ,,,,,,,,,,,,,,,,0123456789,,,,,,\
@@ -21,7 +21,7 @@ static NAME_BYTES: [u8; 256] = *b"\
     ,,,,,,,,,,,,,,,,,,,,,,,,,,,,,,,,\
     ,,,,,,,,,,,,,,,,,,,,,,,,,,,,,,,,";
 
-/// The backslash, the dollar and the braces, each at its own index, and a comma at every other.
+/// A table that has the backslash, the dollar and the braces at their own indexes, and commas elsewhere.
 static MARKERS: [u8; 256] = *b"\
     ,,,,,,,,,,,,,,,,,,,,,,,,,,,,,,,,\
     ,,,,$,,,,,,,,,,,,,,,,,,,,,,,,,,,\
@@ -32,7 +32,7 @@ static MARKERS: [u8; 256] = *b"\
     ,,,,,,,,,,,,,,,,,,,,,,,,,,,,,,,,\
     ,,,,,,,,,,,,,,,,,,,,,,,,,,,,,,,,";
 
-/// A class of bytes of which runs are searched for.
+/// A class of bytes. The parser searches for the first byte that isn't in the class.
 pub(crate) trait ByteClass {
     ghost is_in: { ℕ → Type 0 };
 
@@ -41,14 +41,14 @@ pub(crate) trait ByteClass {
         ensures { IsTrue result ↔ is_in byte };
 }
 
-/// A class whose bytes are tested 32 at a time.
+/// A class that tests 32 bytes at a time.
 pub(crate) trait VectorClass: ByteClass {
-    /// Returns a vector whose lanes have their top bit set where the byte isn't in the class.
+    /// Returns a vector in which a lane's top bit is set if and only if its byte isn't in the class.
     fn outside(bytes: u8x32) -> u8x32
         ensures { HasOutside Self.is_in bytes result };
 }
 
-/// The bytes that mean nothing by themselves where no brace is open: all but the dollar and the backslash.
+/// The bytes that have no meaning of their own outside braces: all but `$` and `\`.
 pub(crate) struct PlainBytes;
 
 impl ByteClass for PlainBytes {
@@ -69,7 +69,7 @@ impl VectorClass for PlainBytes {
     }
 }
 
-/// The bytes that mean nothing by themselves inside a default: all but `$`, `\` and the braces.
+/// The bytes that have no meaning of their own inside a default: all but `$`, `\` and the braces.
 pub(crate) struct InnerBytes;
 
 impl ByteClass for InnerBytes {
@@ -92,7 +92,7 @@ impl VectorClass for InnerBytes {
     }
 }
 
-/// The bytes of names.
+/// The bytes of names: ASCII letters, digits and underscores.
 pub(crate) struct NameBytes;
 
 impl ByteClass for NameBytes {
@@ -114,7 +114,7 @@ fn is_name_byte(b: u8) -> bool
     NAME_BYTES[b as usize] != b','
 }
 
-/// Returns whether a byte stands for itself inside a default, and is no brace.
+/// Returns whether a byte is none of `\`, `$`, `{` and `}`.
 #[inline(always)]
 fn is_inner(b: u8) -> bool
     ensures { result ≡ inner.is_inner b }
@@ -122,7 +122,7 @@ fn is_inner(b: u8) -> bool
     MARKERS[b as usize] == b','
 }
 
-/// Returns whether a backslash escapes the byte.
+/// Returns whether a backslash may escape the byte.
 #[inline(always)]
 pub(crate) fn is_escapable(b: u8) -> bool
     ensures { result ≡ bytes.is_escapable b }

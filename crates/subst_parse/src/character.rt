@@ -6,7 +6,7 @@ ghost use Rattle.subst_language.specs.Language.Character.{IsFrontCharacter, Begi
 use std::str;
 use subst_error::CharOrByte;
 
-/// Returns the character that the bytes begin with, or their first byte where they begin with none.
+/// Returns the character that the bytes begin with, or their first byte if they begin with no character.
 pub(crate) fn front_character(bytes: &[u8]) -> CharOrByte
     requires { 0 < length bytes.now }
     ensures { IsFrontCharacter bytes.now result }
@@ -17,7 +17,7 @@ pub(crate) fn front_character(bytes: &[u8]) -> CharOrByte
     }
 }
 
-/// Returns the longest text that is a prefix of the first four bytes: a character has no more.
+/// Returns the longest prefix of the first four bytes that is UTF-8. No character is longer than four bytes.
 fn front_text(bytes: &[u8]) -> &str
     ensures front { (rest : List ℕ) × (bytes.now ≡ result.now ++ rest) }
     ensures empty { result.now ≡ [] → (c : ℕ) → ¬ (BeginsWithChar bytes.now c) }

@@ -1,5 +1,5 @@
-//! Why the pass ends before the end of its source, without a message: what its steps return. The
-//! `ParseError` that it becomes states the same fault.
+//! The reasons to stop parsing before the end of the source, without messages. A reason converts into a
+//! `ParseError` that states the same fault.
 
 ghost use Rattle.std.specs.Prelude.{◌≡◌, ◌≤◌, Some, None, length};
 ghost use Rattle.subst_error.specs.ErrorFault.{parse_fault};
@@ -14,14 +14,14 @@ use subst_error::{
     ParseError, UnexpectedCharacter,
 };
 
-/// What is expected after a name in braces.
+/// The message of what is expected after a name in braces.
 const AFTER_NAME: &str = "a closing brace ('}'), colon (':') or question mark ('?')";
 
-/// What is expected after a question mark.
+/// The message of what is expected after a question mark.
 const AFTER_QUESTION_MARK: &str = "a closing brace ('}')";
 
-/// Why the pass ends before the end of its source: the cases of a `ParseError`, without the message that is
-/// in it. So it is small, since each step of the pass returns it or nothing.
+/// A reason to stop parsing before the end of the source: a `ParseError` without its message. It is small,
+/// since each step of the parser returns a `Result<(), Halt>`.
 #[derive(Clone, Copy)]
 pub(crate) enum Halt {
     /// A backslash at the end of the source.
@@ -33,22 +33,22 @@ pub(crate) enum Halt {
         position: usize,
         character: CharOrByte,
     },
-    /// A placeholder with no name, whose beginning has this length.
+    /// A `$` (of length 1) or `${` (of length 2) without a name after it.
     NoName {
         position: usize,
         len: usize,
     },
-    /// A character that can't follow a name in braces.
+    /// An unexpected character after a name in braces.
     AfterName {
         position: usize,
         character: CharOrByte,
     },
-    /// A character that can't follow a name and a question mark in braces.
+    /// An unexpected character after a name and a question mark in braces.
     AfterQuestionMark {
         position: usize,
         character: CharOrByte,
     },
-    /// A placeholder that is never closed.
+    /// A placeholder without its closing brace.
     Unclosed {
         position: usize,
     },
@@ -106,7 +106,7 @@ impl From<Halt> for ParseError {
     }
 }
 
-/// Returns the error for a character where the message says what was expected.
+/// Returns the error of an unexpected character, with the message of what was expected.
 fn unexpected(position: usize, character: CharOrByte, message: &'static str) -> ParseError
     requires { length message.now ≤ MESSAGE_CAPACITY }
     ensures { parse_fault result

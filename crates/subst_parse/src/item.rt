@@ -1,5 +1,5 @@
-//! Escapes and placeholders, one at a time: what is at an offset, or a fault that stays one wherever a
-//! default around it ends.
+//! Reads the escape or placeholder at an offset, or returns its fault. The result doesn't depend on where a
+//! default around the offset ends.
 
 ghost use Rattle.std.specs.Prelude.{◌≡◌, ◌+◌, ◌-◌, ◌∷◌, List, ℕ, IfOk, IfErr, MatchResult, drop, length};
 ghost use Rattle.subst_language.specs.Language.Bytes.{dollar, question_mark, backslash, opening_brace};
@@ -12,7 +12,7 @@ use crate::halt::Halt;
 use crate::tape::Tape;
 use subst_language::Span;
 
-/// A placeholder, of one with a default the part up to the colon.
+/// A placeholder, or its head up to the colon of its default.
 #[derive(Clone, Copy)]
 pub(crate) enum Placeholder {
     /// `$name`
@@ -25,7 +25,7 @@ pub(crate) enum Placeholder {
     Default(Span),
 }
 
-/// Returns the byte that the backslash at an offset escapes.
+/// Returns the byte escaped by the backslash at `at`, or the fault if no byte that may be escaped follows.
 #[inline(always)]
 pub(crate) fn escape_at(tape: &mut Tape<'_>, at: usize) -> Result<u8, Halt>
     requires { (rest : List ℕ) × (drop at tape.old.source.now ≡ backslash ∷ rest) }
@@ -45,7 +45,7 @@ pub(crate) fn escape_at(tape: &mut Tape<'_>, at: usize) -> Result<u8, Halt>
     }
 }
 
-/// Returns the placeholder whose dollar is at an offset, up to the colon of its default.
+/// Returns the placeholder that begins at `at`, or its fault. Reads `${name:default}` up to the colon.
 #[inline(always)]
 pub(crate) fn placeholder_at(tape: &mut Tape<'_>, at: usize) -> Result<Placeholder, Halt>
     requires { (rest : List ℕ) × (drop at tape.old.source.now ≡ dollar ∷ rest) }
@@ -64,7 +64,7 @@ pub(crate) fn placeholder_at(tape: &mut Tape<'_>, at: usize) -> Result<Placehold
     }
 }
 
-/// Returns the placeholder `$name` whose dollar is at an offset, with no opening brace after it.
+/// Returns the placeholder `$name` at `at`, or the fault of a missing name. No `{` follows the dollar.
 #[inline(always)]
 fn short_at(tape: &mut Tape<'_>, at: usize) -> Result<Placeholder, Halt>
     requires dollar { drop at tape.old.source.now ≡ dollar ∷ drop (at + 1) tape.old.source.now }
@@ -88,8 +88,7 @@ fn short_at(tape: &mut Tape<'_>, at: usize) -> Result<Placeholder, Halt>
     Ok(Placeholder::Short(Span { start, end }))
 }
 
-/// Returns the placeholder `${name}` or `${name?}` whose dollar and opening brace are at an offset, or
-/// `${name:` up to its colon.
+/// Returns the placeholder `${name}`, `${name?}` or `${name:` that begins at `at`, or its fault.
 #[inline(always)]
 fn braced_at(tape: &mut Tape<'_>, at: usize) -> Result<Placeholder, Halt>
     requires { drop at tape.old.source.now
@@ -123,7 +122,7 @@ fn braced_at(tape: &mut Tape<'_>, at: usize) -> Result<Placeholder, Halt>
     }
 }
 
-/// Returns the placeholder `${name?}` at an offset, where it has been read up to its question mark.
+/// Returns the placeholder `${name?}` at `at`, or its fault. It has been read up to its question mark.
 fn optional_at(tape: &mut Tape<'_>, at: usize, name: Span) -> Result<Placeholder, Halt>
     requires { IsInBraces tape.old.source.now at name question_mark }
     ensures ok { IfOk result (IsPlaceholder tape.old.source.now at) }

@@ -1,5 +1,5 @@
-//! The parser: a source is read once, and its parts are given to a `Sink`. Callers depend on `subst`, and not on
-//! this crate, whose public items are there for `subst_template`.
+//! The parser, which reads a source once and appends its parts to a `Sink`. Callers depend on `subst`, not on
+//! this crate: its public items are for `subst_template`.
 #![tactic(auto)]
 
 mod byte_class;

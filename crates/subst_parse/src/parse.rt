@@ -1,5 +1,5 @@
-//! The pass: a source is read once, from the left, and its parts are given to a sink, as a list. These are the
-//! parts of the source's template, or the pass returns the source's fault, or that memory ran out.
+//! The parser: it reads a source once, from the left, and appends its parts to a sink. Then the sink holds
+//! the parts of the source's template, or the parser returns the source's fault, or out of memory.
 
 ghost use Rattle.std.specs.Prelude.{◌≡◌, ◌+◌, ◌-◌, ◌*◌, ◌<◌, ◌≤◌, ℕ, List, [], ◌∷◌, length, drop, slice_get, vec_len, IfErr, OnErr, OnOk, IsSomeAnd, IsTrue, ◌↔◌, Contains};
 ghost use Rattle.subst_error.specs.ErrorFault.{parse_fault};
@@ -27,29 +27,29 @@ use subst_language::{Part, Sink, Span};
 pub(crate) struct OpenDefault {
     /// The index of its part.
     pub part: usize,
-    /// How many braces are open around it.
+    /// The number of open braces around it.
     pub depth: usize,
-    /// Its name.
+    /// The name of its variable.
     pub name: Span,
 }
 
-/// How far a source has been read.
+/// The state of a parse.
 #[derive(Drop)]
 pub(crate) struct Parser<'s, S: Sink> {
     tape: Tape<'s>,
     sink: S,
-    /// The defaults that are open, the outermost first.
+    /// The open defaults, the outermost first.
     defaults: Vec<OpenDefault>,
-    /// How many braces are open: those of the defaults, and bare ones inside defaults.
+    /// The number of open braces: those of the defaults, and bare ones inside defaults.
     depth: usize,
-    /// From here to `at` come literal bytes that have no part yet.
+    /// The start of the pending literal bytes, which have no part yet and end at `at`.
     literal_start: usize,
     /// The offset up to which the source has been read.
     at: usize,
 }
 
-/// Gives the parts of a source to a sink, up to its end or its first bad item, and counts the reads. Its
-/// first `plain` bytes, which have no dollar and no backslash, aren't read.
+/// Appends the parts of a source to a sink. Returns the sink, the reads, and `Ok`, or an error for the
+/// source's fault or out of memory. The first `plain` bytes must have no `$` and no `\`, and aren't read.
 #[inline(always)]
 pub fn parse_into<S: Sink>(
     alloc: Global,
@@ -85,7 +85,7 @@ pub fn parse_into<S: Sink>(
 impl<'s, S: Sink> Parser<'s, S> {
     ghost use Rattle.subst_parse.specs.Parsing.{FromReading, IsFlushed, IsPart, IsReading, IsReadingSince, StepsOrFails};
 
-    /// Returns a parser that begins at an offset, where the bytes before have no dollar and no backslash.
+    /// Creates a parser at the offset `at`, before which the source has no `$` and no `\`.
     fn new(alloc: Global, tape: Tape<'s>, at: usize, sink: S) -> Self
         requires plain { IsRun IsPlain tape.source.now 0 at }
         requires fits { length tape.source.now < S.limit }
@@ -106,7 +106,7 @@ impl<'s, S: Sink> Parser<'s, S> {
         }
     }
 
-    /// Reads the source to its end, or to its first bad item.
+    /// Reads the source to its end, or returns an error: the source's fault or out of memory.
     fn read_to_end(&mut self) -> Result<(), Halt>
         requires reading { IsReadingSince S.holds S.source S.limit self.old }
         ensures ok { OnOk result (FromReading S.holds S.limit self.old (λ first.
@@ -130,7 +130,7 @@ impl<'s, S: Sink> Parser<'s, S> {
         self.finish()
     }
 
-    /// Reads up to and including the next special byte or item.
+    /// Reads plain bytes, and then an escape, a placeholder, or a brace inside a default.
     #[inline(always)]
     fn read_item(&mut self) -> Result<(), Halt>
         requires reading { IsReadingSince S.holds S.source S.limit self.old }
@@ -153,7 +153,7 @@ impl<'s, S: Sink> Parser<'s, S> {
         self.depth == 0
     }
 
-    /// Reads, where no brace is open, plain bytes and the escape or placeholder after them.
+    /// Reads plain bytes, and the escape or placeholder after them. No brace is open.
     #[inline(always)]
     fn read_at_top(&mut self) -> Result<(), Halt>
         requires reading { IsReadingSince S.holds S.source S.limit self.old }
@@ -170,7 +170,7 @@ impl<'s, S: Sink> Parser<'s, S> {
         }
     }
 
-    /// Reads, inside a default, plain bytes and the brace, escape or placeholder after them.
+    /// Reads plain bytes, and the brace, escape or placeholder after them, inside a default.
     #[inline(always)]
     fn read_in_default(&mut self) -> Result<(), Halt>
         requires reading { IsReadingSince S.holds S.source S.limit self.old }
@@ -193,7 +193,7 @@ impl<'s, S: Sink> Parser<'s, S> {
         }
     }
 
-    /// Reads the escape at `at`.
+    /// Reads the escape at `at` and appends its part, or returns the source's fault.
     #[inline(always)]
     fn read_escape(&mut self) -> Result<(), Halt>
         requires reading { IsReadingSince S.holds S.source S.limit self.old }
@@ -208,7 +208,7 @@ impl<'s, S: Sink> Parser<'s, S> {
         }
     }
 
-    /// Reads the placeholder at `at`, of one with a default the part up to the colon.
+    /// Reads the placeholder at `at`, up to the colon of a default, and appends its part, or returns a fault.
     #[inline(always)]
     fn read_placeholder(&mut self) -> Result<(), Halt>
         requires reading { IsReadingSince S.holds S.source S.limit self.old }
@@ -226,7 +226,7 @@ impl<'s, S: Sink> Parser<'s, S> {
         }
     }
 
-    /// Flushes the pending literal bytes into a `Literal` part.
+    /// Appends the pending literal bytes, if there are any, as one `Literal` part.
     #[inline(always)]
     fn flush_literal(&mut self) -> Result<(), AllocError>
         requires { IsReadingSince S.holds S.source S.limit self.old }
@@ -250,7 +250,7 @@ impl<'s, S: Sink> Parser<'s, S> {
         Ok(())
     }
 
-    /// Adds the part of the bytes from `at` up to `end`.
+    /// Appends the pending literal bytes, and then `part`, which ends at `end`.
     #[inline(always)]
     fn add_part(&mut self, part: Part, end: usize) -> Result<(), Halt>
         requires reading { IsReadingSince S.holds S.source S.limit self.old }
@@ -269,7 +269,7 @@ impl<'s, S: Sink> Parser<'s, S> {
         Ok(())
     }
 
-    /// Adds the part of the placeholder `${name?}` at `at`.
+    /// Appends the pending literal bytes, and then the part of the placeholder `${name?}` at `at`.
     #[inline(always)]
     fn add_optional(&mut self, name: Span) -> Result<(), Halt>
         requires reading { IsReadingSince S.holds S.source S.limit self.old }
@@ -285,7 +285,7 @@ impl<'s, S: Sink> Parser<'s, S> {
         Ok(())
     }
 
-    /// Opens the default of the placeholder at `at`.
+    /// Appends pending literal bytes and the part of the placeholder `${name:` at `at`. Opens its default.
     #[inline(always)]
     fn open_default(&mut self, name: Span) -> Result<(), Halt>
         requires reading { IsReadingSince S.holds S.source S.limit self.old }
@@ -307,7 +307,7 @@ impl<'s, S: Sink> Parser<'s, S> {
         Ok(())
     }
 
-    /// Reads a closing brace inside a default: that of the default, or of a bare brace in it.
+    /// Reads a closing brace inside a default. It closes the default, or a bare brace in it.
     fn close_brace(&mut self) -> Result<(), Halt>
         requires reading { IsReadingSince S.holds S.source S.limit self.old }
         requires inside { 0 < self.old.depth }
@@ -327,7 +327,7 @@ impl<'s, S: Sink> Parser<'s, S> {
         }
     }
 
-    /// Closes the innermost default.
+    /// Reads the closing brace of the innermost default, and closes the default.
     fn close_default(&mut self, innermost: OpenDefault) -> Result<(), Halt>
         requires reading { IsReadingSince S.holds S.source S.limit self.old }
         requires innermost { slice_get self.old.defaults.items
@@ -348,8 +348,8 @@ impl<'s, S: Sink> Parser<'s, S> {
         Ok(())
     }
 
-    /// Returns the fault of the source, where a bad item is at `at`: a default that is never closed comes
-    /// before what is wrong inside it.
+    /// Returns the fault of a source that has a bad item, with the fault `halt`, at `at`. If a default around
+    /// the item is never closed, the result is the missing brace of the outermost default.
     #[cold]
     #[inline(never)]
     fn fault_of_source(&mut self, halt: Halt) -> Halt
@@ -370,7 +370,7 @@ impl<'s, S: Sink> Parser<'s, S> {
         }
     }
 
-    /// Flushes the last literal bytes, at the end of the source.
+    /// Appends the source's last literal bytes, or returns the source's fault if a default is open.
     fn finish(&mut self) -> Result<(), Halt>
         requires reading { IsReadingSince S.holds S.source S.limit self.old }
         requires end { length self.old.tape.source.now ≤ self.old.at }
@@ -392,7 +392,7 @@ impl<'s, S: Sink> Parser<'s, S> {
     }
 }
 
-/// Returns the fault of a default that is never closed, by its name.
+/// Returns the fault of a default without its closing brace. `name` is the range of its variable's name.
 fn unclosed(name: Span) -> Halt
     requires { 0 < name.start }
     ensures { halt_fault result ≡ Some (MissingClosingBrace (name.start - 1)) }

@@ -1,13 +1,13 @@
-//! The counter of a parse's steps. It takes no bytes at run time: only contracts see the count.
+//! The counter of a parse's reads. It exists only in contracts and takes no memory.
 
 ghost use Rattle.std.specs.Prelude.{◌≡◌, ◌+◌};
 
 use std::marker::Model;
 use subst_language::Counter;
 
-/// The number of reads that a parse makes.
+/// The number of reads of a parse.
 ///
-/// A read is one byte of the source that is looked at: by its offset, or by a search.
+/// A read is one byte of the source, or its end, that the parser looks at by its offset or in a search.
 #[derive(Drop)]
 pub struct Reads {
     counter: Counter,
@@ -31,7 +31,7 @@ impl Reads {
         }
     }
 
-    /// Counts this many more reads.
+    /// Adds `count` reads.
     pub(crate) fn add(&mut self, count: usize)
         ensures { self.new ≡ self.old + count }
     {

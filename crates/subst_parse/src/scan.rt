@@ -1,4 +1,4 @@
-//! The search for closing braces after a fault: whether the rest of the source closes all that are open.
+//! Tests whether the rest of a source closes all open braces, after a fault inside a default.
 
 ghost use Rattle.std.specs.Prelude.{◌≡◌, ◌+◌, ◌-◌, ◌≤◌, ◌↔◌, IsTrue, drop, length};
 ghost use Rattle.subst_language.specs.Lemmas.Closing.{ClosesAll};

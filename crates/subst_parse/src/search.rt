@@ -1,4 +1,4 @@
-//! Searches for the end of a run of bytes of a class, 32 bytes at a time.
+//! Searches for the end of a run of bytes in a class, 32 bytes at a time.
 
 ghost use Rattle.std.specs.Prelude.{◌≡◌, ◌≢◌, ◌+◌, ◌<◌, ◌≤◌, ◌↔◌, ◌==◌, ◌||◌, ℕ, Bool, List, length, drop, slice_index};
 ghost use Rattle.std.specs.Int.{bit_at};
@@ -12,18 +12,18 @@ use crate::byte_class::{ByteClass, InnerBytes, PlainBytes, VectorClass};
 use memchr::memchr2;
 use std::simd::prelude::*;
 
-/// How many bytes a vector has.
+/// The number of bytes in a vector.
 const WIDTH: usize = 32;
 
-/// How many plain bytes come before `memchr2` is faster, which goes by more bytes at a time.
+/// The number of plain bytes after which `memchr2` is faster than vectors, as it tests more bytes at a time.
 const NEAR: usize = 1024;
 
-/// How many bytes of a default come before vectors are faster than a byte at a time.
+/// The number of bytes in a default after which vectors are faster than single bytes.
 const FEW: usize = 8;
 
-/// A class whose runs are searched for.
+/// A class of bytes with a search for the first byte that isn't in it.
 pub(crate) trait SearchedClass: ByteClass {
-    /// Returns the first offset from `from` on of a byte that isn't in the class, or the end of the source.
+    /// Returns the offset of the first byte from `from` on that isn't in the class, or the end of the source.
     fn find_outside(source: &[u8], from: usize) -> usize
         requires { from ≤ length source.now }
         ensures { EndsRun Self.is_in source.now from result };
@@ -43,7 +43,7 @@ impl SearchedClass for InnerBytes {
     }
 }
 
-/// Returns how many bytes come before the first dollar or backslash, or all of them.
+/// Returns the number of bytes before the first `$` or `\`, or of all bytes if there is none.
 pub fn plain_len(source: &[u8]) -> usize
     ensures run { IsRun IsPlain source.now 0 result }
     ensures within { result ≤ length source.now }
@@ -56,7 +56,7 @@ pub fn plain_len(source: &[u8]) -> usize
     }
 }
 
-/// Returns the first offset from `from` on of a dollar or a backslash, or the end of the source.
+/// Returns the offset of the first `$` or `\` from `from` on, or the end of the source.
 #[inline(always)]
 fn find_special(source: &[u8], from: usize) -> usize
     requires { from ≤ length source.now }
@@ -70,7 +70,7 @@ fn find_special(source: &[u8], from: usize) -> usize
     find_special_far(source, near)
 }
 
-/// Returns the first offset from `from` on of a `$` or a `\`, or the end of the source, fast where it is far.
+/// Returns the same offset as `find_special`, and faster if the offset is far from `from`.
 #[inline(never)]
 fn find_special_far(source: &[u8], from: usize) -> usize
     requires { from ≤ length source.now }
@@ -82,7 +82,7 @@ fn find_special_far(source: &[u8], from: usize) -> usize
     }
 }
 
-/// Returns the first offset from `from` on of a backslash, a dollar or a brace, or the end of the source.
+/// Returns the offset of the first `\`, `$` or brace from `from` on, or the end of the source.
 #[inline(always)]
 fn find_inner(source: &[u8], from: usize) -> usize
     requires { from ≤ length source.now }
@@ -96,7 +96,7 @@ fn find_inner(source: &[u8], from: usize) -> usize
     first_outside::<InnerBytes>(source, few, source.len())
 }
 
-/// Returns the first offset from `from` on of a byte that isn't in a class, or `to` where all before it are.
+/// Returns the offset of the first byte in `from..to` that isn't in the class, or `to` if there is none.
 #[inline(always)]
 fn first_outside<C: VectorClass>(source: &[u8], from: usize, to: usize) -> usize
     requires ordered { from ≤ to }
@@ -114,8 +114,9 @@ fn first_outside<C: VectorClass>(source: &[u8], from: usize, to: usize) -> usize
     first_outside_tail::<C>(source, at, to)
 }
 
-/// Returns the first offset from `from` on of a byte that isn't in a class, or `to`, which is less than a
-/// vector further on: a vector that ends at `to` is read, of which the first bytes were read before.
+/// Returns the offset of the first byte in `from..to` that isn't in the class, or `to` if there is none. The
+/// range is shorter than a vector, so one vector is read that ends at `to` and overlaps the bytes before
+/// `from`.
 #[inline(always)]
 fn first_outside_tail<C: VectorClass>(source: &[u8], from: usize, to: usize) -> usize
     requires ordered { from ≤ to }
@@ -134,7 +135,7 @@ fn first_outside_tail<C: VectorClass>(source: &[u8], from: usize, to: usize) -> 
     }
 }
 
-/// Returns the first offset from `from` on of a byte that isn't in a class, or `to`, a byte at a time.
+/// Returns the offset of the first byte in `from..to` that isn't in the class, or `to`. Tests single bytes.
 #[inline(always)]
 fn first_outside_bytewise<C: ByteClass>(source: &[u8], from: usize, to: usize) -> usize
     requires ordered { from ≤ to }
@@ -148,7 +149,7 @@ fn first_outside_bytewise<C: ByteClass>(source: &[u8], from: usize, to: usize) -
     at
 }
 
-/// Returns a mask of the 32 bytes from an offset on that aren't in a class, of the first one the lowest bit.
+/// Returns a mask of the 32 bytes from `at` on that aren't in the class. The first byte has the lowest bit.
 #[inline(always)]
 fn outside_at<C: VectorClass>(source: &[u8], at: usize) -> u64
     requires { at + 32 ≤ length source.now }
@@ -157,7 +158,7 @@ fn outside_at<C: VectorClass>(source: &[u8], at: usize) -> u64
     top_bits(C::outside(load(source, at)))
 }
 
-/// Returns a mask of the bytes from `from` to `to`, under 32, that aren't in a class, as `outside_at`.
+/// Returns a mask of the bytes in `from..to` that aren't in the class. The first byte has the lowest bit.
 #[inline(always)]
 fn outside_before<C: VectorClass>(source: &[u8], from: usize, to: usize) -> u64
     requires ordered { from ≤ to }
@@ -170,7 +171,7 @@ fn outside_before<C: VectorClass>(source: &[u8], from: usize, to: usize) -> u64
     outside_at::<C>(source, to - WIDTH) >> passed
 }
 
-/// Returns the index of the lowest bit that is set.
+/// Returns the index of the lowest set bit.
 #[inline(always)]
 fn lowest(mask: u64) -> usize
     requires { mask ≢ 0 }
@@ -181,7 +182,7 @@ fn lowest(mask: u64) -> usize
     mask.trailing_zeros() as usize
 }
 
-/// Returns the 32 bytes from an offset on.
+/// Loads the 32 bytes from `at` on into a vector.
 #[inline(always)]
 fn load(source: &[u8], at: usize) -> u8x32
     requires { at + 32 ≤ length source.now }
@@ -190,7 +191,7 @@ fn load(source: &[u8], at: usize) -> u8x32
     u8x32::from_slice(&source[at..])
 }
 
-/// Returns the top bit of each lane, of the first one as the lowest bit.
+/// Returns a mask of the top bits of the lanes, in which the first lane has the lowest bit.
 #[inline(always)]
 fn top_bits(lanes: u8x32) -> u64
     ensures { (k : ℕ) → (bit_at result k ≡ 1) ↔ (128 ≤ slice_index lanes k) }
@@ -198,7 +199,7 @@ fn top_bits(lanes: u8x32) -> u64
     lanes.simd_ge(u8x32::splat(128)).to_bitmask()
 }
 
-/// Returns 255 in each lane that has this byte, and 0 in the others.
+/// Returns 255 in each lane whose byte is `byte`, and 0 in the others.
 #[inline(always)]
 pub(crate) fn equal_to(bytes: u8x32, byte: u8) -> u8x32
     ensures { HasTest (λ b. b == byte) bytes result }
@@ -208,7 +209,7 @@ pub(crate) fn equal_to(bytes: u8x32, byte: u8) -> u8x32
         .select(u8x32::splat(255), u8x32::splat(0))
 }
 
-/// Returns 255 in each lane that has it in one of two vectors, and 0 in the others.
+/// Returns 255 in each lane that is 255 in either vector, and 0 in the others.
 #[inline(always)]
 pub(crate) fn either(first: u8x32, second: u8x32) -> u8x32
     ensures { (a b : ℕ → Bool) (bytes : List ℕ)
@@ -218,7 +219,7 @@ pub(crate) fn either(first: u8x32, second: u8x32) -> u8x32
     first | second
 }
 
-/// Returns the bytes from an offset on.
+/// Returns the bytes of the source from `from` on.
 #[inline(always)]
 pub(crate) fn rest(source: &[u8], from: usize) -> &[u8]
     requires { from ≤ length source.now }

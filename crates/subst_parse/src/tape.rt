@@ -1,6 +1,5 @@
-//! The source as the parser sees it: the byte at an offset, three searches, and the character at an
-//! offset. Contracts say what is there, as an equation on the rest of the source, and how many reads that
-//! was.
+//! The source as the parser sees it: the byte at an offset, three searches, and the character at an offset.
+//! Contracts state the result, as an equation on the rest of the source, and the number of reads.
 
 ghost use Rattle.std.specs.Prelude.{◌≡◌, ◌+◌, ◌-◌, ◌<◌, ◌≤◌, [], ◌∷◌, length, drop, min, IsSome, IsTrue, ◌↔◌, MatchOption};
 ghost use Rattle.subst_language.specs.Language.Bytes.{IsPlain};
@@ -16,8 +15,8 @@ use crate::reads::Reads;
 use crate::search::{SearchedClass, rest};
 use subst_error::CharOrByte;
 
-/// A source that is read one byte at a time, or searched, with the counter of its reads. The parser has no
-/// other way to the source and no other counter, so each byte that it looks at is counted.
+/// A source that is read or searched, with the counter of its reads. The parser has no other access to the
+/// source and no other counter, so each byte that it looks at is counted.
 #[derive(Drop)]
 pub(crate) struct Tape<'s> {
     source: &'s [u8],
@@ -32,7 +31,7 @@ impl<'s> Tape<'s> {
         Tape { source, reads }
     }
 
-    /// Returns the counter.
+    /// Returns the counter of reads.
     pub fn into_reads(self) -> Reads
         ensures { result ≡ self.entry.reads }
     {
@@ -40,7 +39,7 @@ impl<'s> Tape<'s> {
         reads
     }
 
-    /// Returns whether there is a byte at an offset. Reads nothing.
+    /// Returns whether there is a byte at `at`. Reads nothing.
     #[inline(always)]
     pub fn has(&self, at: usize) -> bool
         ensures { IsTrue result ↔ (at < length self.now.source.now) }
@@ -48,7 +47,7 @@ impl<'s> Tape<'s> {
         at < self.source.len()
     }
 
-    /// Returns the byte at an offset, or nothing after the last byte.
+    /// Returns the byte at `at`, or `None` at the end of the source.
     #[inline(always)]
     pub fn byte_at(&mut self, at: usize) -> Option<u8>
         ensures byte { MatchOption result (drop at self.old.source.now ≡ [])
@@ -61,7 +60,7 @@ impl<'s> Tape<'s> {
         self.source.get(at).copied()
     }
 
-    /// Returns the first offset from `from` on of a dollar or a backslash, or the end of the source.
+    /// Returns the offset of the first `$` or `\` from `from` on, or the end of the source.
     #[inline(always)]
     pub fn find_special(&mut self, from: usize) -> usize
         requires { from < length self.old.source.now }
@@ -70,7 +69,7 @@ impl<'s> Tape<'s> {
         self.find_outside::<PlainBytes>(from)
     }
 
-    /// Returns the first offset from `from` on of a byte that is no name byte, or the end of the source.
+    /// Returns the offset of the first byte from `from` on that is no name byte, or the end of the source.
     #[inline(always)]
     pub fn name_end(&mut self, from: usize) -> usize
         requires { from ≤ length self.old.source.now }
@@ -79,7 +78,7 @@ impl<'s> Tape<'s> {
         self.first_outside::<NameBytes>(from)
     }
 
-    /// Returns the first offset from `from` on of a backslash, a dollar or a brace, or the end of the source.
+    /// Returns the offset of the first `\`, `$` or brace from `from` on, or the end of the source.
     #[inline(always)]
     pub fn find_inner(&mut self, from: usize) -> usize
         requires { from < length self.old.source.now }
@@ -88,9 +87,8 @@ impl<'s> Tape<'s> {
         self.find_outside::<InnerBytes>(from)
     }
 
-    /// Returns the first offset from `from` on of a byte that isn't in a class, or the end of the source.
-    /// After an escape or a placeholder it often is one of the first two, so a search begins only after
-    /// these.
+    /// Returns the offset of the first byte from `from` on that isn't in the class, or the end of the source.
+    /// After an escape or a placeholder that byte is often one of the first two, which are tested first.
     #[inline(always)]
     fn find_outside<C: SearchedClass>(&mut self, from: usize) -> usize
         requires { from < length self.old.source.now }
@@ -106,7 +104,8 @@ impl<'s> Tape<'s> {
         self.search::<C>(next + 1)
     }
 
-    /// Searches from `from` on for a byte that isn't in a class, and returns its offset, or the source's end.
+    /// Searches for the first byte from `from` on that isn't in the class. Returns its offset, or the
+    /// source's end.
     #[inline(never)]
     fn search<C: SearchedClass>(&mut self, from: usize) -> usize
         requires { from ≤ length self.old.source.now }
@@ -117,8 +116,8 @@ impl<'s> Tape<'s> {
         end
     }
 
-    /// Returns the first offset from `from` on of a byte that isn't in a class, or the end of the source.
-    /// Each turn looks at two bytes, so that fewer instructions go to the loop.
+    /// Returns the offset of the first byte from `from` on that isn't in the class, or the end of the source.
+    /// The loop tests two bytes a turn to save instructions.
     #[inline(always)]
     fn first_outside<C: ByteClass>(&mut self, from: usize) -> usize
         requires { from ≤ length self.old.source.now }
@@ -140,7 +139,7 @@ impl<'s> Tape<'s> {
         at
     }
 
-    /// Returns whether the byte at an offset is in a class.
+    /// Returns whether the byte at `at` is in the class.
     #[inline(always)]
     fn is_at<C: ByteClass>(&mut self, at: usize) -> bool
         requires { at < length self.old.source.now }
@@ -153,8 +152,7 @@ impl<'s> Tape<'s> {
         C::has(self.source[at])
     }
 
-    /// Returns the character at an offset, or the byte there where no character begins. Looks at up to four
-    /// bytes.
+    /// Returns the character at `at`, or the byte there if no character begins at it. Reads up to four bytes.
     #[cold]
     #[inline(never)]
     pub fn character_at(&mut self, at: usize) -> CharOrByte

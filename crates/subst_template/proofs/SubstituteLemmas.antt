@@ -1,4 +1,4 @@
--- From what came of an expansion to the answer of the source.
+-- From the outcome of an expansion to the answer of the source.
 use Rattle.std.proofs.Common.{◌≡◌, ◌≤◌, ◌<◌, ℕ, ◌+◌, List, ◌++◌, [], ◌∷◌, Option, Some, None, IfErr, IfNone, IfSome, OnErr, OnOk, Result, Ok, Err, length, sym, ◌∙◌, subst}
 use Rattle.std.proofs.lemmas.Str.{IsUtf8-append}
 use Rattle.std.specs.Option.{option_map}
@@ -23,7 +23,7 @@ use Rattle.subst_language.proofs.PartsLemmas.{same_value}
 
 module _ {V Seen : Type 0} (read : V → List ℕ) (is_read : List ℕ → Type 0) (see : V → Seen)
     (look_up : List ℕ → Option Seen) (s before after : List ℕ) (capacity len : ℕ) where
-  -- an expansion that gives bytes
+  -- an expansion that succeeds
   pub answers : (outcome : Result (Unit {0}) ExpandIntoError) → outcome ≡ Ok tt
       → IsExpansion read is_read see look_up s before after capacity len outcome
       → ByLookUp read see look_up
@@ -45,7 +45,7 @@ module _ {V Seen : Type 0} (read : V → List ℕ) (is_read : List ℕ → Type 
     failed : IsExpansion read is_read see look_up s before after capacity len (Err e)
     failed = subst (IsExpansion read is_read see look_up s before after capacity len) is expansion
 
-    -- one that fails: for what the source is refused
+    -- one that fails: it states the refusal of the source
     pub refuses : ByLookUp read see look_up
         (λ look. IfSome (expand_into_fault e) (λ f. Answers s look (Refuses f)))
     refuses bytes reads =
@@ -55,7 +55,7 @@ module _ {V Seen : Type 0} (read : V → List ℕ) (is_read : List ℕ → Type 
         (λ t spells. subst (λ v. IfSome (expand_into_fault e) (IsMissing v))
         (template_value s failed.parts t look template spells) (failed.expands.value bytes reads))
 
-    -- one that fails: for what the source is refused, whatever the values are
+    -- one that fails: it states the refusal of the source, whatever the values
     pub refuses_by_names : ByNames look_up
         (λ look. IfSome (expand_into_fault e) (λ f. Answers s look (Refuses f)))
     refuses_by_names look names =
@@ -64,7 +64,7 @@ module _ {V Seen : Type 0} (read : V → List ℕ) (is_read : List ℕ → Type 
         (λ t spells. errors_missing {T = Unit {0}} expand_into_fault s failed.parts t look_up (Err e) template
         spells failed.expands.missing look names)
 
-    -- out of memory only with cause
+    -- out of memory only if the capacity is less than the bytes written
     pub short_room : ByLookUp read see look_up
         (λ look. ByTree s (λ t. IfNone (expand_into_fault e) (capacity < len + length (written 0 t look))))
     short_room bytes reads t spells =
@@ -78,7 +78,7 @@ module _ {V Seen : Type 0} (read : V → List ℕ) (is_read : List ℕ → Type 
         errors_range {T = Unit {0}} expand_into_fault s failed.parts look_up (Err e) failed.template
         failed.expands.missing
 
--- an error with a name of its own states the same refusal, or that memory ran out
+-- an error that owns its name states the same refusal, or out of memory
 pub owned_refuses : (s : List ℕ) (look : LookUp) (borrowed owned : Option Fault)
     → IfSome owned (λ f. borrowed ≡ Some f) → IfSome borrowed (λ f. Answers s look (Refuses f))
     → IfSome (option_map Refuses owned) (Answers s look)
@@ -86,14 +86,14 @@ owned_refuses s look borrowed None same given = tt
 owned_refuses s look borrowed (Some f) same given =
     subst (λ o. IfSome o (λ g. Answers s look (Refuses g))) same given
 
--- what was appended to a text is a text, where the values are
+-- a text with the output appended is a text, if the values are
 pub appended_is_text : {Seen : Type 0} (s : List ℕ) (look_up : List ℕ → Option Seen) {before after : List ℕ}
     → IsUtf8 s → IsUtf8 before → AppendsTemplate IsUtf8 look_up s before after → IsUtf8 after
 appended_is_text s look_up {before = before} is first (parts, template, (x, fills, appended)) =
     subst IsUtf8 (sym appended)
     (IsUtf8-append before x first (output_is_text s parts look_up x template is fills))
 
--- a text is one after, whether something was appended or it is as before
+-- the text is one after the call, whether something was appended or it is unchanged
 pub text_since : {Seen T E : Type 0} (s : List ℕ) (look_up : List ℕ → Option Seen) (result : Result T E)
     {before after : List ℕ} → IsUtf8 s → IsUtf8 before → OnErr result (after ≡ before)
     → OnOk result (AppendsTemplate IsUtf8 look_up s before after) → IsUtf8 after

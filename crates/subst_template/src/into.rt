@@ -1,4 +1,4 @@
-//! Substitutions into an output that is borrowed, whose errors take no memory.
+//! Substitutions into a caller's buffer, whose errors never allocate.
 
 ghost use Rattle.std.specs.Prelude.{◌≡◌, ◌≤◌, IfOk, OnErr};
 ghost use Rattle.std.specs.Prelude.{string_bytes, string_capacity, string_len, vec_capacity, vec_len};
@@ -16,7 +16,7 @@ use subst_expand::SliceBytes;
 use subst_language::VariableMap;
 use subst_parse::plain_len;
 
-/// Appends what [`substitute_bytes`](crate::substitute_bytes) returns to `output`.
+/// Expands `source` as [`substitute_bytes`](crate::substitute_bytes) does, and appends the bytes to `output`.
 ///
 /// ```rust
 /// let mut output = Vec::from_slice(alloc, b"> ")?;
@@ -27,10 +27,11 @@ use subst_parse::plain_len;
 /// # Errors
 ///
 /// As [`substitute_bytes`](crate::substitute_bytes), with the name of a missing variable borrowed from the
-/// source. `Parse` of `OutOfMemory` only where the source has a colon, and no memory is there for what keeps
-/// open defaults; `Expand` of `OutOfMemory` only where the capacity that `output` has left is less than what is
-/// written, which are all the bytes, or those before the missing variable. The items of `output` are then as
-/// before.
+/// source. The items of `output` are then unchanged.
+///
+/// - `Parse(OutOfMemory)` only if the source has a colon: open defaults are kept in memory.
+/// - `Expand(OutOfMemory)` only if the spare capacity of `output` is less than the bytes written: all, or
+///   those before the missing variable.
 pub fn substitute_bytes_into<'s, 'a, M: VariableMap<'a>>(
     alloc: Global,
     source: &'s [u8],
@@ -40,22 +41,22 @@ pub fn substitute_bytes_into<'s, 'a, M: VariableMap<'a>>(
 where
     M::Value: AsSlice<u8> + Drop,
 
-    // The answer of the source under the map's look-up: there is one, and it is this.
+    // The result states the source's only answer under the map's look-up.
     ensures answer { ByLookUp M.Value.items M.see (M.look_up variables.now)
         (λ look. SubstitutesInto source.now output.old.items result output.new.items look) }
 
-    // Whatever the map, an error leaves the items as they were, and the capacity only grows.
+    // For any map, an error leaves the items unchanged, and the capacity only grows.
     ensures kept { OnErr result (output.new.items ≡ output.old.items) }
     ensures capacity { vec_capacity output.old ≤ vec_capacity output.new }
 
-    // Out of memory only with cause: in the parse the source has a colon, and after it the capacity is less
-    // than what is written.
+    // Out of memory in the parse only if the source has a colon. After it, only if the capacity is less than
+    // the bytes written.
     ensures cause { NeedsMemory source.now result }
     ensures full { ByWritten M.Value.items M.see (M.look_up variables.now) source.now
         (OverflowsParsed (vec_capacity output.old) (vec_len output.old) result) }
 
-    // Only a sentence gives bytes or misses a variable; any other source has a fault. The range of an error
-    // ends within the source.
+    // Only a sentence has an output or a missing variable; any other source has a fault. The range of an
+    // error ends within the source.
     ensures sentence { IfOk result (λ done. IsSentence source.now) }
     ensures kind { StatesKind source.now result }
     ensures refusal { StatesRefusal (M.look_up variables.now) source.now
@@ -66,7 +67,7 @@ where
     one_pass::substitute_into::<M, SliceBytes>(alloc, source, plain, variables, output)
 }
 
-/// Appends what [`substitute`](crate::substitute) returns to `output`.
+/// Expands `source` as [`substitute`](crate::substitute) does, and appends the text to `output`.
 ///
 /// ```rust
 /// let mut output = String::from_str(alloc, "> ")?;
@@ -76,7 +77,7 @@ where
 ///
 /// # Errors
 ///
-/// As [`substitute_bytes_into`]. The text in `output` is then as before.
+/// As [`substitute_bytes_into`]. The text in `output` is then unchanged.
 pub fn substitute_into<'s, 'a, M: VariableMap<'a>>(
     alloc: Global,
     source: &'s str,
@@ -86,23 +87,23 @@ pub fn substitute_into<'s, 'a, M: VariableMap<'a>>(
 where
     M::Value: AsStr + Drop,
 
-    // The answer of the source under the map's look-up: there is one, and it is this.
+    // The result states the source's only answer under the map's look-up.
     ensures answer { ByLookUp M.Value.text M.see (M.look_up variables.now)
         (λ look. SubstitutesInto source.now (string_bytes output.old) result
         (string_bytes output.new) look) }
 
-    // Whatever the map, an error leaves the text as it was, and the capacity only grows.
+    // For any map, an error leaves the text unchanged, and the capacity only grows.
     ensures kept { OnErr result (string_bytes output.new ≡ string_bytes output.old) }
     ensures capacity { string_capacity output.old ≤ string_capacity output.new }
 
-    // Out of memory only with cause: in the parse the source has a colon, and after it the capacity is less
-    // than what is written.
+    // Out of memory in the parse only if the source has a colon. After it, only if the capacity is less than
+    // the bytes written.
     ensures cause { NeedsMemory source.now result }
     ensures full { ByWritten M.Value.text M.see (M.look_up variables.now) source.now
         (OverflowsParsed (string_capacity output.old) (string_len output.old) result) }
 
-    // Only a sentence gives a text or misses a variable; any other source has a fault. An error has its range
-    // in the source.
+    // Only a sentence has an output or a missing variable; any other source has a fault. The range of an
+    // error is in the source.
     ensures sentence { IfOk result (λ done. IsSentence source.now) }
     ensures kind { StatesKind source.now result }
     ensures refusal { StatesRefusal (M.look_up variables.now) source.now

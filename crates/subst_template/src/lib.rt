@@ -1,5 +1,5 @@
-//! Templates over byte strings and texts, and `substitute_bytes` and `substitute`, which parse and expand
-//! at once and return the answer of a source under a map's look-up.
+//! Templates over byte strings and texts, and `substitute_bytes` and `substitute`, which parse and expand a
+//! source in one pass.
 //!
 //! `subst` re-exports all public items of this crate, and describes the language.
 #![tactic(auto)]
@@ -28,11 +28,11 @@ mod owned;
 mod parse;
 mod template;
 
-/// For how many bytes more than those of the source there is capacity at first: most values are longer than
-/// their placeholders.
+/// The initial capacity of an output beyond its source's length, in bytes. Most values are longer than their
+/// placeholders.
 const MORE_CAPACITY: u8 = 64;
 
-/// Returns the bytes of `source` with its variables filled in from `variables`.
+/// Expands the bytes of `source` with the values of `variables`.
 ///
 /// For every byte source and variable map, want of memory aside, `substitute_bytes` answers bytes exactly
 /// where the source is the text of a well-formed written tree whose value under the map is these bytes;
@@ -48,10 +48,12 @@ const MORE_CAPACITY: u8 = 64;
 ///
 /// # Errors
 ///
-/// `InvalidEscapeSequence`, `MissingVariableName`, `UnexpectedCharacter` or `MissingClosingBrace` where the
-/// source isn't a sentence of the template language: its first fault from the left. Otherwise
-/// `NoSuchVariable` for the first needed name that `variables` has no value for. `OutOfMemory` when
-/// allocation fails. Positions are byte offsets in the whole source, from 0.
+/// Positions are byte offsets in the whole source, from 0.
+///
+/// - `InvalidEscapeSequence`, `MissingVariableName`, `UnexpectedCharacter` or `MissingClosingBrace` if the
+///   source isn't a sentence of the template language: its first fault.
+/// - Otherwise `NoSuchVariable` for the first needed name that `variables` has no value for.
+/// - `OutOfMemory` if allocation fails.
 pub fn substitute_bytes<'a, M: VariableMap<'a>>(
     alloc: Global,
     source: &[u8],
@@ -60,12 +62,12 @@ pub fn substitute_bytes<'a, M: VariableMap<'a>>(
 where
     M::Value: AsSlice<u8> + Drop,
 
-    // The answer of the source under the map's look-up: there is one, and it is this.
+    // The result states the source's only answer under the map's look-up.
     ensures answer { ByLookUp M.Value.items M.see (M.look_up variables.now)
         (λ look. IfSome (answer_of (λ output. output.items) result) (Answers source.now look)) }
 
-    // Whatever the map: only a sentence gives bytes, and an error states the refusal of the source, whose
-    // range ends within it.
+    // For any map: only a sentence has an output, and an error states the source's refusal, whose range ends
+    // within the source.
     ensures sentence { IfOk result (λ output. IsSentence source.now) }
     ensures refusal { ByNames (M.look_up variables.now)
         (λ look. IfSome (refusal_of result) (Answers source.now look)) }
@@ -78,10 +80,10 @@ where
     one_pass::substitute::<M, SliceBytes>(alloc, source, plain, MORE_CAPACITY, variables)
 }
 
-/// Returns `source` with its variables filled in from `variables`, whose values are texts.
+/// Expands the text `source` with the values of `variables`, which are texts.
 ///
-/// It gives what [`substitute_bytes`] gives for the bytes of the texts, as a text. That this is UTF-8 is
-/// proved, so there is no error for it.
+/// The output is that of [`substitute_bytes`] for the bytes of the texts. It is proved to be UTF-8, so there
+/// is no error for that.
 ///
 /// ```rust
 /// let mut variables = BTreeMap::new(alloc);
@@ -101,13 +103,13 @@ pub fn substitute<'a, M: VariableMap<'a>>(
 where
     M::Value: AsStr + Drop,
 
-    // The answer of the source under the map's look-up: there is one, and it is this.
+    // The result states the source's only answer under the map's look-up.
     ensures answer { ByLookUp M.Value.text M.see (M.look_up variables.now)
         (λ look. IfSome (answer_of (λ output. string_bytes output) result)
         (Answers source.now look)) }
 
-    // Whatever the map: only a sentence gives a text, and an error states the refusal of the source, with a
-    // range in it, as its line and its highlighting ask.
+    // For any map: only a sentence has an output. An error states the source's refusal, with a range in the
+    // source, as `source_line` and `source_highlighting` require.
     ensures sentence { IfOk result (λ output. IsSentence source.now) }
     ensures refusal { ByNames (M.look_up variables.now)
         (λ look. IfSome (refusal_of result) (Answers source.now look)) }

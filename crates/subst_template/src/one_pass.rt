@@ -1,4 +1,4 @@
-//! A source is parsed and expanded at once, without a list of its parts.
+//! Parsing and expanding a source in one pass, without a list of its parts.
 
 ghost use Rattle.std.specs.Prelude.{◌≡◌, ◌+◌, ◌<◌, ◌≤◌, [], length, IfErr, IfNone, IfOk, IfSome, OnErr, OnOk, Contains};
 ghost use Rattle.std.specs.Prelude.{string_bytes, string_capacity, string_len, vec_capacity, vec_len};
@@ -25,14 +25,15 @@ use subst_expand::{ReadValue, TextBytes, Writer};
 use subst_language::VariableMap;
 use subst_parse::{Reads, parse_into};
 
-/// Appends what a source gives to `output`, with the values of `variables` as `R` reads them. Its first
-/// `plain` bytes have no dollar and no backslash. The others are read once, and variables are looked up as
-/// they are read: also those that come before a fault.
+/// Appends the output of a source to `output`, with the values of `variables` as `R` reads them. The first
+/// `plain` bytes of the source must have no `$` and no `\`, and only the bytes after them are parsed.
+/// Variables are looked up as they are read, even before a fault.
 ///
 /// # Errors
 ///
-/// The fault of the source where it is no sentence. Otherwise `NoSuchVariable` for the first needed name that
-/// `variables` has no value for. Out of memory, with cause. The items of `output` are then as before.
+/// The fault of the source if it is no sentence. Otherwise `NoSuchVariable` for the first needed name that
+/// `variables` has no value for. Or out of memory, only as the clauses `full` and `cause` state. The items of
+/// `output` are then unchanged.
 pub(crate) fn substitute_into<'s, 'a, M: VariableMap<'a>, R: ReadValue<M::Value>>(
     alloc: Global,
     source: &'s [u8],
@@ -48,8 +49,8 @@ where
     ensures kept { OnErr result (output.new.items ≡ output.old.items) }
     ensures capacity { vec_capacity output.old ≤ vec_capacity output.new }
 
-    // Out of memory only with cause: the capacity is less than what is written, or in the parse the source has
-    // a colon.
+    // Out of memory only if the capacity is less than the bytes written, or in the parse if the source has a
+    // colon.
     ensures full { ByLookUp R.read M.see (M.look_up variables.now)
         (λ look. ByTree source.now (λ t. IfRefused result (λ e. Unit {0})
         (λ e. IfNone (expand_into_fault e)
@@ -63,20 +64,19 @@ where
     ensures range { IfErr result
         (λ e. (range_of (substitute_into_fault e)).end ≤ length source.now) }
 
-    // What was written, without a way to read all values: values that R read, between what comes from the
-    // source.
+    // The output, even if no contract knows the values: values that R read, between bytes from the source.
     ensures filled { OnOk result (AppendsTemplate R.is_read (M.look_up variables.now) source.now
         output.old.items output.new.items) }
 {
     Ok(expand_in_one_pass::<M, R>(alloc, source, plain, variables, output)??)
 }
 
-/// Returns what a source gives, as `substitute_into`. At first there is capacity for as many bytes as the
-/// source has, and for `extra` more.
+/// Returns the output of a source, with the values of `variables` as `R` reads them. The initial capacity is
+/// the length of the source and `extra` more bytes. The first `plain` bytes have no `$` and no `\`.
 ///
 /// # Errors
 ///
-/// As `substitute_into`.
+/// As `substitute_into`, and out of memory if allocation fails.
 pub(crate) fn substitute<'a, M: VariableMap<'a>, R: ReadValue<M::Value>>(
     alloc: Global,
     source: &[u8],
@@ -103,11 +103,11 @@ where
     }
 }
 
-/// Appends what a text gives to `output`, as `substitute_into`.
+/// Appends the output of a text to `output`, as `substitute_into` does for bytes.
 ///
 /// # Errors
 ///
-/// As `substitute_into`. The text in `output` is then as before.
+/// As `substitute_into`. The text in `output` is then unchanged.
 pub(crate) fn substitute_text_into<'s, 'a, M: VariableMap<'a>>(
     alloc: Global,
     source: &'s str,
@@ -143,11 +143,11 @@ where
     outcome
 }
 
-/// Returns what a text gives, as `substitute`.
+/// Returns the output of a text, as `substitute` does for bytes.
 ///
 /// # Errors
 ///
-/// As `substitute_into`.
+/// As `substitute`.
 pub(crate) fn substitute_text<'a, M: VariableMap<'a>>(
     alloc: Global,
     source: &str,
@@ -170,14 +170,13 @@ where
     Ok(text_of(substitute::<M, TextBytes>(alloc, source, plain, extra, variables)?))
 }
 
-/// Appends what a source gives to `output`, as `substitute_into`.
+/// Appends the output of a source to `output`, as `substitute_into`.
 ///
 /// # Errors
 ///
-/// That of the parse: the fault of the source where it is no sentence, or out of memory where it has a colon.
-/// Then that of the expansion: `NoSuchVariable` for the first needed name that `variables` has no value for,
-/// or out of memory where the capacity that `output` had is shorter than what is written. The items of
-/// `output` are then as before.
+/// The outer result is that of the parse: the source's fault if it is no sentence, or out of memory if it has
+/// a colon. The inner result is that of the expansion: `NoSuchVariable` for the first needed name without a
+/// value, or out of memory if the capacity is too small. The items of `output` are then unchanged.
 fn expand_in_one_pass<'s, 'a, M: VariableMap<'a>, R: ReadValue<M::Value>>(
     alloc: Global,
     source: &'s [u8],

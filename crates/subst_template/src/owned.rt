@@ -1,4 +1,5 @@
-//! Sources that are owned: one that has nothing to fill in is returned as it is, without a copy.
+//! Substitutions in owned sources. A source without variables and escapes is returned as it is, without a
+//! copy.
 
 ghost use Rattle.std.specs.Prelude.{◌≡◌, ◌↔◌, IfOk, IfSome, IsTrue, Ok, string_bytes};
 ghost use Rattle.std.specs.List.{All};
@@ -18,11 +19,11 @@ use subst_expand::SliceBytes;
 use subst_language::VariableMap;
 use subst_parse::plain_len;
 
-/// For how many bytes more than those of the source there is capacity at first. Outputs of sources that are
-/// given away are often kept, as the strings of a tree.
+/// The initial capacity of an output beyond its source's length, in bytes. It is small, since outputs of
+/// owned sources are often kept, as the strings of a tree are.
 const KEPT_CAPACITY: u8 = 24;
 
-/// Returns whether a source has no dollar and no backslash. It then gives itself, whatever the variables.
+/// Returns whether a source has no `$` and no `\`. It then expands to itself, whatever the variables.
 ///
 /// ```rust
 /// let output = format!(in alloc; "{} {}", escape::is_plain(b"{a: b}"), escape::is_plain(b"$a"))?;
@@ -34,8 +35,8 @@ pub fn is_plain(source: &[u8]) -> bool
     plain_len(source) == source.len()
 }
 
-/// Returns the bytes of `source`, which is given away, with its variables filled in, as [`substitute_bytes`].
-/// A source without dollars and backslashes is returned as it is, which takes no memory.
+/// Expands the bytes of an owned `source`, as [`substitute_bytes`]. A source without `$` and `\` is returned
+/// as it is, without allocating.
 ///
 /// ```rust
 /// let source = Vec::from_slice(alloc, b"Hello ${name:nobody}!")?;
@@ -45,7 +46,7 @@ pub fn is_plain(source: &[u8]) -> bool
 ///
 /// # Errors
 ///
-/// As [`substitute_bytes`]. There is none for a source without dollars and backslashes.
+/// As [`substitute_bytes`]. A source without `$` and `\` has no error.
 pub fn substitute_bytes_owned<'a, M: VariableMap<'a>>(
     alloc: Global,
     source: Vec<u8>,
@@ -54,19 +55,19 @@ pub fn substitute_bytes_owned<'a, M: VariableMap<'a>>(
 where
     M::Value: AsSlice<u8> + Drop,
 
-    // The answer of the source under the map's look-up: there is one, and it is this.
+    // The result states the source's only answer under the map's look-up.
     ensures answer { ByLookUp M.Value.items M.see (M.look_up variables.now)
         (λ look. IfSome (answer_of (λ output. output.items) result)
         (Answers source.items look)) }
 
-    // Whatever the map: only a sentence gives bytes, and an error states the refusal of the source, whose
-    // range ends within it.
+    // For any map: only a sentence has an output, and an error states the source's refusal, whose range ends
+    // within the source.
     ensures sentence { IfOk result (λ output. IsSentence source.items) }
     ensures refusal { ByNames (M.look_up variables.now)
         (λ look. IfSome (refusal_of result) (Answers source.items look)) }
     ensures range { EndsWithin source.items error_fault result }
 
-    // A plain source is returned as it is, also where no memory is left.
+    // A plain source is returned as it is, even if no memory is left.
     ensures plain { All IsPlain source.items → result ≡ Ok source }
 {
     let plain = plain_len(&source);
@@ -76,8 +77,8 @@ where
     one_pass::substitute::<M, SliceBytes>(alloc, &source, plain, KEPT_CAPACITY, variables)
 }
 
-/// Returns `source`, which is given away, with its variables filled in, as [`substitute`]. A source without
-/// dollars and backslashes is returned as it is, which takes no memory.
+/// Expands an owned text `source`, as [`substitute`]. A source without `$` and `\` is returned as it is,
+/// without allocating.
 ///
 /// ```rust
 /// let source = String::from_str(alloc, "Hello ${name:nobody}!")?;
@@ -87,7 +88,7 @@ where
 ///
 /// # Errors
 ///
-/// As [`substitute`]. There is none for a source without dollars and backslashes.
+/// As [`substitute`]. A source without `$` and `\` has no error.
 pub fn substitute_owned<'a, M: VariableMap<'a>>(
     alloc: Global,
     source: String,
@@ -96,19 +97,19 @@ pub fn substitute_owned<'a, M: VariableMap<'a>>(
 where
     M::Value: AsStr + Drop,
 
-    // The answer of the source under the map's look-up: there is one, and it is this.
+    // The result states the source's only answer under the map's look-up.
     ensures answer { ByLookUp M.Value.text M.see (M.look_up variables.now)
         (λ look. IfSome (answer_of (λ output. string_bytes output) result)
         (Answers (string_bytes source) look)) }
 
-    // Whatever the map: only a sentence gives a text, and an error states the refusal of the source, with a
-    // range in it, as its line and its highlighting ask.
+    // For any map: only a sentence has an output. An error states the source's refusal, with a range in the
+    // source, as `source_line` and `source_highlighting` require.
     ensures sentence { IfOk result (λ output. IsSentence (string_bytes source)) }
     ensures refusal { ByNames (M.look_up variables.now)
         (λ look. IfSome (refusal_of result) (Answers (string_bytes source) look)) }
     ensures range { IsRangedIn (string_bytes source) error_fault result }
 
-    // A plain source is returned as it is, also where no memory is left.
+    // A plain source is returned as it is, even if no memory is left.
     ensures plain { All IsPlain (string_bytes source) → result ≡ Ok source }
 {
     let plain = plain_len(source.as_bytes());

@@ -1,4 +1,4 @@
-//! The parts of a source as a list, of the width that is enough for it.
+//! Parses a source into a list of parts, with offsets and indexes of 32 bits if these suffice, or of 64 bits.
 
 ghost use Rattle.std.specs.Prelude.{◌≡◌, ◌+◌, ◌*◌, ◌<◌, ◌≤◌, [], length, IfOk, IfErr, OnOk};
 ghost use Rattle.subst_error.specs.ErrorFault.{parse_fault};
@@ -13,14 +13,14 @@ use subst_error::ParseError;
 use subst_expand::{Offset, PackedVec, PartVec};
 use subst_parse::{Reads, parse_into};
 
-/// For how many parts there is capacity at first, so that the lists of most templates are allocated once.
+/// The initial capacity of a list of parts, so that the lists of most templates are allocated once.
 const FIRST_PARTS: usize = 16;
 
-/// Returns the parts of a source, and counts the reads.
+/// Parses a source into a list of parts, and adds the number of its reads to `reads`.
 ///
 /// # Errors
 ///
-/// The fault of the source where it is no sentence, or out of memory.
+/// The fault of the source if it is no sentence, or out of memory.
 pub(crate) fn parse(alloc: Global, source: &[u8], reads: &mut Reads) -> Result<PartVec, ParseError>
     ensures ok { IfOk result (λ parts. IsTemplateOf source.now parts) }
     ensures err { OnFault parse_fault result (HasFault 0 source.now) }
@@ -38,7 +38,7 @@ pub(crate) fn parse(alloc: Global, source: &[u8], reads: &mut Reads) -> Result<P
     }
 }
 
-/// Returns the parts of a source, as `parse`, packed with offsets and indexes of type `O`.
+/// Parses a source, as `parse`, into parts that are packed with offsets and indexes of type `O`.
 fn parse_packed<O: Offset>(
     alloc: Global,
     source: &[u8],
@@ -62,13 +62,13 @@ fn parse_packed<O: Offset>(
     }
 }
 
-/// Returns an empty list of parts, with capacity for a few where some are to come.
+/// Creates an empty list of parts. If `some`, parts will follow, and `FIRST_PARTS` are reserved if possible.
 fn empty_list<O: Offset>(alloc: Global, some: bool) -> PackedVec<O>
     ensures { result ≡ [] }
 {
     let mut parts = PackedVec::new(alloc);
     if some {
-        // Where there is no memory for it, a push will say so.
+        // If there is no memory for it, a push reports it.
         let _ = parts.reserve(FIRST_PARTS);
     }
     parts

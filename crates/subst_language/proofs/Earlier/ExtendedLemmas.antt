@@ -27,14 +27,14 @@ mutual
   text-extended earlier.Empty = refl
   text-extended (earlier.Then item rest) = rw (item_text-extended_item item, text-extended rest)
 
--- a tree ends a name where it did
+-- a tree ends a name if and only if it did
 EndsName-extended : (t : EarlierTree) → EndsName (extended t) ≡ EndsEarlierName t
 EndsName-extended earlier.Empty = refl
 EndsName-extended (earlier.Then (earlier.Plain b) rest) = refl
 EndsName-extended (earlier.Then _ rest) = refl
 
 mutual
-  -- an item may be before a tree where it might
+  -- an item may precede a tree if and only if it might
   IsItem-extended_item : (item : EarlierItem) (next : EarlierTree)
       → IsItem (extended_item item) (extended next) ≡ IsEarlierItem item next
   IsItem-extended_item (earlier.Short n) next = ap (λ (E : Type 0). IsName n × E) (EndsName-extended next)
@@ -42,7 +42,7 @@ mutual
   IsItem-extended_item (earlier.Plain b) next = refl
   IsItem-extended_item _ next = refl
 
-  -- a tree is well-formed where it was
+  -- a tree is well-formed if and only if it was
   pub IsWellFormed-extended : (t : EarlierTree) → IsWellFormed (extended t) ≡ IsEarlierWellFormed t
   IsWellFormed-extended earlier.Empty = refl
   IsWellFormed-extended (earlier.Then item rest) =

@@ -9,7 +9,7 @@ use Rattle.subst_language.proofs.Earlier.ExtendedLemmas.{value-extended, spells_
 use Rattle.subst_language.proofs.Earlier.FaultLemmas.{fault_before, fault_extended}
 use Rattle.subst_language.proofs.Earlier.QuestionMarkLemmas.{HasNoQuestionMark}
 
--- a text has one fault, so an earlier fault without a question mark is that fault, but for the message
+-- a text has one fault, so an earlier fault without a question mark is that fault, except for the message
 same_fault : (s : List ℕ) → HasNoQuestionMark s → (p : ℕ) (f g : Fault) → HasFault p s f
     → HasEarlierFault p s g → without_expected f ≡ without_expected g
 same_fault s none p f g h k =

@@ -1,4 +1,4 @@
--- A text without a question mark has the fault that it had, but for the message of what was expected.
+-- A text without a question mark has its earlier fault, except for the message of what was expected.
 use Rattle.std.proofs.Common.{◌≡◌, ℕ, List, [], ◌∷◌, ◌++◌, refl, sym, ap, ◌∙◌, subst}
 use Rattle.subst_language.specs.Language.Bytes.{question_mark, closing_brace}
 use Rattle.subst_language.specs.Language.Tree.{text}
@@ -14,7 +14,7 @@ use Rattle.subst_language.specs.Earlier.Extension.{extended, without_expected}
 use Rattle.subst_language.proofs.Earlier.ExtendedLemmas.{text-extended, IsWellFormed-extended, tree_before}
 use Rattle.subst_language.proofs.Earlier.QuestionMarkLemmas.{HasNoQuestionMark, no_mark_in_prefix, no_mark_in_rest, no_mark_first, no_mark_after_name, no_mark_in_default}
 
--- of a fault f, one with this property that is the same but for the message
+-- P holds of a fault that equals f except for the message
 abbrev pub LikeFault : (Fault → Type 0) → Fault → Type 0
 LikeFault P f = (g : Fault) × P g × (without_expected f ≡ without_expected g)
 

@@ -12,7 +12,7 @@ HasNoQuestionMark s = ¬ (Contains s question_mark)
 pub no_mark_in_prefix : (x y : List ℕ) → HasNoQuestionMark (x ++ y) → HasNoQuestionMark x
 no_mark_in_prefix x y none marked = none (Contains-append_left x y question_mark marked)
 
--- what follows a prefix of a text without a question mark has none
+-- the rest of a text without a question mark has none
 pub no_mark_in_rest : (x y : List ℕ) → HasNoQuestionMark (x ++ y) → HasNoQuestionMark y
 no_mark_in_rest x y none marked = none (Contains-append_right x y question_mark marked)
 

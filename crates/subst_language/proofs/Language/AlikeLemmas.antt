@@ -1,4 +1,4 @@
--- Which variable is missing depends on the names alone that a look-up has something for.
+-- The missing variable depends only on the names for which a look-up has values.
 use Rattle.std.proofs.Common.{rules, ◌≡◌, ℕ, List, ◌∷◌, Option, Some, None, IfSome, is_some, refl, sym, ◌∙◌}
 use Rattle.std.specs.List.{filter_map}
 use Rattle.std.specs.Option.{option_map}
@@ -13,20 +13,20 @@ use Rattle.subst_language.proofs.Language.MissingLemmas.{missing_same}
 use Rattle.subst_language.proofs.Language.StepsLemmas.{Tells, value_tells}
 use Rattle.subst_language.proofs.Language.VariablesLemmas.{missing_first}
 
--- the first of all that is missing is what the value is missing
+-- the first of all missing variables is the one that the value misses
 missing_of_first : (steps : List Step) (v : Value) (position : ℕ) (name : List ℕ) (more : List Variable)
     → Tells steps v → filter_map lacked steps ≡ required position name ∷ more → v ≡ Missing position name
 missing_of_first steps (Bytes x) position name more tells is = let none = tells.2 in absurd cc
 missing_of_first steps (Missing q n) position name more (rest, first) is = search (rules, required)
 
--- something is found where something was before its bytes were read
+-- a value is found if and only if one was before its bytes were read
 pub found_as_read : {Seen : Type 0} (bytes : Seen → List ℕ) (o : Option Seen)
     → is_some (option_map bytes o) ≡ is_some o
 found_as_read bytes (Some v) = refl
 found_as_read bytes None = refl
 
--- what a tree is missing with the values of a map read in some way, it is missing under each look-up that has
--- something for the same names as the map
+-- the missing variable with the values of a map, read in some way, is that under each look-up with values for
+-- the same names
 pub missing_by_names : {Seen : Type 0} (t : Tree) (bytes : Seen → List ℕ) (look_up : List ℕ → Option Seen)
     (stated : Option Fault) → IfSome stated (IsMissing (value 0 t (look_up_of bytes look_up)))
     → ByNames look_up (λ look. IfSome stated (IsMissing (value 0 t look)))

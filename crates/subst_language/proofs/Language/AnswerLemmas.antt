@@ -1,4 +1,4 @@
--- A source has one answer at most under a look-up.
+-- A source has at most one answer under a look-up.
 use Rattle.std.proofs.Common.{◌≡◌, ◌⊎◌, ℕ, List, Option, Some, None, Result, Ok, Err, IfSome, inl, inr, sym, ap, ◌∙◌, refl}
 use Rattle.subst_language.specs.Language.Tree.{Tree}
 use Rattle.subst_language.specs.Language.Sentence.{Spells, IsSentence, ByTree}
@@ -11,7 +11,7 @@ use Rattle.subst_language.specs.Calls.Outcome.{OnFault}
 use Rattle.subst_language.proofs.Language.OneTreeLemmas.{tree_unique}
 use Rattle.subst_language.proofs.Language.FaultLemmas.{exclusive, fault_unique}
 
--- the answer that a value stands for
+-- the answer of a value
 abbrev value_answer : Value → Answer
 value_answer (Bytes x) = Gives x
 value_answer (Missing position name) = Refuses (NoSuchVariable position name)
@@ -38,17 +38,17 @@ joined s look a b (inl (t, h, e)) (inr (f, k, d)) = absurd (exclusive s t 0 f h 
 joined s look a b (inr (f, h, e)) (inl (t, k, d)) = absurd (exclusive s t 0 f k h)
 joined s look a b (inr (f, h, e)) (inr (g, k, d)) = sym e ∙ ap Refuses (fault_unique s 0 f g h k) ∙ d
 
--- a source has one answer at most
+-- a source has at most one answer
 pub answer_unique : (s : List ℕ) (look : LookUp) (a b : Answer) → Answers s look a → Answers s look b → a ≡ b
 answer_unique s look a b h k = joined s look a b (which s look a h) (which s look b k)
 
--- a sentence is refused for what its tree is missing
+-- a sentence is refused for its tree's missing variable
 pub refused_for : (s : List ℕ) (t : Tree) (look : LookUp) → Spells t s → (stated : Option Fault)
     → IfSome stated (IsMissing (value 0 t look)) → IfSome stated (λ f. Answers s look (Refuses f))
 refused_for s t look spells None missing = tt
 refused_for s t look spells (Some f) missing = inr (t, spells, missing)
 
--- where the error of a result states what a sentence's tree is missing, the sentence is refused for that
+-- if an error states the missing variable of a sentence's tree, the sentence is refused for it
 pub refused_into : {T E : Type 0} (fault_of : E → Option Fault) (s : List ℕ) (look : LookUp) (r : Result T E)
     → IsSentence s → ByTree s (λ t. OnFault fault_of r (IsMissing (value 0 t look)))
     → OnFault fault_of r (λ f. Answers s look (Refuses f))

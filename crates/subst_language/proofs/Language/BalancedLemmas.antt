@@ -1,4 +1,4 @@
--- Texts whose braces match: where such a text ends, and two concatenated.
+-- Texts whose braces match: the end of such a text, and two of them concatenated.
 use Rattle.std.proofs.Common.{◌≡◌, ℕ, List, ◌∷◌, ◌++◌, refl, append_assoc, arith}
 use Rattle.subst_language.specs.Language.Bytes.{closing_brace}
 use Rattle.subst_language.specs.Language.Balanced.{IsBalanced}

@@ -1,5 +1,4 @@
--- What a text begins with: one function finds it and shows that it is so; it finds each item and each bad
--- item.
+-- The beginning of a text: one function finds it, with a proof; it finds each item and each bad item.
 use Rattle.std.proofs.Common.{rules, ◌≡◌, ◌≢◌, ◌⊎◌, ◌==◌, ℕ, ◌+◌, ◌<◌, Bool, IsTrue, IsFalse, cond, List, [], ◌∷◌, ◌++◌, length, Some, None, refl, sym, ap, ◌∙◌, subst, inl, inr, append_assoc, append-nil, ne_eqb}
 use Rattle.std.proofs.lemmas.Bool.{cond-true, cond-false, cond_both, eqb-true, eqb-false, false≢true, false_from_ne_true}
 use Rattle.std.specs.List.{AllByRecursion}
@@ -19,7 +18,7 @@ use Rattle.subst_language.proofs.Language.ClosesOrNotLemmas.{closes_or_not}
 use Rattle.subst_language.proofs.Language.ItemLemmas.{default_text, default_shorter}
 use Rattle.subst_language.proofs.Language.NameLemmas.{split, split_unique, name_byte_differs, opening_no_name, closing_no_name, colon_no_name, question_mark_no_name}
 
--- what a text begins with
+-- the beginning of a text
 pub data Beginning : Type 0 where
   -- nothing: the text is empty
   Nothing : Beginning
@@ -27,10 +26,10 @@ pub data Beginning : Type 0 where
   Simple : Item → List ℕ → Beginning
   -- a name in braces with a default, the text of the default, and the text after the closing brace
   WithDefault : (name default rest : List ℕ) → Beginning
-  -- a bad item whose fault isn't one in a default, with the fault by the byte offset of the text
+  -- a bad item, by its fault at the text's byte offset, if that isn't a fault in a default
   Bad : (ℕ → Fault) → Beginning
 
--- the text s begins so
+-- the text s has this beginning
 abbrev pub BeginsSo : List ℕ → Beginning → Type 0
 BeginsSo s Nothing = s ≡ []
 BeginsSo s (Simple item x) = IsItem item Empty × IsFollowed (Then item Empty) x × (s ≡ item_text item ++ x)
@@ -38,11 +37,11 @@ BeginsSo s (WithDefault n w x) =
     IsName n × IsBalanced w × (s ≡ dollar ∷ opening_brace ∷ n ++ (colon ∷ w ++ closing_brace ∷ x))
 BeginsSo s (Bad f) = (p : ℕ) → IsBad p s (f p)
 
--- what the text s begins with, where H holds
+-- if H holds, a beginning of the text s
 abbrev BeginningOf : Type 0 → List ℕ → Type 0
 BeginningOf H s = (k : Beginning) × (H → BeginsSo s k)
 
--- what the text s begins with, where H holds, by what an equal text begins with, where K holds
+-- if H holds, a beginning of the text s, from one of an equal text if K holds
 abbrev given : {H K : Type 0} {s t : List ℕ} → s ≡ t → (H → K) → BeginningOf K t → BeginningOf H s
 given e f k = (k.0, λ h. subst (λ u. BeginsSo u k.0) (sym e) (k.1 (f h)))
 
@@ -148,7 +147,7 @@ after_dollar (b ∷ x) =
     (λ h. (r.name_part, r.rest_part, subst (BeginsWithNo (λ b. b ≡ opening_brace)) r.parts h.1))
     (after_short m z))
 
--- what a text begins with, and that it does
+-- the beginning of a text, with its proof
 abbrev found : (s : List ℕ) → BeginningOf (Unit {0}) s
 found [] = (Nothing, λ h. refl)
 found (b ∷ x) =
@@ -156,11 +155,11 @@ found (b ∷ x) =
     (by_byte (λ b. b ∷ x) b dollar (given refl (λ h. tt) (after_dollar x))
     (Simple (Plain b) x, λ h. ((h.1, h.0.1), tt, refl)))
 
--- what a text begins with
+-- the beginning of a text
 abbrev pub beginning : List ℕ → Beginning
 beginning s = (found s).0
 
--- a text begins as `beginning` says
+-- a text has the beginning that `beginning` finds
 pub begins : (s : List ℕ) → BeginsSo s (beginning s)
 begins s = (found s).1 tt
 
@@ -188,7 +187,7 @@ beginning-name : (s n x : List ℕ) → s ≡ n ++ x → IsName n → BeginsWith
 beginning-name s [] x e h f = absurd h
 beginning-name s (b ∷ n) x e h f = split_as (λ a y. (after_brace a y).0) s (b ∷ n) x e h f
 
--- a name in braces with a default, which ends at the first closing brace whose opening one is before it
+-- a name in braces with a default, which ends at the first closing brace that closes the placeholder
 pub beginning-closed : (n w x : List ℕ) → IsName n → IsBalanced w
     → beginning (dollar ∷ opening_brace ∷ n ++ (colon ∷ w ++ closing_brace ∷ x)) ≡ WithDefault n w x
 beginning-closed n w x h b =
@@ -209,12 +208,12 @@ beginning-unclosed n w h f = beginning-name _ n (colon ∷ w) refl h colon_no_na
     of (inl c) = absurd (f c)
     of (inr f) = refl
 
--- what a text begins with that is an item's and the text x
+-- the beginning of an item's text before the text x
 abbrev pub item_beginning : Item → List ℕ → Beginning
 item_beginning (Default n d) x = WithDefault n (text d) x
 item_beginning item x = Simple item x
 
--- a well-formed item is found, before any text that may follow it
+-- `beginning` finds a well-formed item, before any text that may follow it
 pub beginning-item : (item : Item) (rest : Tree) (x : List ℕ) → IsItem item rest
     → IsFollowed (Then item Empty) x
     → beginning (item_text item ++ x) ≡ item_beginning item x
@@ -231,13 +230,13 @@ beginning-item (Optional n) rest x i f =
 beginning-item (Default n d) rest x i f =
     ap beginning (default_text n (text d) x) ∙ beginning-closed n (text d) x i.0 i.2
 
--- a text of m bytes at byte offset p that begins so has the fault f; the text of the default is shorter
+-- a text of m bytes at byte offset p with this beginning has the fault f; the text of the default is shorter
 abbrev pub BeginningHasFault : ℕ → ℕ → Beginning → Fault → Type 0
 BeginningHasFault p m (Bad g) f = f ≡ g p
 BeginningHasFault p m (WithDefault n w x) f = (length w < m) × HasFault (p + 3 + length n) w f
 BeginningHasFault p m _ f = ⊥
 
--- a bad item is found, with its fault
+-- `beginning` finds a bad item, with its fault
 pub beginning-bad : {p : ℕ} {r : List ℕ} {f : Fault} → IsBad p r f
     → BeginningHasFault p (length r) (beginning r) f
 beginning-bad escape_at_end = refl

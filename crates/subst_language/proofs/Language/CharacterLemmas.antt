@@ -1,4 +1,4 @@
--- The character at the start of a text, or the first byte where no character is there.
+-- The character at the start of a text, or the first byte if there is none.
 use Rattle.std.proofs.lemmas.Grind.{common_steps}
 use Rattle.std.proofs.Common.{rules, ◌≡◌, ◌⊎◌, ℕ, zero, suc, ◌≤◌, ◌<◌, List, [], ◌∷◌, take, get_or, chars, encode_utf8, true, refl, sym, ap, ◌∙◌, inl, inr, append-nil, arith, take_at}
 use Rattle.std.proofs.Math.Utf8.{scalar}

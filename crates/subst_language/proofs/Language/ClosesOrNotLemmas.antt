@@ -1,4 +1,4 @@
--- Whether a text closes the braces that are open before it is decided.
+-- It is decidable whether a text closes the braces that are open before it.
 use Rattle.std.proofs.Common.{◌≡◌, ◌≢◌, ◌⊎◌, ◌↔◌, ℕ, zero, suc, ◌≤◌, List, [], ◌∷◌, length, inl, inr, arith}
 use Rattle.std.proofs.Math.Decide.{ℕ_discrete}
 use Rattle.subst_language.specs.Language.Bytes.{backslash, opening_brace, closing_brace}
@@ -6,7 +6,7 @@ use Rattle.subst_language.specs.Language.Balanced.{Closes}
 use Rattle.subst_language.specs.Lemmas.Closing.{ClosesAll}
 use Rattle.subst_language.proofs.Language.ClosingLemmas.{closes_byte, closes_escape, closes_opening, closes_closing, closes_nothing, closes_lone_backslash, closes_one}
 
--- what a byte is to a count of open braces
+-- the effect of a byte on the number of open braces
 pub data BraceKind : ℕ → Type 0 where
   escapes : BraceKind backslash
   opens : BraceKind opening_brace
@@ -23,12 +23,12 @@ brace_kind b = of (ℕ_discrete b backslash) (ℕ_discrete b opening_brace) (ℕ
     of (no n) (no o) (yes e) = rw e closes
     of (no n) (no o) (no c) = counts_not n o c
 
--- what holds exactly when B does is decided with it
+-- if A and B are equivalent and B is decided, so is A
 decided : {A B : Type 0} → A ↔ B → B ⊎ (¬ B) → A ⊎ (¬ A)
 decided e (inl b) = inl (e.1 b)
 decided e (inr n) = inr (λ a. n (e.0 a))
 
--- one step of the next lemma, by the kind of the first byte, where shorter texts are decided
+-- one step of the next lemma, by the kind of the first byte, if shorter texts are decided
 closes_step : {b : ℕ} → BraceKind b → (k d : ℕ) (y : List ℕ) → length y ≤ k
     → ((e : ℕ) (z : List ℕ) → length z ≤ k → ClosesAll e z ⊎ (¬ (ClosesAll e z)))
     → ClosesAll (suc d) (b ∷ y) ⊎ (¬ (ClosesAll (suc d) (b ∷ y)))

@@ -13,12 +13,12 @@ around : {v w : List ℕ} (x y z : List ℕ) → v ≡ x ++ closing_brace ∷ w 
     → opening_brace ∷ v ≡ (opening_brace ∷ x ++ closing_brace ∷ y) ++ closing_brace ∷ z
 around x y z e f = search (rules, opening_brace, closing_brace, append_assoc)
 
--- a balanced prefix of the text is followed by a closing brace, and R holds of what is after that
+-- a balanced prefix of the text is followed by a closing brace, and R holds of the rest
 abbrev pub ClosesThen : (List ℕ → Type 0) → List ℕ → Type 0
 ClosesThen R w = (x y : List ℕ) × IsBalanced x × (w ≡ x ++ closing_brace ∷ y) × R y
 
 module _ (R : List ℕ → Type 0) (v : List ℕ) where
-  -- what closes after a byte that is no backslash and no brace
+  -- the closing brace after a byte that is no backslash and no brace
   pub after_byte : (b : ℕ) {x : List ℕ} → b ≢ backslash → b ≢ opening_brace → b ≢ closing_brace → IsBalanced x
       → (y : List ℕ) → b ∷ v ≡ x ++ closing_brace ∷ y → R y
       → ClosesThen R v
@@ -28,7 +28,7 @@ module _ (R : List ℕ → Type 0) (v : List ℕ) where
   after_byte b no_slash no_open no_close (escape inner) y e rest = absurd (no_slash (first_same e))
   after_byte b no_slash no_open no_close (braces inner more) y e rest = absurd (no_open (first_same e))
 
-  -- what closes after an escape
+  -- the closing brace after an escape
   pub after_escape : (b : ℕ) {x : List ℕ} → IsBalanced x → (y : List ℕ)
       → backslash ∷ b ∷ v ≡ x ++ closing_brace ∷ y → R y → ClosesThen R v
   after_escape b empty y e rest = absurd (omega (arith, first_same e))
@@ -36,7 +36,7 @@ module _ (R : List ℕ → Type 0) (v : List ℕ) where
   after_escape b (escape {x = x} inner) y e rest = (x, y, inner, rest_same (rest_same e), rest)
   after_escape b (braces inner more) y e rest = absurd (omega (arith, first_same e))
 
-  -- what closes after an opening brace
+  -- the closing brace after an opening brace
   pub after_opening : {x : List ℕ} → IsBalanced x → (y : List ℕ) → opening_brace ∷ v ≡ x ++ closing_brace ∷ y
       → R y → ClosesThen (ClosesThen R) v
   after_opening empty y e rest = absurd (omega (arith, first_same e))
@@ -50,7 +50,7 @@ module _ (R : List ℕ → Type 0) (v : List ℕ) where
     (z, y, more, refl, rest),
   )
 
-  -- what closes after a closing brace
+  -- the closing brace after a closing brace
   pub after_closing : {x : List ℕ} → IsBalanced x → (y : List ℕ) → closing_brace ∷ v ≡ x ++ closing_brace ∷ y
       → R y → R v
   after_closing empty y e rest = subst R (sym (rest_same e)) rest

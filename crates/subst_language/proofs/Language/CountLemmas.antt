@@ -1,4 +1,4 @@
--- How many parts trees have: of trees concatenated, of runs of plain bytes, and how they are bounded.
+-- The number of parts of trees: of trees concatenated, of runs of plain bytes, and limits.
 use Rattle.std.proofs.Common.{◌≡◌, ℕ, ◌+◌, ◌<◌, ◌≤◌, Bool, true, false, Option, Some, None, List, [], ◌∷◌, ◌++◌, length, refl, length-append, arith}
 use Rattle.subst_language.specs.Language.Tree.{Item, Plain, Escaped, Short, Braced, Optional, Default, Tree, Empty, Then, item_text, text}
 use Rattle.subst_language.specs.Language.LookUp.{LookUp}
@@ -8,7 +8,7 @@ use Rattle.subst_language.specs.Language.Bytes.{closing_brace, colon}
 use Rattle.subst_language.proofs.Language.PlainLemmas.{plains}
 use Rattle.subst_language.specs.Language.Join.{join}
 
--- of two trees concatenated an expansion visits the parts of the first, and after it those of the second
+-- an expansion of two trees concatenated visits the parts of the first, then those of the second
 pub visited_count_after-join : (after : Bool) (t u : Tree) (look : LookUp)
     → visited_count_after after (join t u) look
     ≡ visited_count_after after t look + visited_count_after (ends_plain after t) u look
@@ -16,7 +16,7 @@ visited_count_after-join after Empty u look = omega arith
 visited_count_after-join after (Then item rest) u look =
     omega (arith, visited_count_after-join (is_plain item) rest u look)
 
--- two trees concatenated end as the second does after the first
+-- two trees concatenated end like the second after the first
 pub ends_plain-join : (after : Bool) (t u : Tree)
     → ends_plain after (join t u) ≡ ends_plain (ends_plain after t) u
 ends_plain-join after Empty u = refl
@@ -52,7 +52,7 @@ visited_count_after-apart after (Then (Braced n) rest) look ends = refl
 visited_count_after-apart after (Then (Optional n) rest) look ends = refl
 visited_count_after-apart after (Then (Default n t) rest) look ends = refl
 
--- what counts only where nothing was found is no more than itself
+-- a number that counts only if no value was found is at most itself
 missing_at_most : (found : Option (List ℕ)) (n m : ℕ) → n ≤ m → if_missing found n ≤ m
 missing_at_most (Some x) n m le = omega arith
 missing_at_most None n m le = le

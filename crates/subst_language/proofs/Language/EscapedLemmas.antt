@@ -1,4 +1,4 @@
--- Escaped texts: their trees, and what they give.
+-- Escaped texts: their trees and values.
 use Rattle.std.proofs.Common.{rules, ◌≡◌, ◌≢◌, ℕ, ◌+◌, IsFalse, IsTrue, List, [], ◌∷◌, ◌++◌, length, None, refl, sym, ap, ◌∙◌, subst, append-nil}
 use Rattle.std.specs.Prelude.{if◌then◌else◌}
 use Rattle.std.proofs.lemmas.Bool.{cond_both, false≢true}
@@ -15,7 +15,7 @@ use Rattle.subst_language.specs.Language.Value.{Bytes, found_or, joined, item_va
 use Rattle.subst_language.specs.Language.Answer.{Answers, Gives}
 use Rattle.subst_language.proofs.Language.ValueLemmas.{joined-right}
 
--- the item of a byte: escaped where it is special
+-- the item of a byte: escaped if it is special
 abbrev escape_item : ℕ → Item
 escape_item b = if is_special b then Escaped b else Plain b
 
@@ -24,25 +24,25 @@ abbrev pub escapes : List ℕ → Tree
 escapes [] = Empty
 escapes (b ∷ x) = Then (escape_item b) (escapes x)
 
--- a byte that isn't special is none that is
+-- a byte that isn't special differs from one that is
 not_special_differs : (b c : ℕ) → IsFalse (is_special b) → IsTrue (is_special c) → b ≢ c
 not_special_differs b c not_special special e = false≢true (sym not_special ∙ ap is_special e ∙ special)
 
--- the item of a byte is written as the escaped byte
+-- the text of a byte's item is the escaped byte
 text-escape_item : (b : ℕ) → item_text (escape_item b) ≡ escaped_byte b
 text-escape_item b = search (rules, is_special, item_text, backslash)
 
--- the tree is written as the escaped text
+-- the text of the tree is the escaped text
 pub text-escapes : (x : List ℕ) → text (escapes x) ≡ escaped x
 text-escapes [] = refl
 text-escapes (b ∷ x) =
     ap (λ y. y ++ text (escapes x)) (text-escape_item b) ∙ ap (λ y. escaped_byte b ++ y) (text-escapes x)
 
--- the item gives the byte
+-- the value of the item is the byte
 value-escape_item : (p b : ℕ) (look : LookUp) → item_value p (escape_item b) look ≡ Bytes (b ∷ [])
 value-escape_item p b look = search (rules, is_special, item_value)
 
--- the tree gives the text
+-- the value of the tree is the text
 pub value-escapes : (p : ℕ) (x : List ℕ) (look : LookUp) → value p (escapes x) look ≡ Bytes x
 value-escapes p [] look = refl
 value-escapes p (b ∷ x) look =
@@ -78,7 +78,7 @@ escaped_balanced (b ∷ x) = escaped_byte_balanced b (escaped x) (escaped_balanc
 pub escaped_spells : (x : List ℕ) → Spells (escapes x) (escaped x)
 escaped_spells x = record { well_formed = well_formed_escapes x; spelled = sym (text-escapes x) }
 
--- an escaped text gives the text under every look-up
+-- the answer of an escaped text is the text, under every look-up
 pub escaped_gives : (x : List ℕ) (look : LookUp) → Answers (escaped x) look (Gives x)
 escaped_gives x look = (escapes x, escaped_spells x, value-escapes 0 x look)
 
@@ -93,12 +93,12 @@ text-with_default n x =
     append-nil (item_text (Default n (escapes x)))
     ∙ ap (λ y. dollar ∷ opening_brace ∷ n ++ (colon ∷ y ++ closing_brace ∷ [])) (text-escapes x)
 
--- what a variable whose default is an escaped text gives where the name has no value
+-- the value of a variable whose default is an escaped text, if the name has no value
 value-with_default : (n x : List ℕ) (look : LookUp) → look n ≡ None
     → value 0 (with_default n x) look ≡ Bytes x
 value-with_default n x look none = search (rules, value, escapes, joined-right, found_or, value-escapes)
 
--- as a default an escaped text gives the text where the name has no value
+-- the answer of an escaped text as a default is the text, if the name has no value
 pub escaped_default_gives : (n x : List ℕ) (look : LookUp) → IsName n → look n ≡ None
     → Answers (dollar ∷ opening_brace ∷ n ++ (colon ∷ escaped x ++ closing_brace ∷ [])) look (Gives x)
 escaped_default_gives n x look named none =

@@ -1,4 +1,4 @@
--- A text has one fault at most, and none where it is the text of a well-formed tree.
+-- A text has at most one fault, and none if it is the text of a well-formed tree.
 use Rattle.std.proofs.Common.{◌≡◌, ◌⊎◌, ℕ, ◌+◌, ◌<◌, List, [], ◌++◌, length, refl, sym, ap, ◌∙◌, subst, subst₂, inl, inr, add_assoc, append_assoc, append-nil, length-append, arith}
 use Rattle.subst_language.specs.Language.Name.{IsNameByte}
 use Rattle.subst_language.specs.Language.Name.{BeginsWithNo}
@@ -32,7 +32,7 @@ bad_not_empty : {p : ℕ} {r : List ℕ} {f : Fault} → IsBad p r f → r ≡ [
 bad_not_empty escape_at_end e = cc
 bad_not_empty _ e = cc
 
--- a text with a fault, in its parts: a well-formed tree, and after its text a bad item
+-- the parts of a text with a fault: a well-formed tree, and then a bad item
 pub record FaultParts (p : ℕ) (s : List ℕ) (f : Fault) : Type 0 where
   pub before : Tree
   pub after : List ℕ
@@ -40,12 +40,12 @@ pub record FaultParts (p : ℕ) (s : List ℕ) (f : Fault) : Type 0 where
   pub bad : IsBad (p + length (text before)) after f
   pub parts : s ≡ text before ++ after
 
--- each text with a fault has such parts
+-- each text with a fault has these parts
 pub fault_parts : {p : ℕ} {s : List ℕ} {f : Fault} → HasFault p s f → FaultParts p s f
 fault_parts (fault_after {r = r} t w b) =
     record { before = t; after = r; well_formed = w; bad = b; parts = refl }
 
--- a text with such parts has the fault
+-- a text with these parts has the fault
 pub fault_from_parts : {p : ℕ} {s : List ℕ} {f : Fault} → FaultParts p s f → HasFault p s f
 fault_from_parts {p = p} {f = f} q =
     subst (λ x. HasFault p x f) (sym q.parts) (fault_after q.before q.well_formed q.bad)
@@ -67,11 +67,11 @@ fault_after_tree p t x f w l h =
       parts = cc (text-join t q.before, append_assoc (text t) (text q.before) q.after);
     })
 
--- no tree of the text is well-formed where the text has a fault
+-- if the text has a fault, it is the text of no well-formed tree
 abbrev HasNoTree : List ℕ → Type 0
 HasNoTree s = (t : Tree) (p : ℕ) (f : Fault) → IsWellFormed t → s ≡ text t → ¬ (HasFault p s f)
 
--- a well-formed item makes no beginning that has a fault
+-- the beginning that is a well-formed item has no fault
 item_has_no_fault : (item : Item) (rest : Tree) (x : List ℕ) (p m : ℕ) (f : Fault) → IsItem item rest
     → ((w : List ℕ) → length w < m → HasNoTree w) → ¬ (BeginningHasFault p m (item_beginning item x) f)
 item_has_no_fault (Default n d) rest x p m f i shorter h =
@@ -89,12 +89,12 @@ bad_is_no_tree {p = p} {r = r} {f = f} (Then item t) x w l e b shorter =
     (subst (λ k. BeginningHasFault p (length r) k f) (ap beginning e ∙ front_tree item t x w l)
     (beginning-bad b)))
 
--- what is shorter than what is after the tree is shorter than the text
+-- a text shorter than the rest after the tree is shorter than the whole
 shorter_after : {p : ℕ} {s : List ℕ} {f : Fault} (q : FaultParts p s f) (w : List ℕ)
     → length w < length q.after → length w < length s
 shorter_after q w l = let e = ap length q.parts in omega (arith, length-append (text q.before) q.after)
 
--- one step of the next lemma, where shorter texts with a fault have no tree
+-- one step of the next lemma, if shorter texts with a fault have no tree
 no_tree_step : (s : List ℕ) → ((w : List ℕ) → length w < length s → HasNoTree w) → HasNoTree s
 no_tree_step s shorter t p f w e h =
     let q = fault_parts h in
@@ -121,11 +121,11 @@ no_tree_with_fault = by_length HasNoTree no_tree_step
 pub exclusive : (s : List ℕ) (t : Tree) (p : ℕ) (f : Fault) → Spells t s → ¬ (HasFault p s f)
 exclusive s t p f a = no_tree_with_fault s t p f a.well_formed a.spelled
 
--- the text has one fault at most at each byte offset
+-- the text has at most one fault at each byte offset
 abbrev HasOneFault : List ℕ → Type 0
 HasOneFault s = (p : ℕ) (f g : Fault) → HasFault p s f → HasFault p s g → f ≡ g
 
--- one beginning has one fault, where that is so of each shorter text
+-- one beginning has one fault, if each shorter text has
 same_front_bad : (p m : ℕ) (k : Beginning) (f g : Fault) → ((w : List ℕ) → length w < m → HasOneFault w)
     → BeginningHasFault p m k f → BeginningHasFault p m k g → f ≡ g
 same_front_bad p m (Bad k) f g shorter h i = cc
@@ -133,7 +133,7 @@ same_front_bad p m (WithDefault n w x) f g shorter h k = shorter w h.0 (p + 3 + 
 same_front_bad p m Nothing f g shorter h k = absurd h
 same_front_bad p m (Simple item x) f g shorter h k = absurd h
 
--- where one of two trees before a bad item goes on from the other, the two faults are equal
+-- if one of two trees before a bad item extends the other, the two faults are equal
 same_after : (s : List ℕ) (p : ℕ) (f g : Fault) (a : FaultParts p s f) (b : FaultParts p s g)
     → ((w : List ℕ) → length w < length s → HasOneFault w) → GoesOn a.before a.after b.before b.after
     → f ≡ g
@@ -148,7 +148,7 @@ same_after s p f g a b shorter o =
     same_front_bad (p + length (text a.before)) (length a.after) (beginning a.after) f g
     (λ w l. shorter w (shorter_after a w l)) (beginning-bad a.bad) (beginning-bad c)
 
--- one step of the next lemma, where shorter texts have one fault
+-- one step of the next lemma, if shorter texts have one fault
 one_fault_step : (s : List ℕ) → ((w : List ℕ) → length w < length s → HasOneFault w) → HasOneFault s
 one_fault_step s shorter p f g h k =
     let a = fault_parts h in
@@ -161,6 +161,6 @@ one_fault_step s shorter p f g h k =
     of a b (inl o) = same_after s p f g a b shorter o
     of a b (inr o) = sym (same_after s p g f b a shorter o)
 
--- a text has one fault at most at each byte offset that it may begin at
+-- a text has at most one fault at each byte offset that it may have
 pub fault_unique : (s : List ℕ) (p : ℕ) (f g : Fault) → HasFault p s f → HasFault p s g → f ≡ g
 fault_unique = by_length HasOneFault one_fault_step

@@ -25,13 +25,13 @@ character_within : (bytes : List ℕ) (k c : ℕ) → k ≡ min (length bytes) 4
 character_within bytes k c is (scalar, (rest, e)) =
     omega (arith, character_length c, ap length e, length-append (encode_utf8 c) rest)
 
--- where the first four bytes are none, no character is at the start
+-- if the first four bytes are none, no character is at the start
 pub no_character_in_nothing : (bytes : List ℕ) (k : ℕ) → k ≡ min (length bytes) 4 → take k bytes ≡ []
     → (c : ℕ) → ¬ (BeginsWithChar bytes c)
 no_character_in_nothing bytes k is none c begins =
     grind (arith, common_steps, character_length, character_within, length-take-le)
 
--- where no text is at the start of the first four bytes, no character is
+-- if no text is at the start of the first four bytes, no character is
 pub no_character_in_no_text : (bytes : List ℕ) (k n : ℕ) → k ≡ min (length bytes) 4
     → IsValidUpTo (take k bytes) n → take n (take k bytes) ≡ []
     → (c : ℕ) → ¬ (BeginsWithChar bytes c)
@@ -51,7 +51,7 @@ no_character_in_no_text bytes k n is valid none c begins =
     ∙ take_at (encode_utf8 c) begins.1.0 m refl in
     valid.longest m (omega (arith, character_length c)) (rw whole (IsUtf8-encode c begins.0))
 
--- bytes that are a text are read as that text, for any stand-in for a text that can't be read
+-- bytes that are UTF-8 are read as themselves, whatever the replacement for others
 pub read_text : {E : Type 0} (W : E → Type 0) (x : List ℕ) (r : Result (Bor (List ℕ)) E) (d : Bor (List ℕ))
     → IsUtf8 x
     → MatchResult r (λ s. (s.now ≡ x) × IsUtf8 x) (λ e. (¬ (IsUtf8 x)) × W e) → (result_unwrap_or r d).now ≡ x
@@ -77,7 +77,7 @@ character_cut x q rest c some e =
         inside_one c rest (x ++ closing_brace ∷ q) (length x) e longer (omega arith) ∙ here in
         omega (arith, closing_length c is)
 
--- the character at the start of bytes that go on with a closing brace is at the start of those before it
+-- the character at the start of bytes before a closing brace is at the start of these bytes alone
 begins_cut : (x q : List ℕ) (c : ℕ) → 0 < length x → BeginsWithChar (x ++ closing_brace ∷ q) c
     → BeginsWithChar x c
 begins_cut x q c some (scalar, (rest, e)) =
@@ -94,7 +94,7 @@ pub begins_more : (x z : List ℕ) (c : ℕ) → BeginsWithChar x c → BeginsWi
 begins_more x z c (scalar, (rest, e)) =
     (scalar, (rest ++ z, ap (λ (w : List ℕ). w ++ z) e ∙ append_assoc (encode_utf8 c) rest z))
 
--- what is at the start of bytes that go on with a closing brace is at the start of those before it
+-- the character or byte at the start of bytes before a closing brace is at the start of these bytes alone
 pub front_cut : (b : ℕ) (x q : List ℕ) (c : CharOrByte) → IsFrontCharacter (b ∷ x ++ closing_brace ∷ q) c
     → IsFrontCharacter (b ∷ x) c
 front_cut b x q (Char c) front = begins_cut (b ∷ x) q c (omega arith) front

@@ -9,12 +9,12 @@ use Rattle.subst_language.specs.Language.Balanced.IsBalanced.{empty, byte, escap
 use Rattle.subst_language.proofs.Language.NameLemmas.{name_balanced}
 use Rattle.subst_language.proofs.Language.BalancedLemmas.{balanced_append}
 
--- an item has a byte at least
+-- an item has at least one byte
 pub item_longer : (item : Item) → 0 < length (item_text item)
 item_longer (Plain b) = omega arith
 item_longer _ = omega arith
 
--- what is after an item is shorter than the text
+-- the rest after an item is shorter than the text
 pub shorter_than_item : (item : Item) (x s : List ℕ) → s ≡ item_text item ++ x → length x < length s
 shorter_than_item item x s e =
     let l = ap length e in omega (arith, length-append (item_text item) x, item_longer item)
@@ -56,7 +56,7 @@ pub optional_balanced : (n : List ℕ) → IsName n
 optional_balanced n named =
     in_braces_balanced n (question_mark ∷ []) named (byte (omega arith) (omega arith) (omega arith) empty)
 
--- `${name:default}` is balanced where the default is
+-- `${name:default}` is balanced if the default is
 pub default_balanced : (n w : List ℕ) → IsName n → IsBalanced w
     → IsBalanced (dollar ∷ opening_brace ∷ n ++ (colon ∷ w ++ closing_brace ∷ []))
 default_balanced n w named inner =

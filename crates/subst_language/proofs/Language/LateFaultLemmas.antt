@@ -1,4 +1,4 @@
--- Faults that only the end of a source shows: none of them is in a balanced text.
+-- Faults that only the end of a source reveals: none of them is in a balanced text.
 use Rattle.std.proofs.Common.{rules, ◌≡◌, ◌≢◌, ℕ, zero, suc, ◌+◌, Some, None, List, [], ◌∷◌, ◌++◌, length, refl, sym, ap, subst, append_assoc, append-nil, length-append, arith}
 use Rattle.subst_error.specs.Fault.{Fault, InvalidEscapeSequence, MissingVariableName, UnexpectedCharacter, MissingClosingBrace, NoSuchVariable}
 use Rattle.subst_language.specs.Language.Bytes.{dollar, colon, question_mark, backslash, opening_brace, closing_brace}
@@ -54,14 +54,14 @@ backslash_not_balanced (byte no_slash _ _ inner) e = no_slash (first_same e)
 backslash_not_balanced (escaping inner) e = cc
 backslash_not_balanced (braces inner more) e = omega (arith, first_same e)
 
--- a text that completes braces does so without its first byte, which is no backslash and no brace
+-- a text that completes braces still does without its first byte, if that is no backslash and no brace
 drop_byte : (d : ℕ) (v : List ℕ) (b : ℕ) → b ≢ backslash → b ≢ opening_brace → b ≢ closing_brace
     → Completes d (b ∷ v) → Completes d v
 drop_byte zero v b no_slash no_open no_close done = balanced_after_byte b v no_slash no_open done refl
 drop_byte (suc d) v b no_slash no_open no_close (x, y, inner, e, rest) =
     after_byte (Completes d) v b no_slash no_open no_close inner y e rest
 
--- a text that completes braces does so without the escape that it begins with
+-- a text that completes braces still does without the escape that it begins with
 drop_escape : (d : ℕ) (v : List ℕ) (b : ℕ) → Completes d (backslash ∷ b ∷ v) → Completes d v
 drop_escape zero v b done = balanced_after_escape b v done refl
 drop_escape (suc d) v b (x, y, inner, e, rest) = after_escape (Completes d) v b inner y e rest
@@ -93,7 +93,7 @@ drop_balanced d v (braces {x = x} {y = y} inner more) done =
 abbrev CompletesSome : List ℕ → Type 0
 CompletesSome v = (d : ℕ) × Completes d v
 
--- what is after a plain byte completes some, where that and the byte do
+-- the rest after a plain byte completes some braces, if the whole does
 after_plain : {b : ℕ} → BraceKind b → (v : List ℕ) → b ≢ backslash → (d : ℕ) → Completes d (b ∷ v)
     → CompletesSome v
 after_plain escapes v no_slash d done = absurd (no_slash refl)
@@ -102,7 +102,7 @@ after_plain closes v no_slash zero done = absurd (closing_not_balanced v done re
 after_plain closes v no_slash (suc d) done = (d, drop_closing d v done)
 after_plain (counts_not {b = b} n o c) v no_slash d done = (d, drop_byte d v b n o c done)
 
--- what is after an item completes some, where the item and that do
+-- the rest after an item completes some braces, if the whole does
 after_item : (item : Item) (next : Tree) (d : ℕ) (v : List ℕ) → IsItem item next
     → Completes d (item_text item ++ v)
     → CompletesSome v
@@ -114,7 +114,7 @@ after_item (Optional n) next d v fits done = (d, drop_balanced d v (optional_bal
 after_item (Default n t) next d v fits done =
     (d, drop_balanced d v (default_balanced n (text t) fits.0 fits.2) done)
 
--- what is after a tree completes some, where the tree and that do
+-- the rest after a tree completes some braces, if the whole does
 after_tree : (t : Tree) (d : ℕ) (v : List ℕ) → IsWellFormed t → Completes d (text t ++ v) → CompletesSome v
 after_tree Empty d v formed done = (d, done)
 after_tree (Then item rest) d v formed done =
@@ -122,7 +122,7 @@ after_tree (Then item rest) d v formed done =
     let (e, behind) = after_item item rest d (text rest ++ v) formed.0 (subst (Completes d) same done) in
     after_tree rest e v formed.1 behind
 
--- the fault is one that only the end of a source shows
+-- the fault is one that only the end of a source reveals
 abbrev pub IsLate : Fault → Type 0
 IsLate (InvalidEscapeSequence position None) = Unit {0}
 IsLate (MissingClosingBrace position) = Unit {0}
@@ -173,15 +173,15 @@ mutual
       let (e, rest) = after_tree t d r formed done in
       late_completes_none bad late e rest
 
--- what a bad item is, by its fault: with a missing closing brace it begins with `${`, whose brace is at the
--- position; with an escape without a character it is a backslash alone
+-- a bad item, by its fault: with a missing closing brace it begins with `${`, whose brace is at the position;
+-- with an escape without a character it is a single backslash
 abbrev pub BadBy : ℕ → List ℕ → Fault → Type 0
 BadBy p r (InvalidEscapeSequence position None) = (r ≡ backslash ∷ []) × (position ≡ p)
 BadBy p r (MissingClosingBrace position) =
     (more : List ℕ) × (r ≡ dollar ∷ opening_brace ∷ more) × (position ≡ p + 1)
 BadBy p r _ = Unit {0}
 
--- nothing is said of other faults
+-- other faults need no proof
 bad_by_other : (p : ℕ) (r : List ℕ) (f : Fault) → ¬ (IsLate f) → BadBy p r f
 bad_by_other p r (InvalidEscapeSequence position None) other = absurd (other tt)
 bad_by_other p r (InvalidEscapeSequence position (Some c)) other = tt
@@ -190,7 +190,7 @@ bad_by_other p r (UnexpectedCharacter position c expected) other = tt
 bad_by_other p r (MissingClosingBrace position) other = absurd (other tt)
 bad_by_other p r (NoSuchVariable position name) other = tt
 
--- each bad item is so
+-- each bad item is one by its fault
 pub bad_by : {p : ℕ} {r : List ℕ} {f : Fault} → IsBad p r f → BadBy p r f
 bad_by escape_at_end = (refl, refl)
 bad_by (name_at_end n named) = (n, refl, refl)
@@ -200,7 +200,7 @@ bad_by {p = p} {r = r} {f = f} (inside n w v named balanced fault) =
     bad_by_other p r f (λ late. late_not_balanced fault late 0 balanced)
 bad_by _ = tt
 
--- what a source is, by its fault
+-- a source, by its fault
 abbrev SourceBy : ℕ → List ℕ → Fault → Type 0
 SourceBy p s (InvalidEscapeSequence position None) = position + 1 ≡ p + length s
 SourceBy p s (MissingClosingBrace position) = OpensAt p s position
@@ -217,7 +217,7 @@ source_by_bad p t r (UnexpectedCharacter position c expected) formed h = tt
 source_by_bad p t r (MissingClosingBrace position) formed (more, e, at) = search (rules, text)
 source_by_bad p t r (NoSuchVariable position name) formed h = tt
 
--- each source with a fault is so
+-- each source with a fault is one by its fault
 source_by : {p : ℕ} {s : List ℕ} {f : Fault} → HasFault p s f → SourceBy p s f
 source_by {p = p} {f = f} (fault_after {r = r} t formed bad) = source_by_bad p t r f formed (bad_by bad)
 

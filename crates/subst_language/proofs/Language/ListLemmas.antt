@@ -14,7 +14,7 @@ use Rattle.std.specs.Option.{MatchOption, option_eq}
 pub first_same : {X : Type 0} {a b : X} {x y : List X} → a ∷ x ≡ b ∷ y → a ≡ b
 first_same e = cc
 
--- equal lists have the same elements after the first ones
+-- equal lists have equal rests after the first elements
 pub rest_same : {X : Type 0} {a b : X} {x y : List X} → a ∷ x ≡ b ∷ y → x ≡ y
 rest_same e = cc
 
@@ -23,67 +23,67 @@ pub no_element : {X : Type 0} (a : X) (x y : List X) → ¬ ([] ≡ x ++ a ∷ y
 no_element a [] y e = cc
 no_element a (b ∷ x) y e = cc
 
--- what holds of each element of two lists holds of each of both concatenated
+-- a property of each element of two lists holds of each element of their concatenation
 pub each_append : {X : Type 0} (P : X → Type 0) (x y : List X) → AllByRecursion P x → AllByRecursion P y
     → AllByRecursion P (x ++ y)
 each_append P [] y h k = k
 each_append P (a ∷ x) y h k = (h.0, each_append P x y h.1 k)
 
--- what holds of each element of two lists concatenated holds of each of the first, and of each of the second
+-- a property of each element of two lists concatenated holds of each element of both
 pub each_parts : {X : Type 0} (P : X → Type 0) (x y : List X) → AllByRecursion P (x ++ y)
     → AllByRecursion P x × AllByRecursion P y
 each_parts P [] y h = (tt, h)
 each_parts P (a ∷ x) y h = let parts = each_parts P x y h.1 in ((h.0, parts.0), parts.1)
 
--- what follows of each element from what holds of it holds of each
+-- a property that follows from one of each element holds of each element
 pub each_weaker : {X : Type 0} (P Q : X → Type 0) → ((a : X) → P a → Q a) → (x : List X) → AllByRecursion P x
     → AllByRecursion Q x
 each_weaker P Q step [] each = tt
 each_weaker P Q step (a ∷ x) each = (step a each.0, each_weaker P Q step x each.1)
 
--- what holds of each element holds of each by recursion
+-- a property of each element holds of each by recursion
 pub each_by_recursion : {X : Type 0} (P : X → Type 0) (x : List X) → All P x → AllByRecursion P x
 each_by_recursion P [] each = tt
 each_by_recursion P (a ∷ x) each =
     (each 0 a (omega arith), each_by_recursion P x (λ k d h. each (suc k) d (omega arith)))
 
--- what holds of each element of a list holds of each that is mapped to one
+-- a property of each element of a mapped list holds of the image of each element
 mapped_by_recursion : {X Y : Type 0} (f : X → Y) (P : Y → Type 0) (x : List X) → AllByRecursion P (map f x)
     → AllByRecursion (λ a. P (f a)) x
 mapped_by_recursion f P [] each = tt
 mapped_by_recursion f P (a ∷ x) each = (each.0, mapped_by_recursion f P x each.1)
 
--- what holds of each element of a mapped list holds of what each element is mapped to
+-- the same, for a list that equals the mapped one
 pub each_mapped : {X Y : Type 0} (f : X → Y) (P : Y → Type 0) (x : List X) {y : List Y} → map f x ≡ y
     → AllByRecursion P y → All (λ a. P (f a)) x
 each_mapped f P x is each =
     All-from_recursion (λ a. P (f a)) x (mapped_by_recursion f P x (subst (AllByRecursion P) (sym is) each))
 
--- what holds of a list where it holds of each shorter one holds of each list of at most k elements
+-- induction by length, for lists of at most k elements
 by_length_within : {X : Type 0} (P : List X → Type 0)
     → ((s : List X) → ((w : List X) → length w < length s → P w) → P s)
     → (k : ℕ) (s : List X) → length s ≤ k → P s
 by_length_within P step zero s h = step s (λ w l. absurd (omega arith))
 by_length_within P step (suc k) s h = step s (λ w l. by_length_within P step k w (omega arith))
 
--- what holds of a list where it holds of each shorter one holds of each list
+-- induction by length
 pub by_length : {X : Type 0} (P : List X → Type 0)
     → ((s : List X) → ((w : List X) → length w < length s → P w) → P s)
     → (s : List X) → P s
 by_length P step s = by_length_within P step (length s) s (omega arith)
 
--- an index where an element is read is within the list
+-- the index of an element is within the list
 pub position_inside : {X : Type 0} (s : List X) (at : ℕ) (a : X) (x : List X) → drop at s ≡ a ∷ x
     → at < length s
 position_inside s at a x reads = omega (arith, simp length-drop at (ap length reads))
 
--- after the element at an index the list goes on at the next
+-- after the element at an index comes the rest from the next index
 pub next_element : {X : Type 0} (s : List X) (at : ℕ) (a : X) (rest : List X) → drop at s ≡ a ∷ rest
     → drop at s ≡ a ∷ drop (at + 1) s
 next_element {X} s at a rest begins =
     begins ∙ ap (λ (x : List X). a ∷ x) (ap (λ (x : List X). drop 1 x) (sym begins) ∙ drop-drop 1 at s)
 
--- after two elements it goes on at the index after that
+-- after two elements comes the rest from the index after them
 pub next_elements : {X : Type 0} (s : List X) (at : ℕ) (a b : X) → drop at s ≡ a ∷ drop (at + 1) s
     → drop (at + 1) s ≡ b ∷ drop (at + 1 + 1) s
     → drop at s ≡ a ∷ b ∷ drop (at + 2) s
@@ -91,7 +91,7 @@ next_elements {X} s at a b first second =
     let same : at + 1 + 1 ≡ at + 2 = omega arith in
     first ∙ ap (λ (x : List X). a ∷ x) (second ∙ ap (λ (k : ℕ). b ∷ drop k s) same)
 
--- a number that may be read at an index is there, if it is the one asked for
+-- if the number that may be read at an index is the expected one, it is there
 pub byte_is : (found : Option ℕ) (here next : List ℕ) (b : ℕ)
     → MatchOption found (here ≡ []) (λ a. here ≡ a ∷ next)
     → option_eq eqb found (Some b) ≡ true → here ≡ b ∷ next
@@ -113,7 +113,7 @@ element_at {X} {xs = xs} {at = at} {x = x} reads =
           ∙ ap (λ (y : X). y ∷ drop (at + 1) xs) (get_or_from_slice_get xs at x x reads);
     }
 
--- the list is what is before the element, the element, and what is after it
+-- the list is the part before the element, the element, and the part after it
 pub around : {X : Type 0} {xs : List X} {at : ℕ} {x : X} → IsElementAt xs at x
     → take at xs ++ x ∷ drop (at + 1) xs ≡ xs
 around {X} {xs = xs} {at = at} here =
@@ -138,17 +138,17 @@ pub split_first : {X : Type 0} (xs : List X) (x : X) → slice_get xs 0 ≡ Some
 split_first [] x is = absurd cc
 split_first (y ∷ xs) x is = (xs, cc)
 
--- a list that has none
+-- a list that has no first element is empty
 pub no_first : {X : Type 0} (xs : List X) → slice_get xs 0 ≡ None → xs ≡ []
 no_first [] is = refl
 no_first (y ∷ xs) is = cc
 
--- a list that has no last element has none
+-- a list that has no last element is empty
 pub no_last : {X : Type 0} (xs : List X) → slice_get xs (length xs - 1) ≡ None → xs ≡ []
 no_last [] is = refl
 no_last (y ∷ xs) is = let some = slice_get-get_or (y ∷ xs) (length (y ∷ xs) - 1) y (omega arith) in cc
 
--- what is left when the last element has been taken
+-- the list that is left after the last element is removed
 pub pop_front : {X : Type 0} (popped xs front : List X) (x : X) (n : ℕ) → xs ≡ front ++ x ∷ [] → n ≡ length xs
     → popped ≡ take (n - 1) xs
     → popped ≡ front
@@ -169,7 +169,7 @@ pub front_by_take : {X : Type 0} (k : ℕ) (x : List X) {t : List X} → t ≡ t
 front_by_take {X} k x is =
     (drop k x, sym (take-append-drop k x) ∙ ap (λ (y : List X). y ++ drop k x) (sym is))
 
--- the first elements of those are a prefix too
+-- the first elements of the first elements are a prefix, too
 pub front_by_takes : {X : Type 0} (n k : ℕ) (x : List X) {t : List X} → t ≡ take n (take k x)
     → (rest : List X) × (x ≡ t ++ rest)
 front_by_takes {X} n k x {t} is =

@@ -56,7 +56,7 @@ joined_moved n (Bytes x) (Bytes y) = refl
 joined_moved n (Bytes x) (Missing position name) = refl
 joined_moved n (Missing position name) w = refl
 
--- what was found, or else a moved value, is what was found, or else the value, moved
+-- a found value, or else a moved value, is the found value or else the value, moved
 found_moved : (n : ℕ) (found : Option (List ℕ)) (v w : Value) → w ≡ moved_value n v
     → found_or found w ≡ moved_value n (found_or found v)
 found_moved n (Some x) v w e = refl
@@ -95,7 +95,7 @@ joined_fault t a b p f spells follows fault =
     subst (λ w. HasFault p (w ++ b) (moved (length w) f)) (sym spells.spelled)
     (fault_after_tree p t b _ spells.well_formed follows (fault_moved (length (text t)) _ refl fault))
 
--- the value of two sentences joined, where the first gives bytes
+-- the value of two sentences joined, if that of the first is bytes
 after_bytes : (t u : Tree) (a x : List ℕ) (look : LookUp) → Spells t a → value 0 t look ≡ Bytes x
     → value 0 (join t u) look ≡ joined (Bytes x) (moved_value (length a) (value 0 u look))
 after_bytes t u a x look spells gives =
@@ -104,7 +104,7 @@ after_bytes t u a x look spells gives =
     value-join 0 t u look ∙ ap (λ k. joined k (value (0 + length (text t)) u look)) gives
     ∙ ap (joined (Bytes x)) there
 
--- two sentences that give bytes, the second of which may follow the first, give these joined
+-- the answer of two sentences joined is the bytes of both, if the second may follow the first
 pub joined_gives : (t : Tree) (a b x y : List ℕ) (look : LookUp) → Spells t a → IsFollowed t b
     → value 0 t look ≡ Bytes x → Answers b look (Gives y) → Answers (a ++ b) look (Gives (x ++ y))
 joined_gives t a b x y look spells follows gives (u, r, w) = (
@@ -113,7 +113,7 @@ joined_gives t a b x y look spells follows gives (u, r, w) = (
   after_bytes t u a x look spells gives ∙ ap (λ v. joined (Bytes x) (moved_value (length a) v)) w,
 )
 
--- where the first gives bytes, a missing variable of the second is that of the whole
+-- if the value of the first is bytes, a missing variable of the second is that of the whole
 pub joined_missing : (t u : Tree) (a b x : List ℕ) (look : LookUp) (f : Fault) → Spells t a → Spells u b
     → IsFollowed t b → value 0 t look ≡ Bytes x → IsMissing (value 0 u look) f
     → Answers (a ++ b) look (Refuses (moved (length a) f))

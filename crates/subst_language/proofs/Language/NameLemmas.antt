@@ -1,4 +1,4 @@
--- Names: which bytes they have, and where a name ends in a text.
+-- Names: their bytes, and the end of a name in a text.
 use Rattle.std.proofs.Common.{◌≡◌, ◌≢◌, ℕ, true, List, [], ◌∷◌, ◌++◌, refl, ap, subst, ◌<◌, arith}
 use Rattle.std.proofs.Math.Bool.{Bool-discrete}
 use Rattle.std.specs.List.{AllByRecursion}
@@ -49,13 +49,13 @@ pub name_bytes : (n : List ℕ) → IsName n → AllByRecursion IsNameByte n
 name_bytes [] h = absurd h
 name_bytes (b ∷ n) h = h
 
--- a text in two parts: name bytes, and after them no name byte
+-- the two parts of a text: name bytes, and a rest that begins with no name byte
 pub record IsSplit (n x s : List ℕ) : Type 0 where
   pub name_part : AllByRecursion IsNameByte n
   pub rest_part : BeginsWithNo IsNameByte x
   pub parts : s ≡ n ++ x
 
--- a text is in such parts in one way
+-- the parts are unique
 pub split_unique : (n m x y : List ℕ) → AllByRecursion IsNameByte n → AllByRecursion IsNameByte m
     → BeginsWithNo IsNameByte x → BeginsWithNo IsNameByte y → n ++ x ≡ m ++ y → (n ≡ m) × (x ≡ y)
 split_unique [] [] x y h k f g e = (refl, e)
@@ -65,7 +65,7 @@ split_unique (b ∷ n) [] x [] h k f g e = cc
 split_unique (b ∷ n) [] x (c ∷ y) h k f g e = absurd (name_byte_differs b c h.0 g cc)
 split_unique (b ∷ n) (c ∷ m) x y h k f g e = let s = split_unique n m x y h.1 k.1 f g cc in (cc (s.0), s.1)
 
--- each text is in such parts
+-- each text has these parts
 pub split : (s : List ℕ) → (n x : List ℕ) × IsSplit n x s
 split [] = ([], [], record { name_part = tt; rest_part = tt; parts = refl })
 split (b ∷ s) = of (name_byte_or_not b) (split s)
@@ -91,7 +91,7 @@ name_byte_plain b h = (
   name_byte_differs b closing_brace h closing_no_name,
 )
 
--- name bytes have no brace and no backslash, so they are balanced
+-- name bytes are balanced, as they have no brace and no backslash
 balanced_bytes : (n : List ℕ) → AllByRecursion IsNameByte n → IsBalanced n
 balanced_bytes [] h = empty
 balanced_bytes (b ∷ n) h = let (s, o, c) = name_byte_plain b h.0 in byte s o c (balanced_bytes n h.1)

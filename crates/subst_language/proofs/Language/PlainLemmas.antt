@@ -7,17 +7,17 @@ use Rattle.subst_language.specs.Language.WellFormed.{IsWellFormed}
 use Rattle.subst_language.specs.Language.LookUp.{LookUp}
 use Rattle.subst_language.specs.Language.Value.{Bytes, joined, value}
 
--- the tree of a run of bytes that each stand for themselves
+-- the tree of a run of plain bytes
 abbrev pub plains : List ℕ → Tree
 plains [] = Empty
 plains (b ∷ x) = Then (Plain b) (plains x)
 
--- the tree of such a run is written as the bytes
+-- the text of this tree is the bytes
 pub text-plains : (x : List ℕ) → text (plains x) ≡ x
 text-plains [] = refl
 text-plains (b ∷ x) = ap (λ y. b ∷ y) (text-plains x)
 
--- the tree of such a run gives the bytes
+-- the value of this tree is the bytes
 pub value-plains : (p : ℕ) (x : List ℕ) (look : LookUp) → value p (plains x) look ≡ Bytes x
 value-plains p [] look = refl
 value-plains p (b ∷ x) look = ap (joined (Bytes (b ∷ []))) (value-plains (p + 1) x look)

@@ -1,4 +1,4 @@
--- Where a text that is refused is at fault: the range begins and ends between characters.
+-- The range of a refusal of a text: it begins and ends at character boundaries.
 use Rattle.std.proofs.Common.{rules, ◌≡◌, ℕ, ◌+◌, ◌<◌, Option, Some, None, IfSome, Result, Ok, Err, IfErr, List, [], ◌∷◌, ◌++◌, length, refl, sym, ap, ◌∙◌, subst, inl, inr, append_assoc, append-nil, length-append, encode_utf8, arith}
 use Rattle.std.proofs.lemmas.Bool.{and_parts}
 use Rattle.std.proofs.lemmas.Str.{IsUtf8-append, IsUtf8-nil, IsUtf8-encode, IsUtf8-past_char, IsCharBoundary-at_seam, IsCharBoundary-start}
@@ -30,8 +30,7 @@ use Rattle.subst_language.proofs.Language.NameLemmas.{name_is_utf8}
 use Rattle.subst_language.proofs.Language.MissingLemmas.{first_among}
 use Rattle.subst_language.proofs.Language.Utf8Lemmas.{cut_at, after_ascii, after_name, in_braces, ascii_alone}
 
--- The text s is at position p. The range is a part of it, and what is in the range and what is after it are
--- UTF-8.
+-- The text s is at position p. The range is in it, and the text of the range and the text after it are UTF-8.
 record IsPlaced (p : ℕ) (s : List ℕ) (range : Range ℕ) : Type 0 where
   before : List ℕ
   within : List ℕ
@@ -93,7 +92,7 @@ dollar_text = ascii_alone dollar (omega arith)
 opening_text : IsUtf8 (opening_brace ∷ [])
 opening_text = ascii_alone opening_brace (omega arith)
 
--- what is after the first character of UTF-8 is UTF-8
+-- the rest after the first character of UTF-8 is UTF-8
 after_front : (b c : ℕ) (x rest : List ℕ) → IsUtf8 (b ∷ x) → b ∷ x ≡ encode_utf8 c ++ rest → IsUtf8 rest
 after_front b c x rest is begins = IsUtf8-past_char (b ∷ x) rest c is begins
 
@@ -126,7 +125,7 @@ brace_placed p w is =
     placed p (dollar ∷ []) (opening_brace ∷ []) w (p + 1) 1 (omega arith) refl opening_text
     (after_ascii w opening_brace (omega arith) braced)
 
--- what is after `${` and a name is UTF-8
+-- the rest after `${` and a name is UTF-8
 pub after_braced_name : (n x : List ℕ) → IsName n → IsUtf8 (dollar ∷ opening_brace ∷ (n ++ x)) → IsUtf8 x
 after_braced_name n x named is =
     let braced = after_ascii (opening_brace ∷ (n ++ x)) dollar (omega arith) is in
@@ -262,7 +261,7 @@ mutual
             (variables_of at_default t) of_default,
       )
 
-  -- the ranges of the names of a tree's variables, where the tree's text is after the bytes u
+  -- the ranges of the names of a tree's variables, if the tree's text is after the bytes u
   tree_placed : (t : Tree) (p q : ℕ) (u : List ℕ) → q ≡ p + length u → IsWellFormed t → IsUtf8 (u ++ text t)
       → AllByRecursion (λ v. IsPlaced p (u ++ text t) (name_range v)) (variables_of q t)
   tree_placed Empty p q u at fits is = tt
@@ -294,8 +293,8 @@ refusal_in_text s look f is (inr (t, spells, (position, name, missing, same))) =
     rw same (first_among (λ v. IsRangeIn s (name_range v)) 0 position t look name missing
     (variables_in_text s t is spells))
 
--- an error that a refusal of a text states has its range in the text; where memory ran out it is the empty
--- one at the text's start
+-- the range of an error that states a refusal of a text is in the text; for out of memory it is empty, at the
+-- start
 pub error_in_text : (s : List ℕ) (look : LookUp) (o : Option Fault) → IsUtf8 s
     → IfSome o (λ f. Answers s look (Refuses f)) → IsRangeIn s (range_of o)
 error_in_text s look None is h = let start = IsCharBoundary-start s is in (start, start)

@@ -1,4 +1,4 @@
--- Where a source that is refused is at fault: the range ends within the source, also where that is no text.
+-- The range of a refusal of a source: it ends within the source, even if the source is no text.
 use Rattle.std.proofs.Common.{ℕ, ◌+◌, ◌≤◌, Option, Some, None, Result, Ok, Err, IfErr, IfSome, List, [], ◌∷◌, ◌++◌, length, ap, length-append, encode_utf8, inl, inr, arith}
 use Rattle.subst_error.specs.Fault.{Fault}
 use Rattle.subst_error.specs.ErrorFault.{parse_fault}
@@ -22,7 +22,7 @@ use Rattle.subst_language.specs.Language.Variables.{Variable, name_range, item_v
 use Rattle.subst_language.proofs.Language.ListLemmas.{each_append, each_weaker}
 use Rattle.subst_language.proofs.Language.MissingLemmas.{first_among}
 
--- the character at the front of bytes takes at most as many as there are
+-- the character at the front of bytes is at most as long as they are
 front_fits : (bytes : List ℕ) (c : CharOrByte) → IsFrontCharacter bytes c → source_len c ≤ length bytes
 front_fits bytes (Char c) (scalar, (rest, e)) =
     omega (arith, ap length e, length-append (encode_utf8 c) rest)
@@ -57,7 +57,7 @@ mutual
       → (range_of (Some f)).end ≤ p + length s
   fault_within (fault_after {r = r} t formed bad) = omega (arith, bad_within bad, length-append (text t) r)
 
--- the variable's name ends at an offset at most
+-- the variable's name ends at this offset or before it
 abbrev EndsBy : ℕ → Variable → Type 0
 EndsBy end v = (name_range v).end ≤ end
 

@@ -19,7 +19,7 @@ use Rattle.subst_language.proofs.Language.OneTreeLemmas.{tree_unique}
 use Rattle.subst_language.proofs.Language.ListLemmas.{by_length}
 use Rattle.subst_language.proofs.Language.BeginningLemmas.{Beginning, Nothing, Simple, WithDefault, Bad, BeginsSo, beginning, begins}
 
--- what reads as a tree, or has a fault at byte offset p
+-- a tree of the text, or a fault of the text at byte offset p
 abbrev pub Reading : ℕ → List ℕ → Type 0
 Reading p s = ((t : Tree) × Spells t s) ⊎ ((f : Fault) × HasFault p s f)
 
@@ -27,7 +27,7 @@ Reading p s = ((t : Tree) × Spells t s) ⊎ ((f : Fault) × HasFault p s f)
 read_fault : (p : ℕ) (s : List ℕ) (f : Fault) → IsBad p s f → HasFault p s f
 read_fault p s f b = fault_after Empty tt (rw (add-zero p) b)
 
--- an item, and after it what reads as a tree or has a fault
+-- an item before a text that has a reading
 read_item : (p : ℕ) (item : Item) (x s : List ℕ) → IsItem item Empty → IsFollowed (Then item Empty) x
     → s ≡ item_text item ++ x
     → Reading (p + length (item_text item)) x → Reading p s
@@ -43,8 +43,7 @@ read_item p item x s i l e (inr (f, h)) =
     let k : s ≡ text (Then item Empty) ++ x = cc in
     inr (f, rw k (fault_after_tree p (Then item Empty) x f (i, tt) l (rw n h)))
 
--- a closed default that reads as a tree, before what reads as a tree or has a fault; or a default with a
--- fault
+-- a closed default that has a tree, before a text that has a reading; or a default with a fault
 read_default : (p : ℕ) (n w x s : List ℕ) → IsName n → IsBalanced w
     → s ≡ dollar ∷ opening_brace ∷ n ++ (colon ∷ w ++ closing_brace ∷ x) → Reading (p + 3 + length n) w
     → ((d : Tree) → s ≡ item_text (Default n d) ++ x → Reading (p + length (item_text (Default n d))) x)
@@ -56,7 +55,7 @@ read_default p n w x s h b e (inl (d, a)) rest =
 read_default p n w x s h b e (inr (f, k)) rest =
     inr (f, read_fault p s f (rw e (inside n w x h b k)))
 
--- one step of the next lemma, where shorter texts are read
+-- one step of the next lemma, if shorter texts have readings
 read_step : (s : List ℕ) → ((w : List ℕ) → length w < length s → (p : ℕ) → Reading p w) → (p : ℕ)
     → Reading p s
 read_step s shorter p = of (beginning s) (begins s)

@@ -1,4 +1,4 @@
--- Faults that stay whatever is written after the text.
+-- Faults that stay, whatever is appended to the text.
 use Rattle.std.proofs.Common.{◌≡◌, ℕ, ◌+◌, List, ◌∷◌, ◌++◌, length, sym, subst, append_assoc, length-append, arith}
 use Rattle.std.specs.Str.{IsUtf8}
 use Rattle.subst_error.specs.Fault.{Fault}
@@ -15,25 +15,25 @@ use Rattle.subst_language.proofs.Language.FrontCharacterLemmas.{begins_more}
 use Rattle.subst_language.proofs.Language.RangeLemmas.{begins_with_some, after_braced_name, bad_is_text}
 use Rattle.subst_language.proofs.Language.Utf8Lemmas.{after_ascii}
 
--- the character at the front of a text is at the front of the text with more after it
+-- the character at the front of a text stays if more is appended
 front_stays : (b : ℕ) (x more : List ℕ) (c : CharOrByte) → IsUtf8 (b ∷ x) → IsFrontCharacter (b ∷ x) c
     → IsFrontCharacter (b ∷ x ++ more) c
 front_stays b x more (Char c) is front = begins_more (b ∷ x) more c front
 front_stays b x more (Byte a) is (none, rest) =
     let some = begins_with_some b x is in absurd (none some.0 some.1)
 
--- what is after `${` and a name, with more after it
+-- the rest after `${` and a name, with more appended
 after_name_more : (n x more : List ℕ)
     → dollar ∷ opening_brace ∷ n ++ (x ++ more) ≡ (dollar ∷ opening_brace ∷ n ++ x) ++ more
 after_name_more n x more = sym (append_assoc (dollar ∷ opening_brace ∷ n) x more)
 
--- what is after a default, with more after it
+-- the rest after a default, with more appended
 after_default_more : (n w v more : List ℕ)
     → dollar ∷ opening_brace ∷ n ++ (colon ∷ w ++ closing_brace ∷ (v ++ more))
     ≡ (dollar ∷ opening_brace ∷ n ++ (colon ∷ w ++ closing_brace ∷ v)) ++ more
 after_default_more n w v more = simp append_assoc
 
--- a bad item in a text, whose fault is settled, is one with more after it
+-- a bad item whose fault is settled stays one if more is appended
 bad_stays : {p : ℕ} {r : List ℕ} {f : Fault} (more : List ℕ) → IsBad p r f → IsUtf8 r
     → IsSettled (p + length r) f
     → IsBad p (r ++ more) f
@@ -60,7 +60,7 @@ bad_stays more (unclosed n w named none) is settled = elim settled [ ]
 bad_stays {p = p} {f = f} more (inside n w v named balanced fault) is settled =
     subst (λ u. IsBad p u f) (after_default_more n w v more) (inside n w (v ++ more) named balanced fault)
 
--- a settled fault of a text is its fault with more after it
+-- a settled fault of a text stays if more is appended
 fault_stays : {p : ℕ} {s : List ℕ} {f : Fault} (more : List ℕ) → HasFault p s f → IsUtf8 s
     → IsSettled (p + length s) f → HasFault p (s ++ more) f
 fault_stays {p = p} {f = f} more (fault_after {r = r} t formed bad) is settled =
@@ -70,7 +70,7 @@ fault_stays {p = p} {f = f} more (fault_after {r = r} t formed bad) is settled =
     (fault_after t formed
     (bad_stays more bad (bad_is_text (text t) bad is) (subst (λ end. IsSettled end f) ends settled)))
 
--- a settled fault of a text is its fault with more after it, in the order of the law
+-- the same, with the hypotheses in the order of the law
 pub settled_stays : (p : ℕ) (s more : List ℕ) (f : Fault) → IsUtf8 s → HasFault p s f
     → IsSettled (p + length s) f → HasFault p (s ++ more) f
 settled_stays p s more f is fault settled = fault_stays more fault is settled

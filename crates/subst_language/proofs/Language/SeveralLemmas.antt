@@ -1,5 +1,5 @@
--- Several sources, one after the other: their outputs, the first that is refused, and more sources around
--- them. There is one first refusal at most, and none where each source gives bytes.
+-- Several sources in order: their outputs, the first refusal, and more sources before or after them. At most
+-- one refusal is the first, and none if each source has an output.
 use Rattle.std.proofs.lemmas.Grind.{common_steps}
 use Rattle.std.proofs.Common.{◌≡◌, ◌⊎◌, ℕ, suc, ◌<◌, List, [], ◌∷◌, ◌++◌, take, get_or, length, inl, inr, refl, sym, ap, ◌∙◌, subst, append_assoc, arith}
 use Rattle.std.proofs.lemmas.List.{drop_more, length-take-le, take-append-drop}
@@ -36,12 +36,12 @@ length_each ask (x ∷ xs) (output ∷ outputs) h = ap suc (length_each ask xs o
 length_each ask [] (output ∷ outputs) h = absurd h
 length_each ask (x ∷ xs) [] h = absurd h
 
--- elements whose sources give bytes, and more of them
+-- elements that have outputs, and more of them
 pub given_append : {T : Type 0} (ask : T → Answer → Type 0) (xs more : List T) → AreGiven ask xs → AreGiven ask more
     → AreGiven ask (xs ++ more)
 given_append ask xs more h k = (h.0 ++ k.0, each_append ask xs more h.0 k.0 h.1 k.1)
 
--- the refusal of the element at an index, after elements whose sources give bytes
+-- the refusal of the element at an index, after elements that have outputs
 pub refused_at : {T : Type 0} (ask : T → Answer → Type 0) (xs : List T) (i : ℕ) (d : T) (f : Fault) → i < length xs
     → AreGiven ask (take i xs) → ask (get_or xs i d) (Refuses f) → RefusesAt ask xs i f
 refused_at ask xs i d f h given refused =
@@ -55,7 +55,7 @@ refusal_alone ask x f h = (
   record { before = []; here = x; after = []; cut = refl; index = refl; given = ([], tt); refused = h },
 )
 
--- the first refusal of some elements is that of these with any elements after them
+-- the first refusal of some elements stays the first if elements are appended
 pub refusal_before : {T : Type 0} (ask : T → Answer → Type 0) (xs more : List T) (f : Fault)
     → RefusesFirst ask xs f → RefusesFirst ask (xs ++ more) f
 refusal_before ask xs more f (i, h) = (
@@ -71,7 +71,7 @@ refusal_before ask xs more f (i, h) = (
   },
 )
 
--- the first refusal of some elements is that of these with elements before them that give bytes
+-- the first refusal of some elements stays the first after elements that have outputs
 pub refusal_after : {T : Type 0} (ask : T → Answer → Type 0) (xs more : List T) (f : Fault)
     → AreGiven ask xs → RefusesFirst ask more f → RefusesFirst ask (xs ++ more) f
 refusal_after ask xs more f given (i, h) = (
@@ -87,7 +87,7 @@ refusal_after ask xs more f given (i, h) = (
   },
 )
 
--- where each element gives bytes or is refused, they all give bytes, or one is refused first
+-- if each element has an output or is refused, all have outputs, or one is refused first
 pub given_or_refused : {T : Type 0} (ask : T → Answer → Type 0)
     → ((x : T) → ((y : List ℕ) × ask x (Gives y)) ⊎ ((f : Fault) × ask x (Refuses f))) → (xs : List T)
     → AreGiven ask xs ⊎ ((f : Fault) × RefusesFirst ask xs f)
@@ -102,7 +102,7 @@ given_or_refused {T} ask has (x ∷ xs) = elim (has x) [
     after_given here (inl given) = inl (given_append ask (x ∷ []) xs here given)
     after_given here (inr (f, h)) = inr (f, refusal_after ask (x ∷ []) xs f here h)
 
--- of elements that give bytes, each of two parts does
+-- if all elements have outputs, those of each of two parts do
 pub given_apart : {T : Type 0} (ask : T → Answer → Type 0) (xs more : List T) → AreGiven ask (xs ++ more)
     → AreGiven ask xs × AreGiven ask more
 given_apart ask [] more given = (([], tt), given)
@@ -111,7 +111,7 @@ given_apart ask (x ∷ xs) more (output ∷ outputs, h) =
     let (left, right) = given_apart ask xs more (outputs, h.1) in
     ((output ∷ left.0, (h.0, left.1)), right)
 
--- what is said by answers, is said by answers that follow from them
+-- outputs under one relation of answers are outputs under each that follows from it
 each_weaker : {T : Type 0} (ask other : T → Answer → Type 0)
     → ((x : T) (answer : Answer) → ask x answer → other x answer) → (xs : List T) (outputs : List (List ℕ))
     → EachGives ask xs outputs → EachGives other xs outputs
@@ -141,16 +141,16 @@ first_weaker ask other follows xs f (i, h) = (
 abbrev pub HasOneAnswer : {T : Type 0} → (T → Answer → Type 0) → Type 0
 HasOneAnswer {T} ask = (x : T) (a b : Answer) → ask x a → ask x b → a ≡ b
 
--- so has a source under a look-up
+-- a source has at most one answer under a look-up
 pub one_under : (look : LookUp) → HasOneAnswer (under look)
 one_under look s a b h k = answer_unique s look a b h k
 
--- an element that is refused gives no bytes
+-- a refused element has no output
 not_both : {T : Type 0} (ask : T → Answer → Type 0) → HasOneAnswer ask → (x : T) (y : List ℕ) (f : Fault)
     → ask x (Gives y) → ¬ (ask x (Refuses f))
 not_both ask one x y f h k = let same = one x (Gives y) (Refuses f) h k in absurd cc
 
--- where each element gives bytes none is refused
+-- if each element has an output, none is refused
 pub given_not_refused : {T : Type 0} (ask : T → Answer → Type 0) → HasOneAnswer ask → (xs : List T) (i : ℕ)
     (f : Fault) → AreGiven ask xs → ¬ (RefusesAt ask xs i f)
 given_not_refused {T} ask one xs i f (outputs, h) k =
@@ -162,7 +162,7 @@ given_not_refused {T} ask one xs i f (outputs, h) k =
     at (y ∷ before) [] h = h
     at (y ∷ before) (x ∷ outputs) h = at before outputs h.1
 
--- the first refusal in a list that begins in two ways with elements that give bytes is one
+-- two refusals of a list, each after elements that have outputs, are equal
 same_refusal : {T : Type 0} (ask : T → Answer → Type 0) → HasOneAnswer ask → (xs ys : List T) (s t : T)
     (more rest : List T) (outputs others : List (List ℕ)) (f g : Fault) → xs ++ s ∷ more ≡ ys ++ t ∷ rest
     → EachGives ask xs outputs → EachGives ask ys others → ask s (Refuses f) → ask t (Refuses g)
@@ -187,7 +187,7 @@ same_refusal ask one (x ∷ xs) (y ∷ ys) s t more rest (a ∷ outputs) (b ∷ 
 same_refusal ask one (x ∷ xs) (y ∷ ys) s t more rest [] others f g is h k refused also = absurd h
 same_refusal ask one (x ∷ xs) (y ∷ ys) s t more rest (a ∷ outputs) [] f g is h k refused also = absurd k
 
--- there is one first refusal at most, and at one index
+-- at most one refusal is the first, and at one index
 pub refusal_unique : {T : Type 0} (ask : T → Answer → Type 0) → HasOneAnswer ask → (xs : List T) (i j : ℕ)
     (f g : Fault) → RefusesAt ask xs i f → RefusesAt ask xs j g → (i ≡ j) × (f ≡ g)
 refusal_unique ask one xs i j f g h k =
@@ -196,7 +196,7 @@ refusal_unique ask one xs i j f g h k =
     (sym h.cut ∙ k.cut) h.given.1 k.given.1 h.refused k.refused in
     (h.index ∙ lengths ∙ sym k.index, faults)
 
--- each source gives bytes or is refused
+-- each source has an output or is refused
 pub answered : (look : LookUp) (s : List ℕ)
     → ((x : List ℕ) × Answers s look (Gives x)) ⊎ ((f : Fault) × Answers s look (Refuses f))
 answered look s = elim ((one_reading s).either) [

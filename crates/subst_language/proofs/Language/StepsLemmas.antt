@@ -1,4 +1,4 @@
--- The steps of trees, and what they say of the trees' values.
+-- The steps of trees, and the trees' values by them.
 use Rattle.std.proofs.lemmas.Grind.{common_steps}
 use Rattle.std.proofs.Common.{rules, ◌≡◌, ℕ, ◌+◌, ◌≤◌, List, [], ◌∷◌, ◌++◌, length, map, sum_by, Option, Some, None, refl, sym, ap, ◌∙◌, subst, append_assoc, length-append, add_assoc, add-zero, arith}
 use Rattle.std.proofs.lemmas.List.Sums.{sum_by-cons}
@@ -37,7 +37,7 @@ steps_value-append (Given x ∷ xs) ys =
     rw (steps_value-append xs ys) (sym (joined_assoc (Bytes x) (steps_value xs) (steps_value ys)))
 steps_value-append (Lacks position name ∷ xs) ys = refl
 
--- the value of what was found, or else of steps
+-- the value of a found value, or else of steps
 pub given_value : (found : Option (List ℕ)) (steps : List Step)
     → found_or found (steps_value steps) ≡ steps_value (given_or found steps)
 given_value (Some x) steps = sym (joined-right (Bytes x))
@@ -55,28 +55,28 @@ module _ (look : LookUp) where
     item_value-steps (Default n t) p =
         ap (found_or (look n)) (value-steps t (p + 3 + length n)) ∙ given_value (look n) _
 
-    -- so is that of a tree
+    -- the value of a tree is that of its steps
     pub value-steps : (t : Tree) (p : ℕ) → value p t look ≡ steps_value (steps_of p t look)
     value-steps Empty p = refl
     value-steps (Then item rest) p =
         rw (item_value-steps item p, value-steps rest (p + length (item_text item)))
         (sym (steps_value-append (item_steps p item look) _))
 
--- what is after bytes is bytes, where both are
+-- if a value joined after bytes is bytes, the value is bytes
 bytes_after : (x : List ℕ) (v : Value) (z : List ℕ) → joined (Bytes x) v ≡ Bytes z
     → (y : List ℕ) × (v ≡ Bytes y)
 bytes_after x (Bytes y) z is = (y, refl)
 bytes_after x (Missing position name) z is = absurd cc
 
--- A value that is bytes: these are written, and counted, and nothing is missing. Of any other value, the
--- variable that it is missing is the first of those that are.
+-- If the value is bytes, these are written and counted, and nothing is missing. Otherwise its missing
+-- variable is the first of all that are missing.
 abbrev pub Tells : List Step → Value → Type 0
 Tells steps (Bytes x) =
     (steps_written steps ≡ x) × (sum_by step_length steps ≡ length x) × (filter_map lacked steps ≡ [])
 Tells steps (Missing position name) =
     (more : List Variable) × (filter_map lacked steps ≡ required position name ∷ more)
 
--- a step that gives bytes, before others
+-- a step with bytes, before others
 tells_more : (x : List ℕ) (step : Step) (rest : List Step) (v : Value)
     → steps_written (step ∷ rest) ≡ x ++ steps_written rest → step_length step ≡ length x
     → lacked step ≡ None → Tells rest v → Tells (step ∷ rest) (joined (Bytes x) v)
@@ -92,16 +92,16 @@ steps_tell (Own b ∷ rest) =
 steps_tell (Given x ∷ rest) = tells_more x (Given x) rest (steps_value rest) refl refl refl (steps_tell rest)
 steps_tell (Lacks position name ∷ rest) = (filter_map lacked rest, refl)
 
--- and so that of a tree
+-- the value of a tree
 pub value_tells : (p : ℕ) (t : Tree) (look : LookUp) → Tells (steps_of p t look) (value p t look)
 value_tells p t look =
     let steps = steps_of p t look in subst (Tells steps) (sym (value-steps look t p)) (steps_tell steps)
 
--- where the value of steps is bytes, these are what is written
+-- if the value of steps is bytes, these are written
 pub written_whole : (steps : List Step) (x : List ℕ) → steps_value steps ≡ Bytes x → steps_written steps ≡ x
 written_whole steps x gives = (subst (Tells steps) gives (steps_tell steps)).0
 
--- and then more is written after it
+-- and then more is written after them
 pub steps_written-append : (xs ys : List Step) (x : List ℕ) → steps_value xs ≡ Bytes x
     → steps_written (xs ++ ys) ≡ steps_written xs ++ steps_written ys
 steps_written-append [] ys x gives = refl
@@ -114,7 +114,7 @@ steps_written-append (Given z ∷ xs) ys x gives =
     ∙ sym (append_assoc z (steps_written xs) (steps_written ys))
 steps_written-append (Lacks position name ∷ xs) ys x gives = absurd cc
 
--- in any case no less is written
+-- with more steps, no less is written
 pub written_front : (xs ys : List Step) → length (steps_written xs) ≤ length (steps_written (xs ++ ys))
 written_front [] ys = omega arith
 written_front (Own b ∷ xs) ys = omega (arith, written_front xs ys)

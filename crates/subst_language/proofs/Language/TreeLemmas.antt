@@ -11,7 +11,7 @@ use Rattle.subst_language.specs.Language.LookUp.{LookUp}
 use Rattle.subst_language.specs.Language.Value.{joined, value}
 use Rattle.subst_language.proofs.Language.ValueLemmas.{joined_assoc, joined-left}
 
--- nothing after a tree changes nothing
+-- joining the empty tree changes nothing
 pub join_empty : (t : Tree) → join t Empty ≡ t
 join_empty Empty = refl
 join_empty (Then item rest) = ap (Then item) (join_empty rest)
@@ -34,7 +34,7 @@ ends_name Empty b = tt
 ends_name (Then (Plain c) rest) b = b
 ends_name (Then item rest) b = tt
 
--- where a text may follow a tree, so may its prefix
+-- if a text may follow a tree, so may its prefix
 pub followed_front : (t : Tree) (x y : List ℕ) → IsFollowed t (x ++ y) → IsFollowed t x
 followed_front Empty x y f = tt
 followed_front (Then (Short n) Empty) [] y f = tt
@@ -42,7 +42,7 @@ followed_front (Then (Short n) Empty) (b ∷ x) y f = f
 followed_front (Then (Short n) (Then item rest)) x y f = followed_front (Then item rest) x y f
 followed_front (Then item rest) x y f = followed_front rest x y f
 
--- what may follow a tree may follow the items after its first
+-- a text that may follow a tree may follow the items after its first
 pub followed_tail : (item : Item) (rest : Tree) (x : List ℕ) → IsFollowed (Then item rest) x
     → IsFollowed rest x
 followed_tail (Short n) Empty x f = tt
@@ -56,11 +56,11 @@ followed_by_no_name (Then (Short n) Empty) x b = b
 followed_by_no_name (Then (Short n) (Then item rest)) x b = followed_by_no_name (Then item rest) x b
 followed_by_no_name (Then item rest) x b = followed_by_no_name rest x b
 
--- nothing may follow each tree
+-- the empty text may follow each tree
 pub followed_by_nothing : (t : Tree) → IsFollowed t []
 followed_by_nothing t = followed_by_no_name t [] tt
 
--- an item may be before the items that follow it, and before a tree after those
+-- an item may precede the items that follow it, and a tree after those
 pub item_join : (item : Item) (rest u : Tree) → IsItem item rest → IsFollowed (Then item rest) (text u)
     → IsItem item (join rest u)
 item_join (Short n) Empty u i f = (i.0, ends_name u f)
@@ -68,14 +68,14 @@ item_join (Short n) (Then (Plain b) rest) u i f = i
 item_join (Short n) (Then item rest) u i f = i
 item_join item rest u i f = i
 
--- two well-formed trees concatenated are well-formed, where the second may follow the first
+-- two well-formed trees concatenated are well-formed, if the second may follow the first
 pub well_formed_join : (t u : Tree) → IsWellFormed t → IsWellFormed u → IsFollowed t (text u)
     → IsWellFormed (join t u)
 well_formed_join Empty u wt wu f = wu
 well_formed_join (Then item rest) u wt wu f =
     (item_join item rest u wt.0 f, well_formed_join rest u wt.1 wu (followed_tail item rest (text u) f))
 
--- what may follow two trees concatenated
+-- the texts that may follow two trees concatenated
 pub followed_join : (t u : Tree) (x : List ℕ) → IsFollowed t (text u ++ x) → IsFollowed u x
     → IsFollowed (join t u) x
 followed_join Empty u x f g = g
@@ -84,7 +84,7 @@ followed_join (Then (Short n) Empty) (Then item rest) x f g = g
 followed_join (Then (Short n) (Then item rest)) u x f g = followed_join (Then item rest) u x f g
 followed_join (Then item rest) u x f g = followed_join rest u x f g
 
--- two sentences concatenated are a sentence, where the second may follow the tree of the first
+-- two sentences concatenated are a sentence, if the second may follow the tree of the first
 pub spells_join : (t u : Tree) (x y : List ℕ) → Spells t x → Spells u y → IsFollowed t y
     → Spells (join t u) (x ++ y)
 spells_join t u x y a b f = search (rules, well_formed_join, text-join)

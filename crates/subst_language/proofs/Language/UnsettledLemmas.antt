@@ -1,4 +1,4 @@
--- Faults that aren't settled: for each there is a text after which the source has another fault, or none.
+-- Faults that aren't settled: each changes or goes away if some text is appended.
 use Rattle.std.proofs.Common.{◌≡◌, ℕ, zero, suc, ◌+◌, ◌<◌, Some, None, List, [], ◌∷◌, ◌++◌, length, drop, refl, sym, ap, ◌∙◌, subst, append_assoc, append-nil, length-append, arith}
 use Rattle.std.proofs.Math.Seq.{drop-append_seam}
 use Rattle.std.proofs.lemmas.Str.{IsUtf8-append, IsUtf8-nil}
@@ -38,7 +38,7 @@ mutual
       → ¬ (f ≡ NoSuchVariable position name)
   fault_is_known position name (fault_after t formed bad) e = bad_is_known position name bad e
 
--- some text after w closes this many open braces
+-- if some text is appended, w closes this many open braces
 abbrev IsClosable : ℕ → List ℕ → Type 0
 IsClosable d w = (more : List ℕ) × IsUtf8 more × ClosesAll d (w ++ more)
 
@@ -74,7 +74,7 @@ closable_step (counts_not {b = b} n o c) d y shorter =
     let (more, is, closed) = shorter y (omega arith) (suc d) in
     (more, is, (closes_byte d (y ++ more) b n o c).1 closed)
 
--- after each text some text closes the open braces
+-- each text closes the open braces if some text is appended
 closable : (w : List ℕ) (d : ℕ) → IsClosable d w
 closable = by_length (λ w. (d : ℕ) → IsClosable d w) step
   where
@@ -84,11 +84,11 @@ closable = by_length (λ w. (d : ℕ) → IsClosable d w) step
     step (b ∷ y) shorter zero = ([], IsUtf8-nil, tt)
     step (b ∷ y) shorter (suc d) = closable_step (brace_kind b) d y shorter
 
--- a text after which the source s doesn't have the fault f at position p
+-- some text, appended to s, removes the fault f at position p
 abbrev IsMended : ℕ → List ℕ → Fault → Type 0
 IsMended p s f = (more : List ℕ) × IsUtf8 more × (¬ (HasFault p (s ++ more) f))
 
--- a text that makes an item of what begins after a sentence mends each fault
+-- a text that completes an item after a sentence removes each fault
 by_item : {p : ℕ} {f : Fault} (t : Tree) (item : Item) (r more : List ℕ) → IsWellFormed t
     → IsItem item Empty → BeginsWithNo IsNameByte (item_text item)
     → r ++ more ≡ item_text item → IsUtf8 more → IsMended p (text t ++ r) f
@@ -103,7 +103,7 @@ by_item {p = p} {f = f} t item r more formed fits no_name e is =
       no_tree_with_fault _ (join t u) p f (well_formed_join t u formed (fits, tt) follows) whole,
     )
 
--- a closed default isn't one that lacks its brace
+-- a closed default has no late fault
 closed_not_bad : {p : ℕ} {r : List ℕ} {f : Fault} (n x y : List ℕ) → IsName n → IsBalanced x
     → r ≡ dollar ∷ opening_brace ∷ n ++ (colon ∷ x ++ closing_brace ∷ y) → IsLate f → ¬ (IsBad p r f)
 closed_not_bad {p = p} {r = r} {f = f} n x y named balanced e late bad =
@@ -111,7 +111,7 @@ closed_not_bad {p = p} {r = r} {f = f} n x y named balanced e late bad =
     let inner = subst (λ k. BeginningHasFault p (length r) k f) is (beginning-bad bad) in
     late_not_balanced inner.1 late 0 balanced
 
--- a text that closes the default that was open after a sentence mends the brace that it lacked
+-- a text that closes the open default after a sentence removes its missing brace
 by_closing : (p : ℕ) (t : Tree) (n w : List ℕ) → IsName n
     → IsMended p (text t ++ (dollar ∷ opening_brace ∷ n ++ colon ∷ w))
     (MissingClosingBrace (p + length (text t) + 1))
@@ -137,7 +137,7 @@ by_closing p t n w named =
         ∙ ap (λ z. dollar ∷ opening_brace ∷ n ++ colon ∷ z) e in
         closed_not_bad n x y named balanced (sym same ∙ closed) tt q.bad
 
--- a fault before the end of a text is settled, unless it is one that only the end shows
+-- a fault before the end of a text is settled, unless only the end reveals it
 settled_before : (end : ℕ) (f : Fault) → (range_of (Some f)).end < end → ¬ (IsLate f)
     → ((position : ℕ) (name : List ℕ) → ¬ (f ≡ NoSuchVariable position name)) → IsSettled end f
 settled_before end (InvalidEscapeSequence position (Some c)) before early known = tt
@@ -185,7 +185,7 @@ bad_mended {p = p} {r = r} {f = f} q t formed at (inside n w v named balanced fa
     absurd (unsettled (settled_before _ f before (λ late. late_not_balanced fault late 0 balanced)
     (λ position name. fault_is_known position name fault)))
 
--- for each fault that isn't settled there is a text after which the source has another fault, or none
+-- each fault that isn't settled changes or goes away if some text is appended
 pub unsettled_mended : (p : ℕ) (s : List ℕ) (f : Fault) → HasFault p s f → ¬ (IsSettled (p + length s) f)
     → (more : List ℕ) × IsUtf8 more × (¬ (HasFault p (s ++ more) f))
 unsettled_mended p s f (fault_after {r = r} t formed bad) unsettled =

@@ -1,4 +1,4 @@
--- Sources that are UTF-8: where one may be cut, and that one filled in with values that are UTF-8 is UTF-8.
+-- Sources in UTF-8: they may be cut at ASCII bytes, and filled in with values in UTF-8 they are UTF-8.
 use Rattle.std.proofs.Common.{◌≡◌, ℕ, ◌+◌, ◌<◌, Option, Some, None, List, [], ◌∷◌, ◌++◌, length, get_or, refl, sym, subst, append_assoc, length-append, arith}
 use Rattle.std.proofs.Math.Seq.{take-append_seam, drop-append-add, get_or-append_seam}
 use Rattle.std.proofs.lemmas.Bool.Decides.{nat_tests}
@@ -14,7 +14,7 @@ use Rattle.subst_language.specs.Language.LookUp.{LookUp, GivesTexts}
 use Rattle.subst_language.specs.Language.Value.{Value, Bytes, Missing, joined, found_or, item_value, value}
 use Rattle.subst_language.proofs.Language.NameLemmas.{name_byte_ascii, name_bytes}
 
--- where an ASCII byte is in UTF-8, what is before it and what is after it are UTF-8
+-- the texts before and after an ASCII byte in UTF-8 are UTF-8
 pub cut_at : (x y : List ℕ) (b : ℕ) → b < 128 → IsUtf8 (x ++ b ∷ y) → IsUtf8 x × IsUtf8 y
 cut_at x y b ascii is =
     let s = x ++ b ∷ y in
@@ -26,21 +26,21 @@ cut_at x y b ascii is =
     let after = IsUtf8-drop s (n + 1) is (IsCharBoundary-after_ascii s n is inside below) in
     (subst IsUtf8 (take-append_seam x (b ∷ y)) before, subst IsUtf8 (drop-append-add x (b ∷ y) 1) after)
 
--- what is after an ASCII byte is UTF-8
+-- the rest after an ASCII byte is UTF-8
 pub after_ascii : (x : List ℕ) (b : ℕ) → b < 128 → IsUtf8 (b ∷ x) → IsUtf8 x
 after_ascii x b ascii is = (cut_at [] x b ascii is).1
 
--- what is after name bytes is UTF-8
+-- the rest after name bytes is UTF-8
 after_name_bytes : (n x : List ℕ) → AllByRecursion IsNameByte n → IsUtf8 (n ++ x) → IsUtf8 x
 after_name_bytes [] x each is = is
 after_name_bytes (b ∷ n) x each is =
     after_name_bytes n x each.1 (after_ascii (n ++ x) b (name_byte_ascii b each.0) is)
 
--- what is after a name is UTF-8
+-- the rest after a name is UTF-8
 pub after_name : (n x : List ℕ) → IsName n → IsUtf8 (n ++ x) → IsUtf8 x
 after_name n x named is = after_name_bytes n x (name_bytes n named) is
 
--- what is before a placeholder in braces, and what is after its name
+-- the texts before a placeholder in braces and after its name are UTF-8
 pub in_braces : (u n x w : List ℕ) → IsName n → IsUtf8 (u ++ (dollar ∷ opening_brace ∷ ((n ++ x) ++ w)))
     → IsUtf8 u × IsUtf8 (x ++ w)
 in_braces u n x w named is =
@@ -56,14 +56,14 @@ escapable_ascii b is = grind (arith, nat_tests)
 pub ascii_alone : (b : ℕ) → b < 128 → IsUtf8 (b ∷ [])
 ascii_alone b ascii = IsUtf8-from_ascii (b ∷ []) (IsAscii-cons b [] ascii IsAscii-nil)
 
--- where two values joined are bytes, both are bytes
+-- if two values joined are bytes, both are bytes
 joined_bytes : (v w : Value) (x : List ℕ) → joined v w ≡ Bytes x
     → (y z : List ℕ) × (v ≡ Bytes y) × (w ≡ Bytes z) × (y ++ z ≡ x)
 joined_bytes (Bytes y) (Bytes z) x e = (y, z, refl, refl, cc)
 joined_bytes (Bytes y) (Missing position name) x e = absurd cc
 joined_bytes (Missing position name) w x e = absurd cc
 
--- what was found under a look-up of texts is UTF-8, if what is there instead is
+-- a value found under a look-up of texts is UTF-8, if its replacement is
 found_text : (found : Option (List ℕ)) (v : Value) (x : List ℕ) → ((y : List ℕ) → found ≡ Some y → IsUtf8 y)
     → (v ≡ Bytes x → IsUtf8 x) → found_or found v ≡ Bytes x → IsUtf8 x
 found_text (Some y) v x texts other e = let same : y ≡ x = cc in subst IsUtf8 same (texts y refl)
@@ -74,8 +74,8 @@ pub between : (u x y : List ℕ) → IsUtf8 u → IsUtf8 x → IsUtf8 y → IsUt
 between u x y before inside after = IsUtf8-append u (x ++ y) before (IsUtf8-append x y inside after)
 
 mutual
-  -- An item after the bytes u and before the bytes w, in UTF-8: with the item's value in its place, and with
-  -- z in the place of w, it is UTF-8, if z may be in the place of w wherever that ends UTF-8.
+  -- An item between the bytes u and w, in UTF-8: with its value instead of it, and z instead of w, it is
+  -- UTF-8, if z may replace w at the end of any UTF-8.
   item_filled : (item : Item) (next : Tree) (p : ℕ) (look : LookUp) (u w y z : List ℕ) → IsItem item next
       → GivesTexts look → IsUtf8 (u ++ (item_text item ++ w)) → item_value p item look ≡ Bytes y
       → ((v : List ℕ) → IsUtf8 (v ++ w) → IsUtf8 (v ++ z)) → IsUtf8 (u ++ (y ++ z))
@@ -112,7 +112,7 @@ mutual
       let of_default = tree_filled t (p + 3 + length n) look [] y fits.1 texts inside in
       between u y z before (found_text (look n) _ y (texts n) of_default gives) (goes_on [] after)
 
-  -- a tree's text after the bytes u, in UTF-8: with the tree's value in its place it is UTF-8
+  -- a tree's text after the bytes u, in UTF-8, is UTF-8 with the tree's value instead of it
   pub tree_filled : (t : Tree) (p : ℕ) (look : LookUp) (u x : List ℕ) → IsWellFormed t → GivesTexts look
       → IsUtf8 (u ++ text t) → value p t look ≡ Bytes x → IsUtf8 (u ++ x)
   tree_filled Empty p look u x fits texts is gives =

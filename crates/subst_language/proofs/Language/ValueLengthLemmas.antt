@@ -1,4 +1,4 @@
--- How long values are: exactly, and at most.
+-- The length of values, and its limits.
 use Rattle.std.proofs.Common.{rules, ◌≡◌, ℕ, ◌+◌, ◌*◌, ◌≤◌, ◌==◌, List, [], ◌∷◌, ◌++◌, length, Option, Some, None, unwrap_or, refl, ◌∙◌, subst, count_by, sum_by, length-append, arith}
 use Rattle.std.proofs.lemmas.List.Sums.{sum_by-append, sum_by-cons, sum_by-le}
 use Rattle.std.proofs.Math.Nat.{mul-le-mul_right}
@@ -14,7 +14,7 @@ use Rattle.subst_language.specs.Language.Answer.{Answers, Gives}
 use Rattle.subst_language.specs.Language.Sentence.{Spells}
 use Rattle.subst_language.proofs.Language.StepsLemmas.{Tells, value_tells, written_at_most}
 
--- steps that give as many bytes, where nothing was found, do so in any case
+-- steps with as many bytes have as many if a value is found instead
 given_long : (o : Option (List ℕ)) (xs ys : List Step) → sum_by step_length xs ≡ sum_by step_length ys
     → sum_by step_length (given_or o xs) ≡ sum_by step_length (given_or o ys)
 given_long (Some x) xs ys same = refl
@@ -22,7 +22,7 @@ given_long None xs ys same = same
 
 module _ (look : LookUp) where
   mutual
-    -- an item gives as many bytes wherever it is
+    -- an item's steps have as many bytes at each position
     item_steps_long : (item : Item) (p q : ℕ)
         → sum_by step_length (item_steps p item look) ≡ sum_by step_length (item_steps q item look)
     item_steps_long (Plain b) p q = refl
@@ -33,7 +33,7 @@ module _ (look : LookUp) where
     item_steps_long (Default n t) p q =
         given_long (look n) _ _ (steps_long t (p + 3 + length n) (q + 3 + length n))
 
-    -- so does a tree
+    -- a tree's steps have as many bytes at each position
     steps_long : (t : Tree) (p q : ℕ)
         → sum_by step_length (steps_of p t look) ≡ sum_by step_length (steps_of q t look)
     steps_long Empty p q = refl
@@ -48,22 +48,22 @@ pub value_length_exact : (p : ℕ) (t : Tree) (look : LookUp) (x : List ℕ) →
 value_length_exact p t look x gives =
     steps_long look t 0 p ∙ (subst (Tells (steps_of p t look)) gives (value_tells p t look)).1
 
--- what is written is at most as long as all that is counted
+-- no more is written than is counted
 pub written_length_at_most : (p : ℕ) (t : Tree) (look : LookUp)
     → length (written p t look) ≤ value_length t look
 written_length_at_most p t look = omega (arith, written_at_most (steps_of p t look), steps_long look t p 0)
 
--- where the value is bytes, these are what is written
+-- if the value is bytes, these are written
 pub written_exact : (p : ℕ) (t : Tree) (look : LookUp) (x : List ℕ) → value p t look ≡ Bytes x
     → written p t look ≡ x
 written_exact p t look x gives = (subst (Tells (steps_of p t look)) gives (value_tells p t look)).0
 
--- Steps give at most as many bytes as these of their own and what was found, and found at most is this.
+-- The steps have at most `own` bytes of their own, and at most `found` bytes of values.
 record IsBounded (own found : ℕ) (steps : List Step) : Type 0 where
   all : sum_by step_length steps ≤ own + sum_by given_length steps
   given : sum_by given_length steps ≤ found
 
--- of what was found, or else of steps
+-- of a found value, or else of steps
 found_bounded : (o : Option (List ℕ)) (own found : ℕ) (steps : List Step) → IsBounded own found steps
     → IsBounded own (length (unwrap_or o []) + found) (given_or o steps)
 found_bounded (Some x) own found steps bounded = record { all = omega arith; given = omega arith }
@@ -84,8 +84,7 @@ lacks_bounded q n = record { all = omega arith; given = omega arith }
 
 module _ (look : LookUp) where
   mutual
-    -- an item gives at most the bytes of its text and what was found, and for each of its names at most what
-    -- there is
+    -- an item has at most the bytes of its text as its own, and at most a value for each of its names
     item_bounded : (item : Item) (p : ℕ) → IsBounded (length (item_text item))
         (sum_by (length_of look) (names_in_item item)) (item_steps p item look)
     item_bounded (Plain b) p = record { all = omega arith; given = omega arith }
@@ -106,7 +105,7 @@ module _ (look : LookUp) where
         ))
         (omega (arith, sum_by-cons (length_of look) n (names_in t)))
 
-    -- so does a tree
+    -- so has a tree
     tree_bounded : (t : Tree) (p : ℕ)
         → IsBounded (length (text t)) (sum_by (length_of look) (names_in t)) (steps_of p t look)
     tree_bounded Empty p = record { all = omega arith; given = omega arith }
@@ -117,17 +116,17 @@ module _ (look : LookUp) where
         ) (append_bounded _ _ _ _ _ _ (item_bounded item p)
         (tree_bounded rest (p + length (item_text item))))
 
--- a value is at most as long as the text and what was found for the variables that are visited
+-- a value is at most as long as the text and the values of the visited variables
 pub value_length_at_most : (t : Tree) (look : LookUp)
     → value_length t look ≤ length (text t) + visited_length t look
 value_length_at_most t look = (tree_bounded look t 0).all
 
--- of which there is at most one for each name
+-- at most one variable is visited for each name
 pub visited_length_at_most : (t : Tree) (look : LookUp)
     → visited_length t look ≤ sum_by (length_of look) (names_in t)
 visited_length_at_most t look = (tree_bounded look t 0).given
 
--- how many dollars a text has
+-- the number of dollars in a text
 abbrev dollars : List ℕ → ℕ
 dollars = count_by (λ b. b == dollar)
 
@@ -167,14 +166,14 @@ mutual
         dollars-append (item_text item) (text rest),
       )
 
--- where no value is longer than `longest`, that is so of what the look-up has for each name
+-- if no value is longer than `longest`, the length of each name's value is at most `longest`
 lengths_at_most : (look : LookUp) (longest : ℕ)
     → ((name y : List ℕ) → look name ≡ Some y → length y ≤ longest) → (name : List ℕ)
     → length_of look name ≤ longest
 lengths_at_most look longest short name = search (rules, unwrap_or)
 
--- Where no value is longer than `longest`, a value is at most as long as the text of its tree and `longest`
--- for each dollar of the text.
+-- If no value is longer than `longest`, a value is at most as long as its tree's text and `longest` for each
+-- dollar in it.
 pub value_length_within : (s : List ℕ) (t : Tree) (look : LookUp) (longest : ℕ) → Spells t s
     → ((name y : List ℕ) → look name ≡ Some y → length y ≤ longest)
     → value_length t look ≤ length s + count_by (λ b. b == dollar) s * longest
@@ -187,7 +186,8 @@ value_length_within s t look longest spells short =
     mul-le-mul_right longest (names_at_most t) in
     rw spells.spelled (omega (arith, bound, values, each, names))
 
--- an output is at most as long as its source and `longest` for each dollar, where no value is longer
+-- if no value is longer than `longest`, an output is at most as long as its source and `longest` for each
+-- dollar
 pub output_at_most : (s x : List ℕ) (look : LookUp) (longest : ℕ)
     → ((name y : List ℕ) → look name ≡ Some y → length y ≤ longest) → Answers s look (Gives x)
     → length x ≤ length s + count_by (λ b. b == dollar) s * longest

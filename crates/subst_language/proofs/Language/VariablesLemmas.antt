@@ -1,4 +1,4 @@
--- The variables of trees, and what is missing of them.
+-- The variables of trees, and the missing ones.
 use Rattle.std.proofs.lemmas.Grind.{common_steps}
 use Rattle.std.proofs.Common.{arith, ◌≡◌, ◌↔◌, ℕ, ◌+◌, List, [], ◌∷◌, ◌++◌, length, map, refl, ap, subst, append_assoc, length-append, add_assoc, add-zero}
 use Rattle.std.proofs.lemmas.List.{map-append}
@@ -40,13 +40,13 @@ pub variables_of-plains : (p : ℕ) (x : List ℕ) → variables_of p (plains x)
 variables_of-plains p [] = refl
 variables_of-plains p (b ∷ x) = variables_of-plains (p + 1) x
 
--- nothing is missing exactly where the value is bytes
+-- nothing is missing if and only if the value is bytes
 pub none_missing : (p : ℕ) (t : Tree) (look : LookUp)
     → (all_missing p t look ≡ [] ↔ ((x : List ℕ) × (value p t look ≡ Bytes x)))
 none_missing p t look =
     grind (arith, common_steps, value p t look, value_tells p t look, steps_of p t look, all_missing p t look)
 
--- where the value is missing a variable, what is missing begins with that
+-- if the value misses a variable, that is the first of all missing ones
 pub missing_first : (p position : ℕ) (t : Tree) (look : LookUp) (name : List ℕ)
     → value p t look ≡ Missing position name
     → (more : List Variable) × (all_missing p t look ≡ required position name ∷ more)

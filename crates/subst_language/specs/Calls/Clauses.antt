@@ -1,6 +1,6 @@
--- Clauses of many calls: what holds of the value of a source's tree, what an error states, what a list has.
--- `items`, `see` and `look_up` tell a map's look-up, as those of `ByLookUp`; `fault_of` tells the fault of an
--- error.
+-- Clauses that many calls share, about a source's value, an error's fault, or a list. Three functions
+-- describe a map: `items v` is the bytes of a value v; `see v` is what v is identified with; `look_up name`
+-- is `see` of the value under a name, or `None`. `fault_of e` is the fault that an error e states.
 use Rattle.std.specs.Prelude.{◌≡◌, ◌≤◌, ◌<◌, ◌+◌, ℕ, List, length, map, Option, Some, Result, Vec, IfErr, IfNone, IfOk, IfSome}
 use Rattle.std.specs.List.{All, Contains}
 use Rattle.std.specs.declared.ops.Range.{Range}
@@ -22,45 +22,49 @@ use Rattle.subst_language.specs.Calls.VariableMap.{ByLookUp, ByNames}
 use Rattle.subst_language.specs.Calls.Variables.{missing_variable, variable_of}
 use Rattle.subst_language.specs.declared.variable.Variable.{Variable}
 
--- P holds of the value that the tree of the source s has under the map's look-up
+-- P holds of the value of the tree of the source s under the map's look-up
 abbrev pub ByValue : {Value Seen : Type 0} → (Value → List ℕ) → (Value → Seen) → (List ℕ → Option Seen)
     → List ℕ → (tree.Value → Type 0) → Type 0
 ByValue items see look_up s P =
     ByLookUp items see look_up (λ look. ByTree s (λ t. P (tree.value 0 t look)))
 
--- P holds of what an expansion of the source s writes: all bytes, or those before the missing variable
+-- P holds of the bytes that an expansion of the source s writes: all, or those before the missing variable
 abbrev pub ByWritten : {Value Seen : Type 0} → (Value → List ℕ) → (Value → Seen) → (List ℕ → Option Seen)
     → List ℕ → (List ℕ → Type 0) → Type 0
 ByWritten items see look_up s P =
     ByLookUp items see look_up (λ look. ByTree s (λ t. P (written 0 t look)))
 
--- where memory runs out, x doesn't fit after so many bytes into this capacity
+-- if memory runs out, a buffer of this capacity is too small for the `len` bytes in it and the bytes x
 abbrev pub Overflows : {T : Type 0} → (capacity len : ℕ) → Result T ExpandIntoError → List ℕ → Type 0
 Overflows capacity len result x = OnOutOfMemory expand_into_fault result (capacity < len + length x)
 
--- so after the parse
+-- If memory runs out after the parse, a buffer of this capacity is too small for the `len` bytes in it and
+-- the bytes x.
 abbrev pub OverflowsParsed : {T : Type 0} → (capacity len : ℕ) → Result T SubstituteIntoError → List ℕ
     → Type 0
 OverflowsParsed capacity len result x =
     IfRefused result (λ e. Unit {0}) (λ e. IfNone (expand_into_fault e) (capacity < len + length x))
 
--- where the parse runs out of memory, the source s has a colon, as each default has
+-- if the parse runs out of memory, the source s has a colon, as each default does
 abbrev pub NeedsMemory : {T : Type 0} → List ℕ → Result T SubstituteIntoError → Type 0
 NeedsMemory s result = IfRefused result (λ e. IfNone (parse_fault e) (Contains s colon)) (λ e. Unit {0})
 
--- whatever the values of the map, an error states the variable that the source s is missing
+-- If the result is an error that states a fault, that fault is the first missing variable of the source s.
+-- This depends on which names the map has a value for, and not on the values.
 abbrev pub Misses : {Seen T E : Type 0} → (List ℕ → Option Seen) → List ℕ → (E → Option Fault)
     → Result T E → Type 0
 Misses look_up s fault_of result =
     ByNames look_up (λ look. ByTree s (λ t. OnFault fault_of result (IsMissing (tree.value 0 t look))))
 
--- whatever the values of the map, an error states what the source s is refused for
+-- If the result is an error that states a fault, the source s is refused for that fault. This depends on
+-- which names the map has a value for, and not on the values.
 abbrev pub StatesRefusal : {Seen T E : Type 0} → (List ℕ → Option Seen) → List ℕ → (E → Option Fault)
     → Result T E → Type 0
 StatesRefusal look_up s fault_of result =
     ByNames look_up (λ look. OnFault fault_of result (λ f. Answers s look (Refuses f)))
 
--- where the parse is refused, the source s has the fault; an expansion is refused of a sentence alone
+-- An error of the parse states the fault of the source s, unless memory ran out. If the result is an error of
+-- the expansion, s is a sentence.
 abbrev pub StatesKind : {T : Type 0} → List ℕ → Result T SubstituteIntoError → Type 0
 StatesKind s result = IfRefused result (λ e. IfSome (parse_fault e) (HasFault 0 s)) (λ e. IsSentence s)
 
@@ -68,31 +72,33 @@ StatesKind s result = IfRefused result (λ e. IfSome (parse_fault e) (HasFault 0
 abbrev pub EndsWithin : {T E : Type 0} → List ℕ → (E → Option Fault) → Result T E → Type 0
 EndsWithin s fault_of result = IfErr result (λ e. (range_of (fault_of e)).end ≤ length s)
 
--- the range of an error is in the text s, between two of its characters
+-- the range of an error begins and ends at character boundaries of the text s
 abbrev pub IsRangedIn : {T E : Type 0} → List ℕ → (E → Option Fault) → Result T E → Type 0
 IsRangedIn s fault_of result = IfErr result (λ e. IsRangeIn s (range_of (fault_of e)))
 
--- these are the variables of the tree of the source s
+-- `list` has exactly the variables of the tree of the source s, in order
 abbrev pub AreVariables : List ℕ → List Variable → Type 0
 AreVariables s list = ByTree s (λ t. map variable_of list ≡ variables_of 0 t)
 
--- whatever the values of the map, the result lists all that the source s is missing
+-- An `Ok` result lists all missing variables of the source s. This depends on which names the map has a value
+-- for, and not on the values.
 abbrev pub ListsMissing : {Seen A E : Type 0} → (List ℕ → Option Seen) → List ℕ
     → Result (Vec NoSuchVariable A) E → Type 0
 ListsMissing look_up s result =
     ByNames look_up (λ look. ByTree s
     (λ t. IfOk result (λ list. map missing_variable list.items ≡ all_missing 0 t look)))
 
--- the range of each ends within the source s
+-- the range of each element ends within the source
 abbrev pub EachEndsWithin : {A : Type 0} → List ℕ → (A → Range ℕ) → List A → Type 0
 EachEndsWithin s range list = All (λ it. (range it).end ≤ length s) list
 
--- the range of each is in the text s, between two of its characters
+-- the range of each element begins and ends at character boundaries of the text
 abbrev pub EachIsRangedIn : {A : Type 0} → List ℕ → (A → Range ℕ) → List A → Type 0
 EachIsRangedIn s range list = All (λ it. IsRangeIn s (range it)) list
 
--- What is known of a map's answer to the text s: it is a sentence that gives these bytes, where those of the
--- map's values are known; or it is refused for f, whatever they are, and the range of f is in the text.
+-- The text s has this answer under a map. If the answer is bytes x, s is a sentence, and its output is x if
+-- contracts know the bytes of the map's values. If the answer refuses s for f, it does so whatever values the
+-- map's names have, and the range of f is in s.
 abbrev pub AnswersText : {Value Seen : Type 0} → (Value → List ℕ) → (Value → Seen)
     → (List ℕ → Option Seen) → List ℕ → Answer → Type 0
 AnswersText items see look_up s (Gives x) =

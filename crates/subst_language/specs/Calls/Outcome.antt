@@ -1,5 +1,5 @@
--- What a call returns, unless memory runs out. An error that states no fault says that memory ran out.
--- `bytes_of` gives the bytes of an output: of a `Vec` its items, of a `String` its bytes.
+-- The outcome of a call, unless memory runs out. An error that states no fault is out of memory. `bytes_of`
+-- is the function from an output, a `Vec` or a `String`, to its bytes.
 use Rattle.std.specs.Prelude.{◌≡◌, ◌≤◌, ℕ, List, ◌++◌, drop, length, Option, Some, None, Result, Ok, Err, IfErr, IfNone, IfSome}
 use Rattle.std.specs.Option.{option_map}
 use Rattle.subst_error.specs.Fault.{Fault}
@@ -14,26 +14,28 @@ use Rattle.subst_language.specs.Language.Value.{Value, Bytes}
 use Rattle.subst_language.specs.Language.LookUp.{LookUp}
 use Rattle.subst_language.specs.Language.Answer.{Answer, Answers, Gives, Refuses, IsMissing}
 
--- P holds of the fault that an error states, where `fault_of` gives it
+-- if the result is an error e that states a fault, `fault_of e`, P holds of the fault
 abbrev pub OnFault : {T E : Type 0} → (E → Option Fault) → Result T E → (Fault → Type 0) → Type 0
 OnFault fault_of result P = IfErr result (λ e. IfSome (fault_of e) P)
 
--- P holds where an error says that memory ran out
+-- if the result is an error without a fault, which is out of memory, P holds
 abbrev pub OnOutOfMemory : {T E : Type 0} → (E → Option Fault) → Result T E → Type 0 → Type 0
 OnOutOfMemory fault_of result P = IfErr result (λ e. IfNone (fault_of e) P)
 
--- the output of an expansion has the bytes of the value, or its error states the missing variable
+-- the output of an expansion is the bytes of the value v, or its error states the missing variable
 abbrev pub Expands : {T : Type 0} → (T → List ℕ) → Result T ExpandError → Value → Type 0
 Expands bytes_of (Ok output) v = v ≡ Bytes (bytes_of output)
 Expands bytes_of (Err e) v = IfSome (expand_fault e) (IsMissing v)
 
--- the bytes of the value are appended to an output, or the error states the missing variable
+-- The call appends the bytes of the value v to a buffer's bytes `before`, so that they become `after`. Or the
+-- error states the missing variable.
 abbrev pub ExpandsInto : {T : Type 0} → (before : List ℕ) → Result T ExpandIntoError → (after : List ℕ)
     → Value → Type 0
 ExpandsInto before (Ok done) after v = (x : List ℕ) × (v ≡ Bytes x) × (after ≡ before ++ x)
 ExpandsInto before (Err e) after v = IfSome (expand_into_fault e) (IsMissing v)
 
--- The value has `needed` bytes. A slice that is as long begins with them, and the rest of it stays. Or the
+-- The result is `needed`, the number of bytes of the value v. The call changes a slice's bytes from `before`
+-- to `after`: if the slice is long enough, it begins with the bytes of v, and its rest is unchanged. Or the
 -- error states the missing variable.
 abbrev pub ExpandsIntoSlice : (before : List ℕ) → Result ℕ ExpandIntoError → (after : List ℕ) → Value → Type 0
 ExpandsIntoSlice before (Ok needed) after v =
@@ -41,18 +43,18 @@ ExpandsIntoSlice before (Ok needed) after v =
     × (needed ≤ length before → after ≡ x ++ drop needed before)
 ExpandsIntoSlice before (Err e) after v = IfSome (expand_into_fault e) (IsMissing v)
 
--- the answer that the result of a substitution states: the bytes of its output, or the fault of its error
+-- the answer of a substitution: the bytes of its output, or the fault of its error; `None` if memory ran out
 abbrev pub answer_of : {T : Type 0} → (T → List ℕ) → Result T Error → Option Answer
 answer_of bytes_of (Ok output) = Some (Gives (bytes_of output))
 answer_of bytes_of (Err e) = option_map Refuses (error_fault e)
 
--- the refusal that the result of a substitution states: the fault of its error
+-- the refusal of a substitution: the fault of its error; `None` for an output, and if memory ran out
 abbrev pub refusal_of : {T : Type 0} → Result T Error → Option Answer
 refusal_of (Ok output) = None
 refusal_of (Err e) = option_map Refuses (error_fault e)
 
--- the bytes that a source gives are appended to an output, or the error states the fault that it is refused
--- for
+-- The call appends the output of the source s to a buffer's bytes `before`, so that they become `after`. Or
+-- the error states the fault for which s is refused.
 abbrev pub SubstitutesInto : {T : Type 0} → (s : List ℕ) → (before : List ℕ) → Result T SubstituteIntoError
     → (after : List ℕ) → LookUp → Type 0
 SubstitutesInto s before (Ok done) after look =
@@ -60,7 +62,7 @@ SubstitutesInto s before (Ok done) after look =
 SubstitutesInto s before (Err e) after look =
     IfSome (substitute_into_fault e) (λ f. Answers s look (Refuses f))
 
--- P holds of the error of a parse, and Q of that of an expansion
+-- if the result is an error of the parse, P holds of it; if it is an error of the expansion, Q holds of it
 abbrev pub IfRefused : {T : Type 0} → Result T SubstituteIntoError → (ParseError → Type 0)
     → (ExpandIntoError → Type 0) → Type 0
 IfRefused (Ok done) P Q = Unit {0}

@@ -1,4 +1,4 @@
--- What the variables that a template lists, and the errors of those that are missing, say.
+-- Variables and errors of missing variables, each as a variable of the definitions.
 use Rattle.std.specs.Prelude.{ℕ, string_bytes}
 use Rattle.std.specs.declared.ops.Range.{Range}
 use Rattle.subst_error.specs.declared.NoSuchVariable as errors
@@ -7,17 +7,17 @@ use Rattle.subst_language.specs.declared.variable.Variable.{Variable}
 use Rattle.subst_language.specs.declared.variable.VariableKind.{VariableKind}
 use Rattle.subst_language.specs.declared.variable.VariableKind.TheVariants.{Required, Optional, WithDefault}
 
--- the kind of a variable
+-- the kind of the definitions for a kind in the code
 abbrev pub kind_of : VariableKind → variables.Kind
 kind_of Required = variables.Required
 kind_of Optional = variables.OrNothing
 kind_of WithDefault = variables.OrDefault
 
--- the variable that the code's record of one states
+-- the variable of the definitions for a variable in the code
 abbrev pub variable_of : Variable → variables.Variable
 variable_of it = record { position = it.position; name = it.name.now; kind = kind_of it.kind }
 
--- the variable that an error says is missing
+-- the missing variable that an error states, as a variable of the definitions
 abbrev pub missing_variable : errors.NoSuchVariable → variables.Variable
 missing_variable e = variables.required e.position (string_bytes e.name)
 
@@ -25,6 +25,6 @@ missing_variable e = variables.required e.position (string_bytes e.name)
 abbrev pub variable_range : Variable → Range ℕ
 variable_range it = variables.name_range (variable_of it)
 
--- the range of the name of a variable that is missing
+-- the range of a missing variable's name in the source
 abbrev pub missing_range : errors.NoSuchVariable → Range ℕ
 missing_range e = variables.name_range (missing_variable e)

@@ -8,8 +8,8 @@ use Rattle.subst_language.specs.Language.Answer.{Answer, Gives, Refuses, IsMissi
 use Rattle.subst_language.specs.Earlier.Value.{value}
 use Rattle.subst_language.specs.Earlier.BadItem.{HasFault}
 
--- A sentence gives the bytes of its tree's value, or is refused for the variable that is missing; any other
--- source is refused for its fault.
+-- The answer of a sentence is the bytes of its tree's value, or the refusal for the missing variable. The
+-- answer of any other source is the refusal for its fault.
 abbrev pub Answers : List ℕ → LookUp → Answer → Type 0
 Answers s look (Gives x) = (t : Tree) × Spells t s × (value 0 t look ≡ Bytes x)
 Answers s look (Refuses f) = HasFault 0 s f ⊎ ((t : Tree) × Spells t s × IsMissing (value 0 t look) f)

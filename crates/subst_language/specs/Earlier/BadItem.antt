@@ -1,4 +1,4 @@
--- What is wrong with a source that is no sentence of the earlier language: the first bad item from the left.
+-- The fault of a source that is no sentence of the earlier language: its first bad item.
 use Rattle.std.specs.Prelude.{◌≢◌, ℕ, ◌+◌, List, [], ◌∷◌, ◌++◌, length, Some, None, codes}
 use Rattle.subst_error.specs.Fault.{Fault, InvalidEscapeSequence, MissingVariableName, UnexpectedCharacter, MissingClosingBrace}
 use Rattle.subst_error.specs.declared.CharOrByte.{CharOrByte}
@@ -9,16 +9,16 @@ use Rattle.subst_language.specs.Earlier.Tree.{Tree, text}
 use Rattle.subst_language.specs.Language.Balanced.{IsBalanced, Closes}
 use Rattle.subst_language.specs.Earlier.WellFormed.{IsWellFormed}
 
--- what may follow a name in braces
+-- the message that names the bytes which may follow a name in braces
 abbrev pub brace_or_colon : List ℕ
 brace_or_colon = codes "a closing brace ('}') or colon (':')"
 
 mutual
-  -- the text r, which is at position p, begins with a bad item, whose fault is f
+  -- the text r at position p begins with a bad item, whose fault is f
   pub data IsBad : (p : ℕ) → (r : List ℕ) → (f : Fault) → Type 0 where
     -- a backslash at the end
     escape_at_end : {p : ℕ} → IsBad p (backslash ∷ []) (InvalidEscapeSequence p None)
-    -- a backslash before a byte that isn't special
+    -- a backslash before a byte that can't be escaped
     escape : {p b : ℕ} {x : List ℕ} {c : CharOrByte} → ¬ (IsEscapable b) → IsFrontCharacter (b ∷ x) c
         → IsBad p (backslash ∷ b ∷ x) (InvalidEscapeSequence p (Some c))
     -- a dollar at the end
@@ -42,11 +42,12 @@ mutual
     -- `${name:` whose default is never closed
     unclosed : {p : ℕ} (n w : List ℕ) → IsName n → ¬ (Closes w)
         → IsBad p (dollar ∷ opening_brace ∷ n ++ colon ∷ w) (MissingClosingBrace (p + 1))
-    -- `${name:default}` whose default has a fault, and anything
+    -- `${name:default}` whose default has a fault, and any bytes after it
     inside : {p : ℕ} {f : Fault} (n w v : List ℕ) → IsName n → IsBalanced w → HasFault (p + 3 + length n) w f
         → IsBad p (dollar ∷ opening_brace ∷ n ++ (colon ∷ w ++ closing_brace ∷ v)) f
 
-  -- the text s, which is at position p, has the fault f: a well-formed tree is followed by a bad item
+  -- the text s at position p has the fault f: it is the text of a well-formed tree, and then a text that
+  -- begins with a bad item
   pub data HasFault : (p : ℕ) → (s : List ℕ) → (f : Fault) → Type 0 where
     fault_after : {p : ℕ} {r : List ℕ} {f : Fault} (t : Tree) → IsWellFormed t
         → IsBad (p + length (text t)) r f → HasFault p (text t ++ r) f

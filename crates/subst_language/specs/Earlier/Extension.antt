@@ -1,4 +1,4 @@
--- What the language keeps of the earlier one.
+-- The relation of the language to the earlier one.
 use Rattle.std.specs.Prelude.{◌≡◌, ◌↔◌, ℕ, List, [], Contains}
 use Rattle.subst_error.specs.Fault.{Fault, UnexpectedCharacter}
 use Rattle.subst_language.specs.Language.Bytes.{question_mark}
@@ -14,7 +14,7 @@ use Rattle.subst_language.specs.Earlier.Value.{value as earlier_value}
 use Rattle.subst_language.specs.Earlier.BadItem.{HasFault as HasEarlierFault}
 
 abbrev mutual
-  -- the same item
+  -- an item of the earlier language as an item of the present one
   pub extended_item : EarlierItem → Item
   extended_item (earlier.Plain b) = Plain b
   extended_item (earlier.Escaped b) = Escaped b
@@ -22,32 +22,32 @@ abbrev mutual
   extended_item (earlier.Braced n) = Braced n
   extended_item (earlier.Default n t) = Default n (extended t)
 
-  -- the same tree, item for item
+  -- a tree of the earlier language as a tree of the present one, item for item
   pub extended : EarlierTree → Tree
   extended earlier.Empty = Empty
   extended (earlier.Then item rest) = Then (extended_item item) (extended rest)
 
--- the fault, with no message of what was expected
+-- the fault, without the message of what was expected
 abbrev pub without_expected : Fault → Fault
 without_expected (UnexpectedCharacter position character expected) = UnexpectedCharacter position character []
 without_expected f = f
 
--- s has no reading but the one that it had
+-- each tree of s and, except for its message, each fault of s is one of the earlier language
 pub record ReadsAsBefore (s : List ℕ) : Type 0 where
-  -- each tree of s is an earlier one
+  -- each tree of s is its tree of the earlier language
   pub tree : (t : Tree) → Spells t s → (u : EarlierTree) × EarlierSpells u s × (t ≡ extended u)
-  -- s has a fault where it had one
+  -- s has a fault if and only if it has one in the earlier language
   pub fault : (p : ℕ) → ((f : Fault) × HasFault p s f) ↔ ((g : Fault) × HasEarlierFault p s g)
-  -- and the two are equal, but for the message of what was expected
+  -- the two faults are equal except for the message of what was expected
   pub same_fault : (p : ℕ) (f g : Fault) → HasFault p s f → HasEarlierFault p s g
       → without_expected f ≡ without_expected g
 
--- s has the reading that it had in the earlier language, and without a question mark no other
+-- s keeps its tree of the earlier language; if s has no question mark, it has no other tree or fault
 pub record KeepsReading (s : List ℕ) : Type 0 where
   -- each earlier tree of s is a tree of s
   pub tree : (t : EarlierTree) → EarlierSpells t s → Spells (extended t) s
-  -- of the same value
+  -- each earlier tree has the same value as before, at each position and under each look-up
   pub same_value : (t : EarlierTree) (p : ℕ) (look : LookUp)
       → value p (extended t) look ≡ earlier_value p t look
-  -- without a question mark s has no other tree, and no other fault
+  -- if s has no question mark, it has no other tree, and no other fault
   pub no_other : ¬ (Contains s question_mark) → ReadsAsBefore s

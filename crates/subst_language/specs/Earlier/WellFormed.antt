@@ -4,15 +4,15 @@ use Rattle.subst_language.specs.Language.Name.{IsName, IsNameByte}
 use Rattle.subst_language.specs.Earlier.Tree.{Item, Plain, Escaped, Short, Braced, Default, Tree, Empty, Then, text}
 use Rattle.subst_language.specs.Language.Balanced.{IsBalanced}
 
--- the tree doesn't begin with a plain name byte, so a name before it ends there
+-- the tree doesn't begin with a plain name byte, which would continue a name before the tree
 abbrev pub EndsName : Tree → Type 0
 EndsName (Then (Plain b) rest) = ¬ (IsNameByte b)
 EndsName _ = Unit {0}
 
 abbrev mutual
-  -- An item, and the items that follow it: a plain byte is no dollar and no backslash; an escaped byte is a
-  -- special one; each name is a name, and one without braces is the longest there; a default is well-formed
-  -- and its braces match.
+  -- An item is well-formed before the items `next`: a plain byte is neither `$` nor `\`; an escaped byte is
+  -- `\`, `$`, `{`, `}` or `:`; a name has only name bytes; no name byte follows a name without braces; a
+  -- default is well-formed, and its braces match.
   pub IsItem : Item → Tree → Type 0
   IsItem (Plain b) next = IsPlain b
   IsItem (Escaped b) next = IsEscapable b

@@ -11,13 +11,13 @@ pub data Answer : Type 0 where
   Gives : List ℕ → Answer
   Refuses : Fault → Answer
 
--- the value is a missing variable, and f says which
+-- the value is a missing variable, which f states
 abbrev pub IsMissing : Value → Fault → Type 0
 IsMissing v f =
     (position : ℕ) × (name : List ℕ) × (v ≡ Missing position name) × (f ≡ NoSuchVariable position name)
 
--- A sentence gives the bytes of its tree's value, or is refused for the variable that is missing; any other
--- source is refused for its fault.
+-- The answer of a sentence is the bytes of its tree's value, or the refusal for the missing variable. The
+-- answer of any other source is the refusal for its fault.
 abbrev pub Answers : List ℕ → LookUp → Answer → Type 0
 Answers s look (Gives x) = (t : Tree) × Spells t s × (value 0 t look ≡ Bytes x)
 Answers s look (Refuses f) = HasFault 0 s f ⊎ ((t : Tree) × Spells t s × IsMissing (value 0 t look) f)

@@ -1,4 +1,4 @@
--- What is wrong with a source that is no sentence: the first bad item from the left.
+-- The fault of a source that is no sentence: its first bad item.
 use Rattle.std.specs.Prelude.{◌≢◌, ℕ, ◌+◌, List, [], ◌∷◌, ◌++◌, length, Some, None, codes}
 use Rattle.subst_error.specs.Fault.{Fault, InvalidEscapeSequence, MissingVariableName, UnexpectedCharacter, MissingClosingBrace}
 use Rattle.subst_error.specs.declared.CharOrByte.{CharOrByte}
@@ -9,20 +9,20 @@ use Rattle.subst_language.specs.Language.Tree.{Tree, text}
 use Rattle.subst_language.specs.Language.Balanced.{IsBalanced, Closes}
 use Rattle.subst_language.specs.Language.WellFormed.{IsWellFormed}
 
--- what may follow a name in braces
+-- the message that names the bytes which may follow a name in braces
 abbrev pub after_name : List ℕ
 after_name = codes "a closing brace ('}'), colon (':') or question mark ('?')"
 
--- what may follow a name and a question mark in braces
+-- the message that names the byte which may follow a name and a question mark in braces
 abbrev pub after_question_mark : List ℕ
 after_question_mark = codes "a closing brace ('}')"
 
 mutual
-  -- the text r, which is at position p, begins with a bad item, whose fault is f
+  -- the text r at position p begins with a bad item, whose fault is f
   pub data IsBad : (p : ℕ) → (r : List ℕ) → (f : Fault) → Type 0 where
     -- a backslash at the end
     escape_at_end : {p : ℕ} → IsBad p (backslash ∷ []) (InvalidEscapeSequence p None)
-    -- a backslash before a byte that isn't special
+    -- a backslash before a byte that can't be escaped
     escape : {p b : ℕ} {x : List ℕ} {c : CharOrByte} → ¬ (IsEscapable b) → IsFrontCharacter (b ∷ x) c
         → IsBad p (backslash ∷ b ∷ x) (InvalidEscapeSequence p (Some c))
     -- a dollar at the end
@@ -54,13 +54,12 @@ mutual
     -- `${name:` whose default is never closed
     unclosed : {p : ℕ} (n w : List ℕ) → IsName n → ¬ (Closes w)
         → IsBad p (dollar ∷ opening_brace ∷ n ++ colon ∷ w) (MissingClosingBrace (p + 1))
-    -- `${name:default}` whose default has a fault, and anything
+    -- `${name:default}` whose default has a fault, and any bytes after it
     inside : {p : ℕ} {f : Fault} (n w v : List ℕ) → IsName n → IsBalanced w → HasFault (p + 3 + length n) w f
         → IsBad p (dollar ∷ opening_brace ∷ n ++ (colon ∷ w ++ closing_brace ∷ v)) f
 
-  -- The text s, which is at position p, has the fault f: the text of a well-formed tree is followed
-  -- by a text that begins with a bad item. A bad item refers to a fault only of a default in it,
-  -- which is shorter.
+  -- The text s at position p has the fault f: it is the text of a well-formed tree, and then a text that
+  -- begins with a bad item. `IsBad` refers to `HasFault` only for a default, which is shorter than its item.
   pub data HasFault : (p : ℕ) → (s : List ℕ) → (f : Fault) → Type 0 where
     fault_after : {p : ℕ} {r : List ℕ} {f : Fault} (t : Tree) → IsWellFormed t
         → IsBad (p + length (text t)) r f → HasFault p (text t ++ r) f

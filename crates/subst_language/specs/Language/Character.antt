@@ -8,7 +8,7 @@ use Rattle.subst_error.specs.declared.CharOrByte.TheVariants.{Char, Byte}
 abbrev pub BeginsWithChar : List ℕ → ℕ → Type 0
 BeginsWithChar bytes c = IsScalar c × ((rest : List ℕ) × (bytes ≡ encode_utf8 c ++ rest))
 
--- the character that the bytes begin with, or their first byte where they begin with none
+-- the character that the bytes begin with, or their first byte if they begin with no character
 abbrev pub IsFrontCharacter : List ℕ → CharOrByte → Type 0
 IsFrontCharacter bytes (Char c) = BeginsWithChar bytes c
 IsFrontCharacter bytes (Byte b) =

@@ -2,7 +2,7 @@
 use Rattle.std.specs.Prelude.{ℕ, ◌==◌, Bool, ◌||◌, List, [], ◌∷◌, ◌++◌, if◌then◌else◌}
 use Rattle.subst_language.specs.Language.Bytes.{dollar, colon, backslash, opening_brace, closing_brace}
 
--- one of the five bytes that get a backslash
+-- one of the five bytes that `escaped` puts a backslash before: \ $ { } :
 abbrev pub is_special : ℕ → Bool
 is_special b = b == backslash || b == dollar || b == opening_brace || b == closing_brace || b == colon
 

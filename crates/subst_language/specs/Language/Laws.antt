@@ -6,14 +6,14 @@ use Rattle.subst_language.specs.Language.Tree.{Tree}
 use Rattle.subst_language.specs.Language.Sentence.{Spells, IsSentence}
 use Rattle.subst_language.specs.Language.BadItem.{HasFault}
 
--- s is a sentence with one tree, or has one fault at each position that it may be at, and never both
+-- s is a sentence with one tree, or has one fault for each position p at which it may begin, and never both
 pub record OneTreeOrOneFault (s : List ℕ) : Type 0 where
   pub either : ((t : Tree) × Spells t s) ⊎ ((p : ℕ) → (f : Fault) × HasFault p s f)
   pub tree_unique : (t u : Tree) → Spells t s → Spells u s → t ≡ u
   pub fault_unique : (p : ℕ) (f g : Fault) → HasFault p s f → HasFault p s g → f ≡ g
   pub never_both : (t : Tree) (p : ℕ) (f : Fault) → Spells t s → ¬ (HasFault p s f)
 
--- s, which is at position p, is a sentence, then `${` with the brace at the position, and then anything
+-- the text s at position p is a sentence, then `${` with the brace at `position`, and then any bytes
 pub record OpensAt (p : ℕ) (s : List ℕ) (position : ℕ) : Type 0 where
   pub before : List ℕ
   pub after : List ℕ
@@ -21,7 +21,7 @@ pub record OpensAt (p : ℕ) (s : List ℕ) (position : ℕ) : Type 0 where
   pub parts : s ≡ before ++ dollar ∷ opening_brace ∷ after
   pub brace : position ≡ p + length before + 1
 
--- a fault of a text that ends at the position `end` that no text after it can mend
+-- a text that ends at position `end` and has this fault keeps it, whatever is appended
 abbrev pub IsSettled : (end : ℕ) → Fault → Type 0
 IsSettled end (InvalidEscapeSequence position (Some character)) = Unit {0}
 IsSettled end (InvalidEscapeSequence position None) = ⊥
@@ -30,7 +30,7 @@ IsSettled end (UnexpectedCharacter position character expected) = Unit {0}
 IsSettled end (MissingClosingBrace position) = ⊥
 IsSettled end (NoSuchVariable position name) = ⊥
 
--- the first list is the second without some of its elements
+-- the first list is the second with some of its elements left out, or none
 pub data IsSublist {X : Type 0} : List X → List X → Type 0 where
   nothing : IsSublist [] []
   kept : {x : X} {xs ys : List X} → IsSublist xs ys → IsSublist (x ∷ xs) (x ∷ ys)

@@ -2,7 +2,7 @@
 use Rattle.std.specs.Prelude.{◌≡◌, ℕ, List, Option, Some}
 use Rattle.std.specs.Str.{IsUtf8}
 
--- for each name nothing, or the bytes of its value; a function, which need not be finite
+-- a function from a name to the bytes of its value, or to `None`; infinitely many names may have values
 abbrev pub LookUp : Type 0
 LookUp = List ℕ → Option (List ℕ)
 

@@ -1,8 +1,8 @@
--- Faults of a text that is written after another one.
+-- Faults of a text that follows another one.
 use Rattle.std.specs.Prelude.{ℕ, ◌+◌}
 use Rattle.subst_error.specs.Fault.{Fault, InvalidEscapeSequence, MissingVariableName, UnexpectedCharacter, MissingClosingBrace, NoSuchVariable}
 
--- the fault, or the missing variable, with this many bytes more before it
+-- the fault, which may be a missing variable, with its position increased by n
 abbrev pub moved : ℕ → Fault → Fault
 moved n (InvalidEscapeSequence position character) = InvalidEscapeSequence (position + n) character
 moved n (MissingVariableName position len) = MissingVariableName (position + n) len

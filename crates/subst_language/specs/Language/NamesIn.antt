@@ -3,7 +3,7 @@ use Rattle.std.specs.Prelude.{ℕ, List, [], ◌∷◌, ◌++◌}
 use Rattle.subst_language.specs.Language.Tree.{Item, Plain, Escaped, Short, Braced, Optional, Default, Tree, Empty, Then}
 
 abbrev mutual
-  -- the name of a variable, and those in its default
+  -- the names in an item: that of its variable, and those in its default
   pub names_in_item : Item → List (List ℕ)
   names_in_item (Plain b) = []
   names_in_item (Escaped b) = []

@@ -12,6 +12,6 @@ pub record Spells (t : Tree) (s : List ℕ) : Type 0 where
 abbrev pub IsSentence : List ℕ → Type 0
 IsSentence s = (t : Tree) × Spells t s
 
--- P holds of the tree of the source s; of a source that is no sentence this says nothing
+-- P holds of the tree of the source; if the source is no sentence, this states nothing
 abbrev pub ByTree : List ℕ → (Tree → Type 0) → Type 0
 ByTree s P = (t : Tree) → Spells t s → P t

@@ -1,26 +1,26 @@
--- The steps of an evaluation. What it writes, how long its value is, and all that it is missing are told
--- by them.
+-- The steps of an evaluation. They determine what it writes, how long its value is, and which variables are
+-- missing.
 use Rattle.std.specs.Prelude.{ℕ, ◌+◌, List, [], ◌∷◌, ◌++◌, length, Option, Some, None}
 use Rattle.subst_language.specs.Language.LookUp.{LookUp}
 use Rattle.subst_language.specs.Language.Tree.{Item, Plain, Escaped, Short, Braced, Optional, Default, Tree, Empty, Then, item_text}
 use Rattle.subst_language.specs.Language.Value.{Value, Bytes, Missing, joined}
 
 pub data Step : Type 0 where
-  -- a byte of the tree, which stands for itself or is after a backslash
+  -- a plain or escaped byte of the tree
   Own : ℕ → Step
-  -- what the look-up has for a name
+  -- the value of a name
   Given : List ℕ → Step
-  -- a variable that is needed and has no value, with the position of the first byte of its name
+  -- a needed variable without a value, with the position of its name
   Lacks : (position : ℕ) → (name : List ℕ) → Step
 
--- the value of steps
+-- the value of steps: the first missing variable, or else the bytes of all steps
 abbrev pub steps_value : List Step → Value
 steps_value [] = Bytes []
 steps_value (Own b ∷ rest) = joined (Bytes (b ∷ [])) (steps_value rest)
 steps_value (Given x ∷ rest) = joined (Bytes x) (steps_value rest)
 steps_value (Lacks position name ∷ rest) = Missing position name
 
--- what was found, else these steps
+-- one step with the value that was found, or else these steps
 abbrev pub given_or : Option (List ℕ) → List Step → List Step
 given_or (Some x) steps = Given x ∷ []
 given_or None steps = steps

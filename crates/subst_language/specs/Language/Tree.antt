@@ -11,7 +11,7 @@ use Rattle.subst_language.specs.Language.Bytes.{dollar, colon, question_mark, ba
 -- tree.
 mutual
   pub data Item : Type 0 where
-    -- a byte that stands for itself
+    -- a plain byte
     Plain : ℕ → Item
     -- a byte after a backslash
     Escaped : ℕ → Item
@@ -19,9 +19,9 @@ mutual
     Short : List ℕ → Item
     -- a name in braces
     Braced : List ℕ → Item
-    -- a name in braces with a question mark, which stands for nothing where the name has no value
+    -- a name in braces with a question mark, which expands to nothing if the name has no value
     Optional : List ℕ → Item
-    -- a name in braces with a default, which is written where the name has no value
+    -- a name in braces with a default, which is used if the name has no value
     Default : List ℕ → Tree → Item
 
   pub data Tree : Type 0 where
@@ -29,7 +29,7 @@ mutual
     Then : Item → Tree → Tree
 
 abbrev mutual
-  -- `b`, `\b`, `$name`, `${name}`, `${name?}`, `${name:default}`
+  -- the text of an item: `b`, `\b`, `$name`, `${name}`, `${name?}` or `${name:default}`
   pub item_text : Item → List ℕ
   item_text (Plain b) = b ∷ []
   item_text (Escaped b) = backslash ∷ b ∷ []
@@ -38,7 +38,7 @@ abbrev mutual
   item_text (Optional n) = dollar ∷ opening_brace ∷ n ++ (question_mark ∷ closing_brace ∷ [])
   item_text (Default n t) = dollar ∷ opening_brace ∷ n ++ (colon ∷ text t ++ closing_brace ∷ [])
 
-  -- the texts of its items, concatenated
+  -- the text of a tree: those of its items, concatenated
   pub text : Tree → List ℕ
   text Empty = []
   text (Then item rest) = item_text item ++ text rest

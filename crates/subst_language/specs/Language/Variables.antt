@@ -1,4 +1,4 @@
--- The variables of a tree, and all that an evaluation is missing.
+-- The variables of a tree, and all missing ones.
 use Rattle.std.specs.Prelude.{ℕ, ◌+◌, List, [], ◌∷◌, ◌++◌, length, Option, Some, None, Bool, true, false}
 use Rattle.std.specs.List.{filter_map}
 use Rattle.std.specs.declared.ops.Range.{Range}
@@ -7,24 +7,24 @@ use Rattle.subst_language.specs.Language.LookUp.{LookUp}
 use Rattle.subst_language.specs.Language.Steps.{Step, Lacks, steps_of}
 use Rattle.subst_language.specs.Language.Tree.{Item, Short, Braced, Optional, Default, Tree, Empty, Then, item_text}
 
--- what there is in the place of a variable that has no value: a fault, nothing, or its default
+-- how an unset variable expands: to a fault, to nothing, or to its default
 pub data Kind : Type 0 where
   Required : Kind
   OrNothing : Kind
   OrDefault : Kind
 
--- there is a fault
+-- whether an unset variable of this kind is a fault
 abbrev pub is_required : Kind → Bool
 is_required Required = true
 is_required kind = false
 
--- a variable, with the position of the first byte of its name
+-- a variable, with the position of its name
 pub record Variable : Type 0 where
   pub position : ℕ
   pub name : List ℕ
   pub kind : Kind
 
--- a variable that has to have a value
+-- a required variable with this name, whose name is at this position
 abbrev pub required : ℕ → List ℕ → Variable
 required position name = record { position = position; name = name; kind = Required }
 
@@ -52,12 +52,12 @@ abbrev mutual
   variables_of p (Then item rest) =
       item_variables p item ++ variables_of (p + length (item_text item)) rest
 
--- the variable that a step lacks
+-- the variable that a step lacks, or `None` if it lacks none
 abbrev pub lacked : Step → Option Variable
 lacked (Lacks position name) = Some (required position name)
 lacked step = None
 
--- each variable that a tree needs and the look-up has nothing for, in the order of the text; in the default
--- of a variable that has a value none is needed
+-- each needed variable without a value in a tree whose text begins at position p, in the order of the text;
+-- no variable in an unused default is needed
 abbrev pub all_missing : ℕ → Tree → LookUp → List Variable
 all_missing p t look = filter_map lacked (steps_of p t look)

@@ -1,9 +1,9 @@
--- Whether runs of plain items meet where two trees are joined.
+-- Whether runs of plain items meet at the joint of two trees.
 use Rattle.std.specs.Prelude.{◌≡◌, Bool, false}
 use Rattle.subst_language.specs.Language.Tree.{Tree, Empty, Then}
 use Rattle.subst_language.specs.Language.Counts.{is_plain}
 
--- what comes next is after a plain item: the tree's last one, or that before an empty tree
+-- whether the tree's last item is plain; of an empty tree `after_plain`: whether the item before is plain
 abbrev pub ends_plain : (after_plain : Bool) → Tree → Bool
 ends_plain after_plain Empty = after_plain
 ends_plain after_plain (Then item rest) = ends_plain (is_plain item) rest

@@ -1,4 +1,4 @@
--- What a sink does with the parts that the parser gives it.
+-- The effect of a sink's calls on the parts that it holds.
 use Rattle.std.specs.Prelude.{◌≡◌, ℕ, ◌+◌, ◌^◌, ◌<◌, List, [], ◌∷◌, ◌++◌, length}
 use Rattle.std.specs.List.{AllByRecursion}
 use Rattle.subst_language.specs.Parts.Meaning.{IsInSource, JumpsWithin, IsTemplateOf}
@@ -6,11 +6,11 @@ use Rattle.subst_language.specs.declared.part.Span.{Span}
 use Rattle.subst_language.specs.declared.part.Part.{Part}
 use Rattle.subst_language.specs.declared.part.Part.TheVariants.{Literal, Escaped, Variable, Default}
 
--- what a sink holds, from whatever it was at first
+-- the relation of a sink, its first state and the parts that it holds
 abbrev pub HoldsFrom : (S First : Type 0) → Type 1
 HoldsFrom S First = S → First → List Part → Type 0
 
--- what a sink holds, where what it was at first is known
+-- the relation of a sink and the parts that it holds, for this first state
 abbrev pub since : {S First : Type 0} → HoldsFrom S First → First → S → List Part → Type 0
 since holds first sink parts = holds sink first parts
 
@@ -18,29 +18,29 @@ since holds first sink parts = holds sink first parts
 abbrev pub HoldsSome : {S First : Type 0} → HoldsFrom S First → S → First → Type 0
 HoldsSome holds sink first = (parts : List Part) × holds sink first parts
 
--- the sink holds the parts of the source's template
+-- the sink holds the parts of a template of the source s
 pub record HoldsTemplate {S : Type 0} (holds : S → List Part → Type 0) (s : List ℕ) (sink : S) : Type 0 where
   pub parts : List Part
   pub held : holds sink parts
   pub template : IsTemplateOf s parts
 
--- each number of the part is below a limit
+-- each offset and index in the part is below the limit
 abbrev pub FitsBelow : ℕ → Part → Type 0
 FitsBelow limit (Literal span) = (span.start < limit) × (span.end < limit)
 FitsBelow limit (Escaped b) = Unit {0}
 FitsBelow limit (Variable name) = (name.start < limit) × (name.end < limit)
 FitsBelow limit (Default name next) = (name.start < limit) × (name.end < limit) × (next < limit)
 
--- a part, which if it is that of a default has its jump, to this index at most
+-- if the part is a default, it is closed: its `next` is set, and at most `end`
 abbrev pub IsClosed : ℕ → Part → Type 0
 IsClosed end part = JumpsWithin 0 end part
 
--- each part, which if it is that of a default has its jump, to this index at most
+-- each default in the list is closed: its `next` is set, and at most `end`
 abbrev pub AllClosed : ℕ → List Part → Type 0
 AllClosed end parts = AllByRecursion (IsClosed end) parts
 
--- The sink can take a part, which is this one at the index that it gets: the ranges in it are in the source,
--- and the numbers in it are below a limit. The source is that which was known at first.
+-- The sink can take `part i`, where i is the number of parts that it holds. The ranges of `part i` are in the
+-- source of the sink's first state, and its offsets and its `next` are below the limit.
 pub record CanTake {S First : Type 0} (holds : HoldsFrom S First) (source : First → List ℕ → Type 0)
     (limit : ℕ) (sink : S) (part : ℕ → Part) : Type 0 where
   pub first : First
@@ -52,22 +52,23 @@ pub record CanTake {S First : Type 0} (holds : HoldsFrom S First) (source : Firs
   pub inside : IsInSource s (part (length parts))
   pub few : length parts + 1 < 2 ^ 64
 
--- the sink holds what it held
+-- the sink holds the same parts before and after
 abbrev pub Keeps : {S First : Type 0} → HoldsFrom S First → S → S → Type 0
 Keeps {First = First} holds before after =
     (first : First) (parts : List Part) → holds before first parts → holds after first parts
 
--- the sink has added the part at the end of the list that it holds
+-- `part i` is appended to the parts that the sink holds, whose number is i
 abbrev pub Adds : {S First : Type 0} → HoldsFrom S First → S → (ℕ → Part) → S → Type 0
 Adds {First = First} holds before part after = (first : First) (parts : List Part)
     → holds before first parts → holds after first (parts ++ part (length parts) ∷ [])
 
--- the list that the sink holds has so many parts
+-- n is the number of parts that the sink holds
 abbrev pub HasLength : {S First : Type 0} → HoldsFrom S First → S → ℕ → Type 0
 HasLength {First = First} holds sink n = (first : First) (parts : List Part)
     → holds sink first parts → n ≡ length parts
 
--- the default whose part has this index is open, and its jump to the end of the list fits
+-- The default with this index and name is open. Once `next` of its part is the number of held parts, the part
+-- fits below the limit.
 pub record CanClose {S First : Type 0} (holds : HoldsFrom S First) (limit : ℕ) (sink : S) (index : ℕ)
     (name : Span) : Type 0 where
   pub first : First
@@ -77,7 +78,8 @@ pub record CanClose {S First : Type 0} (holds : HoldsFrom S First) (limit : ℕ)
   pub is : index ≡ length before
   pub fits : FitsBelow limit (Default name (length (before ++ Default name 0 ∷ own)))
 
--- the default whose part has this index, the innermost that is open, gets its jump to the end of the list
+-- the innermost open default, which has this index and name, is closed: its `next` is the number of parts
+-- that the sink holds
 abbrev pub ClosesDefault : {S First : Type 0} → HoldsFrom S First → S → ℕ → Span → S → Type 0
 ClosesDefault {First = First} holds sink index name after = (first : First) (before own : List Part)
     → index ≡ length before → AllClosed (length (before ++ Default name 0 ∷ own)) own

@@ -1,4 +1,4 @@
-//! `BTreeMap` as a map of variables, with keys that it owns or keys that are borrowed.
+//! `BTreeMap` as a map of variables, with owned or borrowed keys.
 
 ghost use Rattle.std.specs.Prelude.{◌≡◌, refl};
 ghost use Rattle.subst_language.specs.Calls.VariableMap.{look_up_of};
@@ -7,7 +7,7 @@ use crate::{BytesMap, VariableMap};
 use std::collections::BTreeMap;
 use std::convert::AsSlice;
 
-/// The value under the key.
+/// A variable's value is a reference to the map's value under its name.
 impl<'a, V: 'a> VariableMap<'a> for BTreeMap<String, V> {
     ghost use Rattle.std.specs.BTreeMap.{get_by_text};
 
@@ -24,9 +24,9 @@ impl<'a, V: 'a> VariableMap<'a> for BTreeMap<String, V> {
     }
 }
 
-/// The value under the key, where keys are borrowed.
+/// A variable's value is a reference to the map's value under its name.
 impl<'a, 'k, V: 'a> VariableMap<'a> for BTreeMap<&'k str, V> {
-    ghost use Rattle.subst_language.specs.Maps.{btree_get_by_lent_text};
+    ghost use Rattle.subst_language.specs.Maps.{btree_get_by_borrowed_text};
 
     type Value = &'a V;
 
@@ -34,14 +34,14 @@ impl<'a, 'k, V: 'a> VariableMap<'a> for BTreeMap<&'k str, V> {
 
     ghost see = { λ v. v.now };
 
-    ghost look_up = { btree_get_by_lent_text };
+    ghost look_up = { btree_get_by_borrowed_text };
 
     fn get(&'a self, name: &str) -> Option<&'a V> {
         self.get(name)
     }
 }
 
-/// The bytes of the value under the key.
+/// The bytes of a variable's value are those of the map's value under its name.
 impl<'a, V: AsSlice<u8> + 'a> BytesMap<'a> for BTreeMap<String, V> {
     ghost use Rattle.std.specs.BTreeMap.{get_by_text};
 
@@ -50,11 +50,11 @@ impl<'a, V: AsSlice<u8> + 'a> BytesMap<'a> for BTreeMap<String, V> {
     ghost reads = { (V.items, (λ v. refl), (λ self name. refl)) };
 }
 
-/// The bytes of the value under the key.
+/// The bytes of a variable's value are those of the map's value under its name.
 impl<'a, 'k, V: AsSlice<u8> + 'a> BytesMap<'a> for BTreeMap<&'k str, V> {
-    ghost use Rattle.subst_language.specs.Maps.{btree_get_by_lent_text};
+    ghost use Rattle.subst_language.specs.Maps.{btree_get_by_borrowed_text};
 
-    ghost look_up_bytes = { λ self. look_up_of V.items (btree_get_by_lent_text self) };
+    ghost look_up_bytes = { λ self. look_up_of V.items (btree_get_by_borrowed_text self) };
 
     ghost reads = { (V.items, (λ v. refl), (λ self name. refl)) };
 }

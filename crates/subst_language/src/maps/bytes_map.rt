@@ -3,13 +3,13 @@
 use crate::VariableMap;
 use std::convert::AsSlice;
 
-/// A map of bytes: those of a value follow from what it is identified with. It has no function of its own.
+/// A map of bytes: contracts know the bytes of each value. The trait adds no method.
 ///
-/// Contracts of what is generic in the map see it as a look-up of bytes. An implementation gives two ghost
+/// Contracts of code that is generic in the map see it as a look-up of bytes. An implementation has two ghost
 /// members:
 ///
-/// - `look_up_bytes`: the bytes that the map has for each name.
-/// - `reads`: a proof that these are the bytes of what its look-up has.
+/// - `look_up_bytes`: the look-up of the bytes of each variable's value.
+/// - `reads`: a proof that `look_up_bytes` has the bytes of the values of `look_up`.
 pub trait BytesMap<'a>: VariableMap<'a>
 where
     Self::Value: AsSlice<u8>,

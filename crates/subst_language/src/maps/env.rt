@@ -1,13 +1,13 @@
-//! `Env`, pairs of names and values as a map of variables. Contracts see it as its pairs.
+//! `Env`: pairs of names and values, as a map of variables.
 
 ghost use Rattle.std.specs.Prelude.{◌≡◌};
 
 use crate::{BytesMap, VariableMap};
 use std::marker::Model;
 
-/// Pairs of names and values, as those of an environment: the first pair with a name counts.
+/// Pairs of names and values, like those of an environment. The first pair of a name wins.
 ///
-/// Contracts see it as its pairs, in order.
+/// Contracts see an `Env` as the list of its pairs, in order.
 #[derive(Debug, Drop)]
 pub struct Env {
     pairs: Vec<(String, String)>,
@@ -23,7 +23,7 @@ impl Model for Env {
 }
 
 impl Env {
-    /// Returns the map of these pairs of a name and a value, which it takes over. It allocates nothing.
+    /// Creates a map from pairs of names and values, without allocating.
     ///
     /// ```rust
     /// let mut pairs = Vec::new(alloc);
@@ -38,7 +38,7 @@ impl Env {
     }
 }
 
-/// The value of the first pair with the name. It is searched for from the first pair on.
+/// The value of the first pair with the name. The search is linear.
 impl<'a> VariableMap<'a> for Env {
     ghost use Rattle.std.specs.Prelude.{ℕ, List};
     ghost use Rattle.subst_language.specs.Maps.{first_value};

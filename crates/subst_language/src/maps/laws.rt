@@ -1,4 +1,4 @@
-//! Laws of the maps: what their look-ups have. Each is the contract of a function that does nothing.
+//! Laws of the maps' look-ups. Each is the contract of an empty function.
 
 ghost use Rattle.std.specs.Prelude.{◌≡◌};
 ghost use Rattle.std.specs.Option.{option_or};
@@ -12,9 +12,9 @@ use std::collections::{BTreeMap, HashMap};
 use std::convert::{AsSlice, AsStr};
 use std::hash::BuildHasher;
 
-/// The law of maps of bytes. Each map of values that lend bytes is a look-up of bytes: for each name it has
-/// the bytes of the value under that key. So are `NoSubstitution`, which has none, and `Env`, by the bytes of
-/// its texts.
+/// The law of maps of bytes. A value of a map and what contracts identify it with have the same bytes. This
+/// holds for each standard map whose values can be borrowed as bytes, for `Env`, and for `NoSubstitution`,
+/// which has no values.
 pub fn maps_are_look_ups<'a, 'k, V: AsSlice<u8> + 'a, S: BuildHasher>()
     ensures btree_map { ReadsAs ⟦<&'a V as AsSlice<u8>>⟧.items
         ⟦<BTreeMap<String, V> as VariableMap<'a>>⟧.see V.items }
@@ -34,8 +34,8 @@ pub fn maps_are_look_ups<'a, 'k, V: AsSlice<u8> + 'a, S: BuildHasher>()
         ⟦<Env as VariableMap<'a>>⟧.see (λ bytes. bytes) }
 {}
 
-/// The law of maps of texts. Each map of values that lend texts is a look-up of texts: for each name it has
-/// the text of the value under that key. So are `NoSubstitution`, which has none, and `Env`.
+/// The law of maps of texts. A value of a map and what contracts identify it with have the same text. This
+/// holds for each standard map whose values can be borrowed as texts, and for `Env` and `NoSubstitution`.
 pub fn maps_are_look_ups_of_texts<'a, 'k, V: AsStr + 'a, S: BuildHasher>()
     ensures btree_map { ReadsAs ⟦<&'a V as AsStr>⟧.text
         ⟦<BTreeMap<String, V> as VariableMap<'a>>⟧.see V.text }
@@ -55,8 +55,8 @@ pub fn maps_are_look_ups_of_texts<'a, 'k, V: AsStr + 'a, S: BuildHasher>()
         ⟦<Env as VariableMap<'a>>⟧.see (λ bytes. bytes) }
 {}
 
-/// The law of two maps of bytes in layers. Where each is a look-up of bytes, so are both: for each name they
-/// have the bytes that the first one has, or else those that the second one has.
+/// The law of two maps of bytes in layers. If each map is a look-up of bytes, so is their [`Layered`]. The
+/// bytes for a name are those of the first map's value, or else of the second's.
 pub fn layers_are_look_ups<'a, M: VariableMap<'a> + 'a, N: VariableMap<'a> + 'a>()
 where
     M::Value: AsSlice<u8>,
@@ -70,7 +70,7 @@ where
         (λ map name. option_or (look map.first.now name) (other map.second.now name)) }
 {}
 
-/// The law of two maps of texts in layers: the same of their texts.
+/// The law of two maps of texts in layers. The text for a name is the first map's, or else the second's.
 pub fn layers_are_look_ups_of_texts<'a, M: VariableMap<'a> + 'a, N: VariableMap<'a> + 'a>()
 where
     M::Value: AsStr,
@@ -84,8 +84,8 @@ where
         (λ map name. option_or (look map.first.now name) (other map.second.now name)) }
 {}
 
-/// The law of maps of bytes without empty values. For each name `NoEmpty` has the bytes that its map has, but
-/// for a value without bytes.
+/// The law of maps of bytes without empty values. For each name, `NoEmpty` has the bytes of the value in its
+/// map, or `None` if that value is empty.
 pub fn filled_maps_are_look_ups<'a, M: BytesMap<'a> + 'a>()
 where
     M::Value: AsSlice<u8> + Drop,
@@ -94,8 +94,8 @@ where
         (λ map. without_empty (M.look_up_bytes map.map.now)) }
 {}
 
-/// The law of maps of texts without empty values: the same of the texts, where the bytes of a value are those
-/// of its text.
+/// The law of maps of texts without empty values. For each name, `NoEmpty` has the text of the value in its
+/// map, or `None` if that text is empty. The bytes of each value have to be those of its text.
 pub fn filled_maps_are_look_ups_of_texts<'a, M: BytesMap<'a> + 'a>()
 where
     M::Value: AsSlice<u8> + AsStr + Drop,

@@ -1,4 +1,4 @@
-//! `Layered`, two maps of any kinds as one map: a value is one of either kind.
+//! `Layered`: two maps as one, which may have values of different types.
 
 ghost use Rattle.std.specs.Prelude.{◌≡◌};
 ghost use Rattle.subst_language.specs.Maps.{of_one};
@@ -6,7 +6,7 @@ ghost use Rattle.subst_language.specs.Maps.{of_one};
 use crate::{BytesMap, VariableMap};
 use std::convert::{AsSlice, AsStr};
 
-/// A value of one of two types, as a map has that is made of two.
+/// A value of a [`Layered`] map: of its first map or of its second.
 #[derive(Debug, Drop)]
 pub enum OneOf<A, B> {
     First(A),
@@ -35,7 +35,7 @@ impl<A: AsSlice<u8>, B: AsSlice<u8>> AsSlice<u8> for OneOf<A, B> {
     }
 }
 
-/// Two maps as one map: what the first one has, or else what the second one has.
+/// Two maps as one: the first takes precedence over the second.
 ///
 /// ```rust
 /// let mut pairs = Vec::new(alloc);
@@ -54,7 +54,8 @@ pub struct Layered<'a, M, N> {
     pub second: &'a N,
 }
 
-/// The value of the first map, or else that of the second one, which is then asked.
+/// The value of the first map, or else of the second. The second map is searched only if the first has no
+/// value.
 impl<'a, M: VariableMap<'a>, N: VariableMap<'a>> VariableMap<'a> for Layered<'a, M, N> {
     ghost use Rattle.std.specs.Prelude.{◌⊎◌};
     ghost use Rattle.std.proofs.Common.{inl, inr};
@@ -79,7 +80,7 @@ impl<'a, M: VariableMap<'a>, N: VariableMap<'a>> VariableMap<'a> for Layered<'a,
     }
 }
 
-/// The bytes of the value of the first map, or else those of the value of the second one.
+/// The bytes of the value of the first map, or else of the second.
 impl<'a, M: BytesMap<'a>, N: BytesMap<'a>> BytesMap<'a> for Layered<'a, M, N>
 where
     M::Value: AsSlice<u8>,

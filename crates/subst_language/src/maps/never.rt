@@ -1,15 +1,15 @@
-//! `NoSubstitution`, the map that has no value for any name.
+//! `NoSubstitution`: the empty map.
 
 ghost use Rattle.std.specs.Prelude.{◌≡◌};
 
 use crate::{BytesMap, VariableMap};
 use std::convert::{AsSlice, AsStr};
 
-/// The map without variables: every name is missing, so each default is used.
+/// The empty map: every variable is unset, so every default applies.
 #[derive(Clone, Copy, Debug)]
 pub struct NoSubstitution;
 
-/// The type of the values of [`NoSubstitution`]. There are none: its field is private, and nothing makes one.
+/// The type of the values of [`NoSubstitution`], which has none. Nothing creates a value of this type.
 #[derive(Debug, Drop)]
 pub struct NeverValue {
     never_made: (),
@@ -35,7 +35,7 @@ impl AsSlice<u8> for NeverValue {
     }
 }
 
-/// Nothing, whatever the name.
+/// `None` for every name.
 impl<'a> VariableMap<'a> for NoSubstitution {
     ghost use Rattle.std.specs.Prelude.{ℕ, List, [], None};
 
@@ -52,7 +52,7 @@ impl<'a> VariableMap<'a> for NoSubstitution {
     }
 }
 
-/// Nothing, whatever the name.
+/// `None` for every name.
 impl<'a> BytesMap<'a> for NoSubstitution {
     ghost use Rattle.std.specs.Prelude.{None, refl};
 

@@ -1,11 +1,11 @@
-//! `NoEmpty`, a map without its empty values.
+//! `NoEmpty`: a map whose empty values are unset.
 
 ghost use Rattle.std.specs.Prelude.{◌≡◌};
 
 use crate::{BytesMap, VariableMap};
 use std::convert::AsSlice;
 
-/// A map without its empty values: a variable whose value is empty is missing, so its default is used.
+/// A map that treats empty values as unset, so that defaults apply.
 ///
 /// ```rust
 /// let mut variables = BTreeMap::new(alloc);
@@ -19,7 +19,7 @@ pub struct NoEmpty<'a, M> {
     pub map: &'a M,
 }
 
-/// The value of the map, unless it is empty.
+/// The value that the map has for the name, or `None` if that value is empty.
 impl<'a, M: BytesMap<'a>> VariableMap<'a> for NoEmpty<'a, M>
 where
     M::Value: AsSlice<u8> + Drop,
@@ -45,7 +45,7 @@ where
     }
 }
 
-/// The bytes of the map that aren't empty.
+/// The bytes of the value that the map has for the name, or `None` if that value is empty.
 impl<'a, M: BytesMap<'a>> BytesMap<'a> for NoEmpty<'a, M>
 where
     M::Value: AsSlice<u8> + Drop,

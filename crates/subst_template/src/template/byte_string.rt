@@ -1,9 +1,9 @@
-//! How the sources of byte templates are shown.
+//! `Debug` of the sources of byte templates.
 
 use std::fmt::Write;
 use std::{fmt, str};
 
-/// Bytes that `Debug` shows as a byte string, as `b"a"`, or as a list of numbers where they aren't UTF-8.
+/// Bytes whose `Debug` output is a byte string, as `b"a"`, or a list of numbers if they aren't UTF-8.
 #[derive(Clone, Copy)]
 pub(super) struct ByteString<'a>(pub(super) &'a [u8]);
 

@@ -1,6 +1,6 @@
-//! Templates over byte sources that they borrow: a source, and its parts, owned or borrowed. Only a sentence
-//! has a template, and it expands to the value of the source's tree. Contracts bound the reads of a parse
-//! and count the turns of an expansion.
+//! Templates over borrowed byte sources: a source, and its parts, owned or borrowed. Only a sentence has a
+//! template, which expands to the value of the source's tree. Contracts bound the reads of a parse and count
+//! the turns of an expansion.
 
 ghost use Rattle.std.specs.Prelude.{◌≡◌, ◌+◌, ◌*◌, ◌^◌, ◌≤◌, length, IfOk, IfErr, OnErr, OnOk};
 ghost use Rattle.std.specs.Prelude.{vec_capacity, vec_len};
@@ -27,7 +27,7 @@ use subst_expand::{CowParts, SliceBytes, Turns};
 use subst_language::{Variable, VariableMap};
 use subst_parse::Reads;
 
-/// A template over a byte source that it borrows. Contracts see it as its source.
+/// A template over a borrowed byte source. Contracts see it as its source.
 #[derive(Drop)]
 pub struct ByteTemplate<'a> {
     pub(super) source: &'a [u8],
@@ -46,15 +46,14 @@ impl<'a> Model for ByteTemplate<'a> {
 }
 
 impl<'a> ByteTemplate<'a> {
-    /// Returns the template of a source.
+    /// Parses a source into a template.
     ///
     /// # Errors
     ///
-    /// The fault of the source where it isn't a sentence of the template language: `InvalidEscapeSequence`,
-    /// `MissingVariableName`, `UnexpectedCharacter` or `MissingClosingBrace`, the first from the left.
-    /// `OutOfMemory` when allocation fails.
+    /// `InvalidEscapeSequence`, `MissingVariableName`, `UnexpectedCharacter` or `MissingClosingBrace` if the
+    /// source isn't a sentence of the template language: its first fault. `OutOfMemory` if allocation fails.
     pub fn from_slice(alloc: Global, source: &'a [u8]) -> Result<Self, ParseError>
-        // Only a sentence has a template, which is that of the source.
+        // Only a sentence has a template, and the template's source is this sentence.
         ensures ok { IfOk result (λ template. IsSentence source.now × (template ≡ source.now)) }
         ensures err { OnFault parse_fault result (HasFault 0 source.now) }
         ensures range { EndsWithin source.now parse_fault result }
@@ -62,10 +61,9 @@ impl<'a> ByteTemplate<'a> {
         ByteTemplate::from_slice_counted(alloc, source, &mut Reads::new())
     }
 
-    /// Returns the template of a source, as `from_slice`, and counts the reads: at least one for each byte
-    /// of a template, and at least one of a source that is refused; for each source, refused or not, at
-    /// most three for each of its bytes and eight more. It isn't stated that all reads of a refused source
-    /// are counted.
+    /// Parses a source into a template, as `from_slice`, and counts the reads. A sentence of n bytes takes at
+    /// least n reads, and a refused source at least one. Either takes at most 3 n + 8 reads. No contract
+    /// states that all reads of a refused source are counted.
     ///
     /// # Errors
     ///
@@ -89,7 +87,7 @@ impl<'a> ByteTemplate<'a> {
         Ok(ByteTemplate { source, parts })
     }
 
-    /// Returns the source, which is a sentence of the template language.
+    /// Returns the source, a sentence of the template language.
     pub fn source(&self) -> &[u8]
         ensures source { result.now ≡ self.now }
         ensures sentence { IsSentence self.now }
@@ -97,12 +95,12 @@ impl<'a> ByteTemplate<'a> {
         self.source
     }
 
-    /// Returns the bytes of the source with its variables filled in from `variables`.
+    /// Expands the template with the values of `variables`.
     ///
     /// # Errors
     ///
-    /// `NoSuchVariable` for the first needed name that `variables` has no value for; the names in a default
-    /// that isn't used aren't needed. `OutOfMemory` when allocation fails.
+    /// `NoSuchVariable` for the first needed name that `variables` has no value for; the names in an unused
+    /// default aren't needed. `OutOfMemory` if allocation fails.
     pub fn expand<'b, M: VariableMap<'b>>(
         &self,
         alloc: Global,
@@ -113,8 +111,8 @@ impl<'a> ByteTemplate<'a> {
         ensures value { ByValue M.Value.items M.see (M.look_up variables.now) self.now
             (Expands (λ output. output.items) result) }
 
-        // Whatever the map: a template's source has a tree, and an error states the variable that its
-        // evaluation misses, which is in the source.
+        // For any map: the source has a tree, and an error states the variable that its evaluation misses,
+        // with a range in the source.
         ensures sentence { IsSentence self.now }
         ensures missing { Misses (M.look_up variables.now) self.now expand_fault result }
         ensures range { EndsWithin self.now expand_fault result }
@@ -123,14 +121,12 @@ impl<'a> ByteTemplate<'a> {
         self.expand_counted(alloc, variables, &mut turns)
     }
 
-    /// Returns the bytes of the source with its variables filled in, as `expand`, and counts the turns: one
-    /// for each part of the source that is visited. Where a name has a value, no part of its default is
-    /// visited.
+    /// Expands the template, as `expand`, and counts the turns: one for each visited part of the source. No
+    /// part of a default is visited if the default's variable has a value.
     ///
     /// # Errors
     ///
-    /// As `expand`. Some parts may then not be visited, and it isn't stated that each one that is visited is
-    /// counted.
+    /// As `expand`. Some parts may not be visited then. No contract states that each visited part is counted.
     pub fn expand_counted<'b, M: VariableMap<'b>>(
         &self,
         alloc: Global,
@@ -148,8 +144,8 @@ impl<'a> ByteTemplate<'a> {
             (λ look. ByTree self.now (λ t. turns.new ≤ turns.old + visited_count t look)) }
         ensures grown { turns.old ≤ turns.new }
 
-        // Whatever the map: a template's source has a tree, and an error states the variable that its
-        // evaluation misses, which is in the source.
+        // For any map: the source has a tree, and an error states the variable that its evaluation misses,
+        // with a range in the source.
         ensures sentence { IsSentence self.now }
         ensures missing { Misses (M.look_up variables.now) self.now expand_fault result }
         ensures range { EndsWithin self.now expand_fault result }
@@ -157,8 +153,8 @@ impl<'a> ByteTemplate<'a> {
         expand::<M, SliceBytes>(alloc, self.source, &self.parts, variables, turns)
     }
 
-    /// Appends the bytes of the source with its variables filled in from `variables` to `output`. Where
-    /// `output` has capacity for them, this takes no memory, also where a variable is missing.
+    /// Expands the template with the values of `variables`, and appends the bytes to `output`. Never
+    /// allocates if `output` has capacity for the bytes, even if a variable is missing.
     ///
     /// ```rust
     /// let template = ByteTemplate::from_slice(alloc, b"Dear ${name:friend},")?;
@@ -169,9 +165,9 @@ impl<'a> ByteTemplate<'a> {
     ///
     /// # Errors
     ///
-    /// As `expand`, with the name of a missing variable borrowed from the source. `OutOfMemory` only where
-    /// the capacity that `output` has left is less than what is written, which are all the bytes, or those
-    /// before the missing variable. The items of `output` are then as before.
+    /// As `expand`, with the name of a missing variable borrowed from the source. `OutOfMemory` only if the
+    /// spare capacity of `output` is less than the bytes written: all, or those before the missing variable.
+    /// The items of `output` are then unchanged.
     pub fn expand_into<'b, M: VariableMap<'b>>(
         &self,
         output: &mut Vec<u8>,
@@ -182,11 +178,11 @@ impl<'a> ByteTemplate<'a> {
         ensures value { ByValue M.Value.items M.see (M.look_up variables.now) self.now
             (ExpandsInto output.old.items result output.new.items) }
 
-        // Whatever the map, an error leaves the items as they were, and the capacity only grows.
+        // For any map, an error leaves the items unchanged, and the capacity only grows.
         ensures kept { OnErr result (output.new.items ≡ output.old.items) }
         ensures capacity { vec_capacity output.old ≤ vec_capacity output.new }
 
-        // Out of memory only with cause: the capacity is less than what is written.
+        // Out of memory only if the capacity is less than the bytes written.
         ensures full { ByWritten M.Value.items M.see (M.look_up variables.now) self.now
             (Overflows (vec_capacity output.old) (vec_len output.old) result) }
         ensures sentence { IsSentence self.now }
@@ -197,14 +193,14 @@ impl<'a> ByteTemplate<'a> {
         expand_into::<M, SliceBytes>(self.source, &self.parts, variables, &mut turns, output)
     }
 
-    /// Writes the bytes of the source with its variables filled in from `variables` from the front of a
-    /// slice on, and returns how many they are, also where the slice is shorter. This takes no memory.
+    /// Expands the template with the values of `variables`, and writes the bytes to the start of a slice,
+    /// without allocating. Returns the number of these bytes, even if the slice is too short for them.
     ///
-    /// Where the slice is shorter, and after an error, what it has is unspecified.
+    /// The contents of the slice are unspecified if it is too short, and after an error.
     ///
     /// # Errors
     ///
-    /// As `expand_into`; `OutOfMemory` only where the bytes are too many for a `usize`.
+    /// As `expand_into`, but `OutOfMemory` only if the number of bytes exceeds a `usize`.
     pub fn expand_into_slice<'b, M: VariableMap<'b>>(
         &self,
         slice: &mut [u8],
@@ -223,12 +219,12 @@ impl<'a> ByteTemplate<'a> {
         expand_into_slice::<M, SliceBytes>(self.source, &self.parts, variables, slice)
     }
 
-    /// Returns the variables of the source, each with the byte offset of its name and its kind, in the order
-    /// of the source, also those in defaults. A name that is in the source twice is returned twice.
+    /// Returns the variables of the source, with the byte offset of each name and its kind, in the order of
+    /// the source. Those in defaults are included. A name that occurs twice is listed twice.
     ///
     /// # Errors
     ///
-    /// When allocation fails.
+    /// If allocation fails.
     pub fn variables(&self, alloc: Global) -> Result<Vec<Variable<'a>>, AllocError>
         ensures variables { IfOk result (λ list. AreVariables self.now list.items) }
         ensures sentence { IsSentence self.now }
@@ -237,14 +233,14 @@ impl<'a> ByteTemplate<'a> {
         variables(alloc, self.source, &self.parts)
     }
 
-    /// Returns each variable that an expansion needs and `variables` has no value for, in the order of the
-    /// source; the names in a default that isn't used aren't needed. There is none exactly where the template
-    /// expands, and otherwise the first is the one that `expand` returns. A name that is missing twice is
-    /// returned twice, each time with its position. No value is read.
+    /// Returns the missing variables, in the order of the source: each that an expansion needs and
+    /// `variables` has no value for. The names in an unused default aren't needed. If the template expands,
+    /// there is none, and otherwise the first is the one that `expand` returns. A name that is missing twice
+    /// is listed twice, at both positions. No value is read.
     ///
     /// # Errors
     ///
-    /// When allocation fails.
+    /// If allocation fails.
     pub fn missing<'b, M: VariableMap<'b>>(
         &self,
         alloc: Global,
@@ -260,7 +256,7 @@ impl<'a> ByteTemplate<'a> {
     }
 }
 
-/// A copy has the same source. It allocates unless the template was borrowed.
+/// A clone has the same source. Its parts are copied if the template owns them, and borrowed otherwise.
 impl<'a> Clone for ByteTemplate<'a> {
     ghost use Rattle.std.specs.Prelude.{◌≡◌};
 
@@ -275,7 +271,7 @@ impl<'a> Clone for ByteTemplate<'a> {
     }
 }
 
-/// The source, as `ByteTemplate(b"Hello $name!")`.
+/// Formats the source, as `ByteTemplate(b"Hello $name!")`.
 impl<'a> fmt::Debug for ByteTemplate<'a> {
     fn fmt<W: fmt::Write>(&self, f: &mut fmt::Formatter<W>) -> fmt::Result {
         f.debug_tuple("ByteTemplate")

@@ -1,5 +1,4 @@
-//! Templates that own their byte sources: a source and its parts. Each lends a `ByteTemplate` of the same
-//! source.
+//! Templates that own their byte sources: a source and its parts. A `ByteTemplate` can be borrowed from each.
 
 ghost use Rattle.std.specs.Prelude.{◌≡◌, ◌≤◌, IfOk, OnErr};
 ghost use Rattle.std.specs.Prelude.{vec_capacity, vec_len};
@@ -41,13 +40,13 @@ impl Model for ByteTemplateBuf {
 }
 
 impl ByteTemplateBuf {
-    /// Returns the template of a source, which it takes over. A source that is refused is dropped.
+    /// Parses a source into a template that owns it. A refused source is dropped.
     ///
     /// # Errors
     ///
     /// As [`ByteTemplate::from_slice`].
     pub fn from_vec(source: Vec<u8>) -> Result<Self, ParseError>
-        // Only a sentence has a template, which is that of the source.
+        // Only a sentence has a template, and the template's source is this sentence.
         ensures ok { IfOk result (λ template. IsSentence source.items × (template ≡ source.items)) }
         ensures err { OnFault parse_fault result (HasFault 0 source.items) }
         ensures range { EndsWithin source.items parse_fault result }
@@ -57,11 +56,11 @@ impl ByteTemplateBuf {
         Ok(ByteTemplateBuf { source, parts })
     }
 
-    /// Returns a template of its own with the source of another one.
+    /// Copies a template, with its source.
     ///
     /// # Errors
     ///
-    /// Out of memory.
+    /// If allocation fails.
     pub fn from_template(alloc: Global, other: &ByteTemplate<'_>) -> Result<Self, AllocError>
         ensures template { IfOk result (λ template. template ≡ other.now) }
     {
@@ -70,11 +69,11 @@ impl ByteTemplateBuf {
         Ok(ByteTemplateBuf { source, parts })
     }
 
-    /// Returns a template of its own with the source of another one, whose parts it takes over.
+    /// Converts a template into one that owns a copy of its source. Owned parts are moved, not copied.
     ///
     /// # Errors
     ///
-    /// Out of memory.
+    /// If allocation fails.
     pub fn of_template(alloc: Global, other: ByteTemplate<'_>) -> Result<Self, AllocError>
         ensures template { IfOk result (λ template. template ≡ other.entry) }
     {
@@ -83,7 +82,7 @@ impl ByteTemplateBuf {
         Ok(ByteTemplateBuf { source, parts })
     }
 
-    /// Returns the template over the same source, borrowed. It takes no memory.
+    /// Borrows the template, without allocating.
     pub fn as_template(&self) -> ByteTemplate<'_>
         ensures template { result ≡ self.now }
     {
@@ -93,7 +92,7 @@ impl ByteTemplateBuf {
         }
     }
 
-    /// Returns the source, which is a sentence of the template language.
+    /// Returns the source, a sentence of the template language.
     pub fn source(&self) -> &[u8]
         ensures source { result.now ≡ self.now }
         ensures sentence { IsSentence self.now }
@@ -101,7 +100,7 @@ impl ByteTemplateBuf {
         &self.source
     }
 
-    /// Returns the source, and drops what was parsed of it.
+    /// Returns the source, and drops the parts.
     pub fn into_source(self) -> Vec<u8>
         ensures source { result.items ≡ self }
         ensures sentence { IsSentence self }
@@ -109,7 +108,7 @@ impl ByteTemplateBuf {
         self.source
     }
 
-    /// Returns the bytes of the source with its variables filled in from `variables`.
+    /// Expands the template with the values of `variables`.
     ///
     /// # Errors
     ///
@@ -124,8 +123,8 @@ impl ByteTemplateBuf {
         ensures value { ByValue M.Value.items M.see (M.look_up variables.now) self.now
             (Expands (λ output. output.items) result) }
 
-        // Whatever the map: a template's source has a tree, and an error states the variable that its
-        // evaluation misses, which is in the source.
+        // For any map: the source has a tree, and an error states the variable that its evaluation misses,
+        // with a range in the source.
         ensures sentence { IsSentence self.now }
         ensures missing { Misses (M.look_up variables.now) self.now expand_fault result }
         ensures range { EndsWithin self.now expand_fault result }
@@ -133,12 +132,12 @@ impl ByteTemplateBuf {
         self.as_template().expand(alloc, variables)
     }
 
-    /// Appends the bytes of the source with its variables filled in from `variables` to `output`, as
+    /// Expands the template with the values of `variables`, and appends the bytes to `output`, as
     /// [`ByteTemplate::expand_into`].
     ///
     /// # Errors
     ///
-    /// As [`ByteTemplate::expand_into`]. The items of `output` are then as before.
+    /// As [`ByteTemplate::expand_into`]. The items of `output` are then unchanged.
     pub fn expand_into<'b, M: VariableMap<'b>>(
         &self,
         output: &mut Vec<u8>,
@@ -149,11 +148,11 @@ impl ByteTemplateBuf {
         ensures value { ByValue M.Value.items M.see (M.look_up variables.now) self.now
             (ExpandsInto output.old.items result output.new.items) }
 
-        // Whatever the map, an error leaves the items as they were, and the capacity only grows.
+        // For any map, an error leaves the items unchanged, and the capacity only grows.
         ensures kept { OnErr result (output.new.items ≡ output.old.items) }
         ensures capacity { vec_capacity output.old ≤ vec_capacity output.new }
 
-        // Out of memory only with cause: the capacity is less than what is written.
+        // Out of memory only if the capacity is less than the bytes written.
         ensures full { ByWritten M.Value.items M.see (M.look_up variables.now) self.now
             (Overflows (vec_capacity output.old) (vec_len output.old) result) }
         ensures sentence { IsSentence self.now }
@@ -167,7 +166,7 @@ impl ByteTemplateBuf {
     ///
     /// # Errors
     ///
-    /// When allocation fails.
+    /// If allocation fails.
     pub fn variables(&self, alloc: Global) -> Result<Vec<Variable<'_>>, AllocError>
         ensures variables { IfOk result (λ list. AreVariables self.now list.items) }
         ensures sentence { IsSentence self.now }
@@ -176,11 +175,11 @@ impl ByteTemplateBuf {
         self.as_template().variables(alloc)
     }
 
-    /// Returns each variable that is missing, as [`ByteTemplate::missing`].
+    /// Returns the missing variables, as [`ByteTemplate::missing`].
     ///
     /// # Errors
     ///
-    /// When allocation fails.
+    /// If allocation fails.
     pub fn missing<'b, M: VariableMap<'b>>(
         &self,
         alloc: Global,
@@ -196,7 +195,7 @@ impl ByteTemplateBuf {
     }
 }
 
-/// A copy has the same source.
+/// A clone has the same source.
 impl Clone for ByteTemplateBuf {
     ghost use Rattle.std.specs.Prelude.{◌≡◌};
 
@@ -209,7 +208,7 @@ impl Clone for ByteTemplateBuf {
     }
 }
 
-/// The borrowed template has the same source.
+/// Borrows the template, as [`ByteTemplateBuf::as_template`].
 impl<'a> From<&'a ByteTemplateBuf> for ByteTemplate<'a> {
     ghost use Rattle.std.specs.Prelude.{◌≡◌};
 
@@ -220,7 +219,7 @@ impl<'a> From<&'a ByteTemplateBuf> for ByteTemplate<'a> {
     }
 }
 
-/// The source, as `ByteTemplateBuf(b"Hello $name!")`.
+/// Formats the source, as `ByteTemplateBuf(b"Hello $name!")`.
 impl fmt::Debug for ByteTemplateBuf {
     fn fmt<W: fmt::Write>(&self, f: &mut fmt::Formatter<W>) -> fmt::Result {
         f.debug_tuple("ByteTemplateBuf")

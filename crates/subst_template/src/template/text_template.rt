@@ -1,4 +1,4 @@
-//! Templates over texts that they borrow, with the contracts of `ByteTemplate` over the bytes of texts.
+//! Templates over borrowed texts, with the contracts of `ByteTemplate` over the bytes of texts.
 
 ghost use Rattle.std.specs.Prelude.{◌≡◌, ◌≤◌, IfOk, OnErr};
 ghost use Rattle.std.specs.Prelude.{string_bytes, string_capacity, string_len};
@@ -21,7 +21,7 @@ use subst_expand::variables::{missing, variables};
 use subst_language::{Variable, VariableMap};
 use subst_parse::Reads;
 
-/// A template over a text that it borrows. Contracts see it as the bytes of its source.
+/// A template over a borrowed text. Contracts see it as the bytes of its source.
 #[derive(Drop)]
 pub struct Template<'a> {
     pub(super) source: &'a str,
@@ -40,7 +40,7 @@ impl<'a> Model for Template<'a> {
 }
 
 impl<'a> Template<'a> {
-    /// Returns the template of a source.
+    /// Parses a source into a template.
     ///
     /// ```rust
     /// let template = Template::from_str(alloc, "Dear ${name:friend},")?;
@@ -50,15 +50,15 @@ impl<'a> Template<'a> {
     ///
     /// # Errors
     ///
-    /// The fault of the source where it isn't a sentence of the template language: `InvalidEscapeSequence`,
-    /// `MissingVariableName`, `UnexpectedCharacter` or `MissingClosingBrace`, the first from the left, with
-    /// its byte offset. `OutOfMemory` when allocation fails.
+    /// `InvalidEscapeSequence`, `MissingVariableName`, `UnexpectedCharacter` or `MissingClosingBrace` if the
+    /// source isn't a sentence of the template language: its first fault, with its byte offset. `OutOfMemory`
+    /// if allocation fails.
     pub fn from_str(alloc: Global, source: &'a str) -> Result<Self, ParseError>
-        // Only a sentence has a template, which is that of the source.
+        // Only a sentence has a template, and the template's source is this sentence.
         ensures ok { IfOk result (λ template. IsSentence source.now × (template ≡ source.now)) }
         ensures err { OnFault parse_fault result (HasFault 0 source.now) }
 
-        // The fault is in the source, between two of its characters.
+        // The range of the fault is in the source, at character boundaries.
         ensures range { IsRangedIn source.now parse_fault result }
     {
         let parts = parse(alloc, source.as_bytes(), &mut Reads::new())?;
@@ -66,7 +66,7 @@ impl<'a> Template<'a> {
         Ok(Template { source, parts })
     }
 
-    /// Returns the source, which is a sentence of the template language.
+    /// Returns the source, a sentence of the template language.
     pub fn source(&self) -> &str
         ensures source { result.now ≡ self.now }
         ensures sentence { IsSentence self.now }
@@ -74,12 +74,12 @@ impl<'a> Template<'a> {
         self.source
     }
 
-    /// Returns the source with its variables filled in from `variables`, whose values are texts.
+    /// Expands the template with the values of `variables`, which are texts.
     ///
     /// # Errors
     ///
-    /// `NoSuchVariable` for the first needed name that `variables` has no value for; the names in a default
-    /// that isn't used aren't needed. `OutOfMemory` when allocation fails.
+    /// `NoSuchVariable` for the first needed name that `variables` has no value for; the names in an unused
+    /// default aren't needed. `OutOfMemory` if allocation fails.
     pub fn expand<'b, M: VariableMap<'b>>(
         &self,
         alloc: Global,
@@ -90,8 +90,8 @@ impl<'a> Template<'a> {
         ensures value { ByValue M.Value.text M.see (M.look_up variables.now) self.now
             (Expands (λ output. string_bytes output) result) }
 
-        // Whatever the map: a template's source has a tree, and an error states the variable that its
-        // evaluation misses, which is in the source.
+        // For any map: the source has a tree, and an error states the variable that its evaluation misses,
+        // with a range in the source.
         ensures sentence { IsSentence self.now }
         ensures missing { Misses (M.look_up variables.now) self.now expand_fault result }
         ensures range { IsRangedIn self.now expand_fault result }
@@ -99,8 +99,8 @@ impl<'a> Template<'a> {
         expand_text(alloc, self.source, &self.parts, variables)
     }
 
-    /// Appends the source with its variables filled in from `variables`, whose values are texts, to `output`.
-    /// Where `output` has capacity for it, this takes no memory, also where a variable is missing.
+    /// Expands the template with the values of `variables`, which are texts, and appends the text to
+    /// `output`. Never allocates if `output` has capacity for the text, even if a variable is missing.
     ///
     /// ```rust
     /// let template = Template::from_str(alloc, "Dear ${name:friend},")?;
@@ -111,9 +111,9 @@ impl<'a> Template<'a> {
     ///
     /// # Errors
     ///
-    /// As `expand`, with the name of a missing variable borrowed from the source. `OutOfMemory` only where
-    /// the capacity that `output` has left is less than what is written, which is all the text, or what comes
-    /// before the missing variable. The text in `output` is then as before.
+    /// As `expand`, with the name of a missing variable borrowed from the source. `OutOfMemory` only if the
+    /// spare capacity of `output` is less than the bytes written: all, or those before the missing variable.
+    /// The text in `output` is then unchanged.
     pub fn expand_into<'b, M: VariableMap<'b>>(
         &self,
         output: &mut String,
@@ -124,11 +124,11 @@ impl<'a> Template<'a> {
         ensures value { ByValue M.Value.text M.see (M.look_up variables.now) self.now
             (ExpandsInto (string_bytes output.old) result (string_bytes output.new)) }
 
-        // Whatever the map, an error leaves the text as it was, and the capacity only grows.
+        // For any map, an error leaves the text unchanged, and the capacity only grows.
         ensures kept { OnErr result (string_bytes output.new ≡ string_bytes output.old) }
         ensures capacity { string_capacity output.old ≤ string_capacity output.new }
 
-        // Out of memory only with cause: the capacity is less than what is written.
+        // Out of memory only if the capacity is less than the bytes written.
         ensures full { ByWritten M.Value.text M.see (M.look_up variables.now) self.now
             (Overflows (string_capacity output.old) (string_len output.old) result) }
         ensures sentence { IsSentence self.now }
@@ -138,8 +138,8 @@ impl<'a> Template<'a> {
         expand_text_into(self.source, &self.parts, variables, output)
     }
 
-    /// Returns the variables of the source, each with the byte offset of its name and its kind, in the order
-    /// of the source, also those in defaults. A name that is in the source twice is returned twice.
+    /// Returns the variables of the source, with the byte offset of each name and its kind, in the order of
+    /// the source. Those in defaults are included. A name that occurs twice is listed twice.
     ///
     /// ```rust
     /// let template = Template::from_str(alloc, "$a ${b:${c?}$a}")?;
@@ -152,7 +152,7 @@ impl<'a> Template<'a> {
     ///
     /// # Errors
     ///
-    /// When allocation fails.
+    /// If allocation fails.
     pub fn variables(&self, alloc: Global) -> Result<Vec<Variable<'a>>, AllocError>
         ensures variables { IfOk result (λ list. AreVariables self.now list.items) }
         ensures sentence { IsSentence self.now }
@@ -161,10 +161,10 @@ impl<'a> Template<'a> {
         variables(alloc, self.source.as_bytes(), &self.parts)
     }
 
-    /// Returns each variable that an expansion needs and `variables` has no value for, in the order of the
-    /// source; the names in a default that isn't used aren't needed. There is none exactly where the template
-    /// expands, and otherwise the first is the one that `expand` returns. A name that is missing twice is
-    /// returned twice, each time with its position. No value is read.
+    /// Returns the missing variables, in the order of the source: each that an expansion needs and
+    /// `variables` has no value for. The names in an unused default aren't needed. If the template expands,
+    /// there is none, and otherwise the first is the one that `expand` returns. A name that is missing twice
+    /// is listed twice, at both positions. No value is read.
     ///
     /// ```rust
     /// let template = Template::from_str(alloc, "$a ${b:${c?}$a}")?;
@@ -177,7 +177,7 @@ impl<'a> Template<'a> {
     ///
     /// # Errors
     ///
-    /// When allocation fails.
+    /// If allocation fails.
     pub fn missing<'b, M: VariableMap<'b>>(
         &self,
         alloc: Global,
@@ -193,7 +193,7 @@ impl<'a> Template<'a> {
     }
 }
 
-/// A copy has the same source. It allocates unless the template was borrowed.
+/// A clone has the same source. Its parts are copied if the template owns them, and borrowed otherwise.
 impl<'a> Clone for Template<'a> {
     ghost use Rattle.std.specs.Prelude.{◌≡◌};
 
@@ -208,7 +208,7 @@ impl<'a> Clone for Template<'a> {
     }
 }
 
-/// The source, as `Template("Hello $name!")`.
+/// Formats the source, as `Template("Hello $name!")`.
 impl<'a> fmt::Debug for Template<'a> {
     fn fmt<W: fmt::Write>(&self, f: &mut fmt::Formatter<W>) -> fmt::Result {
         f.debug_tuple("Template").field(&self.source).finish()

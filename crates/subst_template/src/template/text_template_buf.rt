@@ -45,18 +45,18 @@ impl Model for TemplateBuf {
 }
 
 impl TemplateBuf {
-    /// Returns the template of a source, which it takes over. A source that is refused is dropped.
+    /// Parses a source into a template that owns it. A refused source is dropped.
     ///
     /// # Errors
     ///
     /// As [`Template::from_str`].
     pub fn from_string(source: String) -> Result<Self, ParseError>
-        // Only a sentence has a template, which is that of the source.
+        // Only a sentence has a template, and the template's source is this sentence.
         ensures ok { IfOk result
             (λ template. IsSentence (string_bytes source) × (template ≡ string_bytes source)) }
         ensures err { OnFault parse_fault result (HasFault 0 (string_bytes source)) }
 
-        // The fault is in the source, between two of its characters.
+        // The range of the fault is in the source, at character boundaries.
         ensures range { IsRangedIn (string_bytes source) parse_fault result }
     {
         let alloc = *source.allocator();
@@ -64,11 +64,11 @@ impl TemplateBuf {
         Ok(TemplateBuf { source, parts })
     }
 
-    /// Returns a template of its own with the source of another one.
+    /// Copies a template, with its source.
     ///
     /// # Errors
     ///
-    /// Out of memory.
+    /// If allocation fails.
     pub fn from_template(alloc: Global, other: &Template<'_>) -> Result<Self, AllocError>
         ensures template { IfOk result (λ template. template ≡ other.now) }
     {
@@ -77,11 +77,11 @@ impl TemplateBuf {
         Ok(TemplateBuf { source, parts })
     }
 
-    /// Returns a template of its own with the source of another one, whose parts it takes over.
+    /// Converts a template into one that owns a copy of its source. Owned parts are moved, not copied.
     ///
     /// # Errors
     ///
-    /// Out of memory.
+    /// If allocation fails.
     pub fn of_template(alloc: Global, other: Template<'_>) -> Result<Self, AllocError>
         ensures template { IfOk result (λ template. template ≡ other.entry) }
     {
@@ -90,7 +90,7 @@ impl TemplateBuf {
         Ok(TemplateBuf { source, parts })
     }
 
-    /// Returns the template over the same source, borrowed. It takes no memory.
+    /// Borrows the template, without allocating.
     pub fn as_template(&self) -> Template<'_>
         ensures template { result ≡ self.now }
     {
@@ -100,7 +100,7 @@ impl TemplateBuf {
         }
     }
 
-    /// Returns the source, which is a sentence of the template language.
+    /// Returns the source, a sentence of the template language.
     pub fn source(&self) -> &str
         ensures source { result.now ≡ self.now }
         ensures sentence { IsSentence self.now }
@@ -108,7 +108,7 @@ impl TemplateBuf {
         &self.source
     }
 
-    /// Returns the source, and drops what was parsed of it.
+    /// Returns the source, and drops the parts.
     pub fn into_source(self) -> String
         ensures source { string_bytes result ≡ self }
         ensures sentence { IsSentence self }
@@ -116,7 +116,7 @@ impl TemplateBuf {
         self.source
     }
 
-    /// Returns the source with its variables filled in from `variables`, whose values are texts.
+    /// Expands the template with the values of `variables`, which are texts.
     ///
     /// # Errors
     ///
@@ -131,8 +131,8 @@ impl TemplateBuf {
         ensures value { ByValue M.Value.text M.see (M.look_up variables.now) self.now
             (Expands (λ output. string_bytes output) result) }
 
-        // Whatever the map: a template's source has a tree, and an error states the variable that its
-        // evaluation misses, which is in the source.
+        // For any map: the source has a tree, and an error states the variable that its evaluation misses,
+        // with a range in the source.
         ensures sentence { IsSentence self.now }
         ensures missing { Misses (M.look_up variables.now) self.now expand_fault result }
         ensures range { IsRangedIn self.now expand_fault result }
@@ -140,12 +140,12 @@ impl TemplateBuf {
         self.as_template().expand(alloc, variables)
     }
 
-    /// Appends the source with its variables filled in from `variables`, whose values are texts, to `output`,
-    /// as [`Template::expand_into`].
+    /// Expands the template with the values of `variables`, which are texts, and appends the text to
+    /// `output`, as [`Template::expand_into`].
     ///
     /// # Errors
     ///
-    /// As [`Template::expand_into`]. The text in `output` is then as before.
+    /// As [`Template::expand_into`]. The text in `output` is then unchanged.
     pub fn expand_into<'b, M: VariableMap<'b>>(
         &self,
         output: &mut String,
@@ -156,11 +156,11 @@ impl TemplateBuf {
         ensures value { ByValue M.Value.text M.see (M.look_up variables.now) self.now
             (ExpandsInto (string_bytes output.old) result (string_bytes output.new)) }
 
-        // Whatever the map, an error leaves the text as it was, and the capacity only grows.
+        // For any map, an error leaves the text unchanged, and the capacity only grows.
         ensures kept { OnErr result (string_bytes output.new ≡ string_bytes output.old) }
         ensures capacity { string_capacity output.old ≤ string_capacity output.new }
 
-        // Out of memory only with cause: the capacity is less than what is written.
+        // Out of memory only if the capacity is less than the bytes written.
         ensures full { ByWritten M.Value.text M.see (M.look_up variables.now) self.now
             (Overflows (string_capacity output.old) (string_len output.old) result) }
         ensures sentence { IsSentence self.now }
@@ -174,7 +174,7 @@ impl TemplateBuf {
     ///
     /// # Errors
     ///
-    /// When allocation fails.
+    /// If allocation fails.
     pub fn variables(&self, alloc: Global) -> Result<Vec<Variable<'_>>, AllocError>
         ensures variables { IfOk result (λ list. AreVariables self.now list.items) }
         ensures sentence { IsSentence self.now }
@@ -183,11 +183,11 @@ impl TemplateBuf {
         self.as_template().variables(alloc)
     }
 
-    /// Returns each variable that is missing, as [`Template::missing`].
+    /// Returns the missing variables, as [`Template::missing`].
     ///
     /// # Errors
     ///
-    /// When allocation fails.
+    /// If allocation fails.
     pub fn missing<'b, M: VariableMap<'b>>(
         &self,
         alloc: Global,
@@ -203,7 +203,7 @@ impl TemplateBuf {
     }
 }
 
-/// A copy has the same source.
+/// A clone has the same source.
 impl Clone for TemplateBuf {
     ghost use Rattle.std.specs.Prelude.{◌≡◌};
 
@@ -216,7 +216,7 @@ impl Clone for TemplateBuf {
     }
 }
 
-/// The borrowed template has the same source.
+/// Borrows the template, as [`TemplateBuf::as_template`].
 impl<'a> From<&'a TemplateBuf> for Template<'a> {
     ghost use Rattle.std.specs.Prelude.{◌≡◌};
 
@@ -227,7 +227,7 @@ impl<'a> From<&'a TemplateBuf> for Template<'a> {
     }
 }
 
-/// The source, as `TemplateBuf("Hello $name!")`.
+/// Formats the source, as `TemplateBuf("Hello $name!")`.
 impl fmt::Debug for TemplateBuf {
     fn fmt<W: fmt::Write>(&self, f: &mut fmt::Formatter<W>) -> fmt::Result {
         f.debug_tuple("TemplateBuf").field(&self.source).finish()

@@ -3,7 +3,7 @@ use Rattle.std.specs.List.{position_or_len}
 use Rattle.subst_error.specs.Line.{is_line_end}
 use Rattle.subst_error.proofs.line.line_end.Given as goal
 
--- no byte that was passed ends a line
+-- no byte from the offset to `end` ends a line
 abbrev pub invariant-loop-end : goal.invariant-loop-end
 invariant-loop-end l = record {
   after : l.fn.offset ≤ l.end;

@@ -1,4 +1,4 @@
--- The loop stops at the source's start, or after a byte that ends a line.
+-- The loop ends at the start of the source, or after a byte that ends a line.
 use Rattle.std.proofs.Common.{rules, ◌≡◌, ◌-◌, false, not, get_or, subst, arith}
 use Rattle.std.proofs.lemmas.List.Sums.{suffix_len-take_no}
 use Rattle.std.proofs.lemmas.Str.{IsCharBoundary-start}

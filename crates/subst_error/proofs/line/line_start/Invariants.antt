@@ -3,7 +3,7 @@ use Rattle.std.specs.List.{suffix_len}
 use Rattle.subst_error.specs.Line.{is_line_end}
 use Rattle.subst_error.proofs.line.line_start.Given as goal
 
--- no byte that was passed ends a line
+-- no byte from `start` to the offset ends a line
 abbrev pub invariant-loop-start : goal.invariant-loop-start
 invariant-loop-start l = record {
   before : l.start ≤ l.fn.offset;

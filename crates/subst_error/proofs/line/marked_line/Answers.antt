@@ -1,4 +1,4 @@
--- The line is what is before the range's start and what is from it on.
+-- The line is the text before the start of the range and the text from there on.
 use Rattle.subst_error.proofs.LineLemmas.{slice_range_in_two}
 use Rattle.subst_error.proofs.line.marked_line.Goals as goal
 

@@ -2,7 +2,7 @@ use Rattle.std.proofs.Common.{◌≡◌, ◌+◌, ◌≤◌, length}
 use Rattle.subst_error.specs.Position.{line_end_count}
 use Rattle.subst_error.proofs.position.count_line_ends.Given as goal
 
--- the lines that were counted and those that are left are all lines, and a byte ends at most one
+-- the line ends counted and those left are all line ends; a byte is at most one
 abbrev pub invariant-loop-text : goal.invariant-loop-text
 invariant-loop-text l = record {
   counted : l.count + line_end_count l.text ≡ line_end_count l.initial.text;

@@ -1,4 +1,4 @@
--- What each part gives by itself is what was appended.
+-- The output of each kind of part is appended.
 use Rattle.std.proofs.lemmas.Grind.{common_steps}
 use Rattle.std.proofs.Common.{arith, [], ◌∷◌, map, ap, refl, sym}
 use Rattle.subst_language.specs.Language.Steps.{Own}

@@ -1,4 +1,4 @@
--- Each part is read at its index, and what it gives is appended.
+-- Each part is read at its index, and its output is appended.
 use Rattle.std.proofs.Common.{[], ◌∷◌, map, arith, refl, sym, ap, ◌∙◌}
 use Rattle.std.proofs.lemmas.Result.{err_from_is_err_and}
 use Rattle.subst_language.specs.Language.Steps.{Own}

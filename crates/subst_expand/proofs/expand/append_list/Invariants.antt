@@ -1,4 +1,4 @@
--- At each pass the list has the same parts, and those before the index were visited that an expansion visits.
+-- The list has the same parts, and the expansion has visited its parts before the index.
 use Rattle.std.proofs.Common.{◌≡◌, length, ◌-◌, ◌≤◌}
 use Rattle.subst_expand.specs.Context.{context_of}
 use Rattle.subst_expand.proofs.LoopLemmas.{HasVisited}

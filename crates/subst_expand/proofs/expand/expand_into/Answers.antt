@@ -1,4 +1,4 @@
--- What was appended to the items, which are cut off again where there is an error.
+-- The output is appended to the items, and cut off again if there is an error.
 use Rattle.std.proofs.Common.{refl, ◌∙◌}
 use Rattle.std.proofs.Math.Seq.{take-append_seam}
 use Rattle.subst_expand.proofs.ExpansionLemmas.{expanded, expanded_until, named_stop}

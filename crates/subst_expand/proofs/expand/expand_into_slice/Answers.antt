@@ -1,4 +1,4 @@
--- What was written, from what the slice was at first.
+-- The bytes written, from the first state of the slice.
 use Rattle.std.proofs.Common.{refl, rules, []}
 use Rattle.subst_expand.proofs.ExpansionLemmas.{states_stop, named_stop}
 use Rattle.subst_expand.proofs.expand.expand_into_slice.Goals as goal

@@ -1,4 +1,4 @@
--- The parts give what the source's tree gives, and that is UTF-8 where the source and the values are.
+-- The value of the parts is that of the source's tree, which is UTF-8 if the source and the values are.
 use Rattle.std.proofs.Common.{IfSome, ap, sym, ◌∙◌, subst}
 use Rattle.std.specs.Str.{IsUtf8}
 use Rattle.subst_error.specs.ErrorFault.{expand_fault}

@@ -1,4 +1,4 @@
--- The parts give what the source's tree gives, and what is appended is UTF-8 where the values are.
+-- The value of the parts is that of the source's tree, and the appended bytes are UTF-8 if the values are.
 use Rattle.std.proofs.Common.{IfSome, ap, sym, ◌∙◌, subst, refl}
 use Rattle.std.proofs.lemmas.Result.{IfErr-weaker}
 use Rattle.std.proofs.lemmas.Str.{IsUtf8-had}

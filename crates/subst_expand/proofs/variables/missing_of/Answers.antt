@@ -1,4 +1,4 @@
--- Each part that is visited is read at its index, and what it is missing is listed.
+-- Each visited part is read at its index, and its missing variable is listed.
 use Rattle.std.proofs.Common.{◌≡◌, ◌++◌, append-nil, option_to_list, refl, sym, arith}
 use Rattle.std.proofs.lemmas.List.{length-map}
 use Rattle.subst_expand.specs.Packed.{unpacked}

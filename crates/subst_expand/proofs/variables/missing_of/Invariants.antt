@@ -1,5 +1,4 @@
--- What is listed so far, and what is missing of the parts that are visited from here on, are together all
--- that is missing.
+-- The listed variables, and the missing ones of the parts visited from here on, are all missing ones.
 use Rattle.std.proofs.Common.{◌≤◌, ◌-◌, length}
 use Rattle.subst_language.specs.Calls.VariableMap.{ByNames}
 use Rattle.subst_expand.specs.Packed.{unpacked_parts}

@@ -1,4 +1,4 @@
--- The variables that are listed, and those of the parts from here on, are all.
+-- The listed variables, and those of the parts from here on, are all.
 use Rattle.subst_expand.specs.Packed.{unpacked_parts}
 use Rattle.subst_expand.proofs.VariablesLemmas.{TellsSoFar}
 use Rattle.subst_expand.proofs.variables.variables_of.Given as goal

@@ -1,4 +1,4 @@
--- Each turn passes plain bytes and a token.
+-- Each turn reads plain bytes and a token.
 use Rattle.subst_foreign.proofs.ReadingLemmas.{Passes, waits_anew, waits_end, waits_more}
 use Rattle.subst_foreign.specs.Reading.{grammar_of, token_of}
 use Rattle.subst_foreign.proofs.convert.convert.Goals as goal

@@ -1,4 +1,4 @@
--- The template, with the run that waits, and the refused forms are those of the text up to the rest.
+-- The template, with the pending bytes, and the refused forms are those of the text up to the rest.
 use Rattle.std.proofs.Common.{length}
 use Rattle.subst_foreign.proofs.ReadingLemmas.{Waits}
 use Rattle.subst_foreign.specs.Reading.{grammar_of}

@@ -1,4 +1,4 @@
--- What was written and the rest escaped stay the text escaped, up to the end.
+-- The written bytes and the rest, escaped, are the text escaped in each turn, up to the end.
 use Rattle.std.proofs.Common.{◌∷◌, ◌++◌, ◌+◌, take, slice_range, sym, arith, rules}
 use Rattle.std.proofs.lemmas.Grind.{common_steps}
 use Rattle.subst_language.specs.Language.Bytes.{backslash}

@@ -1,4 +1,4 @@
--- What was written and the rest escaped are the text escaped. The capacity never shrinks.
+-- The written bytes and the rest, escaped, are the text escaped. The capacity never shrinks.
 use Rattle.std.proofs.Common.{◌≡◌, ◌≤◌, ◌+◌, ◌++◌, ℕ, List, length, string_bytes, string_len, string_capacity}
 use Rattle.std.specs.Str.{IsUtf8}
 use Rattle.subst_language.specs.Language.Escaped.{escaped}

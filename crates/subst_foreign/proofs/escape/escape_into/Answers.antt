@@ -1,4 +1,4 @@
--- What was written may be cut where the output ended before.
+-- The output may be truncated to its earlier length.
 use Rattle.std.proofs.Common.{◌≡◌, length, string_bytes, sym, subst, arith}
 use Rattle.std.proofs.lemmas.Str.{IsUtf8-string_bytes}
 use Rattle.std.specs.Str.{IsUtf8}

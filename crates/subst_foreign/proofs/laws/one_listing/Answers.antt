@@ -1,4 +1,4 @@
-use Rattle.subst_foreign.proofs.ListedLemmas.{listed_in_text, refused_in_text, text_told}
+use Rattle.subst_foreign.proofs.ListedLemmas.{listed_in_text, refused_in_text, text_named}
 use Rattle.subst_foreign.proofs.OneListing.{same_listing, text_is_listed}
 use Rattle.subst_foreign.proofs.laws.one_listing.Goals as goal
 
@@ -6,18 +6,18 @@ use Rattle.subst_foreign.proofs.laws.one_listing.Goals as goal
 pub returns-clause-one_list : goal.returns-clause-one_list
 returns-clause-one_list g c s = same_listing _ 0 0 s
 
--- those that are listed are those of the items
+-- the listed variables are those of the items
 pub returns-clause-variables : goal.returns-clause-variables
 returns-clause-variables g c text listed is listing = text_is_listed _ text is listed listing
 
--- the names that are told are theirs
-pub returns-clause-told : goal.returns-clause-told
-returns-clause-told g c text = text_told _ _ text _
+-- the reported names are those of the variables
+pub returns-clause-named : goal.returns-clause-named
+returns-clause-named g c text = text_named _ _ text _
 
--- what is listed lies in the text
+-- listed variables lie within the text
 pub returns-clause-within : goal.returns-clause-within
 returns-clause-within g c s listed = listed_in_text _ s listed
 
--- what is refused begins in the text
+-- refused forms begin within the text
 pub returns-clause-refused_within : goal.returns-clause-refused_within
 returns-clause-refused_within g c s refused = refused_in_text _ s refused

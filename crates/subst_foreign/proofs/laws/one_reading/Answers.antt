@@ -5,11 +5,11 @@ use Rattle.subst_foreign.proofs.laws.one_reading.Goals as goal
 pub returns-clause-one_list : goal.returns-clause-one_list
 returns-clause-one_list g c s = same_reading _ 0 0 0 s
 
--- a text in which nothing is refused is one of the grammar
+-- a text without refused forms is one of the grammar
 pub returns-clause-text_read : goal.returns-clause-text_read
 returns-clause-text_read g c = read_text _
 
--- a text of the grammar is read to nothing refused
+-- a text of the grammar is read without refused forms
 pub returns-clause-nothing_refused : goal.returns-clause-nothing_refused
 returns-clause-nothing_refused g c = text_is_read _
 

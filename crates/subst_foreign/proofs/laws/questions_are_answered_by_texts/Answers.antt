@@ -7,7 +7,7 @@ use Rattle.subst_language.specs.declared.maps.layered.OneOf.{OneOf}
 use Rattle.subst_language.specs.declared.maps.layered.OneOf.TheVariants.{First, Second}
 use Rattle.subst_foreign.proofs.laws.questions_are_answered_by_texts.Goals as goal
 
--- the text of an answer has the answer's bytes where that of a value has the value's
+-- the text of an answer has the answer's bytes, if the text of each value has the value's
 text_is_bytes : {V : Type 0} (text items : V → List ℕ) → ((v : V) → text v ≡ items v)
     → (answer : OneOf V (Bor (List ℕ)))
     → of_one text (λ t. t.now) answer ≡ of_one items (λ t. t.now) answer

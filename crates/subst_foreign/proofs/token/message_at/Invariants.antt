@@ -1,4 +1,4 @@
--- How many braces are open of the message so far.
+-- The message is read up to the index, with this many braces open.
 use Rattle.std.proofs.Common.{take, drop}
 use Rattle.subst_foreign.proofs.TokenLemmas.{IsInMessage}
 use Rattle.subst_foreign.proofs.token.message_at.Given as goal

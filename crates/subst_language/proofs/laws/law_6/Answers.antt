@@ -6,6 +6,6 @@ use Rattle.subst_language.proofs.laws.law_6.Goals as goal
 pub returns-clause-settled : goal.returns-clause-settled
 returns-clause-settled c = settled_stays
 
--- each other fault is mended by some text
+-- each other fault is removed by some text
 pub returns-clause-unsettled : goal.returns-clause-unsettled
 returns-clause-unsettled c = unsettled_mended

@@ -1,4 +1,4 @@
--- Bytes are a name where there are some, and all pass the test.
+-- Bytes are a name if there are any, and all pass the test.
 use Rattle.std.proofs.Common.{◌≡◌, ◌==◌, ◌↔◌, IsTrue, ℕ, Bool, false, List, [], ◌∷◌, length, sym, ◌∙◌}
 use Rattle.std.specs.List.{list_all}
 use Rattle.std.proofs.lemmas.List.Elements.{All-from_recursion, recursion_from_All}

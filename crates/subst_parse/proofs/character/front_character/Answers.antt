@@ -1,4 +1,4 @@
--- Where no text is at the front, no character is, and the first byte is the answer.
+-- If no text is at the front, no character is, and the answer is the first byte.
 use Rattle.std.proofs.Common.{ap, length, arith}
 use Rattle.std.proofs.lemmas.List.{nil_from_length}
 use Rattle.subst_language.proofs.Language.ListLemmas.{first_byte}

@@ -1,4 +1,4 @@
--- What is read is a prefix of the first four bytes, and the longest text there.
+-- The text is a prefix of the first four bytes, and the longest one.
 use Rattle.std.proofs.Common.{sym, ap, ◌∙◌}
 use Rattle.subst_language.proofs.Language.FrontCharacterLemmas.{no_character_in_nothing, no_character_in_no_text, read_text}
 use Rattle.subst_parse.proofs.character.front_text.Goals as goal

@@ -1,4 +1,4 @@
--- One lemma for no name, and one for what is after a name.
+-- One lemma for no name, and one for each byte after a name.
 use Rattle.std.proofs.Common.{length, refl, ap, arith, length-drop}
 use Rattle.subst_parse.proofs.PlaceholderLemmas.{in_braces_at, nameless_braces_at, unended_name_at, unexpected_byte_at}
 use Rattle.subst_parse.proofs.item.braced_at.Goals as goal

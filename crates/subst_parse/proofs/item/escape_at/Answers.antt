@@ -1,4 +1,4 @@
--- One lemma for each thing that may be after the backslash.
+-- One lemma for each case after the backslash.
 use Rattle.std.proofs.Common.{sym, ◌∙◌}
 use Rattle.subst_parse.proofs.PlaceholderLemmas.{escape_at, lone_backslash_at, other_escape_at}
 use Rattle.subst_parse.proofs.item.escape_at.Goals as goal

@@ -1,4 +1,4 @@
--- What is after the dollar.
+-- The two cases after the dollar.
 use Rattle.std.proofs.Common.{sym, ◌∙◌}
 use Rattle.subst_language.proofs.Language.ListLemmas.{byte_is, next_element, next_elements}
 use Rattle.subst_language.specs.Language.Bytes.{dollar, opening_brace}

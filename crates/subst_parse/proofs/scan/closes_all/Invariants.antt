@@ -1,5 +1,4 @@
--- The search has come from its start to here with a read for each turn, and each turn brings it nearer to
--- the end of the source.
+-- The search has made one read a turn since its start, and each turn advances towards the end of the source.
 use Rattle.std.proofs.Common.{◌≡◌, ◌+◌, ◌-◌, ◌≤◌, length}
 use Rattle.subst_parse.proofs.ScanLemmas.{IsScan}
 use Rattle.subst_parse.proofs.scan.closes_all.Given as goal

@@ -1,4 +1,4 @@
--- What the writer holds at the end is what came of the expansion.
+-- The parts that the writer holds at the end determine the outcome of the expansion.
 use Rattle.std.proofs.Common.{refl, ◌∙◌, arith}
 use Rattle.subst_expand.proofs.ExpansionLemmas.{room_since, cut_back, named_since, expanded_since, failed_since}
 use Rattle.subst_template.proofs.one_pass.expand_in_one_pass.Goals as goal

@@ -1,4 +1,4 @@
--- An error with a name of its own states the same refusal.
+-- An error that owns its name states the same refusal.
 use Rattle.subst_template.proofs.SubstituteLemmas.{owned_refuses}
 use Rattle.subst_template.proofs.one_pass.substitute.Goals as goal
 

@@ -1,4 +1,4 @@
--- What came of the expansion is the answer of the source.
+-- The outcome of the expansion is the answer of the source.
 use Rattle.std.proofs.lemmas.Result.{err_from_is_err_and}
 use Rattle.subst_language.proofs.Language.RangeWithinLemmas.{parse_result_within}
 use Rattle.subst_template.proofs.SubstituteLemmas.{answers, refuses, refuses_by_names, short_room, range_within}

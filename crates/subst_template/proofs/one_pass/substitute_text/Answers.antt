@@ -1,4 +1,4 @@
--- What was written is a text where the values are, and the range of a refusal of a text is in it.
+-- The output is a text if the values are, and the range of a refusal of a text is in it.
 use Rattle.std.proofs.Common.{sym, subst}
 use Rattle.std.proofs.lemmas.Result.{err_from_is_err_and}
 use Rattle.std.proofs.lemmas.Str.{IsUtf8-nil}

@@ -1,4 +1,4 @@
--- What was appended is a text where the values are, and the range of a refusal of a text is in it.
+-- The appended bytes are a text if the values are, and the range of a refusal of a text is in it.
 use Rattle.std.proofs.Common.{refl, sym, subst}
 use Rattle.std.proofs.lemmas.Str.{IsUtf8-had}
 use Rattle.std.specs.Str.{IsUtf8}

@@ -1,4 +1,4 @@
--- A source without dollars and backslashes is a sentence, and gives itself.
+-- A source without dollars and backslashes is a sentence and its own output.
 use Rattle.std.proofs.Common.{None}
 use Rattle.subst_language.specs.Calls.VariableMap.{look_up_of}
 use Rattle.subst_language.proofs.CallingLemmas.{plain_answer}

@@ -1,4 +1,4 @@
--- Four texts are written one after the other; the second is a quoted form of the character.
+-- Four texts are written; the second is a quoted form of the character.
 use Rattle.std.proofs.Common.{rules, refl, true, Ok}
 use Rattle.subst_error.proofs.StyledLemmas.{unexpected_styled}
 use Rattle.subst_error.proofs.WritingLemmas.{unexpected_written}

@@ -1,4 +1,4 @@
--- The part at the index gets its jump, and the others stay.
+-- The jump of the part at the index is set, and the other parts are unchanged.
 use Rattle.std.proofs.Common.{◌∷◌, ◌++◌, length, ◌∙◌}
 use Rattle.std.proofs.Math.Seq.{set-append_seam}
 use Rattle.subst_language.specs.declared.part.Part.TheVariants.{Default}

@@ -1,4 +1,4 @@
--- Each turn passes plain bytes and a token.
+-- Each turn reads plain bytes and a token.
 use Rattle.subst_foreign.proofs.ListingLemmas.{ends, passes, starts}
 use Rattle.subst_foreign.proofs.style.Style.variables.Goals as goal
 

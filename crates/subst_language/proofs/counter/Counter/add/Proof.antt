@@ -26,7 +26,7 @@ use Rattle.subst_language.proofs.counter.Counter.add.Code as code
 abbrev Fields : ℕ → Type 0
 Fields n = (d : Inside) × ((view d ≡ n) × Unit {0})
 
--- what a counter at n owns, at these fields and this machine value
+-- the memory of a counter at n, with these fields and this machine value
 abbrev Owned : List Val → (n : ℕ) → Fields n → Fml
 Owned us n x = fsep (inside.own_val x.0 us) ftrue
 
@@ -50,7 +50,7 @@ add_spec 𝓤 𝓛 𝓜 𝓡 wired =
     enter ! _ _ _ _ _ $
     alloc_all ! (λ l. pass_all ! refl ((tt, tt), ((tt, record { fits = are.1.0.1 }), tt)) $
     fsplit3 ! $ move ! (1 ∷ 2 ∷ 3 ∷ []) $ opens ! tt R b o (λ us.
-    -- what is owned is put back at n + k
+    -- the memory is returned at n + k
     move ! (1 ∷ []) $ fpick ! (λ x. fpack ! (Fields (n + k)) (Owned us (n + k))
     (record { count = x.0.count + k }, (ap (λ m. m + k) x.1.0, tt)) $
     move ! (1 ∷ 0 ∷ []) $ closes ! tt R (n + k) us b o $

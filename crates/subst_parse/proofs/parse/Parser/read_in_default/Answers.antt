@@ -1,4 +1,4 @@
--- After the run of bytes without a meaning: the end, or one of four bytes.
+-- After the run of inner bytes: the end, or one of four bytes.
 use Rattle.std.proofs.Common.{◌+◌, length, drop, refl, ap, ◌∙◌, subst, length-drop, arith}
 use Rattle.subst_language.specs.Language.Name.{BeginsWithNo}
 use Rattle.subst_parse.specs.Inner.{IsInner}

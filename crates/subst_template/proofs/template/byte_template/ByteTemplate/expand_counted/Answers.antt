@@ -1,5 +1,4 @@
--- What the parts give and how many of them are visited is what the source's tree gives, and how many of its
--- parts are visited.
+-- The value of the parts, and the number of visited ones, are those of the source's tree.
 use Rattle.std.proofs.Common.{◌≡◌, ◌≤◌, ◌+◌, ℕ, List, IfErr, length, sym, subst}
 use Rattle.std.specs.Prelude.{OnOk}
 use Rattle.subst_error.specs.ErrorFault.{expand_fault}

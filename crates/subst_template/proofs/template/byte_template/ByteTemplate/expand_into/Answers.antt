@@ -1,4 +1,4 @@
--- What is appended is what the source's tree gives.
+-- The appended bytes are the value of the source's tree.
 use Rattle.std.proofs.Common.{◌≤◌, ◌<◌, ◌+◌, ℕ, List, IfErr, length, vec_capacity, vec_len, sym, subst}
 use Rattle.subst_error.specs.ErrorFault.{expand_into_fault}
 use Rattle.subst_error.specs.Range.{range_of}

@@ -1,4 +1,4 @@
--- What is written is what the source's tree gives.
+-- The bytes written are the value of the source's tree.
 use Rattle.std.proofs.Common.{◌≤◌, ◌^◌, ℕ, List, IfErr, length, sym, subst}
 use Rattle.subst_error.specs.ErrorFault.{expand_into_fault}
 use Rattle.subst_error.specs.Range.{range_of}

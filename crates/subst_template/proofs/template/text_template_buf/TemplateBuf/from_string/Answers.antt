@@ -1,4 +1,4 @@
--- A fault of the source has its range in the source.
+-- The range of a fault is in the source.
 use Rattle.std.proofs.Common.{rules, string_bytes}
 use Rattle.std.proofs.lemmas.Str.{IsUtf8-string_bytes}
 use Rattle.subst_error.specs.ErrorFault.{parse_fault}

@@ -1,8 +1,8 @@
 use Rattle.std.proofs.Common.{sym, ◌∙◌}
 use Rattle.std.proofs.lemmas.Bool.{false≢true}
 use Rattle.std.proofs.lemmas.List.{take_rest}
-use Rattle.subst_foreign.proofs.TokenLemmas.{fit_dollar, nameless, unfit_refused, unread_dollar}
-use Rattle.subst_foreign.proofs.token.unfit_step.Goals as goal
+use Rattle.subst_foreign.proofs.TokenLemmas.{fit_dollar, nameless, other_end_refused, unread_dollar}
+use Rattle.subst_foreign.proofs.token.lone_brace_step.Goals as goal
 
 pub returns-then-not-is_whole : goal.returns-then-not-is_whole
 returns-then-not-is_whole g c depth =
@@ -14,17 +14,17 @@ returns-then-not-is_name_of g c depth =
     (nameless _ depth c.args.name.now c.args.after.now (sym c.if-not-is_whole.ensures) c.requires.run
     c.requires.ended (λ named. false≢true (c.if-not-is_name_of.ensures.1 named)))
 
-pub returns-else-is_unfit : goal.returns-else-is_unfit
-returns-else-is_unfit g c depth =
+pub returns-else-is_other : goal.returns-else-is_other
+returns-else-is_other g c depth =
     let (named, shell) = c.is_name_of.ensures.0 c.if-not-is_name_of.false in
     rw (c.requires.text)
     (fit_dollar _ depth c.args.name.now c.args.after.now (sym c.if-not-is_whole.ensures) named shell
-    c.requires.ended (λ end. false≢true (sym c.if-is_unfit.false ∙ c.requires.unfit.1 end))
+    c.requires.ended (λ end. false≢true (sym c.if-is_other.false ∙ c.requires.other_end.1 end))
     (rw c.requires.text at c.requires.no_head))
 
-pub returns-then-is_unfit : goal.returns-then-is_unfit
-returns-then-is_unfit g c depth =
+pub returns-then-is_other : goal.returns-then-is_other
+returns-then-is_other g c depth =
     let (named, shell) = c.is_name_of.ensures.0 c.if-not-is_name_of.false in
     rw (c.requires.text)
-    (unfit_refused _ depth c.args.name.now c.args.after.now c.form_at.result (sym c.if-not-is_whole.ensures) named
-    shell c.requires.ended (c.requires.unfit.0 c.if-is_unfit.true) c.form_at.ensures)
+    (other_end_refused _ depth c.args.name.now c.args.after.now c.form_at.result (sym c.if-not-is_whole.ensures)
+    named shell c.requires.ended (c.requires.other_end.0 c.if-is_other.true) c.form_at.ensures)
