@@ -1,4 +1,4 @@
--- Changes of the values of a tree: as they are kept, how deep they are, and what they make of values.
+-- Changes of the values in a tree: as lists, their depth, and the values after them.
 use Rattle.std.proofs.Common.{◌≡◌, ◌≤◌, ◌+◌, ◌-◌, ◌<◌, ℕ, zero, suc, max, Bool, true, cond, List, [], ◌∷◌, ◌++◌, length, map, take, drop, set, get_or, replicate, Vec, Global, refl, sym, ap, ◌∙◌, subst, append_assoc, append-nil, rules, arith}
 use Rattle.std.proofs.lemmas.List.{drop_more, drop-set-lt, take_more_set, length-append}
 use Rattle.std.specs.List.{FoldsTo}
@@ -14,13 +14,13 @@ pub slots-append : (xs ys : List Change) → slots (xs ++ ys) ≡ slots xs ++ sl
 slots-append [] ys = refl
 slots-append (x ∷ xs) ys = search (rules, slots_of, append_assoc, slots-append xs ys)
 
--- a change that isn't one of values that stay is alone
+-- a change that keeps no values is one of a single value
 pub alone : (change : Change) → ((n : ℕ) → change ≡ Kept n → ⊥) → slots (change ∷ []) ≡ one change ∷ []
 alone (Kept n) h = absurd (h n refl)
 alone (Text x) h = refl
 alone (Inside' shape all) h = refl
 
--- values that stay, as one change
+-- kept values, as one change
 pub run : (n : ℕ) → 0 < n → slots (Kept (n - 1) ∷ []) ≡ replicate n (Kept 0)
 run n h = search (rules, append-nil, replicate)
 
@@ -31,7 +31,7 @@ slots-empty (change ∷ changes) h = absurd (omega arith)
 pub inside-Inside : (v : Vec Change Global) → inside (Inside v) ≡ slots v.items
 inside-Inside v = search (rules, the_lemmas)
 
--- How deep changes are: by this the walk that makes them ends.
+-- The depth of changes, by which the walk that makes them ends.
 
 abbrev deepest : List ℕ → ℕ
 deepest [] = 0
@@ -73,7 +73,7 @@ pub depth-rest : (changes : List Change) → changes_depth (rest_of changes) ≤
 depth-rest [] = omega arith
 depth-rest (change ∷ changes) = grind arith
 
--- What changes make of values. `Made` tells what a value becomes by one.
+-- The values after changes. `Made` is the relation of a value, its change and the value after it.
 module _ {T : Type 0} (Made : T → Change → T → Type 0) where
   made_append : (vs : List T) (changes : List Change) (v : T) (change : Change) → length changes ≡ length vs
       → AreMade Made vs changes vs → Made v change v
@@ -84,7 +84,7 @@ module _ {T : Type 0} (Made : T → Change → T → Type 0) where
   made_append [] (c ∷ changes) v change long h k = absurd (omega arith)
   made_append (x ∷ vs) [] v change long h k = absurd (omega arith)
 
-  -- a value more, with what was found for it
+  -- one more value, with its change
   pub found_more : (vs : List T) (found more : List Change) (v : T) (change : Change)
       → more ≡ found ++ change ∷ [] → length found ≡ length vs → AreMade Made vs found vs → Made v change v
       → (length more ≡ length (vs ++ v ∷ [])) × AreMade Made (vs ++ v ∷ []) more (vs ++ v ∷ [])
@@ -94,7 +94,7 @@ module _ {T : Type 0} (Made : T → Change → T → Type 0) where
         (made_append vs found v change long h k),
   )
 
-  -- values stay by the changes at the end
+  -- the kept values at the end need no changes
   pub made_up_to_kept : (vs : List T) (changes : List Change) (n : ℕ) (ws : List T)
       → AreMade Made vs (changes ++ replicate n (Kept 0)) ws → AreMade Made vs changes ws
   made_up_to_kept [] changes n [] h = tt
@@ -104,7 +104,7 @@ module _ {T : Type 0} (Made : T → Change → T → Type 0) where
   made_up_to_kept (v ∷ vs) [] (suc n) (w ∷ ws) h = (h.0, made_up_to_kept vs [] n ws h.1)
   made_up_to_kept (v ∷ vs) (c ∷ changes) n (w ∷ ws) h = (h.0, made_up_to_kept vs changes n ws h.1)
 
-  -- If all values are made once those from an index on are, so they are once those after it are.
+  -- If all values are made once those from an index on are, they are once those after it are.
   pub made_at : (old all : List T) (i : ℕ) (v w : T) (first changes : List Change) → i < length all
       → v ≡ get_or all i v → Made v (next_of changes) w
       → ((ws : List T) → AreMade Made (drop i all) changes ws → AreMade Made old first (take i all ++ ws))
@@ -120,7 +120,7 @@ module _ {T : Type 0} (Made : T → Change → T → Type 0) where
       subst (AreMade Made old first) (sym taken)
       (so_far (w ∷ ws) (subst (λ vs. AreMade Made vs changes (w ∷ ws)) (sym left) (made, rest)))
 
-  -- what `retain` leaves, where each call makes of a value what the next change says
+  -- the entries that `retain` keeps, if each call makes the next change of a value
   pub made_by_retain : {F K : Type 0} (Calls : F → K → T → Bool → T → F → Type 0) (left : F → List Change)
       → ((f : F) (k : K) (v : T) (b : Bool) (w : T) (f' : F) → Calls f k v b w f'
       → (b ≡ true) × Made v (next_of (left f)) w × (left f' ≡ rest_of (left f)))
@@ -139,7 +139,7 @@ module _ {T : Type 0} (Made : T → Change → T → Type 0) where
         subst (λ es'. AreMade Made (e.1 ∷ values_of es) (left f) (values_of es')) (sym all) (made, those),
       )
 
--- A closure may be called at each entry where what it needs holds at first, and each call keeps it.
+-- A closure may be called at each entry if its condition holds at first and each call preserves it.
 module _ {F K T : Type 0} (Calls : F → K → T → Bool → T → F → Type 0) (Takes : F → K → T → Type 0)
     (Holds : F → Type 0)
     (keeps : (f : F) (k : K) (v : T) (b : Bool) (w : T) (f' : F) → Calls f k v b w f' → Holds f → Holds f')

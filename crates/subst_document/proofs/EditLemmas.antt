@@ -1,4 +1,4 @@
--- Texts whose strings are filled in, a part at a time.
+-- Texts whose strings are filled in, one part at a time.
 use Rattle.std.proofs.Common.{◌≡◌, ℕ, List, [], ◌∷◌, ◌++◌, inl, inr, refl, sym, ap, ◌∙◌, subst, append_assoc, append-nil}
 use Rattle.subst_language.specs.Language.Answer.{Answer}
 use Rattle.subst_language.specs.Language.Several.{AreGiven, GivesBy}
@@ -8,7 +8,7 @@ use Rattle.subst_document.proofs.SpliceLemmas.{respelled_weaker}
 
 module _ (IsToken : List ℕ → List ℕ → Type 0) (IsPart : List ℕ → List ℕ → List ℕ → Type 0)
     (Fits : List ℕ → List ℕ → Type 0) where
-  -- a token is passed, and in its place is one of the value
+  -- a token is read, and one of the value replaces it
   pub edited : (Becomes : List ℕ → List ℕ → Type 0) (x value source before token respelled rest old new : List ℕ)
       → Becomes x value → ¬ (value ≡ x) → IsToken token x → IsToken respelled value
       → IsRespelled IsPart Fits Becomes x value token respelled → source ≡ before ++ (token ++ rest)
@@ -37,12 +37,12 @@ module _ (IsToken : List ℕ → List ℕ → Type 0) (IsPart : List ℕ → Lis
     ),
   )
 
-  -- nothing is passed, and nothing appended
+  -- nothing is read, and nothing appended
   pub none_filled : (Becomes : List ℕ → List ℕ → Type 0) (text old : List ℕ)
       → IsFilledUpTo IsToken IsPart Fits Becomes [] text text old old
   none_filled Becomes text old = ([], sym (append-nil old), λ more filled h. h)
 
-  -- a string that becomes itself stays in the rest
+  -- an unchanged string stays in the rest
   pub stayed : (Becomes : List ℕ → List ℕ → Type 0) (x text old new : List ℕ) → Becomes x x → new ≡ old
       → IsFilledUpTo IsToken IsPart Fits Becomes (x ∷ []) text text old new
   stayed Becomes x text old new same is = ([], is ∙ sym (append-nil old), λ more filled h. inl (same, h))
@@ -70,7 +70,7 @@ module _ (IsToken : List ℕ → List ℕ → Type 0) (IsPart : List ℕ → Lis
       (subst (IsFilledText IsToken IsPart Fits Becomes (strings ++ []) source)
       (sym (is ∙ ap (λ l. l ++ rest) is_p)) (before [] rest refl))
 
-  -- what a string becomes may be said in a weaker way
+  -- the relation of a string and its value may be weakened
   pub filled_weaker : (Becomes Stays : List ℕ → List ℕ → Type 0)
       → ((x y : List ℕ) → Becomes x y → Stays x y) → (strings : List (List ℕ)) (source output : List ℕ)
       → IsFilledText IsToken IsPart Fits Becomes strings source output
@@ -101,7 +101,7 @@ module _ (IsToken : List ℕ → List ℕ → Type 0) (IsPart : List ℕ → Lis
       )
 
   module _ (ask : List ℕ → Answer → Type 0) where
-    -- where a text is filled in, its strings give bytes
+    -- if a text is filled in, its strings have outputs
     given_where_filled : (strings : List (List ℕ)) (source output : List ℕ)
         → IsFilledText IsToken IsPart Fits (GivesBy ask) strings source output → AreGiven ask strings
     given_where_filled [] source output h = ([], tt)
@@ -111,7 +111,7 @@ module _ (IsToken : List ℕ → List ℕ → Type 0) (IsPart : List ℕ → Lis
         let (outputs, given) = given_where_filled strings edit.rest edit.filled_rest h in
         (value ∷ outputs, (gives, given))
 
-    -- so do those of a part
+    -- so have those of a part
     pub given_so_far : (strings : List (List ℕ)) (text rest old new : List ℕ)
         → IsFilledUpTo IsToken IsPart Fits (GivesBy ask) strings text rest old new → AreGiven ask strings
     given_so_far strings text rest old new (p, is, before) =

@@ -1,4 +1,4 @@
--- What is known of a map's answer to a text, from the clauses of a call that substitutes it.
+-- A map's answer to a text, from the clauses of a call that substitutes it.
 use Rattle.std.proofs.Common.{◌≡◌, ℕ, List, Option, Some, None, Result, Ok, Err, IfOk, IfSome, IsSomeAnd, is_some, true}
 use Rattle.std.specs.List.{All}
 use Rattle.std.specs.Option.{option_map}
@@ -16,7 +16,7 @@ use Rattle.subst_language.proofs.CallingLemmas.{plain_answer}
 
 module _ {V Seen : Type 0} (items : V → List ℕ) (see : V → Seen) (look_up : List ℕ → Option Seen)
     (s : List ℕ) where
-  -- a plain text gives itself
+  -- the output of a plain text is the text
   pub plain_text : All IsPlain s → AnswersText items see look_up s (Gives s)
   plain_text plain =
       let (t, spells, gives) = plain_answer s (λ name. None) plain in

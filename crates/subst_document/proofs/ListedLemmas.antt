@@ -1,4 +1,4 @@
--- Lists of the strings of a text, a part at a time.
+-- Lists of the strings of a text, one part at a time.
 use Rattle.std.proofs.Common.{◌≡◌, ℕ, List, [], ◌∷◌, ◌++◌, refl, sym, ap, ap₂, ◌∙◌, subst, append_assoc, append-nil}
 use Rattle.std.proofs.lemmas.List.{map-append}
 use Rattle.subst_document.specs.declared.edits.StringAt.{StringAt}
@@ -9,7 +9,7 @@ module _ (IsToken : List ℕ → List ℕ → Type 0) (source : List ℕ) where
   pub none_listed : (from : ℕ) (old : List StringAt) → AreListed IsToken source from from [] old old
   none_listed from old = ([], sym (append-nil old), refl, λ more h. h)
 
-  -- one string is
+  -- one string is appended
   pub one_listed : (from : ℕ) (it : StringAt) (x : List ℕ) (old new : List StringAt) → new ≡ old ++ it ∷ []
       → text_at it ≡ x → AreSpelled IsToken source from (it ∷ [])
       → AreListed IsToken source from it.span.end (x ∷ []) old new

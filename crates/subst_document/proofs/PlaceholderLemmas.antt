@@ -1,4 +1,4 @@
--- Placeholders, as they are written.
+-- Placeholders as they are written.
 use Rattle.std.proofs.Common.{◌≡◌, ◌≢◌, ◌<◌, ◌≤◌, ◌+◌, Bool, true, false, not, ◌==◌, ℕ, suc, zero, List, [], ◌∷◌, ◌++◌, length, take, get_or, eq-eqb, refl, sym, ap, ◌∙◌, subst, append_assoc, append-nil, arith}
 use Rattle.std.specs.List.{AllByRecursion}
 use Rattle.std.proofs.lemmas.Grind.{common_steps}
@@ -13,7 +13,7 @@ use Rattle.subst_document.specs.Splice.{bare, IsPlaceholder}
 use Rattle.subst_document.specs.Splice.IsPlaceholder.{bare_braces, braces, name}
 use Rattle.subst_language.proofs.Language.ClosingLemmas.{completes_byte, completes_closing, completes_escape, completes_opening}
 
--- the text leaves so many braces open: with any text that closes these it is balanced
+-- the text leaves this many braces open: with any text that closes them it is balanced
 abbrev pub LeavesOpen : List ℕ → ℕ → Type 0
 LeavesOpen x depth = (v : List ℕ) → Completes depth v → IsBalanced (x ++ v)
 
@@ -29,7 +29,7 @@ module _ (x : List ℕ) (depth : ℕ) (leaves : LeavesOpen x depth) where
       subst IsBalanced (sym (append_assoc x (b ∷ []) v))
       (leaves (b ∷ v) (completes_byte depth v b no_slash no_open no_close completes))
 
-  -- neither does an escape
+  -- nor does an escape
   pub open_escape : (b : ℕ) → LeavesOpen ((x ++ backslash ∷ []) ++ b ∷ []) depth
   open_escape b v completes =
       subst IsBalanced (sym (append_assoc (x ++ backslash ∷ []) (b ∷ []) v))
@@ -49,7 +49,7 @@ open_closing x depth leaves v completes =
     subst IsBalanced (sym (append_assoc x (closing_brace ∷ []) v))
     (leaves (closing_brace ∷ v) (completes_closing depth v completes))
 
--- a dollar with braces, of which the closing one is the last byte, where a backslash escapes none
+-- a dollar with braces, the closing one as the last byte, if backslashes don't escape
 pub bare_placeholder : (x : List ℕ) (at : ℕ) → at + 1 ≡ length x → get_or x at 0 ≡ closing_brace
     → IsBalanced (bare (take at x)) → IsPlaceholder (dollar ∷ opening_brace ∷ x)
 bare_placeholder x at last closes balanced =
@@ -60,7 +60,7 @@ bare_placeholder x at last closes balanced =
     subst (λ (y : List ℕ). IsPlaceholder (dollar ∷ opening_brace ∷ y)) (sym inner)
     (bare_braces (take at x) balanced)
 
--- one byte more of which backslashes are left out, and which is no brace
+-- one more byte, without backslashes, that is no brace
 pub open_bare : (x : List ℕ) (depth b : ℕ) → LeavesOpen (bare x) depth → b ≢ opening_brace → b ≢ closing_brace
     → LeavesOpen (bare (x ++ b ∷ [])) depth
 open_bare x depth b leaves no_open no_close =
@@ -73,7 +73,7 @@ open_bare x depth b leaves no_open no_close =
         let other : b ≢ backslash = λ e. let is = eq-eqb b backslash e in cc in
         rw same (open_byte (bare x) depth leaves b other no_open no_close)
 
--- what was read leaves so many braces open, if it ends with a bare backslash after any byte more
+-- the text leaves this many braces open; if it ends with a bare backslash, it does after any further byte
 abbrev pub Reaches : List ℕ → ℕ → Bool → Type 0
 Reaches x depth is_escaped = (is_escaped ≡ false → LeavesOpen x depth)
     × (is_escaped ≡ true → (b : ℕ) → LeavesOpen (x ++ b ∷ []) depth)
@@ -102,7 +102,7 @@ name_placeholder x len run some within =
     some_names [] run some = absurd (omega (arith, some))
     some_names (b ∷ y) run some = name (b ∷ y) run
 
--- a dollar with braces, the closing one of which is at this index of what follows the opening one
+-- a dollar with braces, the closing one at this index after the opening one
 pub braces_placeholder : (x : List ℕ) (at : ℕ) → at < length x → get_or x at 0 ≡ closing_brace
     → IsBalanced (take at x) → IsPlaceholder (dollar ∷ take (at + 2) (opening_brace ∷ x))
 braces_placeholder x at within closes balanced =

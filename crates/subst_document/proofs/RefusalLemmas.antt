@@ -1,4 +1,4 @@
--- Strings that are refused, and the steps that lead to them.
+-- Refused strings, and the steps to them.
 use Rattle.std.proofs.Common.{rules, ◌≡◌, List, [], ◌∷◌, ◌++◌, map, reverse, ℕ, Option, MatchOption, IsSomeAnd, inl, inr, sym, ap, subst}
 use Rattle.std.proofs.lemmas.List.{map-append, reverse-append}
 use Rattle.std.proofs.lemmas.List.Elements.{All-from_recursion}
@@ -9,9 +9,9 @@ use Rattle.subst_language.specs.Language.Answer.{Answer, Gives, Refuses}
 use Rattle.subst_document.specs.Paths.{Located, Refusal, AreRefusals, step_of}
 use Rattle.subst_document.specs.declared.path_step.PathStep as steps
 
--- `ask` tells which answers a string has
+-- `ask` is the relation of a string and its answers
 module _ (ask : List ℕ → Answer → Type 0) where
-  -- what a call returned that asks whether a string is refused
+  -- the result of a call that returns the error of a string
   abbrev pub IsRefusal : List ℕ → Option Error → Type 0
   IsRefusal s refusal = MatchOption refusal ((x : List ℕ) × ask s (Gives x))
       (λ e. IsSomeAnd (error_fault e) (λ f. ask s (Refuses f)))
@@ -28,12 +28,12 @@ module _ (ask : List ℕ → Answer → Type 0) where
       let left = refusals_append strings more rest others h k in
       inr (f, rest ++ others, refused, ap (λ xs. xs ++ others) is, left)
 
--- one step more, before those that are kept with the last one first
+-- one more step, before the others, which are kept in reverse
 pub pushed_step : (kept : List steps.PathStep) (step : steps.PathStep)
     → reverse (map step_of (kept ++ step ∷ [])) ≡ step_of step ∷ reverse (map step_of kept)
 pushed_step kept step = search (rules, map-append, step_of, reverse-append)
 
--- what holds of what each element of a list is made, holds of each
+-- a property of each element of a mapped list holds of the image of each element
 pub holds_of_all : {X Y : Type 0} (f : X → Y) (P : Y → Type 0) (xs : List X) → AllByRecursion P (map f xs)
     → All (λ x. P (f x)) xs
 holds_of_all {X} f P xs h = All-from_recursion (λ x. P (f x)) xs (each xs h)

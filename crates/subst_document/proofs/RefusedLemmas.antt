@@ -1,4 +1,4 @@
--- Strings that are refused, with their indices and their paths.
+-- Refused strings, with their indices and their paths.
 use Rattle.std.proofs.Common.{◌≡◌, ℕ, ◌+◌, List, [], ◌∷◌, map, inl, inr, sym, ap, subst, string_bytes}
 use Rattle.std.specs.List.{zip, AllByRecursion}
 use Rattle.subst_error.specs.ErrorFault.{error_fault}
@@ -10,7 +10,7 @@ use Rattle.subst_document.specs.declared.edits.RefusalAt.{RefusalAt}
 use Rattle.subst_document.specs.declared.edits.StringAt.{StringAt}
 
 module _ {P : Type 0} (ask : List ℕ → Answer → Type 0) (LeadsTo : ℕ → P → Type 0) where
-  -- refusals get the paths that lead to the strings of their indices
+  -- refusals with the paths to the strings at their indices
   pub refused_with_paths : (index : ℕ) (list : List StringAt) (refused : List (RefusalAt ℕ)) (paths : List P)
       → AreRefusedOf ask (λ i path. path ≡ i) index list refused → ArePathsTo LeadsTo refused paths
       → AreRefusedOf ask LeadsTo index list (map (λ it. with_path it.0 it.1) (zip refused paths))
@@ -53,7 +53,7 @@ module _ {P : Type 0} (ask : List ℕ → Answer → Type 0) (LeadsTo : ℕ → 
         ranges_within f Q holds (index + 1) list more h,
       )
 
-  -- what is known of the answers of strings may be said in a weaker way
+  -- the relation of a string and its answers may be weakened
   pub refused_weaker : (other : List ℕ → Answer → Type 0) → ((s : List ℕ) (a : Answer) → ask s a → other s a)
       → (index : ℕ) (list : List StringAt) (all : List (RefusalAt P)) → AreRefusedOf ask LeadsTo index list all
       → AreRefusedOf other LeadsTo index list all

@@ -1,16 +1,16 @@
--- Tokens of strings that change, a piece at a time.
+-- Tokens of strings that change, one piece at a time.
 use Rattle.std.proofs.Common.{◌≡◌, ◌⊎◌, ℕ, List, [], ◌∷◌, ◌++◌, inl, inr, refl, sym, ap, ap₂, ◌∙◌, append_assoc, append-nil}
 use Rattle.std.specs.List.{flat_map, AllByRecursion}
 use Rattle.std.proofs.lemmas.Grind.{flat_map-append}
 use Rattle.subst_document.specs.Splice.{afters, AppendsPieces, AppendsUpTo, AreParts, IsMoreThanParts, IsPiece, IsPlaceholder, IsRespelled, IsSpliced, Part, Piece}
 
--- what holds of all elements of two lists, holds of those of both
+-- a property of all elements of two lists holds of all of their concatenation
 pub all_append : {A : Type 0} (P : A → Type 0) (xs ys : List A) → AllByRecursion P xs → AllByRecursion P ys
     → AllByRecursion P (xs ++ ys)
 all_append P [] ys h k = k
 all_append P (x ∷ xs) ys h k = (h.0, all_append P xs ys h.1 k)
 
--- what a string becomes may be said in a weaker way
+-- the relation of a string and its value may be weakened
 pub respelled_weaker : (IsPart : List ℕ → List ℕ → List ℕ → Type 0) (Fits Becomes Stays : List ℕ → List ℕ → Type 0)
     → ((x y : List ℕ) → Becomes x y → Stays x y) → (text value token new : List ℕ)
     → IsRespelled IsPart Fits Becomes text value token new → IsRespelled IsPart Fits Stays text value token new
@@ -81,7 +81,7 @@ module _ (IsPart : List ℕ → List ℕ → Type 0) where
     new_is = appended_then (λ piece. piece.after) first.pieces second.pieces old mid new first.new_is second.new_is;
   }
 
-  -- nothing is passed yet
+  -- nothing is read yet
   pub appends_nothing : (text token old : List ℕ) → AppendsUpTo IsPart text text token token old old
   appends_nothing text token old = record {
     passed = [];
@@ -97,7 +97,7 @@ module _ (IsPart : List ℕ → List ℕ → Type 0) where
     };
   }
 
-  -- more is passed
+  -- more is read
   pub appends_more : (text text_rest token token_rest more next last_text last_token old mid new : List ℕ)
       → AppendsUpTo IsPart text text_rest token token_rest old mid → text_rest ≡ more ++ last_text
       → token_rest ≡ next ++ last_token → AppendsPieces IsPart more next mid new
@@ -112,7 +112,7 @@ module _ (IsPart : List ℕ → List ℕ → Type 0) where
         appends = appends_then done.passed more done.before next old mid new done.appends appends;
       }
 
-  -- after the last piece are the closing quotes
+  -- the closing quotes follow the last piece
   pub spliced_to_end : (text text_rest token opening inner token_rest closing mid output new : List ℕ)
       → AppendsUpTo IsPart text text_rest inner token_rest opening mid
       → AppendsPieces IsPart text_rest token_rest mid output → token ≡ opening ++ (inner ++ closing)
@@ -130,11 +130,11 @@ module _ (IsPart : List ℕ → List ℕ → Type 0) where
       }
 
 module _ (Becomes : List ℕ → List ℕ → Type 0) where
-  -- no part is passed
+  -- no part is read
   pub no_parts : (text old : List ℕ) → AreParts Becomes text text old old
   no_parts text old = record { parts = []; each = tt; text_is = refl; new_is = sym (append-nil old) }
 
-  -- one part more
+  -- one more part
   pub part_more : (text output mid rest start old new whole : List ℕ) → AreParts Becomes whole mid start old
       → mid ≡ text ++ rest → Becomes text output → new ≡ old ++ output → AreParts Becomes whole rest start new
   part_more text output mid rest start old new whole done cut becomes is =
@@ -150,7 +150,7 @@ module _ (Becomes : List ℕ → List ℕ → Type 0) where
             (is ∙ ap (λ l. old ++ l) (sym (append-nil output)));
       }
 
-  -- all parts together give another text
+  -- the outputs of all parts together are another text
   pub more_than_parts : (text joined value : List ℕ) → AreParts Becomes text [] [] joined → ¬ (joined ≡ value)
       → IsMoreThanParts Becomes text value
   more_than_parts text joined value all other = (

@@ -1,9 +1,9 @@
--- Strings of which some become others.
+-- Strings of which some change.
 use Rattle.std.proofs.Common.{◌≡◌, ◌≢◌, ◌≤◌, ◌+◌, ℕ, Bool, true, false, ◌||◌, IsTrue, List, [], ◌∷◌, ◌++◌, length, inl, inr, refl, sym, ap, ap₂, ◌∙◌, arith, append_assoc, append-nil}
-use Rattle.subst_document.specs.Stays.{AreValues, SomeChanges, AllStay, TellsChange}
+use Rattle.subst_document.specs.Stays.{AreValues, SomeChanges, AllStay, StatesChange}
 use Rattle.subst_document.specs.declared.strings.ValueAt.{ValueAt}
 
--- two texts of one length begin one text
+-- two equal texts have equal prefixes of one length, and equal rests
 same_cut : (a b c d : List ℕ) → length a ≡ length b → a ++ c ≡ b ++ d → (a ≡ b) × (c ≡ d)
 same_cut [] [] c d len is = (refl, is)
 same_cut [] (y ∷ b) c d len is = absurd (omega (arith, len))
@@ -27,14 +27,14 @@ module _ (Becomes : List ℕ → List ℕ → Type 0) where
   all_stay_more [] x h same = (same, tt)
   all_stay_more (y ∷ xs) x h same = (h.0, all_stay_more xs x h.1 same)
 
-  -- one more string stays
-  pub tells_more : (xs : List (List ℕ)) (x source output : List ℕ) (is_changed : Bool)
-      → TellsChange Becomes xs source output is_changed → Becomes x x
-      → TellsChange Becomes (xs ++ x ∷ []) source output is_changed
-  tells_more xs x source output true h same = some_before xs (x ∷ []) h
-  tells_more xs x source output false h same = (all_stay_more xs x h.0 same, h.1)
+  -- one more string is unchanged
+  pub states_more : (xs : List (List ℕ)) (x source output : List ℕ) (is_changed : Bool)
+      → StatesChange Becomes xs source output is_changed → Becomes x x
+      → StatesChange Becomes (xs ++ x ∷ []) source output is_changed
+  states_more xs x source output true h same = some_before xs (x ∷ []) h
+  states_more xs x source output false h same = (all_stay_more xs x h.0 same, h.1)
 
-  -- one more string becomes itself
+  -- one more string is unchanged, and has no value
   pub values_kept : (index : ℕ) (xs : List (List ℕ)) (x : List ℕ) (list : List ValueAt) (text : List ℕ)
       → AreValues Becomes index xs list text → Becomes x x → AreValues Becomes index (xs ++ x ∷ []) list text
   values_kept index [] x list text none same = inl (same, none)
@@ -43,7 +43,7 @@ module _ (Becomes : List ℕ → List ℕ → Type 0) where
   values_kept index (y ∷ xs) x list text (inr (value, rest, more, is, at, here, h)) same =
       inr (value, rest, more, is, at, here, values_kept (index + 1) xs x more rest h same)
 
-  -- one more string becomes another one
+  -- one more string changes, and has a value
   pub values_more : (index : ℕ) (xs : List (List ℕ)) (x value : List ℕ) (list : List ValueAt) (text : List ℕ)
       → AreValues Becomes index xs list text → Becomes x value → AreValues Becomes index (xs ++ x ∷ [])
       (list ++ record { index = index + length xs; len = length value } ∷ []) (text ++ value)
@@ -76,7 +76,7 @@ module _ (Becomes : List ℕ → List ℕ → Type 0) where
             )
       ])
 
-  -- no value is that of a string before
+  -- no value is that of an earlier string
   values_after : (index : ℕ) (xs : List (List ℕ)) (at : ValueAt) (more : List ValueAt) (text : List ℕ)
       → AreValues Becomes index xs (at ∷ more) text → index ≤ at.index
   values_after index [] at more text none = absurd cc
@@ -98,7 +98,7 @@ module _ (Becomes : List ℕ → List ℕ → Type 0) where
       let (value_is, rest_is) = same_cut value first rest left same_len is in
       rw (value_is, rest_is, others_are) (becomes, h)
 
-  -- otherwise the first string becomes itself
+  -- otherwise the first string is unchanged
   pub first_stays : (index : ℕ) (x : List ℕ) (xs : List (List ℕ)) (at : ValueAt) (more : List ValueAt)
       (text : List ℕ) → at.index ≢ index → AreValues Becomes index (x ∷ xs) (at ∷ more) text
       → Becomes x x × AreValues Becomes (index + 1) xs (at ∷ more) text
@@ -111,7 +111,7 @@ module _ (Becomes : List ℕ → List ℕ → Type 0) where
   each_stays index x xs text (inl h) = h
   each_stays index x xs text (inr (value, rest, others, is, first, becomes, h)) = absurd cc
 
--- what follows from either of two tests follows from both together
+-- a consequence of each of two tests is one of their disjunction
 pub either_test : (P : Type 0) (a b both : Bool) → both ≡ (a || b) → (IsTrue a → P) → (IsTrue b → P)
     → IsTrue both → P
 either_test P true b both is h k some = h refl

@@ -1,24 +1,25 @@
--- What the values of a tree become.
+-- Changes of the values in a tree.
 use Rattle.std.specs.Prelude.{◌≡◌, ⊤, ℕ, suc, Bool, true, false, List, [], ◌∷◌, ◌++◌, replicate, string_bytes}
 use Rattle.std.specs.Vec.Iter.{into_iter_items}
 use Rattle.subst_document.specs.declared.changes.Change.{Change, Kept, Text, Inside', out-Change}
 use Rattle.subst_document.specs.declared.changes.Change.TheOpen.{Change-F}
-use Rattle.subst_document.specs.declared.changes.Found.{Found}
-use Rattle.subst_document.specs.declared.changes.Left.{Left}
+use Rattle.subst_document.specs.declared.changes.FoundChanges.{FoundChanges}
+use Rattle.subst_document.specs.declared.changes.RemainingChanges.{RemainingChanges}
 
--- whether a value becomes another one by this change
+-- whether a change isn't `Kept`, so that the value changes
 abbrev pub is_other : Change → Bool
 is_other (Kept n) = false
 is_other (Text x) = true
 is_other (Inside' shape all) = true
 
--- the change of one value alone
+-- a change of a list, for its first value only: `Kept` loses the number of kept values after it
 abbrev pub one : Change → Change
 one (Kept n) = Kept 0
 one (Text x) = Text x
 one (Inside' shape all) = Inside' shape all
 
--- the changes of values one after the other, one for each, of those that are kept as a list
+-- a change, split into one change for each value, since `Kept n` is for one value and n more after it;
+-- `slots` splits the changes of a list
 abbrev pub slots_of : Change → List Change
 slots_of (Kept n) = replicate (suc n) (Kept 0)
 slots_of (Text x) = Text x ∷ []
@@ -28,13 +29,14 @@ abbrev pub slots : List Change → List Change
 slots [] = []
 slots (change ∷ changes) = slots_of change ++ slots changes
 
--- what a string becomes
+-- the string s after a change, which replaces it only if it is `Text`
 abbrev pub text_after : List ℕ → Change → List ℕ
 text_after s (Kept n) = s
 text_after s (Text x) = string_bytes x
 text_after s (Inside' shape all) = s
 
--- the changes of the values inside a value
+-- the changes that `Inside` has for the values inside an array, object or table, one for each; any other
+-- change has none
 abbrev inside_step : Change-F Change → List Change
 inside_step (Change-F.Kept n) = []
 inside_step (Change-F.Text x) = []
@@ -45,7 +47,7 @@ inside (Kept n) = []
 inside (Text x) = []
 inside (Inside' shape all) = inside_step (out-Change (Inside' shape all))
 
--- The next of these changes, and those after it: where none is left, a value stays.
+-- The next of these changes, and those after it. If none is left, the value is kept.
 abbrev pub next_of : List Change → Change
 next_of [] = Kept 0
 next_of (change ∷ changes) = change
@@ -54,28 +56,29 @@ abbrev pub rest_of : List Change → List Change
 rest_of [] = []
 rest_of (change ∷ changes) = changes
 
--- The values become others by these changes, one after the other. `Made` tells what a value becomes by one.
+-- The second list of values is the first one after these changes, in order. `Made` relates a value, its
+-- change and the value after the change.
 abbrev pub AreMade : {T : Type 0} → (T → Change → T → Type 0) → List T → List Change → List T → Type 0
 AreMade Made [] changes [] = ⊤
 AreMade Made (v ∷ vs) changes (w ∷ ws) =
     Made v (next_of changes) w × AreMade Made vs (rest_of changes) ws
 AreMade Made _ changes _ = ⊥
 
--- the second list of changes has more at its end, by which values stay
+-- `all` is `changes`, and then any number of `Kept`
 abbrev pub IsUpToKept : List Change → List Change → Type 0
 IsUpToKept changes all = (n : ℕ) × (all ≡ changes ++ replicate n (Kept 0))
 
--- whether some value becomes another one by what was found
+-- whether some value changes, by the changes found so far
 abbrev any_other : List Change → Bool
 any_other [] = false
 any_other (change ∷ changes) = true
 
-abbrev pub has_other : Found → Bool
+abbrev pub has_other : FoundChanges → Bool
 has_other found = any_other found.changes.items
 
--- the changes that were found so far, and those that are left
-abbrev pub found_so_far : Found → List Change
+-- the changes that a walk has found so far, and those that it has yet to make, one for each value
+abbrev pub found_so_far : FoundChanges → List Change
 found_so_far found = slots found.changes.items ++ replicate found.kept (Kept 0)
 
-abbrev pub left_of : Left → List Change
-left_of left = replicate left.kept (Kept 0) ++ slots (into_iter_items left.changes)
+abbrev pub remaining_of : RemainingChanges → List Change
+remaining_of it = replicate it.kept (Kept 0) ++ slots (into_iter_items it.changes)

@@ -1,19 +1,21 @@
--- Texts of some format whose strings are filled in where they stand. In that format, `IsToken` holds of a part of
--- a text and the string that it spells, `IsPart` of a token, a piece of it and the part of its string that the
--- piece is read as, and `Fits` of a token and a value that can be spelled in its kind.
+-- Texts with their strings filled in, in some format. `IsToken` holds of a part of a text and the string that
+-- this part spells. `IsPart` holds of a token, a piece of the token, and the part of the string as which the
+-- piece is read. `Fits` holds of a token and a value that the token's kind can spell, and `Becomes` of a
+-- string and its value.
 use Rattle.std.specs.Prelude.{◌≡◌, ◌⊎◌, ◌≤◌, ⊤, ℕ, List, [], ◌∷◌, ◌++◌, Option, MatchOption, map, slice_range, string_bytes}
 use Rattle.subst_error.specs.Range.{IsRangeIn}
 use Rattle.subst_document.specs.Splice.{IsRespelled}
 use Rattle.subst_document.specs.Stays.{BecomesOther}
-use Rattle.subst_document.specs.declared.edits.Passed.{Passed}
-use Rattle.subst_document.specs.declared.edits.Passed.TheVariants.{Stays, Changed, NotFound}
+use Rattle.subst_document.specs.declared.edits.StringOutcome.{StringOutcome}
+use Rattle.subst_document.specs.declared.edits.StringOutcome.TheVariants.{Unchanged, Changed, NotFound}
 use Rattle.subst_document.specs.declared.edits.StringAt.{StringAt}
 
--- the string becomes another one, which is this; or there is none, and it becomes itself
+-- `changed` is the new value of the string x if it changes, or `None` if it is unchanged
 abbrev pub IsChanged : (List ℕ → List ℕ → Type 0) → List ℕ → Option (List ℕ) → Type 0
 IsChanged Becomes x changed = MatchOption changed (Becomes x x) (λ value. Becomes x value × ¬ (value ≡ x))
 
--- Two texts are the same up to a token of the string, in whose place the second one has a token of the value.
+-- `source` and `output` are equal up to `token`, a token of the string x, and `new`, a token of `value`.
+-- After these tokens the texts go on with `rest` and `filled_rest`, which may differ.
 pub record Edit (IsToken : List ℕ → List ℕ → Type 0) (IsPart : List ℕ → List ℕ → List ℕ → Type 0)
     (Fits : List ℕ → List ℕ → Type 0) (Becomes : List ℕ → List ℕ → Type 0)
     (x value source output : List ℕ) : Type 0 where
@@ -28,9 +30,8 @@ pub record Edit (IsToken : List ℕ → List ℕ → Type 0) (IsPart : List ℕ 
   pub source_is : source ≡ before ++ (token ++ rest)
   pub output_is : output ≡ before ++ (new ++ filled_rest)
 
--- The text with these strings, its first one first, filled in. A string that becomes itself stays as it is
--- spelled. In place of each other one, at a token of it after the edits before, is a token of its value, in
--- which all but the placeholders stays if the value fits. All else is the same.
+-- `output` is `source` with these strings filled in, in order. The token of each string that changes is
+-- replaced by a token of the string's value, as by `IsRespelled`. All other bytes are the same.
 abbrev pub IsFilledText : (List ℕ → List ℕ → Type 0) → (List ℕ → List ℕ → List ℕ → Type 0)
     → (List ℕ → List ℕ → Type 0) → (List ℕ → List ℕ → Type 0)
     → List (List ℕ) → (source : List ℕ) → (output : List ℕ) → Type 0
@@ -41,8 +42,8 @@ IsFilledText IsToken IsPart Fits Becomes (x ∷ strings) source output =
     × (edit : Edit IsToken IsPart Fits Becomes x value source output)
     × IsFilledText IsToken IsPart Fits Becomes strings edit.rest edit.filled_rest)
 
--- The first of two parts of a text has these strings, and is filled in by what was appended to an output:
--- whatever fills in the second part, after it fills in the text.
+-- `new` is `old` and then the part of `text` before `rest`, with these strings filled in. This holds for all
+-- strings that may follow in `rest`, and all their outputs.
 abbrev pub IsFilledUpTo : (List ℕ → List ℕ → Type 0) → (List ℕ → List ℕ → List ℕ → Type 0)
     → (List ℕ → List ℕ → Type 0) → (List ℕ → List ℕ → Type 0)
     → List (List ℕ) → (text : List ℕ) → (rest : List ℕ) → (old : List ℕ) → (new : List ℕ) → Type 0
@@ -51,18 +52,19 @@ IsFilledUpTo IsToken IsPart Fits Becomes strings text rest old new =
     → IsFilledText IsToken IsPart Fits Becomes more rest filled
     → IsFilledText IsToken IsPart Fits Becomes (strings ++ more) text (appended ++ filled))
 
--- What became of a string at the start of a text: it becomes itself; or it becomes another one, which is the
--- value, and the text before the rest is filled in by what was appended to an output; or its token isn't found.
-abbrev pub IsPassed : (List ℕ → List ℕ → Type 0) → (List ℕ → List ℕ → List ℕ → Type 0)
+-- The outcome for x, the next string of `text`. If x is unchanged, `new` is `old`. If x changes, `new` is
+-- `old` and then the part of `text` before `rest`, filled in. `NotFound` states only that x changes.
+abbrev pub IsStringOutcome : (List ℕ → List ℕ → Type 0) → (List ℕ → List ℕ → List ℕ → Type 0)
     → (List ℕ → List ℕ → Type 0) → (List ℕ → List ℕ → Type 0) → List ℕ
-    → (text : List ℕ) → (old : List ℕ) → (new : List ℕ) → Passed → Type 0
-IsPassed IsToken IsPart Fits Becomes x text old new Stays = Becomes x x × (new ≡ old)
-IsPassed IsToken IsPart Fits Becomes x text old new (Changed value rest) =
+    → (text : List ℕ) → (old : List ℕ) → (new : List ℕ) → StringOutcome → Type 0
+IsStringOutcome IsToken IsPart Fits Becomes x text old new Unchanged = Becomes x x × (new ≡ old)
+IsStringOutcome IsToken IsPart Fits Becomes x text old new (Changed value rest) =
     Becomes x (string_bytes value) × (¬ (string_bytes value ≡ x))
     × IsFilledUpTo IsToken IsPart Fits Becomes (x ∷ []) text rest.now old new
-IsPassed IsToken IsPart Fits Becomes x text old new NotFound = BecomesOther Becomes x
+IsStringOutcome IsToken IsPart Fits Becomes x text old new NotFound = BecomesOther Becomes x
 
--- Each of these strings is spelled where it stands in the text, one after the other from a position on.
+-- Each of these strings is spelled at its span in `source`. The spans are in order, from the position `start`
+-- on.
 abbrev pub AreSpelled : (List ℕ → List ℕ → Type 0) → (source : List ℕ) → ℕ → List StringAt → Type 0
 AreSpelled IsToken source start [] = ⊤
 AreSpelled IsToken source start (it ∷ rest) =
@@ -70,12 +72,12 @@ AreSpelled IsToken source start (it ∷ rest) =
     × IsToken (slice_range source it.span.start it.span.end) (string_bytes it.text)
     × AreSpelled IsToken source it.span.end rest
 
--- the string
+-- the text of a string that has a span
 abbrev pub text_at : StringAt → List ℕ
 text_at it = string_bytes it.text
 
--- What was appended to a list are these strings, each spelled where it stands in a text from one position up
--- to another one: whatever are spelled after it.
+-- `new` is `old` and then an item for each of these strings. The strings are spelled at their spans in
+-- `source`, between the positions `from` and `next`, whatever items follow.
 abbrev pub AreListed : (List ℕ → List ℕ → Type 0) → (source : List ℕ) → ℕ → ℕ → List (List ℕ)
     → (old : List StringAt) → (new : List StringAt) → Type 0
 AreListed IsToken source from next strings old new =

@@ -1,4 +1,4 @@
--- Paths into a tree, and what a walk says of strings with their paths.
+-- Paths into a tree, and the refusals of strings with their paths.
 use Rattle.std.specs.Prelude.{◌≡◌, ◌⊎◌, ℕ, List, [], ◌∷◌, Option, Some, string_bytes}
 use Rattle.subst_error.specs.Fault.{Fault}
 use Rattle.subst_language.specs.Language.Answer.{Answer, Gives, Refuses}
@@ -10,24 +10,24 @@ pub data PathStep : Type 0 where
   Key : List ℕ → PathStep
   Index : ℕ → PathStep
 
--- the step
+-- the step of the definitions for a step of the code
 abbrev pub step_of : steps.PathStep → PathStep
 step_of (variants.Key key) = Key (string_bytes key)
 step_of (variants.Index index) = Index index
 
--- a string of a tree, and the path that leads to it
+-- a string of a tree, with its path
 pub record Located : Type 0 where
   pub path : List PathStep
   pub text : List ℕ
 
--- a string that is refused, with its path and its fault
+-- a refused string, with its path and its fault
 pub record Refusal : Type 0 where
   pub path : List PathStep
   pub text : List ℕ
   pub fault : Option Fault
 
--- The refusals of those of these strings that are refused, in their order. Each other one gives bytes. `ask`
--- tells which answers a string has.
+-- The refusals of these strings, in order. Each other string has an output. `ask` is the relation of a string
+-- and its answers.
 abbrev pub AreRefusals : (List ℕ → Answer → Type 0) → List Located → List Refusal → Type 0
 AreRefusals ask [] refusals = refusals ≡ []
 AreRefusals ask (it ∷ rest) refusals =

@@ -1,14 +1,14 @@
--- Spans of many ranges of one string, one after the other in its token.
+-- Spans of several ranges of one string, in order in its token.
 use Rattle.std.specs.Prelude.{◌≡◌, ℕ, List, [], ◌∷◌}
 use Rattle.std.specs.declared.ops.Range.{Range}
 use Rattle.subst_document.specs.declared.pieces.Position.{Position}
 
--- the position
+-- the position with these offsets
 abbrev pub position : ℕ → ℕ → Position
 position place offset = record { place = place; offset = offset }
 
--- From a position of the token on, the spans are those of these ranges, one after the other: the token has a
--- piece up to the start of each, and one from there to its end.
+-- `places` are the spans of `ranges`, in order, in a token from the position `from` on. `IsPiece` holds of
+-- the two ends of each span, and of the two ends of the gap before each span.
 abbrev pub ArePiecesFrom : (Position → Position → Type 0) → Position → List (Range ℕ) → List (Range ℕ)
     → Type 0
 ArePiecesFrom IsPiece from [] places = places ≡ []

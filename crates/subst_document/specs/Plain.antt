@@ -2,8 +2,8 @@
 use Rattle.std.specs.Prelude.{ℕ, ◌+◌, List, [], ◌∷◌, ◌++◌, drop, slice_range}
 use Rattle.subst_document.specs.declared.edits.StringAt.{StringAt}
 
--- The text from a position on with other bytes in place of each of these strings, of which the first one has
--- this index. `bytes` tells those of an index.
+-- `source` from the position `from` on, with each of these strings replaced by `bytes` of the string's index.
+-- The first string has the index `index`.
 abbrev pub with_plain : (ℕ → List ℕ) → (source : List ℕ) → ℕ → ℕ → List StringAt → List ℕ
 with_plain bytes source from index [] = drop from source
 with_plain bytes source from index (it ∷ rest) =

@@ -1,4 +1,4 @@
--- Strings of a text that are refused.
+-- Refused strings of a text.
 use Rattle.std.specs.Prelude.{◌≡◌, ◌⊎◌, ℕ, ◌+◌, List, [], ◌∷◌, Some, string_bytes}
 use Rattle.std.specs.List.{AllZip}
 use Rattle.subst_error.specs.ErrorFault.{error_fault}
@@ -10,7 +10,7 @@ use Rattle.subst_document.specs.Paths.{PathStep, Refusal}
 use Rattle.subst_document.specs.declared.edits.RefusalAt.{RefusalAt}
 use Rattle.subst_document.specs.declared.edits.StringAt.{StringAt}
 
--- the refusal of a string that stands in a text, whose path has these steps
+-- the `Refusal` for `it`, a refusal of the code, where `steps` converts a path of the code
 abbrev pub refusal_at : {P : Type 0} → (P → List PathStep) → RefusalAt P → Refusal
 refusal_at steps it = record {
   path = steps it.path;
@@ -18,12 +18,12 @@ refusal_at steps it = record {
   fault = error_fault it.error;
 }
 
--- the range of its fault is in its string
+-- the range of the fault is in the string
 abbrev pub HasRangeInText : Refusal → Type 0
 HasRangeInText it = IsRangeIn it.text (range_of it.fault)
 
--- The refusal is that of this string: it has its text and its span, a path that leads to the string of this
--- index, and a fault for which the string is refused, whose range is in it.
+-- `refusal` is the refusal of the string `it`. It has the string's text and span, and a path to the string at
+-- `index`. The string is refused for the refusal's fault, and the range of the fault is in the string.
 pub record IsRefusalOf {P : Type 0} (ask : List ℕ → Answer → Type 0) (LeadsTo : ℕ → P → Type 0) (index : ℕ)
     (it : StringAt) (refusal : RefusalAt P) : Type 0 where
   pub path : LeadsTo index refusal.path
@@ -34,8 +34,8 @@ pub record IsRefusalOf {P : Type 0} (ask : List ℕ → Answer → Type 0) (Lead
   pub refused : ask (text_at it) (Refuses fault)
   pub range : IsRangeIn (text_at it) (range_of (error_fault refusal.error))
 
--- The refusals of those of these strings that are refused, in their order. Each other one gives bytes. The
--- first string has this index.
+-- The refusals of these strings, in order. Each other string has an output. `index` is the index of the first
+-- string, and `LeadsTo` holds of the index of a string and a path to it.
 abbrev pub AreRefusedOf : {P : Type 0} → (List ℕ → Answer → Type 0) → (ℕ → P → Type 0) → ℕ → List StringAt
     → List (RefusalAt P) → Type 0
 AreRefusedOf ask LeadsTo index [] refusals = refusals ≡ []
@@ -44,10 +44,10 @@ AreRefusedOf {P} ask LeadsTo index (it ∷ rest) refusals =
     ⊎ ((refusal : RefusalAt P) × (more : List (RefusalAt P)) × (refusals ≡ refusal ∷ more)
     × IsRefusalOf ask LeadsTo index it refusal × AreRefusedOf ask LeadsTo (index + 1) rest more)
 
--- the refusal, with this path
+-- the refusal `it` with `path` as its path, instead of an index
 abbrev pub with_path : {P : Type 0} → RefusalAt ℕ → P → RefusalAt P
 with_path it path = record { path = path; text = it.text; span = it.span; error = it.error }
 
--- each path leads to the string of the index that a refusal has in place of its path
+-- each path leads to the string whose index is the `path` of the refusal at the same place of the lists
 abbrev pub ArePathsTo : {P : Type 0} → (ℕ → P → Type 0) → List (RefusalAt ℕ) → List P → Type 0
 ArePathsTo LeadsTo = AllZip (λ it path. LeadsTo it.path path)

@@ -1,4 +1,4 @@
--- Tokens of strings that change, in which placeholders alone are spelled anew.
+-- Tokens of strings that change, in which only placeholders are rewritten.
 use Rattle.std.specs.Prelude.{◌≡◌, ◌⊎◌, ℕ, ◌==◌, not, List, [], ◌∷◌, ◌++◌, filter}
 use Rattle.std.specs.List.{flat_map, AllByRecursion}
 use Rattle.subst_language.specs.Language.Balanced.{IsBalanced}
@@ -9,8 +9,8 @@ use Rattle.subst_language.specs.Language.Name.{IsName}
 abbrev pub bare : List ℕ → List ℕ
 bare = filter (λ b. not (b == backslash))
 
--- One placeholder or escape, as it is written: a backslash or a dollar with one byte, a dollar with a name, or
--- a dollar with braces that match, where a backslash escapes a brace or, in other tools' texts, doesn't.
+-- One placeholder or escape, as it is written: a backslash or a dollar with one byte, a dollar with a name,
+-- or a dollar with matching braces. Inside `braces`, but not `bare_braces`, a backslash escapes a brace.
 pub data IsPlaceholder : List ℕ → Type 0 where
   escape : (b : ℕ) → IsPlaceholder (backslash ∷ b ∷ [])
   dollars : IsPlaceholder (dollar ∷ dollar ∷ [])
@@ -19,19 +19,19 @@ pub data IsPlaceholder : List ℕ → Type 0 where
   bare_braces : (x : List ℕ) → IsBalanced (bare x)
       → IsPlaceholder (dollar ∷ opening_brace ∷ x ++ closing_brace ∷ [])
 
--- a piece of a string, what spells it in its token, and what is there in the new token
+-- a piece of a string, its spelling in the string's token, and its spelling in the new token
 pub record Piece : Type 0 where
   pub text : List ℕ
   pub before : List ℕ
   pub after : List ℕ
 
--- The token spells the piece: by the bytes of the piece, or by others that are read as it. Unless the piece is
--- a placeholder, these bytes stay. `IsPart` holds of bytes of the token and of what they are read as.
+-- The token spells the piece with the piece's own bytes, or with bytes that are read as the piece, by
+-- `IsPart`. Unless the piece is a placeholder, the new token has the same bytes.
 pub record IsPiece (IsPart : List ℕ → List ℕ → Type 0) (piece : Piece) : Type 0 where
   pub spells : (piece.before ≡ piece.text) ⊎ IsPart piece.before piece.text
   pub stays : (piece.after ≡ piece.before) ⊎ IsPlaceholder piece.text
 
--- the pieces of strings, what spells them, and what is there in the new tokens
+-- the pieces of strings, their spelling, and the bytes in the new tokens, each concatenated
 abbrev pub texts : List Piece → List ℕ
 texts = flat_map (λ piece. piece.text)
 
@@ -41,8 +41,8 @@ befores = flat_map (λ piece. piece.before)
 abbrev pub afters : List Piece → List ℕ
 afters = flat_map (λ piece. piece.after)
 
--- The new token is that of the string, but for its placeholders: each byte outside of them stays, and so do the
--- quotes.
+-- `new` is `token`, a token of the string `text`, with only placeholders rewritten. All other bytes stay, and
+-- so do the quotes.
 pub record IsSpliced (IsPart : List ℕ → List ℕ → Type 0) (text token new : List ℕ) : Type 0 where
   pub opening : List ℕ
   pub closing : List ℕ
@@ -52,7 +52,7 @@ pub record IsSpliced (IsPart : List ℕ → List ℕ → Type 0) (text token new
   pub token_is : token ≡ opening ++ (befores pieces ++ closing)
   pub new_is : new ≡ opening ++ (afters pieces ++ closing)
 
--- The text is one of pieces that these bytes spell, and the output has what is in their place at its end.
+-- `text` is made of pieces that the bytes `before` spell. `new` is `old` and the new bytes of these pieces.
 pub record AppendsPieces (IsPart : List ℕ → List ℕ → Type 0) (text before old new : List ℕ) : Type 0 where
   pub pieces : List Piece
   pub each : AllByRecursion (IsPiece IsPart) pieces
@@ -60,7 +60,7 @@ pub record AppendsPieces (IsPart : List ℕ → List ℕ → Type 0) (text befor
   pub before_is : before ≡ befores pieces
   pub new_is : new ≡ old ++ afters pieces
 
--- so of all of a text and its token but these rests
+-- `AppendsPieces` holds of the part of `text` before `text_rest` and the part of `token` before `token_rest`
 pub record AppendsUpTo (IsPart : List ℕ → List ℕ → Type 0) (text text_rest token token_rest old new : List ℕ)
     : Type 0 where
   pub passed : List ℕ
@@ -69,33 +69,32 @@ pub record AppendsUpTo (IsPart : List ℕ → List ℕ → Type 0) (text text_re
   pub token_is : token ≡ before ++ token_rest
   pub appends : AppendsPieces IsPart passed before old new
 
--- a part of a string, and what it becomes by itself
+-- a part of a string, and its output by itself
 pub record Part : Type 0 where
   pub text : List ℕ
   pub output : List ℕ
 
--- The text up to its rest has these parts, and the output has at its end what they become.
+-- `text` up to `rest` is made of parts, and `new` is `old` and the outputs of these parts.
 pub record AreParts (Becomes : List ℕ → List ℕ → Type 0) (text rest old new : List ℕ) : Type 0 where
   pub parts : List Part
   pub each : AllByRecursion (λ part. Becomes part.text part.output) parts
   pub text_is : text ≡ flat_map (λ part. part.text) parts ++ rest
   pub new_is : new ≡ old ++ flat_map (λ part. part.output) parts
 
--- The string's value isn't that of its parts: each becomes something by itself, and these outputs together are
--- another text.
+-- `text` splits into parts that each have an output, but `value` isn't these outputs, concatenated
 abbrev pub IsMoreThanParts : (List ℕ → List ℕ → Type 0) → (text value : List ℕ) → Type 0
 IsMoreThanParts Becomes text value =
     (parts : List Part) × AllByRecursion (λ part. Becomes part.text part.output) parts
     × (text ≡ flat_map (λ part. part.text) parts) × ¬ (value ≡ flat_map (λ part. part.output) parts)
 
--- a placeholder of the string becomes a value that doesn't fit into the kind of the string's token
+-- the value of a placeholder of the string doesn't fit into the kind of the string's token
 abbrev pub DoesntFit : (Fits : List ℕ → Type 0) → (Becomes : List ℕ → List ℕ → Type 0) → (text : List ℕ) → Type 0
 DoesntFit Fits Becomes text =
     (before placeholder after value : List ℕ) × (text ≡ before ++ (placeholder ++ after))
     × IsPlaceholder placeholder × Becomes placeholder value × ¬ (Fits value)
 
--- A token of a string becomes one of its value: only placeholders are spelled anew, unless the value of one doesn't
--- fit into the token's kind, or the string's value isn't that of its parts.
+-- `new` replaces `token`, a token of `text`. Only placeholders are rewritten, unless a placeholder's value
+-- doesn't fit into the kind of `token`, or `value` isn't the outputs of the string's parts.
 abbrev pub IsRespelled : (IsPart : List ℕ → List ℕ → List ℕ → Type 0) → (Fits : List ℕ → List ℕ → Type 0)
     → (Becomes : List ℕ → List ℕ → Type 0) → (text value token new : List ℕ) → Type 0
 IsRespelled IsPart Fits Becomes text value token new =

@@ -1,29 +1,29 @@
--- Which strings of a text stay, and which become others.
+-- The strings of a text that change, and those that are unchanged.
 use Rattle.std.specs.Prelude.{◌≡◌, ◌⊎◌, ⊤, ℕ, ◌+◌, Bool, true, false, List, [], ◌∷◌, ◌++◌, length}
 use Rattle.subst_document.specs.declared.strings.ValueAt.{ValueAt}
 
--- the string becomes another one
+-- the string x changes: it has a value that is another text
 abbrev pub BecomesOther : (List ℕ → List ℕ → Type 0) → List ℕ → Type 0
 BecomesOther Becomes x = (value : List ℕ) × Becomes x value × ¬ (value ≡ x)
 
--- some of these strings does
+-- some of these strings changes
 abbrev pub SomeChanges : (List ℕ → List ℕ → Type 0) → List (List ℕ) → Type 0
 SomeChanges Becomes [] = ⊥
 SomeChanges Becomes (x ∷ strings) = BecomesOther Becomes x ⊎ SomeChanges Becomes strings
 
--- each of them becomes itself
+-- all of these strings are unchanged
 abbrev pub AllStay : (List ℕ → List ℕ → Type 0) → List (List ℕ) → Type 0
 AllStay Becomes [] = ⊤
 AllStay Becomes (x ∷ strings) = Becomes x x × AllStay Becomes strings
 
--- by the test some of them changes, or none, and then the text that has them stays
-abbrev pub TellsChange : (List ℕ → List ℕ → Type 0) → List (List ℕ) → (source : List ℕ) → (output : List ℕ)
+-- `true` states that some of these strings changes, and `false` that none does and the output is the source
+abbrev pub StatesChange : (List ℕ → List ℕ → Type 0) → List (List ℕ) → (source : List ℕ) → (output : List ℕ)
     → Bool → Type 0
-TellsChange Becomes strings source output true = SomeChanges Becomes strings
-TellsChange Becomes strings source output false = AllStay Becomes strings × (output ≡ source)
+StatesChange Becomes strings source output true = SomeChanges Becomes strings
+StatesChange Becomes strings source output false = AllStay Becomes strings × (output ≡ source)
 
--- The values of this text, one after the other, are what those of these strings become that change, of which the
--- list has the indices. Each other string becomes itself. The first string has this index.
+-- `text` is the values of some of these strings, concatenated, and `list` has their indices and lengths. Each
+-- other string is unchanged. The first string has the index `index`.
 abbrev pub AreValues : (List ℕ → List ℕ → Type 0) → ℕ → List (List ℕ) → List ValueAt → List ℕ → Type 0
 AreValues Becomes index [] list text = (list ≡ []) × (text ≡ [])
 AreValues Becomes index (x ∷ strings) list text =

@@ -1,8 +1,8 @@
--- What walks say of the refusal of a text.
+-- A bound of a fault's range, which calls that fill in trees state of their errors.
 use Rattle.std.specs.Prelude.{◌^◌, ◌<◌, Some}
 use Rattle.subst_error.specs.Fault.{Fault}
 use Rattle.subst_error.specs.Range.{range_of}
 
--- the range of the fault ends within a `usize`, as `source_range` asks
+-- the range of the fault ends within a `usize`, as `source_range` requires
 abbrev pub HasRange : Fault → Type 0
 HasRange f = (range_of (Some f)).end < 2 ^ 64

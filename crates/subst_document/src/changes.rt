@@ -1,12 +1,12 @@
-//! What the values of a tree become: a walk over the borrowed tree finds it, and a second one moves the texts
-//! in. So memory is taken for what changes alone, and before anything has changed.
+//! Changes of the values in a tree. A walk over the borrowed tree finds them, and a second walk makes them.
+//! So only changes take memory, and all is allocated before anything changes.
 
 ghost use Rattle.std.specs.Prelude.{◌≡◌, ◌<◌, ◌+◌, ◌^◌, ◌++◌, ◌∷◌, ◌||◌, [], false, IfOk, IsTrue, OnOk, length};
 ghost use Rattle.subst_error.specs.ErrorFault.{error_fault};
 ghost use Rattle.subst_language.specs.Calls.Outcome.{OnFault};
 ghost use Rattle.subst_language.specs.Language.Answer.{Refuses};
 ghost use Rattle.subst_language.specs.Language.Several.{GivesBy};
-ghost use Rattle.subst_document.specs.Changes.{text_after, inside, slots, one, is_other, has_other, found_so_far, left_of, next_of, rest_of, IsUpToKept};
+ghost use Rattle.subst_document.specs.Changes.{text_after, inside, slots, one, is_other, has_other, found_so_far, remaining_of, next_of, rest_of, IsUpToKept};
 ghost use Rattle.subst_document.specs.Stays.{BecomesOther};
 ghost use Rattle.subst_document.specs.Texts.{HasRange};
 
@@ -15,22 +15,22 @@ use std::alloc::{AllocError, Global};
 use std::vec::IntoIter;
 use subst_error::Error;
 
-/// What a value of a tree becomes.
+/// A change of a value in a tree.
 #[derive(Drop)]
 pub enum Change {
-    /// It stays as it is. In a list of changes, so do as many values after it as the number says.
+    /// The value is kept. In a list of changes, this many values after it are kept too.
     Kept(usize),
-    /// It is a string, and becomes this one.
+    /// The value is a string, and this string replaces it.
     Text(String),
-    /// The values inside it become others, those first that come first. After the last change all stay.
+    /// The changes of the values in an array, object or table, in order. Values after the last one are kept.
     Inside(Vec<Change>),
 }
 
-/// Returns what a string becomes.
+/// Returns the change of a string: `Text` with its new value, or `Kept(0)` if it is unchanged.
 ///
 /// # Errors
 ///
-/// The fault for which it is refused. `OutOfMemory` when allocation fails.
+/// The fault of a refused string. `OutOfMemory` if allocation fails.
 pub fn change_of_text<F: Fill>(alloc: Global, text: &str, filler: &F) -> Result<Change, Error>
     ensures ok { IfOk result
         (λ change. GivesBy (F.answers filler.now) text.now (text_after text.now change)) }
@@ -45,31 +45,31 @@ pub fn change_of_text<F: Fill>(alloc: Global, text: &str, filler: &F) -> Result<
     }
 }
 
-/// The changes of the values inside one, as a walk finds them.
+/// The changes that a walk has found so far for the values inside an array, object or table.
 #[derive(Drop)]
-pub struct Found {
+pub struct FoundChanges {
     changes: Vec<Change>,
-    // So many values stay after the last change.
+    // The number of values kept after the last change.
     kept: usize,
 }
 
-impl Found {
-    /// Returns those of no values.
-    pub fn new(alloc: Global) -> Found
+impl FoundChanges {
+    /// Creates an empty list of changes.
+    pub fn new(alloc: Global) -> FoundChanges
         ensures none { found_so_far result ≡ [] }
         ensures other { has_other result ≡ false }
     {
-        Found {
+        FoundChanges {
             changes: Vec::new(alloc),
             kept: 0,
         }
     }
 
-    /// Adds what the next value becomes. It takes no memory where the value stays.
+    /// Appends the change of the next value. Allocates only if the value changes.
     ///
     /// # Errors
     ///
-    /// When allocation fails, and for nothing else.
+    /// If allocation fails.
     pub fn add(&mut self, change: Change) -> Result<(), AllocError>
         requires { length (found_so_far self.old) + 1 < 2 ^ 64 }
         ensures found { OnOk result
@@ -86,11 +86,11 @@ impl Found {
         Ok(())
     }
 
-    /// Puts the values that stay after the last change into the list.
+    /// Appends to the list the values that are kept after the last change, as one `Kept`.
     ///
     /// # Errors
     ///
-    /// When allocation fails, and for nothing else.
+    /// If allocation fails.
     fn end_run(&mut self) -> Result<(), AllocError>
         ensures same { OnOk result (found_so_far self.new ≡ found_so_far self.old) }
         ensures ended { OnOk result (self.new.kept ≡ 0) }
@@ -102,7 +102,7 @@ impl Found {
         Ok(())
     }
 
-    /// Returns what the value becomes that these are inside of.
+    /// Converts into the change of the array, object or table: `Kept(0)` if nothing inside it changes.
     pub fn into_change(self) -> Change
         ensures kept { IsUpToKept (inside result) (found_so_far self) }
         ensures other { is_other result ≡ has_other self }
@@ -114,29 +114,29 @@ impl Found {
     }
 }
 
-/// The changes of the values inside one that a walk has not come to yet.
+/// The changes that a walk has yet to make to the values inside an array, object or table.
 #[derive(Drop)]
-pub struct Left {
-    // So many of the next values stay.
+pub struct RemainingChanges {
+    // The number of next values that are kept.
     kept: usize,
     changes: IntoIter<Change>,
 }
 
-impl Left {
-    /// Returns those of all the values.
-    pub fn new(changes: Vec<Change>) -> Left
-        ensures { left_of result ≡ slots changes.items }
+impl RemainingChanges {
+    /// Creates the list of remaining changes. At first it has all `changes`.
+    pub fn new(changes: Vec<Change>) -> RemainingChanges
+        ensures { remaining_of result ≡ slots changes.items }
     {
-        Left {
+        RemainingChanges {
             kept: 0,
             changes: changes.into_iter(),
         }
     }
 
-    /// Takes out what the next value becomes.
+    /// Removes and returns the change of the next value, or `Kept(0)` if no change is left.
     pub fn next(&mut self) -> Change
-        ensures next { result ≡ next_of (left_of self.old) }
-        ensures rest { left_of self.new ≡ rest_of (left_of self.old) }
+        ensures next { result ≡ next_of (remaining_of self.old) }
+        ensures rest { remaining_of self.new ≡ rest_of (remaining_of self.old) }
     {
         if self.kept > 0 {
             self.kept -= 1;

@@ -1,58 +1,58 @@
-//! Texts of some format whose strings are filled in where they stand: what the formats share.
+//! The strings of a text, how a format spells them, and filling in one of them in place.
 
 ghost use Rattle.std.specs.Prelude.{◌≡◌, ◌≤◌, ◌++◌, ◌-◌, ◌∷◌, [], ℕ, List, IfOk, IfSome, IsTrue, OnOk, length, option_map, slice_range, string_bytes};
 ghost use Rattle.subst_error.specs.ErrorFault.{error_fault};
 ghost use Rattle.subst_language.specs.Calls.Outcome.{OnFault};
 ghost use Rattle.subst_language.specs.Language.Answer.{Refuses};
 ghost use Rattle.subst_language.specs.Language.Several.{GivesBy};
-ghost use Rattle.subst_document.specs.Edits.{IsChanged, IsPassed, AreSpelled};
+ghost use Rattle.subst_document.specs.Edits.{IsChanged, IsStringOutcome, AreSpelled};
 ghost use Rattle.subst_error.specs.Range.{IsRangeIn};
 ghost use Rattle.subst_document.specs.Texts.{HasRange};
 
 use crate::Fill;
-use crate::splice::{Change, Content, Part, new_token};
+use crate::splice::{ChangedString, Content, Part, new_token};
 use std::alloc::{AllocError, Global};
 use std::ops::Range;
 use subst_error::Error;
 
-/// A string of a text, and where it stands.
+/// A string of a text, with its span.
 #[derive(Debug, Drop)]
 pub struct StringAt {
-    /// The string, as it is read.
+    /// The string as it is read: decoded, without quotes.
     pub text: String,
-    /// The byte range of the text that spells it, with its quotes.
+    /// The byte range that spells the string in the text, with the quotes.
     pub span: Range<usize>,
 }
 
-/// A string of a text that is refused, and where it stands.
+/// A refused string of a text, with its path and span.
 #[derive(Debug, Drop)]
 pub struct RefusalAt<P> {
-    /// The path that leads to it. Of members with equal keys each has the same path.
+    /// The path to the string. Members with equal keys have equal paths.
     pub path: P,
-    /// The string, as it is read.
+    /// The string as it is read: decoded, without quotes.
     pub text: String,
-    /// The byte range of the text that spells it, with its quotes.
+    /// The byte range that spells the string in the text, with the quotes.
     pub span: Range<usize>,
-    /// Why it is refused. Positions are byte offsets in the string. It is never `OutOfMemory`.
+    /// The error of the string, never `OutOfMemory`. Positions are byte offsets in the string.
     pub error: Error,
 }
 
-/// How a format spells its strings.
+/// The spelling of strings in a format. A token is the spelling of a string in a text, with the quotes.
 pub trait StringFormat {
-    // Whether a part of a text spells the string.
+    // Whether a token (the first text) spells a string (the second).
     ghost is_token: { List ℕ → List ℕ → Type 0 };
 
-    // Whether a token has a piece that is read as a part of its string.
+    // Whether a piece (the second text) of a token (the first) is read as a part (the third) of the string.
     ghost is_part: { List ℕ → List ℕ → List ℕ → Type 0 };
 
-    // Whether a value fits into the kind of a token.
+    // Whether the kind of a token (the first text), such as its quotes, can spell a value (the second).
     ghost is_fit: { List ℕ → List ℕ → Type 0 };
 
-    /// Returns whether a part of a text spells a string.
+    /// Returns whether `token` spells the string `text`.
     fn spells(&mut self, alloc: Global, token: &str, text: &str) -> Result<bool, AllocError>
         ensures { IfOk result (λ is. IsTrue is → is_token token.now text.now) };
 
-    /// Returns whether a piece of a token is read as this part of its string.
+    /// Returns whether `piece` of a token is read as `part` of the token's string.
     fn spells_part(
         &mut self,
         alloc: Global,
@@ -62,12 +62,12 @@ pub trait StringFormat {
     ) -> Result<bool, AllocError>
         ensures { IfOk result (λ is. IsTrue is → is_part token.now piece.now part.now) };
 
-    /// Returns whether a value fits into the kind of a token.
+    /// Returns whether the kind of `token`, such as its quotes, can spell `value`.
     fn fits(&self, token: &str, value: &str) -> bool
         ensures { is_fit token.now value.now → IsTrue result };
 
-    /// Finds the content of a token, and the spans of these parts of its string there. Returns `None` if one
-    /// isn't found.
+    /// Finds the content of `token`, which spells `text`, and the spans in `token` of `parts`, byte ranges of
+    /// `text`. Returns `None` if the content or a span isn't found.
     fn content(
         &mut self,
         alloc: Global,
@@ -76,7 +76,7 @@ pub trait StringFormat {
         parts: &[Range<usize>],
     ) -> Result<Option<Content>, AllocError>;
 
-    /// Appends a value as it is spelled in the kind of a token, or returns `false` if it can't be.
+    /// Appends `value` without quotes, in the kind of `token`. Returns `false` if the kind can't spell it.
     fn write_value(
         &mut self,
         alloc: Global,
@@ -87,14 +87,13 @@ pub trait StringFormat {
         ensures { IfOk result (λ is. IsTrue is → (spelled : List ℕ)
             × (string_bytes output.new ≡ string_bytes output.old ++ spelled)) };
 
-    /// Appends a line end that is no part of the string after the opening quotes of a token, or returns `false` if
-    /// the format has none.
+    /// Appends a line end that is no part of the string if it directly follows the opening quotes. Returns
+    /// `false` if the format has no such line end.
     fn write_line_end(&mut self, output: &mut String) -> Result<bool, AllocError>
         ensures { IfOk result (λ is. IsTrue is → (spelled : List ℕ)
             × (string_bytes output.new ≡ string_bytes output.old ++ spelled)) };
 
-    /// Returns a token of the string that these parts make, in place of an old token, of a kind that takes
-    /// every value.
+    /// Returns the token that replaces `token`: it spells all `parts`, in a kind that can spell every string.
     fn write(
         &mut self,
         alloc: Global,
@@ -103,18 +102,18 @@ pub trait StringFormat {
     ) -> Result<String, AllocError>;
 }
 
-/// A text that is cut round a part of it.
+/// A text, cut before and after a part of it.
 #[derive(Clone, Copy)]
 pub struct Cut<'t> {
-    /// What stands before the part.
+    /// The text before the part.
     pub before: &'t str,
     /// The part.
     pub token: &'t str,
-    /// What stands after it.
+    /// The text after the part.
     pub rest: &'t str,
 }
 
-/// Returns the text, cut round a byte range of it, or `None` where it has no such range.
+/// Cuts a text before and after a byte range, or returns `None` if the text has no such range.
 pub fn cut_round<'t>(text: &'t str, range: &Range<usize>) -> Option<Cut<'t>>
     ensures { IfSome result (λ cut. (text.now ≡ cut.before.now ++ (cut.token.now ++ cut.rest.now))
         × (length cut.before.now ≡ range.now.start)
@@ -130,18 +129,18 @@ pub fn cut_round<'t>(text: &'t str, range: &Range<usize>) -> Option<Cut<'t>>
     })
 }
 
-/// Returns what a string becomes, or `None` where it becomes itself.
+/// Returns the new value of a string, or `None` if it is unchanged.
 ///
 /// # Errors
 ///
-/// The fault for which it is refused. `OutOfMemory` when allocation fails.
+/// The fault of a refused string. `OutOfMemory` if allocation fails.
 pub fn changed<F: Fill>(alloc: Global, text: &str, filler: &F) -> Result<Option<String>, Error>
     ensures ok { IfOk result (λ changed. IsChanged (GivesBy (F.answers filler.now)) text.now
         (option_map (λ value. string_bytes value) changed)) }
     ensures err { OnFault error_fault result (λ f. F.answers filler.now text.now (Refuses f)) }
     ensures range { OnFault error_fault result HasRange }
 {
-    if filler.gives_itself(text) {
+    if filler.needs_no_filling(text) {
         return Ok(None);
     }
     let value = filler.fill(alloc, text)?;
@@ -154,22 +153,22 @@ pub fn changed<F: Fill>(alloc: Global, text: &str, filler: &F) -> Result<Option<
 
 /// The outcome of filling in a string of a text.
 #[derive(Drop)]
-pub enum Passed<'t> {
-    /// It becomes itself, and is still in the rest.
-    Stays,
-    /// It became another one. The text is the rest after it.
+pub enum StringOutcome<'t> {
+    /// The string is unchanged. Nothing is appended to the output.
+    Unchanged,
+    /// The string's new value, and the rest of the text after its old token.
     Changed(String, &'t str),
-    /// It becomes another one, and isn't where it should be.
+    /// The string changes, but isn't spelled at its span, or no token for its new value is found.
     NotFound,
 }
 
-/// Fills in a string of a text whose rest begins before it, at `token` in bytes of that rest: if it becomes
-/// another one, appends to `output` what stands before the string and what it becomes. It isn't found if
-/// `token` doesn't spell it.
+/// Fills in the string `text`. `rest` is the end of a document, and `token` the byte range in `rest` that
+/// spells the string. If the string changes, appends to `output` the bytes of `rest` before that range, and
+/// then a new token.
 ///
 /// # Errors
 ///
-/// The fault for which the string is refused. `OutOfMemory` when allocation fails.
+/// The fault of a refused string. `OutOfMemory` if allocation fails.
 pub fn fill_in_string<'t, S: StringFormat, F: Fill>(
     alloc: Global,
     rest: &'t str,
@@ -178,39 +177,39 @@ pub fn fill_in_string<'t, S: StringFormat, F: Fill>(
     format: &mut S,
     filler: &F,
     output: &mut String,
-) -> Result<Passed<'t>, Error>
-    ensures passed { IfOk result (λ passed. IsPassed S.is_token S.is_part S.is_fit
+) -> Result<StringOutcome<'t>, Error>
+    ensures outcome { IfOk result (λ outcome. IsStringOutcome S.is_token S.is_part S.is_fit
         (GivesBy (F.answers filler.now)) text.now rest.now (string_bytes output.old)
-        (string_bytes output.new) passed) }
+        (string_bytes output.new) outcome) }
     ensures err { OnFault error_fault result (λ f. F.answers filler.now text.now (Refuses f)) }
     ensures range { OnFault error_fault result HasRange }
 {
     let Some(value) = changed(alloc, text, filler)? else {
-        return Ok(Passed::Stays);
+        return Ok(StringOutcome::Unchanged);
     };
     let Some(cut) = cut_round(rest, token) else {
-        return Ok(Passed::NotFound);
+        return Ok(StringOutcome::NotFound);
     };
     if !format.spells(alloc, cut.token, text)? {
-        return Ok(Passed::NotFound);
+        return Ok(StringOutcome::NotFound);
     }
-    let change = Change {
+    let change = ChangedString {
         token: cut.token,
         text,
         value: value.as_str(),
     };
     let Some(token) = new_token(alloc, change, format, filler)? else {
-        return Ok(Passed::NotFound);
+        return Ok(StringOutcome::NotFound);
     };
     push_both(output, cut.before, token.as_str())?;
-    Ok(Passed::Changed(value, cut.rest))
+    Ok(StringOutcome::Changed(value, cut.rest))
 }
 
-/// Appends two texts.
+/// Appends `before` and then `token`.
 ///
 /// # Errors
 ///
-/// When allocation fails, and for nothing else.
+/// If allocation fails.
 fn push_both(output: &mut String, before: &str, token: &str) -> Result<(), AllocError>
     ensures { OnOk result
         (string_bytes output.new ≡ string_bytes output.old ++ (before.now ++ token.now)) }
@@ -219,12 +218,11 @@ fn push_both(output: &mut String, before: &str, token: &str) -> Result<(), Alloc
     output.push_str(token)
 }
 
-/// Returns a string of `source` with where it stands, or `None` where `span` doesn't spell it, or begins
-/// before `from`.
+/// Returns `text` with `span`, or `None` if `source` doesn't spell it there or `span` begins before `from`.
 ///
 /// # Errors
 ///
-/// When allocation fails, and for nothing else.
+/// If allocation fails.
 pub fn string_at<S: StringFormat>(
     alloc: Global,
     source: &str,
@@ -249,7 +247,7 @@ pub fn string_at<S: StringFormat>(
     Ok(Some(StringAt { text, span }))
 }
 
-/// Returns a byte range of a text, or `None` where the text has no such range.
+/// Returns the part of a text in a byte range, or `None` if the text has no such range.
 pub fn slice<'t>(text: &'t str, range: &Range<usize>) -> Option<&'t str>
     ensures { IfSome result
         (λ part. IsRangeIn text.now range.now × (range.now.start ≤ range.now.end)

@@ -1,11 +1,10 @@
-//! Filling in the texts of a tree: what the walks over trees of each format share. `Fill` is a way to
-//! fill in texts, and `Filler` is that by a map: it returns the answer of a text, and a text without `$`
-//! and `\` as it is.
+//! The code that JSON, TOML and YAML share for filling in documents. `Fill` is a way to fill in texts, and
+//! `Filler` fills them in from a map of variables.
 //!
-//! `filled_in` and `listed` are the passes over the strings of a text, which are `Strings` in a `StringFormat`:
-//! each string is filled in where it stands. `report` has the lines that tell people what is refused.
+//! `filled_in` fills in the strings of a text, and `listed` lists them. `Strings` iterates over them, and a
+//! `StringFormat` reads and writes their spelling. `report` formats reports of refused strings.
 //!
-//! `subst` re-exports `PathStep` alone, by its modules `json` and `toml`.
+//! `subst` re-exports `Fill`, `Filler`, `PathStep` and `StringAt`, in its modules `json`, `toml` and `yaml`.
 #![tactic(auto)]
 
 ghost use Rattle.std.specs.Prelude.{IfOk, IfSome, IsSomeAnd, IsTrue, MatchOption, ℕ, List, string_bytes};
@@ -15,10 +14,10 @@ ghost use Rattle.subst_language.specs.Language.Answer.{Answer, Gives, Refuses};
 ghost use Rattle.subst_language.specs.Calls.Outcome.{OnFault, answer_of};
 ghost use Rattle.subst_document.specs.Texts.{HasRange};
 
-pub use changes::{Change, Found, Left, change_of_text};
+pub use changes::{Change, FoundChanges, RemainingChanges, change_of_text};
 pub use edits::{
-    Cut, Passed, RefusalAt, StringAt, StringFormat, changed, cut_round, fill_in_string, slice,
-    string_at,
+    Cut, RefusalAt, StringAt, StringFormat, StringOutcome, changed, cut_round, fill_in_string,
+    slice, string_at,
 };
 pub use path_step::PathStep;
 pub use pieces::{Pieces, Position, spans};
@@ -28,7 +27,7 @@ pub use splice::{Content, Part};
 use std::alloc::{AllocError, Global};
 use std::convert::AsStr;
 pub use strings::{
-    Filled, ListedStrings, Spelled, Strings, ValueAt, Values, are_spelled, filled_in, listed,
+    ChangedValues, Filled, ListedStrings, Spelled, Strings, ValueAt, are_spelled, filled_in, listed,
 };
 use subst_error::Error;
 use subst_language::VariableMap;
@@ -47,23 +46,23 @@ mod strings;
 
 /// A way to fill in texts.
 ///
-/// A walk over a tree calls itself, and the toolchain has no proof of a function that does so under a bound
-/// that names a lifetime, as `VariableMap<'a>`. So a walk is generic in this trait.
+/// A walk over a tree is recursive, and the toolchain can't prove a recursive function under a bound that
+/// names a lifetime, as `VariableMap<'a>`. So walks are generic in this trait.
 pub trait Fill {
-    // Which answers a text has: a text that it gives, or a fault for which it is refused.
+    // The answers of a text: its output, or the fault for which it is refused.
     ghost answers: { Self → List ℕ → Answer → Type 0 };
 
-    /// Returns whether a text gives itself, as far as that is seen without filling it in.
-    fn gives_itself(&self, text: &str) -> bool
+    /// Returns `true` if a text is known, without filling it in, to be its own output.
+    fn needs_no_filling(&self, text: &str) -> bool
         ensures itself { IsTrue result → answers self.now text.now (Gives text.now) };
 
-    /// Returns `source` with its variables filled in.
+    /// Returns the output of the text `source`, or its error if it is refused.
     fn fill(&self, alloc: Global, source: &str) -> Result<String, Error>
         ensures answer { IfSome (answer_of (λ text. string_bytes text) result)
             (answers self.now source.now) }
         ensures range { OnFault error_fault result HasRange };
 
-    /// Returns why `source` is refused, or nothing where it gives a text.
+    /// Returns the error of `source`, or `None` if it has an output.
     fn refusal(&self, alloc: Global, source: &str) -> Result<Option<Error>, AllocError>
         ensures answer { IfOk result (λ refusal. MatchOption refusal
             ((x : List ℕ) × answers self.now source.now (Gives x))
@@ -72,10 +71,10 @@ pub trait Fill {
             (λ e. IsRangeIn source.now (range_of (error_fault e)))) };
 }
 
-/// Fills in texts from a map of variables.
+/// A filler of texts from a map of variables. A text without `$` and `\` is returned as it is.
 #[derive(Clone, Copy)]
 pub struct Filler<'a, M> {
-    /// The map.
+    /// The map of variables.
     pub variables: &'a M,
 }
 
@@ -87,11 +86,11 @@ where
 
     ghost answers = { λ filler. AnswersText M.Value.text M.see (M.look_up filler.variables.now) };
 
-    fn gives_itself(&self, text: &str) -> bool {
+    fn needs_no_filling(&self, text: &str) -> bool {
         is_plain(text.as_bytes())
     }
 
-    // A walk calls it at each level, so its frame is kept out of the walk's.
+    // Not inlined, so that the stack frame of a recursive walk that calls this stays small.
     #[inline(never)]
     fn fill(&self, alloc: Global, source: &str) -> Result<String, Error> {
         substitute(alloc, source, self.variables)

@@ -1,4 +1,4 @@
-//! Spans of many ranges of one string, found by one pass over its token.
+//! Finds the spans of several ranges of one string, in one pass over its token.
 
 ghost use Rattle.std.specs.Prelude.{◌≡◌, IfOk, IfSome};
 ghost use Rattle.subst_document.specs.Pieces.{ArePiecesFrom};
@@ -6,27 +6,28 @@ ghost use Rattle.subst_document.specs.Pieces.{ArePiecesFrom};
 use std::alloc::{AllocError, Global};
 use std::ops::Range;
 
-/// A byte offset in a text, and that in a string which is spelled there.
+/// A byte offset in a text, and the offset in the string that is spelled up to there.
 #[derive(Clone, Copy)]
 pub struct Position {
-    /// The offset in the text.
+    /// The byte offset in the text.
     pub place: usize,
-    /// The offset in the string.
+    /// The byte offset in the string.
     pub offset: usize,
 }
 
-/// A token of a string, whose pieces can be read alone.
+/// A token of a string, with pieces that can be read by themselves.
 pub trait Pieces {
-    /// What pieces are read with.
+    /// The reader of pieces. It may keep buffers from one piece to the next.
     type Reader;
 
     ghost use Rattle.subst_document.specs.declared.pieces.Position.{Position};
 
-    // Whether the token has a piece from one position to another, which spells that part of its string.
+    // Whether the token's piece between two positions spells the part of the string between them.
     ghost is_piece: { Self → Position → Position → Type 0 };
 
-    /// Returns where the string's start up to an offset has been spelled, from a position on; if a range
-    /// begins there, after what the text leaves out. It is `None` where the piece isn't read as that part.
+    /// Returns the position in the token, from `from` on, at which the string is spelled up to `offset`. If
+    /// `is_start`, next bytes that spell nothing are skipped too. Returns `None` if the piece of the token
+    /// between the two positions isn't read as the part of the string between them.
     fn piece_end(
         &self,
         alloc: Global,
@@ -39,12 +40,12 @@ pub trait Pieces {
             (λ end. (end.offset ≡ offset) × is_piece self.now from end)) };
 }
 
-/// Returns the spans of ranges of the string of a token, from a position of it on. It is `None` where one of
-/// them isn't found.
+/// Returns the spans in `token` of `ranges` of the token's string, or `None` if one of these isn't found.
+/// `first` is the position at which the token's content begins.
 ///
 /// # Errors
 ///
-/// When allocation fails.
+/// If allocation fails.
 pub fn spans<P: Pieces>(
     alloc: Global,
     token: &P,

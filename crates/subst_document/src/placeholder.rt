@@ -1,4 +1,4 @@
-//! Placeholders and escapes in strings, as they are written: of the language and of texts of other tools alike.
+//! Finds the placeholders and escapes in a string, as this language or another tool writes them.
 
 ghost use Rattle.std.specs.Prelude.{◌≡◌, ◌≤◌, ◌<◌, ◌∷◌, IfOk, IfSome, IsTrue, length, slice_index, take};
 ghost use Rattle.subst_language.specs.Language.Balanced.{IsBalanced};
@@ -10,19 +10,19 @@ use std::ops::Range;
 use subst_language::name_len;
 use subst_template::is_plain;
 
-/// Returns the spans of the placeholders and escapes of a text, in its order. One that is inside of another is
-/// none. Without escapes a backslash is a byte as any other.
+/// Returns the spans of the outermost placeholders and escapes of a text, in order. Unless `has_escapes`, a
+/// backslash is a plain byte.
 ///
 /// # Errors
 ///
-/// When allocation fails, and for nothing else.
+/// If allocation fails.
 pub(crate) fn placeholders(
     alloc: Global,
     text: &str,
     has_escapes: bool,
 ) -> Result<Vec<Range<usize>>, AllocError> {
     let bytes = text.as_bytes();
-    let mut found = Found {
+    let mut found = FoundPlaceholders {
         spans: Vec::with_capacity(alloc, 1)?,
         open: Vec::new(alloc),
     };
@@ -33,7 +33,7 @@ pub(crate) fn placeholders(
     Ok(found.spans)
 }
 
-/// Returns the span of the one placeholder or escape of a text, or `None` if it has none or more than one.
+/// Returns the span of a text's only placeholder or escape, or `None` if it has none or more than one.
 pub(crate) fn only_placeholder(text: &str) -> Option<Range<usize>> {
     let bytes = text.as_bytes();
     let start = bytes.iter().position(|byte| matches!(byte, b'$' | b'\\'))?;
@@ -46,16 +46,17 @@ pub(crate) fn only_placeholder(text: &str) -> Option<Range<usize>> {
     }
 }
 
-/// The placeholders of a text so far.
+/// The placeholders found so far.
 #[derive(Drop)]
-struct Found {
+struct FoundPlaceholders {
     spans: Vec<Range<usize>>,
-    /// For each brace that is open, the offset of the dollar before it, if there is one.
+    /// The open braces, outermost first: the offset of the dollar before each, or `None` without one.
     open: Vec<Option<usize>>,
 }
 
-impl Found {
-    /// Adds the placeholder or brace at the start of the text from this offset on, and returns its length.
+impl FoundPlaceholders {
+    /// Adds the placeholder or brace that `rest` begins with, or skips plain bytes. Returns the number of
+    /// bytes read. `at` is the offset of `rest` in the text.
     fn step(&mut self, rest: &[u8], at: usize, has_escapes: bool) -> Result<usize, AllocError>
         requires { 0 < length rest.now }
         ensures { IfOk result (λ len. len ≤ length rest.now) }
@@ -89,7 +90,7 @@ impl Found {
         }
     }
 
-    /// Closes a brace at an offset. After a dollar, it and what is in it are one placeholder.
+    /// Handles the `}` at offset `at`. If `$` precedes the matching `{`, `${..}` replaces the spans inside.
     fn close(&mut self, at: usize) -> Result<(), AllocError> {
         let Some(Some(start)) = self.open.pop() else {
             return Ok(());
@@ -107,7 +108,7 @@ impl Found {
     }
 }
 
-/// Returns how many bytes at the start of a text begin no placeholder and no escape and are no braces.
+/// Returns the number of bytes before the first `$`, `\` or brace.
 fn plain_len(text: &[u8]) -> usize
     ensures { result ≤ length text.now }
 {
@@ -124,7 +125,7 @@ pub(crate) fn is_placeholder(text: &str) -> bool
     placeholder_len(text.as_bytes()) == Some(text.len()) || is_bare(text.as_bytes())
 }
 
-/// Returns whether a text is a dollar with braces that match, where a backslash escapes none.
+/// Returns whether a text is `${..}` with matching braces. Backslashes don't escape here.
 fn is_bare(text: &[u8]) -> bool
     ensures { IsTrue result → IsPlaceholder text.now }
 {
@@ -158,7 +159,7 @@ fn placeholder_len(text: &[u8]) -> Option<usize>
     Some(len + 1)
 }
 
-/// Returns the length of what a backslash escapes at the start of a text.
+/// Returns 1 if `text`, which follows a backslash, begins with a byte that can be escaped, or else `None`.
 fn escape_len(text: &[u8]) -> Option<usize>
     ensures within { IfSome result (λ len. len ≤ length text.now) }
     ensures placeholder { IfSome result (λ len. IsPlaceholder (backslash ∷ take len text.now)) }
@@ -170,7 +171,7 @@ fn escape_len(text: &[u8]) -> Option<usize>
     }
 }
 
-/// Returns the length of what a dollar before a text begins there: a dollar, a name, or braces.
+/// Returns the length of the dollar, name or `{..}` that begins `text`, or `None`. A dollar precedes `text`.
 fn variable_len(text: &[u8]) -> Option<usize>
     ensures within { IfSome result (λ len. len ≤ length text.now) }
     ensures placeholder { IfSome result (λ len. IsPlaceholder (dollar ∷ take len text.now)) }
@@ -186,7 +187,7 @@ fn variable_len(text: &[u8]) -> Option<usize>
     }
 }
 
-/// Returns the index of the brace that closes one before this text, or `None` if there is none.
+/// Returns the index in `text` of the `}` for a `{` before `text`, or `None`. A backslash escapes a byte.
 fn closing_brace(text: &[u8]) -> Option<usize>
     ensures within { IfSome result (λ at. at < length text.now) }
     ensures closes { IfSome result (λ at. slice_index text.now at ≡ 125) }
@@ -211,8 +212,7 @@ fn closing_brace(text: &[u8]) -> Option<usize>
     None
 }
 
-/// Returns the index of the brace that closes one before this text, where a backslash escapes none, or `None` if
-/// there is none.
+/// Returns the index in `text` of the `}` for a `{` before `text`, or `None`. Backslashes don't escape.
 fn bare_closing_brace(text: &[u8]) -> Option<usize>
     ensures within { IfSome result (λ at. at < length text.now) }
     ensures closes { IfSome result (λ at. slice_index text.now at ≡ 125) }

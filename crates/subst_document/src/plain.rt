@@ -1,4 +1,4 @@
-//! A text with other bytes in place of its strings.
+//! Replaces the strings of a text with other bytes.
 
 ghost use Rattle.std.specs.Prelude.{◌≡◌, ◌++◌, ℕ, List, IfOk, IfSome, OnOk, string_bytes};
 ghost use Rattle.subst_document.specs.Plain.{with_plain as text_with_plain};
@@ -6,27 +6,26 @@ ghost use Rattle.subst_document.specs.Plain.{with_plain as text_with_plain};
 use crate::edits::{StringAt, slice};
 use std::alloc::{AllocError, Global};
 
-/// Values that are no strings of a document, each in place of one.
+/// Values that replace the strings of a text, none of them a string.
 pub trait Plain {
-    // The bytes in place of the string of an index.
+    // The bytes that replace the string at an index.
     ghost bytes: { Self → ℕ → List ℕ };
 
-    /// Appends the bytes in place of the string of an index.
+    /// Appends the bytes that replace the string at an index.
     ///
     /// # Errors
     ///
-    /// When allocation fails, and for nothing else.
+    /// If allocation fails.
     fn push(&self, alloc: Global, index: usize, output: &mut String) -> Result<(), AllocError>
         ensures { OnOk result
             (string_bytes output.new ≡ string_bytes output.old ++ bytes self.now index) };
 }
 
-/// Returns a text with other bytes in place of these strings, or `None` where they aren't in it one after the
-/// other.
+/// Returns `source` with `plain` at the spans of `list`, or `None` if the spans aren't in `source` in order.
 ///
 /// # Errors
 ///
-/// When allocation fails, and for nothing else.
+/// If allocation fails.
 pub fn with_plain<P: Plain>(
     alloc: Global,
     source: &str,

@@ -1,4 +1,4 @@
-//! The strings of a list that are refused, with the paths that lead to them.
+//! The refused strings of a list, with their paths.
 
 ghost use Rattle.std.specs.Prelude.{◌≡◌, ℕ, IfOk, IfSome, MatchOption, List, map};
 ghost use Rattle.std.specs.List.{zip};
@@ -15,15 +15,15 @@ pub trait Paths {
     /// A path to a string.
     type Path: Drop;
 
-    // Whether a path leads to the string of an index.
+    // Whether a path leads to the string at an index.
     ghost leads_to: { Self → ℕ → Self.Path → Type 0 };
 
-    /// Returns the paths to strings that are refused, or `None` where one isn't found. In place of its path
-    /// each has its index among all strings.
+    /// Returns the paths to the strings of `refused`, or `None` if a path isn't found. The `path` field of a
+    /// refused string is its index among all strings of the text.
     ///
     /// # Errors
     ///
-    /// When allocation fails, and for nothing else.
+    /// If allocation fails.
     fn paths_to(
         &self,
         alloc: Global,
@@ -33,12 +33,12 @@ pub trait Paths {
             (λ paths. ArePathsTo (leads_to self.now) refused.now paths.items)) };
 }
 
-/// Returns the refusals of those of these strings that are refused, each with its path, or `None` where a path
-/// isn't found. Paths are asked for only if a string is refused.
+/// Returns the refusals of a list of strings, with their paths, or `None` if a path isn't found. Paths are
+/// looked up only if a string is refused.
 ///
 /// # Errors
 ///
-/// When allocation fails, and for nothing else.
+/// If allocation fails.
 pub fn refusals<P: Paths, F: Fill>(
     alloc: Global,
     list: &[StringAt],
@@ -58,7 +58,7 @@ pub fn refusals<P: Paths, F: Fill>(
     with_paths(alloc, refused, paths)
 }
 
-/// Returns the refusals of those of these strings that are refused, each with its index in place of a path.
+/// Returns the refusals of a list of strings. The `path` of each is the index of its string in the list.
 fn refused<F: Fill>(
     alloc: Global,
     list: &[StringAt],
@@ -77,7 +77,7 @@ fn refused<F: Fill>(
     Ok(all)
 }
 
-/// Returns the refusal of a string, or `None` if it isn't refused.
+/// Returns the refusal of the string `it`, with the path `index`, or `None` if the string isn't refused.
 fn refusal_of<F: Fill>(
     alloc: Global,
     index: usize,
@@ -99,7 +99,7 @@ fn refusal_of<F: Fill>(
     }))
 }
 
-/// Returns refusals with these paths in place of their indices, or `None` where there are fewer paths.
+/// Replaces the index of each refusal by its path, in order. Returns `None` if there are too few paths.
 fn with_paths<P: Drop>(
     alloc: Global,
     refused: Vec<RefusalAt<usize>>,

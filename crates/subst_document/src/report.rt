@@ -1,6 +1,5 @@
-//! Reports of what is wrong with a document whose strings are filled in, as compilers write them:
-//! `FILE:LINE:COLUMN: PATH: fault`, and then the line of the document, with the fault underlined. The formats
-//! share these lines.
+//! Reports of refused strings in a document, in the form of a compiler's errors. Each is `FILE:LINE:COLUMN:
+//! PATH: fault`, and then the line of the document, with the fault underlined. All formats share this form.
 
 ghost use Rattle.std.specs.Prelude.{◌≡◌, ℕ, List, IfOk, IfSome, IsSomeAnd, string_bytes};
 ghost use Rattle.std.specs.List.{All};
@@ -14,22 +13,22 @@ use std::fmt::{Display, Formatter};
 use std::ops::Range;
 use subst_error::{Error, line_and_column, underline};
 
-/// How a format reports a refused string.
+/// The reports of a format's refused strings.
 pub trait ReportFormat {
-    /// A string of a document that is refused.
+    /// A refused string of a document.
     type Refusal: Drop;
 
-    // Whether its place in the document can be asked for.
+    // Whether the range of the string's fault lies in the string.
     ghost has_range: { Self.Refusal → Type 0 };
 
-    // Whether a text reports it, of a file with this name and this text.
+    // Relates the name and the text of a file, a refused string of the file, and the string's report.
     ghost reports: { List ℕ → List ℕ → Self.Refusal → List ℕ → Type 0 };
 
-    /// Returns the report of a refused string, of a file whose text is `source`.
+    /// Returns the report of the refused string `it` of `source`, the text of a file with the name `file`.
     ///
     /// # Errors
     ///
-    /// When allocation fails, and for nothing else.
+    /// If allocation fails.
     fn report(
         alloc: Global,
         file: &str,
@@ -41,11 +40,11 @@ pub trait ReportFormat {
             (λ text. reports file.now source.now it.now (string_bytes text)) };
 }
 
-/// Returns the reports of all refused strings of a text; or, where none is known, what the error says.
+/// Returns the reports of `all` refused strings, or the report of `e` if `all` is empty or `None`.
 ///
 /// # Errors
 ///
-/// When allocation fails, and for nothing else.
+/// If allocation fails.
 pub fn refusals<R: ReportFormat>(
     alloc: Global,
     file: &str,
@@ -60,13 +59,13 @@ pub fn refusals<R: ReportFormat>(
     match all {
         Some(all) if !all.is_empty() => each_refusal::<R>(alloc, file, source, &all),
         _ => {
-            let said = text_of(alloc, e)?;
-            lines(alloc, file, source, None, &said)
+            let message = text_of(alloc, e)?;
+            lines(alloc, file, source, None, &message)
         }
     }
 }
 
-/// Returns the reports of refused strings, one after the other.
+/// Returns the concatenated reports of refused strings.
 fn each_refusal<R: ReportFormat>(
     alloc: Global,
     file: &str,
@@ -85,12 +84,12 @@ fn each_refusal<R: ReportFormat>(
     Ok(text)
 }
 
-/// Returns the report of a string that is refused for `e`: the path that leads to it, if there is one, and
-/// the fault, at a place.
+/// Returns the report of the string at `path`, refused for `e`: the path, unless empty, and the text of `e`.
+/// `place` is the byte range of the fault in `source`, or `None` if unknown.
 ///
 /// # Errors
 ///
-/// When allocation fails, and for nothing else.
+/// If allocation fails.
 pub fn fault(
     alloc: Global,
     file: &str,
@@ -107,15 +106,15 @@ pub fn fault(
     if path.is_empty() {
         return lines(alloc, file, source, place, &shown);
     }
-    let said = format!(in alloc; "{path}: {shown}")?;
-    lines(alloc, file, source, place, &said)
+    let message = format!(in alloc; "{path}: {shown}")?;
+    lines(alloc, file, source, place, &message)
 }
 
 /// Returns the text of an error.
 ///
 /// # Errors
 ///
-/// When allocation fails, and for nothing else.
+/// If allocation fails.
 fn text_of(alloc: Global, e: &Error) -> Result<String, AllocError>
     ensures { IfOk result (λ text. IsDisplayOfError (error_fault e.now) (string_bytes text)) }
 {
@@ -126,51 +125,52 @@ fn text_of(alloc: Global, e: &Error) -> Result<String, AllocError>
     }
 }
 
-/// Returns the lines that say this of a file whose text is `source`, with its place, if there is one.
+/// Returns `message` after the name `file`. If there is a `place`, a byte range of `source`, the line and
+/// column precede the message, and the underlined line follows it.
 ///
 /// # Errors
 ///
-/// When allocation fails, and for nothing else.
+/// If allocation fails.
 pub fn lines(
     alloc: Global,
     file: &str,
     source: &str,
     place: Option<Range<usize>>,
-    said: &str,
+    message: &str,
 ) -> Result<String, AllocError>
     requires { IfSome place (IsRangeIn source.now) }
     ensures { IfOk result
-        (λ text. string_bytes text ≡ lines_of file.now source.now place said.now) }
+        (λ text. string_bytes text ≡ lines_of file.now source.now place message.now) }
 {
     match place {
-        Some(place) => placed(alloc, file, source, place, said),
-        None => format!(in alloc; "{file}: {said}\n"),
+        Some(place) => positioned_lines(alloc, file, source, place, message),
+        None => format!(in alloc; "{file}: {message}\n"),
     }
 }
 
-/// Returns the lines that say this of a place.
-fn placed(
+/// Returns `message` after `file` and the line and column of `place`, and then the underlined line.
+fn positioned_lines(
     alloc: Global,
     file: &str,
     source: &str,
     place: Range<usize>,
-    said: &str,
+    message: &str,
 ) -> Result<String, AllocError>
     requires { IsRangeIn source.now place }
     ensures { IfOk result
-        (λ text. string_bytes text ≡ lines_at file.now source.now place said.now) }
+        (λ text. string_bytes text ≡ lines_at file.now source.now place message.now) }
 {
     let (line, column) = line_and_column(source, place.start);
-    let shown = marked(alloc, underline(alloc, source, place)?)?;
-    format!(in alloc; "{file}:{line}:{column}: {said}\n{shown}")
+    let excerpt = add_caret(alloc, underline(alloc, source, place)?)?;
+    format!(in alloc; "{file}:{line}:{column}: {message}\n{excerpt}")
 }
 
-/// Returns an underlined line, with a caret at its mark where that is empty.
-fn marked(alloc: Global, shown: String) -> Result<String, AllocError>
-    ensures { IfOk result (λ text. string_bytes text ≡ with_caret (string_bytes shown)) }
+/// Adds a caret to `excerpt`, a line of a text with its underline, if the underlined range is empty.
+fn add_caret(alloc: Global, excerpt: String) -> Result<String, AllocError>
+    ensures { IfOk result (λ text. string_bytes text ≡ with_caret (string_bytes excerpt)) }
 {
-    match shown.strip_suffix(" \n") {
+    match excerpt.strip_suffix(" \n") {
         Some(before) => format!(in alloc; "{before} ^\n"),
-        None => Ok(shown),
+        None => Ok(excerpt),
     }
 }

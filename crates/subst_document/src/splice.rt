@@ -1,5 +1,5 @@
-//! Tokens of strings that change: placeholders alone are spelled anew, and all else in a token stays, if the new
-//! value fits into its kind.
+//! New tokens of strings that change. If the token's kind, such as its quotes, can spell the new values, only
+//! placeholders are rewritten, and the rest of the token stays.
 
 ghost use Rattle.std.specs.Prelude.{◌≡◌, ◌⊎◌, ◌++◌, ℕ, List, IfOk, IfSome, IsTrue, string_bytes};
 ghost use Rattle.subst_language.specs.Language.Several.{GivesBy};
@@ -15,30 +15,30 @@ use subst_error::Error;
 
 /// A string that changes.
 #[derive(Clone, Copy)]
-pub(crate) struct Change<'s> {
-    /// The token that spells it.
+pub(crate) struct ChangedString<'s> {
+    /// The token of the string.
     pub token: &'s str,
-    /// The string, as it is read.
+    /// The string as it is read.
     pub text: &'s str,
-    /// The string that it becomes.
+    /// The new value of the string.
     pub value: &'s str,
 }
 
-/// The content of a token and the placeholders in it, by byte offsets of the token.
+/// The content of a token and the placeholders in it, by byte offsets in the token.
 #[derive(Drop)]
 pub struct Content {
-    /// Where the content begins, after the opening quotes.
+    /// The start of the content, after the opening quotes.
     pub start: usize,
-    /// Where it ends, before the closing quotes.
+    /// The end of the content, before the closing quotes.
     pub end: usize,
-    /// The spans of the placeholders, or `None` if the content is the string as it is.
+    /// The spans of the placeholders, or `None` if the content is the string itself, without escapes.
     pub spans: Option<Vec<Range<usize>>>,
 }
 
-/// A part of a string that is spelled in another kind.
+/// A part of a string's new value, for a token of another kind.
 #[derive(Clone, Copy)]
 pub enum Part<'s> {
-    /// The string's own text.
+    /// Text of the string itself.
     Own(&'s str),
     /// The value of a placeholder.
     Value(&'s str),
@@ -47,23 +47,23 @@ pub enum Part<'s> {
 /// The values of the placeholders of a string.
 #[derive(Drop)]
 enum Values {
-    /// The spans of the placeholders in the string, and of their values in the one that it becomes.
+    /// The spans of the placeholders in the string, and of their values in the string's new value.
     Each(Vec<Range<usize>>, Vec<Range<usize>>),
-    /// The string's value isn't that of its parts.
+    /// The values of the string's parts, joined, aren't the string's value.
     Joined,
-    /// A part is refused by itself, or changes and is no placeholder.
+    /// Some part is refused by itself, or changes and is no placeholder.
     Unknown,
 }
 
-/// Returns the token of a string that changes, or `None` if none is found that is read as its value. Backslashes
-/// escape braces, or, as in texts of other tools, they don't.
+/// Returns a new token for a string that changes, or `None` if no token read as the new value is found.
+/// Placeholders are looked for with backslashes as escapes, and then without, as in other tools' texts.
 ///
 /// # Errors
 ///
-/// When allocation fails, and for nothing else.
+/// If allocation fails.
 pub(crate) fn new_token<S: StringFormat, F: Fill>(
     alloc: Global,
-    change: Change<'_>,
+    change: ChangedString<'_>,
     format: &mut S,
     filler: &F,
 ) -> Result<Option<String>, AllocError>
@@ -83,25 +83,25 @@ pub(crate) fn new_token<S: StringFormat, F: Fill>(
         Values::Each(spans, values) => token_of(alloc, change, &spans, &values, format, filler),
         Values::Joined => match values_of(alloc, change, false, filler)? {
             Values::Each(spans, values) => token_of(alloc, change, &spans, &values, format, filler),
-            Values::Joined | Values::Unknown => whole(alloc, change, format),
+            Values::Joined | Values::Unknown => token_of_value(alloc, change, format),
         },
         Values::Unknown => match values_of(alloc, change, false, filler)? {
             Values::Each(spans, values) => token_of(alloc, change, &spans, &values, format, filler),
-            Values::Joined => whole(alloc, change, format),
+            Values::Joined => token_of_value(alloc, change, format),
             Values::Unknown => Ok(None),
         },
     }
 }
 
-/// Returns a token of a string that changes, in which the placeholders at these spans alone are spelled anew if
-/// their values fit, as [`new_token`]. Each value is at its span in the string's value.
+/// Returns a new token, as [`new_token`], in which only the placeholders at `spans` are rewritten if their
+/// values fit. `values` are the spans of the placeholders' values in the string's new value.
 ///
 /// # Errors
 ///
-/// When allocation fails, and for nothing else.
+/// If allocation fails.
 fn token_of<S: StringFormat, F: Fill>(
     alloc: Global,
-    change: Change<'_>,
+    change: ChangedString<'_>,
     spans: &[Range<usize>],
     values: &[Range<usize>],
     format: &mut S,
@@ -119,7 +119,7 @@ fn token_of<S: StringFormat, F: Fill>(
     {
         return Ok(Some(new));
     }
-    // A line end that comes first may be left out after the opening quotes.
+    // A reader may drop a line end right after the opening quotes, so another one is added before the value.
     if let Some(new) = spliced(alloc, change, spans, values, true, format)?
         && format.spells(alloc, new.as_str(), change.value)?
     {
@@ -129,17 +129,17 @@ fn token_of<S: StringFormat, F: Fill>(
         return Ok(None);
     }
     let parts = parts_of(alloc, change, spans, values)?;
-    respelled(alloc, change, &parts, format)
+    token_of_parts(alloc, change, &parts, format)
 }
 
-/// Returns the values of the placeholders of a string.
+/// Returns the values of the placeholders of a string. Unless `has_escapes`, a backslash is a plain byte.
 ///
 /// # Errors
 ///
-/// When allocation fails, and for nothing else.
+/// If allocation fails.
 fn values_of<F: Fill>(
     alloc: Global,
-    change: Change<'_>,
+    change: ChangedString<'_>,
     has_escapes: bool,
     filler: &F,
 ) -> Result<Values, AllocError>
@@ -157,18 +157,19 @@ fn values_of<F: Fill>(
     values_of_each(alloc, change, spans, filler)
 }
 
-/// Returns the span of the value of the only placeholder of a string: of what the new string has in its place.
-fn between(change: Change<'_>, span: &Range<usize>) -> Option<Range<usize>> {
+/// Returns the span, in the string's new value, of the value of its only placeholder, which is at `span`.
+/// Returns `None` if the text around the placeholder changes.
+fn between(change: ChangedString<'_>, span: &Range<usize>) -> Option<Range<usize>> {
     let after = change.text.get(span.end..)?;
     let value = change.value.strip_prefix(change.text.get(..span.start)?)?;
     let len = value.strip_suffix(after)?.len();
     Some(span.start..span.start.saturating_add(len))
 }
 
-/// Returns the values of placeholders, each of which is filled in by itself, as [`values_of`].
+/// Returns the values of the placeholders at `spans`. Each part of the string is filled in by itself.
 fn values_of_each<F: Fill>(
     alloc: Global,
-    change: Change<'_>,
+    change: ChangedString<'_>,
     spans: Vec<Range<usize>>,
     filler: &F,
 ) -> Result<Values, AllocError>
@@ -180,7 +181,7 @@ fn values_of_each<F: Fill>(
     let mut rest = change.text;
     let mut stays = true;
     for span in spans.iter() {
-        let Some(cut) = cut_round(rest, &moved(span, passed(change.text, rest))) else {
+        let Some(cut) = cut_round(rest, &moved(span, len_before(change.text, rest))) else {
             return Ok(Values::Unknown);
         };
         let Some(before) = append_output(alloc, cut.before, filler, &mut joined)? else {
@@ -206,16 +207,16 @@ fn values_of_each<F: Fill>(
     }
 }
 
-/// Returns how long a text is before this rest of it.
-fn passed(text: &str, rest: &str) -> usize {
+/// Returns the length of the part of `text` before `rest`, which is the end of `text`.
+fn len_before(text: &str, rest: &str) -> usize {
     text.len().saturating_sub(rest.len())
 }
 
-/// Appends the output of a part of a string by itself, and returns it, or `None` if the part is refused.
+/// Returns the output of `part` by itself, and appends it to `joined`. Returns `None` if `part` is refused.
 ///
 /// # Errors
 ///
-/// When allocation fails, and for nothing else.
+/// If allocation fails.
 fn append_output<F: Fill>(
     alloc: Global,
     part: &str,
@@ -233,11 +234,11 @@ fn append_output<F: Fill>(
     Ok(Some(output))
 }
 
-/// Returns the output of a part of a string by itself, or `None` if the part is refused.
+/// Returns the output of a part of a string, filled in by itself, or `None` if the part is refused.
 ///
 /// # Errors
 ///
-/// When allocation fails, and for nothing else.
+/// If allocation fails.
 fn output_of<F: Fill>(alloc: Global, part: &str, filler: &F) -> Result<Option<String>, AllocError>
     ensures { IfOk result (λ output. IfSome output
         (λ output. GivesBy (F.answers filler.now) part.now (string_bytes output))) }
@@ -254,26 +255,26 @@ fn output_of<F: Fill>(alloc: Global, part: &str, filler: &F) -> Result<Option<St
 #[derive(Clone, Copy)]
 struct Value<'s> {
     text: &'s str,
-    /// Whether a line end comes before it that is no part of the string.
+    /// Whether a line end that is no part of the string precedes the value.
     begins_line: bool,
 }
 
-/// The rests of a string and of the content of its token.
+/// The rest of a string, and of the content of its token, after the last placeholder so far.
 #[derive(Clone, Copy)]
 struct Rest<'s> {
     text: &'s str,
     token: &'s str,
 }
 
-/// Returns the token with its placeholders spelled anew, the first one after a line end if it begins one. It is
-/// `None` if a value can't be spelled in the token's kind, or a piece of it isn't read as that of the string.
+/// Returns the old token with each placeholder replaced by its value, or `None` if that can't be spelled and
+/// confirmed in the token's kind. If `begins_line`, a line end precedes the first value.
 ///
 /// # Errors
 ///
-/// When allocation fails, and for nothing else.
+/// If allocation fails.
 fn spliced<S: StringFormat>(
     alloc: Global,
-    change: Change<'_>,
+    change: ChangedString<'_>,
     spans: &[Range<usize>],
     values: &[Range<usize>],
     begins_line: bool,
@@ -298,7 +299,7 @@ fn spliced<S: StringFormat>(
         token: cut.token,
     };
     for (index, (range, value)) in spans.iter().zip(values.iter()).enumerate() {
-        let range = moved(range, passed(change.text, rest.text));
+        let range = moved(range, len_before(change.text, rest.text));
         let text = cut_round(rest.text, &range);
         let token = cut_content(&content, rest.token, index, &range);
         let value = change.value.get(value.start..value.end);
@@ -333,8 +334,8 @@ fn spliced<S: StringFormat>(
     Ok(Some(output))
 }
 
-/// Returns a rest of the content, cut round the placeholder of an index, which is at this range of the rest if the
-/// content is the string as it is. It is `None` if the rest has no such range.
+/// Cuts `rest`, the end of a token's content, before and after the placeholder of an index. If the content is
+/// the string itself, that placeholder is at `range` of `rest`. Returns `None` if it isn't in `rest`.
 fn cut_content<'s>(
     content: &Content,
     rest: &'s str,
@@ -352,17 +353,17 @@ fn cut_content<'s>(
     Some(cut)
 }
 
-/// Returns a range that begins so many bytes earlier.
+/// Returns the range, moved back by `by` bytes.
 fn moved(range: &Range<usize>, by: usize) -> Range<usize> {
     range.start.saturating_sub(by)..range.end.saturating_sub(by)
 }
 
-/// Appends the piece before a placeholder, and its value in the token's kind. Returns `false` if
-/// [`append_piece`] does.
+/// Appends the piece of a token before a placeholder, and then the placeholder's value in the token's kind.
+/// Returns `false` if [`append_piece`] does for the piece or for the value.
 ///
 /// # Errors
 ///
-/// When allocation fails, and for nothing else.
+/// If allocation fails.
 fn append_placeholder<S: StringFormat>(
     alloc: Global,
     whole: &str,
@@ -399,12 +400,13 @@ fn append_placeholder<S: StringFormat>(
     )
 }
 
-/// Appends a piece of a token, or a value in its place, which has to be that of a placeholder. Returns `false`
-/// if the value can't be spelled in the token's kind, or if the piece isn't read as that of the string.
+/// Appends `before`, a piece of the token `whole`, or instead `value` if it isn't `None`. Returns `false` if
+/// `before` isn't read as `text`, a part of the string. With a value, also `false` if `text` is no
+/// placeholder or the kind of `whole` can't spell the value.
 ///
 /// # Errors
 ///
-/// When allocation fails, and for nothing else.
+/// If allocation fails.
 fn append_piece<S: StringFormat>(
     alloc: Global,
     whole: &str,
@@ -431,11 +433,11 @@ fn append_piece<S: StringFormat>(
     Ok(is_written)
 }
 
-/// Appends a value as it is spelled in the kind of a token, or returns `false` if it can't be.
+/// Appends `value`, spelled in the kind of the token `whole`. Returns `false` if the kind can't spell it.
 ///
 /// # Errors
 ///
-/// When allocation fails, and for nothing else.
+/// If allocation fails.
 fn append_value<S: StringFormat>(
     alloc: Global,
     whole: &str,
@@ -456,11 +458,11 @@ fn append_value<S: StringFormat>(
     Ok(is_written)
 }
 
-/// Returns whether a piece of a token is this text, or is read as it.
+/// Returns whether `before`, a piece of the token `whole`, is `text` or is read as `text`.
 ///
 /// # Errors
 ///
-/// When allocation fails, and for nothing else.
+/// If allocation fails.
 fn is_read_as<S: StringFormat>(
     alloc: Global,
     whole: &str,
@@ -477,14 +479,14 @@ fn is_read_as<S: StringFormat>(
     format.spells_part(alloc, whole, before, text)
 }
 
-/// Returns whether the value of a placeholder, as it is by itself, doesn't fit into the token's kind.
+/// Returns whether the token's kind can't spell the value of one of the placeholders at `spans`.
 ///
 /// # Errors
 ///
-/// When allocation fails, and for nothing else.
+/// If allocation fails.
 fn has_misfit<S: StringFormat, F: Fill>(
     alloc: Global,
-    change: Change<'_>,
+    change: ChangedString<'_>,
     spans: &[Range<usize>],
     format: &S,
     filler: &F,
@@ -500,10 +502,10 @@ fn has_misfit<S: StringFormat, F: Fill>(
     Ok(false)
 }
 
-/// Returns whether the value of the placeholder at a span doesn't fit, as [`has_misfit`].
+/// Returns whether the token's kind can't spell the value of the placeholder at `span`.
 fn is_misfit<S: StringFormat, F: Fill>(
     alloc: Global,
-    change: Change<'_>,
+    change: ChangedString<'_>,
     span: &Range<usize>,
     format: &S,
     filler: &F,
@@ -520,14 +522,14 @@ fn is_misfit<S: StringFormat, F: Fill>(
     Ok(is_placeholder(cut.token) && !format.fits(change.token, value.as_str()))
 }
 
-/// Returns the parts of a string, with the values of its placeholders.
+/// Returns the parts of a string's new value: its own text, and the values of the placeholders at `spans`.
 ///
 /// # Errors
 ///
-/// When allocation fails, and for nothing else.
+/// If allocation fails.
 fn parts_of<'s>(
     alloc: Global,
-    change: Change<'s>,
+    change: ChangedString<'s>,
     spans: &[Range<usize>],
     values: &[Range<usize>],
 ) -> Result<Vec<Part<'s>>, AllocError> {
@@ -544,32 +546,32 @@ fn parts_of<'s>(
     Ok(parts)
 }
 
-/// Returns a token of the new string that has nothing of the old one, as [`respelled`].
+/// Returns a new token that keeps nothing of the old one, or `None` if it isn't read as the new value.
 ///
 /// # Errors
 ///
-/// When allocation fails, and for nothing else.
-fn whole<S: StringFormat>(
+/// If allocation fails.
+fn token_of_value<S: StringFormat>(
     alloc: Global,
-    change: Change<'_>,
+    change: ChangedString<'_>,
     format: &mut S,
 ) -> Result<Option<String>, AllocError>
     ensures { IfOk result (λ new. IfSome new
         (λ new. S.is_token (string_bytes new) change.entry.value.now)) }
 {
     let parts = [Part::Value(change.value)];
-    respelled(alloc, change, &parts, format)
+    token_of_parts(alloc, change, &parts, format)
 }
 
-/// Returns a token of the new string with these parts, of whatever kind these fit into, or `None` if it isn't
-/// read as that string.
+/// Makes a token of the new value from `parts`, in a kind that can spell them. Returns `None` if the token
+/// isn't read as the new value.
 ///
 /// # Errors
 ///
-/// When allocation fails, and for nothing else.
-fn respelled<S: StringFormat>(
+/// If allocation fails.
+fn token_of_parts<S: StringFormat>(
     alloc: Global,
-    change: Change<'_>,
+    change: ChangedString<'_>,
     parts: &[Part<'_>],
     format: &mut S,
 ) -> Result<Option<String>, AllocError>

@@ -1,44 +1,44 @@
-//! The strings of a text, one after the other, and the passes over them that formats share.
+//! Passes over the strings of a text, in order: filling them in, listing them, and checking their spans.
 
 ghost use Rattle.std.specs.Prelude.{◌≡◌, ◌∷◌, ◌++◌, [], ℕ, List, IfOk, IfSome, IsTrue, MatchOption, OnOk, length, map, string_bytes};
 ghost use Rattle.subst_error.specs.ErrorFault.{error_fault};
 ghost use Rattle.subst_language.specs.Calls.Outcome.{OnFault};
 ghost use Rattle.subst_language.specs.Language.Several.{GivesBy, RefusesFirst};
 ghost use Rattle.subst_document.specs.Edits.{text_at, AreSpelled, IsFilledText};
-ghost use Rattle.subst_document.specs.Stays.{AreValues, SomeChanges, TellsChange};
+ghost use Rattle.subst_document.specs.Stays.{AreValues, SomeChanges, StatesChange};
 ghost use Rattle.subst_document.specs.Texts.{HasRange};
 
 use crate::Fill;
-use crate::edits::{Passed, StringAt, StringFormat, fill_in_string, slice, string_at};
+use crate::edits::{StringAt, StringFormat, StringOutcome, fill_in_string, slice, string_at};
 use std::alloc::{AllocError, Global};
 use subst_error::Error;
 
-/// A string of a text, with where it stands.
+/// A string of a text, with its span.
 #[derive(Clone, Copy)]
 pub struct Spelled<'t> {
-    /// The string, as it is read.
+    /// The string as it is read: decoded, without quotes.
     pub text: &'t str,
-    /// The byte offset in the text at which the token begins that spells it, with its quotes.
+    /// The byte offset in the text at which the string's opening quotes begin.
     pub start: usize,
-    /// The byte offset at which that token ends.
+    /// The byte offset in the text at which the string's closing quotes end.
     pub end: usize,
 }
 
-/// The strings of a text, in its order.
+/// An iterator over the strings of a text, in order.
 pub trait Strings<'t> {
-    // Those that are still to come.
+    // The strings that are still to come.
     ghost left: { Self → List (List ℕ) };
 
-    /// Returns the next one, or `None` after the last.
+    /// Returns the next string, or `None` after the last.
     fn next(&mut self) -> Option<Spelled<'t>>
         ensures { MatchOption result (left self.old ≡ [])
             (λ it. left self.old ≡ it.text.now ∷ left self.new) };
 }
 
-/// The strings of a list.
+/// An iterator over the strings of a list.
 #[derive(Clone, Copy)]
 pub struct ListedStrings<'t> {
-    /// Those that are still to come.
+    /// The strings that are still to come.
     pub list: &'t [StringAt],
 }
 
@@ -56,30 +56,30 @@ impl<'t> Strings<'t> for ListedStrings<'t> {
     }
 }
 
-/// The values of the strings that changed, in the order of the text.
+/// The values of changed strings, in the order of the text.
 #[derive(Debug, Drop)]
-pub struct Values {
-    /// The values, one after the other.
+pub struct ChangedValues {
+    /// The values, concatenated.
     pub text: String,
-    /// For each the string that it is the value of.
+    /// For each value, its length and the index of its string.
     pub list: Vec<ValueAt>,
 }
 
-/// A string of a text that changed.
+/// A changed string of a text.
 #[derive(Clone, Copy, Debug)]
 pub struct ValueAt {
     /// The index of the string among those of the text, from 0.
     pub index: usize,
-    /// The length of its value.
+    /// The length of the string's new value in bytes.
     pub len: usize,
 }
 
-impl Values {
-    /// Keeps the value of the string of an index, if values are kept.
+impl ChangedValues {
+    /// Appends `value`, the new value of the string at `index`, if `keeps_values`.
     ///
     /// # Errors
     ///
-    /// When allocation fails, and for nothing else.
+    /// If allocation fails.
     fn keep(&mut self, index: usize, value: &str, keeps_values: bool) -> Result<(), AllocError>
         ensures { IsTrue keeps_values → OnOk result
             ((self.new.list.items
@@ -95,23 +95,23 @@ impl Values {
     }
 }
 
-/// A text whose strings are filled in.
+/// A text with its strings filled in.
 #[derive(Debug, Drop)]
 pub struct Filled {
-    /// The text.
+    /// The filled-in text.
     pub text: String,
-    /// Whether some string became another one. If none did, the text is as it was.
+    /// Whether some string changed. If not, the text is unchanged.
     pub is_changed: bool,
-    /// The values of the strings that changed, if they are kept.
-    pub values: Values,
+    /// The new values of the strings that changed, or none if values aren't kept.
+    pub values: ChangedValues,
 }
 
-/// Returns a text with its strings filled in, or `None` where one isn't found in it. The values of strings that
-/// change are kept if `keeps_values`.
+/// Returns `source` with `strings` filled in, and their new values if `keeps_values`. Returns `None` if a
+/// string changes, but its old token or a new token isn't found.
 ///
 /// # Errors
 ///
-/// The fault of the first string that is refused. `OutOfMemory` when allocation fails.
+/// The fault of the first refused string. `OutOfMemory` if allocation fails.
 pub fn filled_in<'t, S: Strings<'t>, T: StringFormat, F: Fill>(
     alloc: Global,
     source: &str,
@@ -125,7 +125,7 @@ pub fn filled_in<'t, S: Strings<'t>, T: StringFormat, F: Fill>(
         (S.left strings.old) source.now (string_bytes filled.text))) }
     ensures changed { IfOk result (λ filled. MatchOption filled
         (SomeChanges (GivesBy (F.answers filler.now)) (S.left strings.old))
-        (λ filled. TellsChange (GivesBy (F.answers filler.now)) (S.left strings.old) source.now
+        (λ filled. StatesChange (GivesBy (F.answers filler.now)) (S.left strings.old) source.now
         (string_bytes filled.text) filled.is_changed)) }
     ensures values { IsTrue keeps_values → IfOk result (λ filled. IfSome filled (λ filled.
         AreValues (GivesBy (F.answers filler.now)) 0 (S.left strings.old) filled.values.list.items
@@ -135,7 +135,7 @@ pub fn filled_in<'t, S: Strings<'t>, T: StringFormat, F: Fill>(
     ensures range { OnFault error_fault result HasRange }
 {
     let mut output = String::with_capacity(alloc, source.len())?;
-    let mut values = Values {
+    let mut values = ChangedValues {
         text: String::new(alloc),
         list: Vec::new(alloc),
     };
@@ -148,13 +148,13 @@ pub fn filled_in<'t, S: Strings<'t>, T: StringFormat, F: Fill>(
         let passed = source.len().saturating_sub(rest.len());
         let token = it.start.saturating_sub(passed)..it.end.saturating_sub(passed);
         match fill_in_string(alloc, rest, &token, it.text, format, filler, &mut output)? {
-            Passed::Stays => {}
-            Passed::Changed(value, left) => {
+            StringOutcome::Unchanged => {}
+            StringOutcome::Changed(value, left) => {
                 rest = left;
                 is_changed = true;
                 values.keep(index, value.as_str(), keeps_values)?;
             }
-            Passed::NotFound => return Ok(None),
+            StringOutcome::NotFound => return Ok(None),
         }
     }
     output.push_str(rest)?;
@@ -165,11 +165,11 @@ pub fn filled_in<'t, S: Strings<'t>, T: StringFormat, F: Fill>(
     }))
 }
 
-/// Returns the strings as a list, or `None` where one isn't spelled where it stands, after the one before it.
+/// Returns `strings` as a list, or `None` if a span doesn't spell its string or starts before the last ends.
 ///
 /// # Errors
 ///
-/// When allocation fails, and for nothing else.
+/// If allocation fails.
 pub fn listed<'t, S: Strings<'t>, T: StringFormat>(
     alloc: Global,
     source: &str,
@@ -194,11 +194,11 @@ pub fn listed<'t, S: Strings<'t>, T: StringFormat>(
     Ok(Some(list))
 }
 
-/// Returns whether each of these strings is spelled where it stands, one after the other.
+/// Returns whether each string of `list` is spelled at its span in `source`, in order and without overlaps.
 ///
 /// # Errors
 ///
-/// When allocation fails, and for nothing else.
+/// If allocation fails.
 pub fn are_spelled<T: StringFormat>(
     alloc: Global,
     source: &str,

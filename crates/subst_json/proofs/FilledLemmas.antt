@@ -1,4 +1,4 @@
--- Tokens that are filled in, and the trees that they are read as.
+-- Tokens that are filled in, and the trees they are read as.
 use Rattle.std.proofs.Common.{◌≡◌, ℕ, suc, ◌-◌, ◌≤◌, nat_le, length, ◌==◌, eq-eqb, max, Bool, true, false, not, ◌&&◌, List, [], ◌∷◌, ◌++◌, Some, Ordering, Less, Equal, Greater, option_map, option_and_then, refl, sym, ap, ap₂, ◌∙◌, subst, arith, append_assoc, append-nil}
 use Rattle.std.specs.Cmp.Lexicographic.{slice_cmp}
 use Rattle.std.specs.List.{list_all}
@@ -24,7 +24,7 @@ use Rattle.subst_json.specs.Nesting.{AreOfValue}
 use Rattle.subst_json.specs.Outcome.{ReadsAsTree}
 use Rattle.subst_json.specs.Places.{IsTokenOf}
 
--- what a text is read as, once its tokens are known
+-- the tree of a text, from its tokens
 read_as : (text : List ℕ) (j : json.Json) (d : Data)
     → json.value max_depth (tokens text) ≡ Some (j, []) → of_json j ≡ Some d → read text ≡ Some d
 read_as text j d e f = ap (λ o. option_and_then of_json (option_and_then (λ p. json.if_last p.0 p.1) o)) e ∙ f
@@ -42,7 +42,7 @@ both_true false b h = absurd cc
 other : (a b : ℕ) → not (a == b) ≡ true → a ≡ b → ⊥
 other a b h same = let is = eq-eqb a b same in cc
 
--- bytes that a string has as they are have no escapes
+-- a string without bytes to escape is its own spelling
 escape_plain : (x : List ℕ) → list_all is_plain x ≡ true → escape x ≡ x
 escape_plain [] h = refl
 escape_plain (b ∷ x) h =
@@ -57,14 +57,14 @@ printed_alone : (x : List ℕ) → tokens (quoted x ++ []) ≡ Token.string x �
 unfolding print_from ArePrintable
 printed_alone x = tokens-print (Token.string x ∷ []) (tt, tt)
 
--- between quotes they are read as that string
+-- a string without bytes to escape, between quotes, is read as itself
 pub plain_token : (x : List ℕ) → list_all is_plain x ≡ true → IsTokenOf (34 ∷ (x ++ 34 ∷ [])) x
 plain_token x h =
     token_alone (34 ∷ (x ++ 34 ∷ [])) x
     (subst (λ y. tokens (34 ∷ (y ++ 34 ∷ [])) ≡ Token.string x ∷ []) (escape_plain x h)
     (subst (λ y. tokens y ≡ Token.string x ∷ []) (append-nil (quoted x)) (printed_alone x)))
 
--- a token is its content between its quotes
+-- a token is its content between quotes
 pub between_quotes : (token x : List ℕ) → 2 ≤ length token → slice_index token 0 ≡ 34
     → slice_index token (length token - 1) ≡ 34 → slice_range token 1 (length token - 1) ≡ x
     → token ≡ 34 ∷ (x ++ 34 ∷ [])
@@ -80,7 +80,7 @@ by_order Becomes Less a b c d e f p q r = p
 by_order Becomes Equal a b c d e f p q r = q
 by_order Becomes Greater a b c d e f p q r = r
 
--- members that are filled in stay so with one more of them
+-- filled-in members stay filled in when one more is added
 pub put_each : (Becomes : List ℕ → List ℕ → Type 0) (k : List ℕ) (d e : Data) (ms ns : Members)
     → IsEach Becomes d e → HasEachMember Becomes ms ns
     → HasEachMember Becomes (put k d ms) (put k e ns)
@@ -93,8 +93,8 @@ put_each Becomes k d e (member l f ms) (member m g ns) p h =
     (member l f (put k d ms)) (member k e (member l g ns)) (member l e ns) (member l g (put k e ns))
     (refl, p, (refl, h.1, h.2)) (refl, p, h.2) (refl, h.1, put_each Becomes k d e ms ns p h.2))
 
--- Of tokens that are filled in, those of a value are the tokens of a value, which is read as what the first
--- one is read as, filled in.
+-- If tokens are filled in, those of a value are the tokens of a value again. Its tree is that of the first
+-- value, filled in.
 record FilledValue (Becomes : List ℕ → List ℕ → Type 0) (j : json.Json)
     (rest us : List Token) : Type 0 where
   filled : json.Json
@@ -121,7 +121,7 @@ record FilledItems (Becomes : List ℕ → List ℕ → Type 0) (js : json.Items
   each : AreEach Becomes before after
   rest_filled : AreFilled Becomes rest more
 
--- of members that are put into others
+-- the same for members that are added to others
 record FilledMembers (Becomes : List ℕ → List ℕ → Type 0) (ms : json.Members)
     (found found_filled : Members) (rest us : List Token) : Type 0 where
   filled : json.Members
@@ -136,7 +136,7 @@ record FilledMembers (Becomes : List ℕ → List ℕ → Type 0) (ms : json.Mem
   rest_filled : AreFilled Becomes rest more
 
 module _ (Becomes : List ℕ → List ℕ → Type 0) where
-  -- a value of one token
+  -- the same for a value of one token
   alone : (j k : json.Json) (d e : Data) (rest us more : List Token) → us ≡ json_tokens k ++ more
       → tree.depth k ≡ tree.depth j → of_json j ≡ Some d → of_json k ≡ Some e → IsEach Becomes d e
       → AreFilled Becomes rest more → FilledValue Becomes j rest us
@@ -246,7 +246,7 @@ module _ (Becomes : List ℕ → List ℕ → Type 0) where
           rest_filled = m.rest_filled;
         }
 
-  -- a text is read, and so is a text whose tokens are those of the first one, filled in
+  -- a text, and a text whose tokens are those of the first one, filled in, are read as trees
   pub filled_document : (source output : List ℕ) → AreOfValue (tokens source)
       → AreFilled Becomes (tokens source) (tokens output)
       → ReadsAsTree source (λ d. ReadsAsTree output (IsEach Becomes d))

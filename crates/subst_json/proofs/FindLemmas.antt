@@ -1,4 +1,4 @@
--- By the text of a path the reader finds what the path leads to.
+-- The reader finds the value at a path by the path's text.
 use Rattle.std.proofs.Common.{◌≡◌, ◌≢◌, ℕ, zero, suc, ◌<◌, ◌^◌, Bool, true, false, not, ◌||◌, ◌==◌, List, [], ◌∷◌, ◌++◌, length, get_or, flat_map, decimal, Some, refl, sym, ap, ◌∙◌, arith, append-nil, inl, inr, ne_eqb, eq-eqb, lt-ltb}
 use Rattle.std.proofs.lemmas.Bool.{cases_eq}
 use Rattle.std.proofs.lemmas.Fmt.{decimal_is_IsNumeral, decimal_nonempty, first_decimal}
@@ -38,7 +38,7 @@ lacks-cons : (x : ℕ) (xs : List ℕ) → x ≢ 47 → Lacks 47 xs → Lacks 47
 lacks-cons x xs other rest zero within = other
 lacks-cons x xs other rest (suc i) within = rest i (omega arith)
 
--- the text of a byte, before a text with no slash
+-- the text of a byte has no slash
 byte_lacks_slash : (b : ℕ) (rest : List ℕ) → Lacks 47 rest → Lacks 47 (escaped_byte b ++ rest)
 byte_lacks_slash b rest lacks = elim (cases_eq b 126) [
   | inl tilde ↦ rw tilde (after_tilde 48 (λ e. omega arith))
@@ -71,7 +71,7 @@ digits_lack_slash [] all = λ i within. absurd (omega arith)
 digits_lack_slash (d ∷ ds) all = lacks-cons d ds (λ e. omega (arith, digit_from_value d all.0))
     (digits_lack_slash ds all.1)
 
--- the parts of these digits, as a numeral
+-- the parts of a numeral with these digits
 abbrev parts : List ℕ → Parts
 parts ds = record {
   whole = ds;
@@ -126,7 +126,7 @@ step_to_index i (object ms) e small found = cc
 
 -- ---- paths
 
--- after a slash and the text of a step the reader goes on from where the step leads
+-- after a slash and the text of a step, the reader continues from the value at that step
 pointer-step : (xs : List ℕ) (path : List PathStep) (d e : Data) → Lacks 47 xs → step xs d ≡ Some e
     → pointer (47 ∷ (xs ++ pointer_text path)) d ≡ pointer (pointer_text path) e
 pointer-step xs [] d e lacks found = ap (λ l. walk [] l d) (append-nil xs) ∙ walk_last xs d lacks ∙ found

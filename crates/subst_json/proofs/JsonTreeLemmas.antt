@@ -22,9 +22,9 @@ strings_of_values : (es : List Entry)
 strings_of_values [] = refl
 strings_of_values (e ∷ es) = ap (λ ss. strings (view e.1) ++ ss) (strings_of_values es)
 
--- `ask` tells which answers a string has
+-- `ask` relates a string to its answers
 module _ (ask : List ℕ → Answer → Type 0) where
-  -- the first refusal of an item, after items that are filled in, is that of the array
+  -- if an item is the first to be refused, its fault is that of the array
   item_refused : (done more : List Value) (v : Value) (filled : Items) (f : Fault)
       → AreEach (GivesBy ask) (items_view done) filled → RefusesFirst ask (strings (view v)) f
       → RefusesFirst ask (strings_of_items (items_view (done ++ v ∷ more))) f
@@ -35,7 +35,7 @@ module _ (ask : List ℕ → Answer → Type 0) where
       refusal_after ask (strings (view x)) (strings_of_items (items_view (done ++ v ∷ more))) f
       (given ask (view x) e h.0) (item_refused done more v es f h.1 k)
 
-  -- if an item is refused after items that are filled in, so is the array
+  -- if an item is refused after items that are filled in, the array is refused
   pub array_refused : (all done more : List Value) (v : Value) (filled : Items) (fault : Option Fault)
       → all ≡ done ++ v ∷ more → AreEach (GivesBy ask) (items_view done) filled
       → IfSome fault (RefusesFirst ask (strings (view v)))
@@ -45,7 +45,7 @@ module _ (ask : List ℕ → Answer → Type 0) where
       subst (λ vs. RefusesFirst ask (strings_of_items (items_view vs)) f) (sym is)
       (item_refused done more v filled f h k)
 
-  -- if a value is refused after values that are filled in, so is the object
+  -- if a value is refused after values that are filled in, the object is refused
   pub object_refused : (es : List Entry) (done more : List Value) (v : Value) (filled : Items)
       (fault : Option Fault) → values_of es ≡ done ++ v ∷ more
       → AreEach (GivesBy ask) (items_view done) filled → IfSome fault (RefusesFirst ask (strings (view v)))

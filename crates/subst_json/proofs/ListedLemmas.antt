@@ -1,4 +1,4 @@
--- Refused strings of a text with their spans and paths, and the paths to its strings.
+-- Refused strings of a text with their spans and paths.
 use Rattle.std.proofs.Common.{◌≡◌, ℕ, ◌+◌, ◌≤◌, List, [], ◌∷◌, ◌++◌, length, map, reverse, Some, inl, inr, refl, sym, ap, ap₂, ◌∙◌, subst, arith, append_assoc, append-nil, string_bytes}
 use Rattle.std.proofs.lemmas.List.{map-append, length-append, length-map}
 use Rattle.std.specs.List.{slice_get, slice_range}
@@ -16,11 +16,11 @@ use Rattle.subst_document.specs.declared.path_step.PathStep as steps
 use Rattle.subst_document.proofs.RefusalLemmas.{pushed_step}
 use Rattle.subst_document.proofs.RefusedLemmas.{ranges_within}
 use Rattle.subst_json.specs.Filled.{strings_in, strings_of_token, IsStringToken}
-use Rattle.subst_json.specs.Listed.{located, located_at, located_in, past_token, past_value, refusal_at, string_of, AreAllRefused, AreRefused, IsPathTo, IsSeen, RefusalAt}
+use Rattle.subst_json.specs.Listed.{located, located_at, located_in, past_token, past_value, refusal_at, string_of, AreAllRefused, AreRefused, IsCollected, IsPathTo, RefusalAt}
 use Rattle.subst_json.specs.Paths.{steps_of}
 use Rattle.subst_json.specs.declared.path.Path.{Path}
 
--- the path of these steps, its last step first
+-- the path of these steps, with its last step first
 abbrev pub path_of : List steps.PathStep → List PathStep
 path_of items = reverse (map step_of items)
 
@@ -29,7 +29,7 @@ pub nothing_popped : (old new : List steps.PathStep) → old ≡ new ++ [] → l
 nothing_popped [] new is none = ap path_of (sym (append-nil new) ∙ sym is)
 nothing_popped (x ∷ old) new is none = absurd (omega arith)
 
--- the last step is replaced
+-- a value is passed by a replacement of the last step
 pub value_passed : (front old new : List steps.PathStep) (s t : steps.PathStep) → old ≡ front ++ s ∷ []
     → new ≡ front ++ t ∷ [] → past_value (step_of s ∷ path_of front) ≡ step_of t ∷ path_of front
     → path_of new ≡ past_value (path_of old)
@@ -37,7 +37,7 @@ value_passed front old new s t was is h =
     ap path_of is ∙ pushed_step front t ∙ sym h
     ∙ sym (ap (λ xs. past_value (path_of xs)) was ∙ ap past_value (pushed_step front s))
 
--- strings with their paths are those without
+-- strings with their paths have the same texts
 texts_at : (path : List PathStep) (t : Token) → map (λ it. it.text) (located_at path t) ≡ strings_of_token t
 texts_at path begin_object = refl
 texts_at path end_object = refl
@@ -57,26 +57,26 @@ located_texts path (t ∷ ts) =
     map-append (λ it. it.text) (located_at path t) (located_in (past_token t path) ts)
     ∙ ap₂ (λ xs ys. xs ++ ys) (texts_at path t) (located_texts (past_token t path) ts)
 
--- the element after those that are done
+-- the element after those before it
 pub slice_get-seam : {X : Type 0} (done : List X) (x : X) (left : List X)
     → slice_get (done ++ x ∷ left) (length done) ≡ Some x
 slice_get-seam [] x left = refl
 slice_get-seam (y ∷ done) x left = slice_get-seam done x left
 
--- after strings whose first one is seen, the paths so far are those of all before what is still to come
-pub seen_more : (source : List ℕ) (done left : List Located) (path : List PathStep) (strings : List (List ℕ))
+-- once strings are passed, the paths so far are those of all refused strings before the remaining ones
+pub collected_more : (source : List ℕ) (done left : List Located) (path : List PathStep) (strings : List (List ℕ))
     (index : ℕ) (refused rest to_come : List (found.RefusalAt ℕ)) (paths with : List Path)
     → located_in [] (tokens source) ≡ done ++ (map (located path) strings ++ left) → index ≡ length done
-    → IsSeen path strings index rest to_come paths with
+    → IsCollected path strings index rest to_come paths with
     → ((more : List Path) → ArePathsTo (IsPathTo source) rest more
     → ArePathsTo (IsPathTo source) refused (paths ++ more))
     → (more : List Path) → ArePathsTo (IsPathTo source) to_come more
     → ArePathsTo (IsPathTo source) refused (with ++ more)
-seen_more source done left path strings index refused rest to_come paths with all at (inl (same, none)) so_far
+collected_more source done left path strings index refused rest to_come paths with all at (inl (same, none)) so_far
     more h =
     subst (λ xs. ArePathsTo (IsPathTo source) refused (xs ++ more)) (sym none)
     (so_far more (subst (λ its. ArePathsTo (IsPathTo source) its more) same h))
-seen_more source done left path strings index refused rest to_come paths with all at
+collected_more source done left path strings index refused rest to_come paths with all at
     (inr (x, it, p, one, here, first, added, steps)) so_far more h =
     let is : map (λ it. it.path) (located_in [] (tokens source))
     ≡ map (λ it. it.path) done ++ path ∷ map (λ it. it.path) left =
@@ -92,7 +92,7 @@ seen_more source done left path strings index refused rest to_come paths with al
     (so_far (p ∷ more) (subst (λ its. ArePathsTo (IsPathTo source) its (p ∷ more)) (sym first) (leads, h)))
 
 module _ (ask : List ℕ → Answer → Type 0) where
-  -- refusals with the paths of their indices are those of the strings with these paths
+  -- refusals with paths by index are those of the strings with these paths
   refusals_of_listed : (paths done : List (List PathStep)) (index : ℕ) (list : List StringAt)
       (strings : List Located) (all : List RefusalAt) → paths ≡ done ++ map (λ it. it.path) strings
       → index ≡ length done → map text_at list ≡ map (λ it. it.text) strings
@@ -125,14 +125,14 @@ module _ (ask : List ℕ → Answer → Type 0) where
       )
 
   module _ (source : List ℕ) where
-    -- what is spelled from a position on is so from an earlier one
+    -- a list that is spelled from a position on is spelled from an earlier one on
     from_before : (from start : ℕ) (list : List StringAt) → from ≤ start
         → AreSpelled IsStringToken source start list → AreSpelled IsStringToken source from list
     from_before from start [] before h = tt
     from_before from start (it ∷ list) before (within, after, forwards, spells, h) =
         (within, omega arith, forwards, spells, h)
 
-    -- refused strings of a list that is spelled are spelled
+    -- the refused strings of a spelled list are spelled
     refused_spelled : (LeadsTo : ℕ → Path → Type 0) (index from : ℕ) (list : List StringAt)
         (all : List RefusalAt) → AreSpelled IsStringToken source from list
         → AreRefusedOf ask LeadsTo index list all → AreSpelled IsStringToken source from (map string_of all)
@@ -156,7 +156,7 @@ module _ (ask : List ℕ → Answer → Type 0) where
           refused_spelled LeadsTo (index + 1) it.span.end list more rest h,
         )))
 
-    -- refused strings of the text, each where it stands, are all that are refused
+    -- the listed refused strings of the text are all its refused strings
     pub all_refused : (all : List RefusalAt) → AreRefused ask source all → AreAllRefused ask source all
     all_refused all (list, listing, h) =
         let strings = located_in [] (tokens source) in record {

@@ -1,4 +1,4 @@
--- Trees and texts whose strings are filled in, apart from how they are kept.
+-- Trees and texts whose strings are filled in, whatever their representation.
 use Rattle.std.proofs.Common.{ℕ, List, [], ◌∷◌, Option, refl}
 use Rattle.serde_json.specs.Data.{Data, null, boolean, number, string, array, object, Items, no_items, item, Members, no_members, member}
 use Rattle.subst_language.specs.Calls.Clauses.{AnswersText}
@@ -14,9 +14,9 @@ use Rattle.subst_json.specs.InPlace.{IsFilledDocument}
 use Rattle.subst_json.specs.Listed.{AreAllRefused, IsPathTo, RefusalAt}
 use Rattle.subst_json.specs.Mapped.{strings, strings_of_items, strings_of_members, IsEach, AreEach, HasEachMember, IsMapped}
 
--- `ask` tells which answers a string has
+-- `ask` relates a string to its answers
 module _ (ask : List ℕ → Answer → Type 0) where
-  -- each string of a tree that is filled in gives bytes
+  -- no string of a tree that is filled in is refused
   mutual
     pub given : (d e : Data) → IsEach (GivesBy ask) d e → AreGiven ask (strings d)
     given (string s) (string x) h = (x ∷ [], (h, tt))
@@ -40,7 +40,7 @@ module _ (ask : List ℕ → Answer → Type 0) where
     members_given (member key d ms) (member other e ns) h =
         given_append ask (strings d) (strings_of_members ms) (given d e h.1) (members_given ms ns h.2)
 
-  -- a tree each of whose strings gives bytes is filled in as some tree
+  -- a tree without refused strings is filled in as some tree
   mutual
     pub each_given : (d : Data) → AreGiven ask (strings d) → (e : Data) × IsEach (GivesBy ask) d e
     each_given (string s) (x ∷ outputs, h) = (string x, h.0)
@@ -69,7 +69,7 @@ module _ (ask : List ℕ → Answer → Type 0) where
         let (ns, are) = each_member_given ms rest in
         (member key e ns, (refl, is, are))
 
--- what the strings of a tree become may be said in a weaker way
+-- a tree is filled in by any weaker relation
 module _ (Becomes Stays : List ℕ → List ℕ → Type 0)
     (weaker : (x y : List ℕ) → Becomes x y → Stays x y) where
   mutual
@@ -93,7 +93,7 @@ module _ (Becomes Stays : List ℕ → List ℕ → Type 0)
         (h.0, each_weaker d e h.1, members_weaker ms ns h.2)
     members_weaker _ _ h = absurd h
 
-  -- so may those of a document
+  -- a document is filled in by any weaker relation
   pub document_weaker : (source output : List ℕ) → IsFilledDocument Becomes source output
       → IsFilledDocument Stays source output
   document_weaker source output h =
@@ -110,7 +110,7 @@ mapped_by_map items see look_up d e h = λ bytes reads.
     each_weaker (GivesBy (AnswersText items see look_up)) (GivesBy (under (look_up_of bytes look_up)))
     (λ s x gives. answer_by_map items see look_up s (Gives x) gives bytes reads) d e h
 
--- so is a document
+-- a document that is filled in from a map is so under the map's look-up
 pub filled_by_map : {V Seen : Type 0} (items : V → List ℕ) (see : V → Seen) (look_up : List ℕ → Option Seen)
     (source output : List ℕ) → IsFilledDocument (GivesBy (AnswersText items see look_up)) source output
     → ByLookUp items see look_up (λ look. IsFilledDocument (GivesBy (under look)) source output)
@@ -118,7 +118,7 @@ filled_by_map items see look_up source output h = λ bytes reads.
     document_weaker (GivesBy (AnswersText items see look_up)) (GivesBy (under (look_up_of bytes look_up)))
     (λ s x gives. answer_by_map items see look_up s (Gives x) gives bytes reads) source output h
 
--- and its strings that are refused are so under the map's look-up
+-- the refused strings of a document from a map are those under the map's look-up
 pub refusals_by_map : {V Seen : Type 0} (items : V → List ℕ) (see : V → Seen) (look_up : List ℕ → Option Seen)
     (source : List ℕ) (all : List RefusalAt) → AreAllRefused (AnswersText items see look_up) source all
     → ByLookUp items see look_up (λ look. AreAllRefused (under look) source all)

@@ -1,4 +1,4 @@
--- What is expected from a token on, where what comes after it is as expected.
+-- The expected parts before a token, from those after it.
 use Rattle.std.proofs.Common.{◌≡◌, ◌≤◌, ◌+◌, ℕ, Bool, true, false, List, ◌∷◌, ◌++◌, length, refl, sym, ap, ◌∙◌, subst, arith, append_assoc}
 use Rattle.json.specs.Json as json
 use Rattle.json.specs.Json.{Json, array, object, no_items, item, no_members, member}
@@ -9,7 +9,7 @@ use Rattle.subst_json.specs.Nesting.{AreExpected}
 use Rattle.subst_json.specs.declared.nesting.Expected.{Expected}
 use Rattle.subst_json.specs.declared.nesting.Expected.TheVariants.{Member, Item, Key}
 
--- the token ends an array or an object, inside of which this is expected
+-- the token ends an array or an object in which this is expected
 abbrev pub ends : Token → Expected → Bool
 ends end_array Item = true
 ends end_object Key = true

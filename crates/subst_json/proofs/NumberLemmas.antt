@@ -1,4 +1,4 @@
--- Numbers that the reader takes.
+-- Numbers in the reader's range.
 use Rattle.std.proofs.Common.{◌≡◌, ℕ, ◌-◌, List, length, drop, Bool, true, false, cond, ne_eqb, Option, Some, refl, subst, arith}
 use Rattle.std.proofs.lemmas.List.{take_all, length-drop}
 use Rattle.std.specs.Prelude.{slice_index, slice_range}
@@ -12,13 +12,13 @@ either : (b : Bool) (n : Num) (o : Option Num) → (m : Num) × (o ≡ Some m)
 either true n o h = (n, refl)
 either false n o h = h
 
--- a number whose nearest float is finite is one
+-- a number whose nearest float is finite is in range
 pub in_range : (sign : Bool) (p : Parts) → float_is_finite (nearest binary64 sign p) ≡ true
     → (n : Num) × (number_from sign p ≡ Some n)
 in_range false p is = either _ _ (float_of false p) (float (nearest binary64 false p), rw is refl)
 in_range true p is = either _ _ (float_of true p) (float (nearest binary64 true p), rw is refl)
 
--- the sign is the first byte
+-- a minus sign is the first byte of a number
 pub with_minus : (s : List ℕ) → slice_index s 0 ≡ 45
     → (n : Num) × (number_from true (scan (slice_range s 1 (length s))) ≡ Some n)
     → (n : Num) × (number_of s ≡ Some n)

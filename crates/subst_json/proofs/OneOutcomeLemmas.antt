@@ -9,7 +9,7 @@ use Rattle.subst_json.specs.Laws.{IsMappedOrRefused}
 use Rattle.subst_json.specs.Mapped.{strings, IsEach, AreEach, HasEachMember}
 use Rattle.subst_json.proofs.MappedLemmas.{given, each_given}
 
--- where a string has one answer, a tree is filled in as one tree at most
+-- if each string has one answer, a tree is filled in as at most one tree
 module _ (ask : List ℕ → Answer → Type 0) (one : HasOneAnswer ask) where
   mutual
     each_unique : (d e f : Data) → IsEach (GivesBy ask) d e → IsEach (GivesBy ask) d f → e ≡ f
@@ -47,7 +47,7 @@ module _ (ask : List ℕ → Answer → Type 0) (one : HasOneAnswer ask) where
     members_unique (member key d ms) (member l e ns) _ h k = absurd k
     members_unique _ _ _ h k = absurd h
 
--- a tree is mapped or refused, and not both
+-- a tree is mapped or refused, and never both
 pub one_outcome : (look : LookUp) (d : Data) → IsMappedOrRefused look d
 one_outcome look d = record {
   either = elim (given_or_refused (under look) (answered look) (strings d)) [

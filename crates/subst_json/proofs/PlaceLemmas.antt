@@ -3,7 +3,7 @@ use Rattle.std.proofs.Common.{◌≡◌, ℕ, ◌+◌, ◌-◌, ◌≤◌, List,
 use Rattle.std.proofs.lemmas.List.{length-take, take-take}
 use Rattle.subst_json.specs.Places.{IsSpelledUntil, IsTokenOf}
 
--- the start of a range
+-- the start of a range is a range
 take-slice_range : (s : List ℕ) (start end len : ℕ) → len ≤ length (slice_range s start end)
     → take len (slice_range s start end) ≡ slice_range s start (start + len)
 take-slice_range s start end len h =
@@ -12,7 +12,7 @@ take-slice_range s start end len h =
     let same : start + len - start ≡ len = omega arith in
     take-take len (end - start) xs within ∙ ap (λ n. take n xs) (sym same)
 
--- what a part of a token spells, as said of the text that the token is in
+-- a part of a token spells the same in the text around the token
 pub spelled_until : (s token x : List ℕ) (start end len place : ℕ) → token ≡ slice_range s start end
     → place ≡ start + len → len ≤ length token → IsTokenOf (take len token ++ 34 ∷ []) x
     → IsSpelledUntil s start place x

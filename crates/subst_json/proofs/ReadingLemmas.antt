@@ -1,4 +1,4 @@
--- What was returned for a tree that was read, as said of the text.
+-- Results for a tree that was read, stated for the text.
 use Rattle.std.proofs.Common.{◌≡◌, ℕ, List, Some, Result, Ok, Err, IfOk}
 use Rattle.serde_json.specs.Data.{Data}
 use Rattle.serde_json.specs.Read.{read}
@@ -12,13 +12,13 @@ use Rattle.subst_json.specs.declared.error.Error.{Error}
 use Rattle.subst_json.specs.declared.error.Error.TheVariants.{Json, Subst, OutOfMemory}
 
 module _ (text : List ℕ) (d : Data) (is : read text ≡ Some d) where
-  -- what holds of the tree that is returned, with the one that the text is read as
+  -- a property of the returned tree and the tree of the text
   pub returned_as_read : (P : Data → Data → Type 0) (result : Result Value Error)
       → IfOk result (λ tree. P d (view tree)) → IfOk result (λ tree. ReadsAsTree text (λ e. P e (view tree)))
   returned_as_read P (Ok tree) h = (d, is, h)
   returned_as_read P (Err e) h = tt
 
-  -- what holds of the fault of a string of that tree
+  -- a property of the fault of a string in that tree
   pub refused_as_read : (P : Data → Fault → Type 0) (result : Result Value Error)
       → OnSubst result (P d) → OnSubst result (λ f. ReadsAsTree text (λ e. P e f))
   refused_as_read P (Ok tree) h = tt

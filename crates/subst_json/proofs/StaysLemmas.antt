@@ -1,4 +1,4 @@
--- A text each of whose strings becomes itself is read as a tree that is filled in as itself.
+-- A text whose strings don't change is read as a tree that is filled in as itself.
 use Rattle.std.proofs.Common.{◌≡◌, ℕ, List, [], ◌∷◌, ◌++◌, Option, Some, None, IfSome, String, Global, string_bytes, option_map, option_and_then, refl, sym, ap, ◌∙◌, subst, append_assoc, append-nil}
 use Rattle.std.specs.Prelude.{⊤}
 use Rattle.std.proofs.lemmas.Option.{option_and_then_some}
@@ -101,7 +101,7 @@ module _ (Becomes : List ℕ → List ℕ → Type 0) where
       subst (λ o. IfSome o (λ d. IsEach Becomes d d)) reads
       (value_stays j (subst (λ ts. AllStay Becomes (strings_in ts)) spelled h))))
 
-  -- so is one that is its own output
+  -- a text whose strings don't change, returned as its own output, is a filled-in document
   pub unchanged_document : (source : List ℕ) (text : String Global)
       → AllStay Becomes (strings_in (tokens source)) → string_bytes text ≡ source
       → IsFilledJson Becomes source (string_bytes text) → (output : Option (String Global))

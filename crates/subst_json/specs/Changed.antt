@@ -1,10 +1,10 @@
--- A tree whose values have become others.
+-- A tree after a change of its values.
 use Rattle.std.specs.Prelude.{List, [], ◌∷◌}
 use Rattle.serde_json.specs.Data.{Data, null, boolean, number, string, array, object, Items, no_items, item, Members, no_members, member}
 use Rattle.subst_document.specs.Changes.{text_after, inside}
 use Rattle.subst_document.specs.declared.changes.Change.{Change}
 
--- The tree after a change. A change of what a value isn't leaves it as it is.
+-- The tree after a change. A change that doesn't fit a value leaves it as it is.
 abbrev mutual
   pub changed : Data → Change → Data
   changed (string s) change = string (text_after s change)

@@ -1,10 +1,10 @@
--- Strings of a text that is compared with the text filled in.
+-- The strings of a text that is compared with its output.
 use Rattle.std.specs.Prelude.{ℕ, List}
 use Rattle.json.specs.Token.{Token}
 use Rattle.subst_document.specs.Stays.{AreValues}
 use Rattle.subst_json.specs.Filled.{strings_in}
-use Rattle.subst_json.specs.declared.compared.Left.{Left}
+use Rattle.subst_json.specs.declared.compared.RemainingStrings.{RemainingStrings}
 
--- the values that are left are those of the strings among these tokens that change
-abbrev pub AreLeft : (List ℕ → List ℕ → Type 0) → Left → List Token → Type 0
-AreLeft Becomes left ts = AreValues Becomes left.index (strings_in ts) left.list.now left.text.now
+-- `left` has the new values of those strings among the tokens `ts` that change
+abbrev pub AreRemaining : (List ℕ → List ℕ → Type 0) → RemainingStrings → List Token → Type 0
+AreRemaining Becomes left ts = AreValues Becomes left.index (strings_in ts) left.list.now left.text.now

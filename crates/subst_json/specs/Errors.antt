@@ -1,4 +1,4 @@
--- How an error of a reading call is made of the error of one of its steps.
+-- The error of a call, from the error of one of its steps.
 use Rattle.std.specs.Prelude.{◌≡◌, ⊤, ℕ, List, Option, Some, None, codes, IsSome}
 use Rattle.serde_json.specs.Errors.{IsMemory}
 use Rattle.serde_json.specs.declared.error.Error as reading
@@ -8,31 +8,31 @@ use Rattle.subst_error.specs.declared.Error as substituting
 use Rattle.subst_json.specs.declared.error.Error.{Error}
 use Rattle.subst_json.specs.declared.error.Error.TheVariants.{Json, Subst, OutOfMemory}
 
--- the error is that of the reader, which says that memory ran out by its own case
+-- the error is `Json` of the reader's error e, or `OutOfMemory` if e is a failure to allocate
 abbrev pub IsOfReader : reading.Error → Error → Type 0
 IsOfReader e (Json d) = (d ≡ e) × ¬ (IsMemory e)
 IsOfReader e (Subst d) = ⊥
 IsOfReader e (OutOfMemory d) = IsMemory e
 
--- the error is that of a substitution, which says that memory ran out by its own case
+-- the error is `Subst` of the substitution's error e, or `OutOfMemory` if e is a failure to allocate
 abbrev pub IsOfSubstitution : substituting.Error → Error → Type 0
 IsOfSubstitution e (Json d) = ⊥
 IsOfSubstitution e (Subst d) = (d ≡ e) × IsSome (error_fault e)
 IsOfSubstitution e (OutOfMemory d) = error_fault e ≡ None
 
--- memory that ran out has a case of its own, and is said by no other
+-- the error isn't `Json` or `Subst` of a failure to allocate, which is `OutOfMemory` instead
 abbrev pub HasOwnMemory : Error → Type 0
 HasOwnMemory (Json e) = ¬ (IsMemory e)
 HasOwnMemory (Subst e) = IsSome (error_fault e)
 HasOwnMemory (OutOfMemory e) = ⊤
 
--- the text of an error, where it is known: that of the reader's errors isn't
+-- the text of an error, or `None` for `Json e`, since the text of e isn't known
 abbrev pub display_of_json : Error → Option (List ℕ)
 display_of_json (Json e) = None
 display_of_json (Subst e) = display_of_error (error_fault e)
 display_of_json (OutOfMemory e) = Some (codes "out of memory")
 
--- P holds of the error of a substitution, if that is what is inside
+-- if the error is `Subst` of an error of a substitution, P holds of that inner error
 abbrev pub IfSubst : Error → (substituting.Error → Type 0) → Type 0
 IfSubst (Json e) P = ⊤
 IfSubst (Subst e) P = P e

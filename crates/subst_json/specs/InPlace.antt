@@ -1,4 +1,4 @@
--- What calls return that fill in a JSON text in place, or list its strings.
+-- The results of calls that fill in a JSON text in place, or list its strings.
 use Rattle.std.specs.Prelude.{◌≡◌, ⊤, ℕ, List, Option, None, Result, String, Vec, IfErr, IfNone, IfOk, IfSome, IsUtf8, OnOk, string_bytes}
 use Rattle.std.specs.Global.{Global}
 use Rattle.json.specs.Lex.{tokens}
@@ -14,32 +14,32 @@ use Rattle.subst_json.specs.Mapped.{IsEach}
 use Rattle.subst_json.specs.Outcome.{ReadsAsTree, IfJson, OnJson, OnSubst}
 use Rattle.subst_json.specs.declared.error.Error.{Error}
 
--- The document is filled in: each of its strings becomes one of which `Becomes` holds.
+-- `output` is the document `source`, filled in: `Becomes` relates each string to its new value.
 pub record IsFilledDocument (Becomes : List ℕ → List ℕ → Type 0) (source output : List ℕ) : Type 0 where
-  -- the output reads as the tree that the source is read as, with its strings filled in
+  -- the output is read as the source's tree with its strings filled in
   pub mapped : ReadsAsTree source (λ d. ReadsAsTree output (IsEach Becomes d))
-  -- it is the source, but for the strings that change
+  -- all but the strings that change is kept
   pub kept : IsFilledJson Becomes source output
 
--- The result of filling in a text. `ask` tells which answers a string has.
+-- The result of filling in a text. `ask` relates a string to its answers.
 pub record FillsIn (ask : List ℕ → Answer → Type 0) (source : List ℕ)
     (result : Result (Option (String Global)) Error) : Type 0 where
   pub output : IfOk result (λ output. IfSome output
       (λ output. IsFilledDocument (GivesBy ask) source (string_bytes output)))
-  -- nothing is returned only where some string changes
+  -- `None` is returned only if some string changes
   pub unconfirmed : IfOk result (λ output. IfNone output
       (ReadsAsTree source (λ _. SomeChanges (GivesBy ask) (strings_in (tokens source)))))
   pub json : OnJson result (read source ≡ None)
-  -- what the error says is of a text that is no tree, and not of a type
+  -- the error is of a text that isn't a tree, and not of a type
   pub kind : IfJson result IsOfText
   pub subst : OnSubst result
       (λ f. ReadsAsTree source (λ _. RefusesFirst ask (strings_in (tokens source)) f))
   pub range : OnSubst result HasRange
-  -- neither `Json` nor `Subst` says that memory ran out
+  -- neither `Json` nor `Subst` states that memory ran out
   pub memory : IfErr result HasOwnMemory
 
--- The result of filling in bytes: that of the text, if they are UTF-8. Strings are filled in only there, and one
--- is refused only there.
+-- The result of filling in bytes. If the bytes are UTF-8, it is the result for a text. Otherwise no string is
+-- filled in or refused.
 pub record FillsInBytes (ask : List ℕ → Answer → Type 0) (source : List ℕ)
     (result : Result (Option (String Global)) Error) : Type 0 where
   pub text : IsUtf8 source → FillsIn ask source result
@@ -48,7 +48,7 @@ pub record FillsInBytes (ask : List ℕ → Answer → Type 0) (source : List �
   pub kind : IfJson result IsOfText
   pub memory : IfErr result HasOwnMemory
 
--- The result of listing strings of a text, a list of which `Are` holds.
+-- The result of listing strings of a text: `Are` holds for the list.
 pub record Lists {T : Type 0} (Are : List T → Type 0) (source : List ℕ)
     (result : Result (Option (Vec T Global)) Error) : Type 0 where
   pub list : IfOk result (λ list. IfSome list (λ list. Are list.items))

@@ -1,4 +1,4 @@
--- The strings of a JSON text that are refused, with their paths and where they stand.
+-- The refused strings of a JSON text, with their paths and spans.
 use Rattle.std.specs.Prelude.{◌≡◌, ◌⊎◌, ℕ, ◌+◌, List, [], ◌∷◌, ◌++◌, Some, codes, drop, map, reverse}
 use Rattle.std.specs.List.{slice_get, AllByRecursion}
 use Rattle.json.specs.Lex.{tokens}
@@ -15,15 +15,15 @@ use Rattle.subst_json.specs.Filled.{strings_of_token, strings_in, IsStringToken}
 use Rattle.subst_json.specs.Paths.{steps_of}
 use Rattle.subst_json.specs.declared.path.Path.{Path}
 
--- From the path to a value to that of what comes next: in an array, the next item. Paths are here with their
--- last step first.
+-- From the path to a value, the path to the part after it: in an array, the next item. Paths have their last
+-- step first here.
 abbrev pub past_value : List PathStep → List PathStep
 past_value [] = []
 past_value (Key k ∷ path) = Key k ∷ path
 past_value (Index i ∷ path) = Index (i + 1) ∷ path
 
--- From the path to where a token begins to that of what comes next. In an object, the last step is the key
--- that came last, and an empty one before the first.
+-- From the path to a token, the path to the next token. In an object, the last step is the latest key, or an
+-- empty key before the first.
 abbrev pub past_token : Token → List PathStep → List PathStep
 past_token begin_object path = Key [] ∷ path
 past_token begin_array path = Index 0 ∷ path
@@ -36,15 +36,15 @@ past_token (boolean b) path = past_value path
 past_token null path = past_value path
 past_token bad path = past_value path
 
--- the string, to which this path leads
+-- a string and its path
 abbrev pub located : List PathStep → List ℕ → Located
 located path s = record { path = path; text = s }
 
--- the string that a token is, where it is one, with its path
+-- the token's string and its path in a list, which is empty if the token isn't a string
 abbrev pub located_at : List PathStep → Token → List Located
 located_at path t = map (located (reverse path)) (strings_of_token t)
 
--- the strings among these tokens with their paths, where this one leads to the first token
+-- the strings among these tokens and their paths, if this path leads to the first token
 abbrev pub located_in : List PathStep → List Token → List Located
 located_in path [] = []
 located_in path (t ∷ ts) = located_at path t ++ located_in (past_token t path) ts
@@ -52,15 +52,15 @@ located_in path (t ∷ ts) = located_at path t ++ located_in (past_token t path)
 abbrev pub RefusalAt : Type 0
 RefusalAt = found.RefusalAt Path
 
--- the refusal
+-- the `Refusal` of the definitions for a refusal of the code
 abbrev pub refusal_at : RefusalAt → Refusal
 refusal_at = refused.refusal_at steps_of
 
--- its string, with where it stands
+-- the refused string and its span
 abbrev pub string_of : RefusalAt → StringAt
 string_of it = record { text = it.text; span = it.span }
 
--- a token of a text that has `null` in place of each string
+-- the token itself, or `null` if it is a string
 abbrev pub plain_token : Token → Token
 plain_token (string s) = null
 plain_token begin_object = begin_object
@@ -73,44 +73,45 @@ plain_token (boolean b) = boolean b
 plain_token null = null
 plain_token bad = bad
 
--- The spans of these strings are those of the text's strings, and of nothing else: with `null` in place of the
--- spans the text has its tokens, with `null` for each string.
-abbrev pub AreApart : (source : List ℕ) → List StringAt → Type 0
-AreApart source list =
+-- These spans are those of all strings of `source`, and of nothing else: if each span is replaced by `null`,
+-- the tokens are those of `source`, but `null` for each string.
+abbrev pub AreExact : (source : List ℕ) → List StringAt → Type 0
+AreExact source list =
     tokens (with_plain (λ _. codes "null") source 0 0 list) ≡ map plain_token (tokens source)
 
--- These are all strings of the text, each where it stands.
+-- The list has all strings of the text, each with its span.
 pub record IsListing (source : List ℕ) (list : List StringAt) : Type 0 where
   pub all : map text_at list ≡ strings_in (tokens source)
   pub spelled : AreSpelled IsStringToken source 0 list
-  -- no span is that of anything else, as of a key
-  pub apart : AreApart source list
+  -- no span is that of anything else, such as a key
+  pub exact : AreExact source list
 
--- the path leads to the string of this index
+-- the path leads to the string with this index
 abbrev pub IsPathTo : (source : List ℕ) → ℕ → Path → Type 0
 IsPathTo source index path =
     slice_get (map (λ it. it.path) (located_in [] (tokens source))) index ≡ Some (steps_of path)
 
--- After these strings, of which the first one has this index and these steps, the same refusals are still to
--- come; or their first one is the first string, and its path was appended to those that were found.
-abbrev pub IsSeen : List PathStep → List (List ℕ) → ℕ → (rest left : List (found.RefusalAt ℕ))
+-- `left` and `with` are the refusals `rest` and the `paths` after a token. `strings` has the token's string,
+-- if it is one, with the index `index` and the path `steps`. Either both lists stay, or the string is the
+-- first of `rest`, and its path is appended.
+abbrev pub IsCollected : List PathStep → List (List ℕ) → ℕ → (rest left : List (found.RefusalAt ℕ))
     → (paths with : List Path) → Type 0
-IsSeen steps strings index rest left paths with =
+IsCollected steps strings index rest left paths with =
     ((left ≡ rest) × (with ≡ paths))
     ⊎ ((x : List ℕ) × (it : found.RefusalAt ℕ) × (path : Path) × (strings ≡ x ∷ []) × (it.path ≡ index)
     × (rest ≡ it ∷ left) × (with ≡ paths ++ path ∷ []) × (steps_of path ≡ steps))
 
--- These are the refused strings of the text, in its order, each where it stands. Its path is that of the string
--- of the same index. Each other string gives bytes.
+-- `all` has the refused strings of `source`, in order, each with its span and a path that leads to it. No
+-- other string is refused.
 abbrev pub AreRefused : (List ℕ → Answer → Type 0) → (source : List ℕ) → List RefusalAt → Type 0
 AreRefused ask source all =
     (list : List StringAt) × IsListing source list × AreRefusedOf ask (IsPathTo source) 0 list all
 
--- These are all refused strings of the text, each where it stands.
+-- The list has all refused strings of the text, each with its span.
 pub record AreAllRefused (ask : List ℕ → Answer → Type 0) (source : List ℕ) (all : List RefusalAt) : Type 0 where
-  -- each has the span and the path of the string of the text that it is
+  -- each has the span and the path of the string
   pub each : AreRefused ask source all
-  -- they are the refusals of all strings, and each other string gives a text
+  -- they are the refusals of all strings, and no other string is refused
   pub refused : AreRefusals ask (located_in [] (tokens source)) (map refusal_at all)
   pub spelled : AreSpelled IsStringToken source 0 (map string_of all)
   pub range : AllByRecursion HasRangeInText (map refusal_at all)

@@ -1,4 +1,4 @@
--- The tokens of a text that are still to come, by what is expected of them.
+-- The remaining tokens of a text, by what is expected.
 use Rattle.std.specs.Prelude.{◌≡◌, ◌≤◌, ◌+◌, ℕ, List, [], ◌∷◌, ◌++◌, length, reverse}
 use Rattle.json.specs.Json.{Json}
 use Rattle.json.specs.Token.{Token}
@@ -8,17 +8,18 @@ use Rattle.subst_json.specs.declared.nesting.Expected.{Expected}
 use Rattle.subst_json.specs.declared.nesting.Expected.TheVariants.{Value, Member, Item, Key, End}
 use Rattle.subst_json.specs.declared.nesting.Nesting.{Nesting}
 
--- the tokens are those of one value, which nests no deeper than the reader allows
+-- the tokens of one value that nests no deeper than the reader allows
 abbrev pub AreOfValue : List Token → Type 0
 AreOfValue ts = (j : Json) × (ts ≡ json_tokens j) × (depth j ≤ max_depth)
 
--- the tokens begin with those of something, which nests no deeper than the reader allows inside so many
--- brackets, and `More` holds of the tokens after it
+-- The tokens `ts` begin with the tokens of a value, of items or of members, and `More` holds of the rest.
+-- With `outer` open brackets around them, they nest no deeper than the reader allows.
 abbrev pub Begins : {T : Type 0} → (T → List Token) → (T → ℕ) → ℕ → (List Token → Type 0) → List Token → Type 0
 Begins {T} tokens_of depth_of outer More ts = (it : T) × (rest : List Token) × (ts ≡ tokens_of it ++ rest)
     × (depth_of it + outer ≤ max_depth) × More rest
 
--- so, with what is expected; what is inside an array or an object goes up to its end
+-- the tokens begin with the expected part, and `More` holds of the rest; `Item` and `Key` go up to the end of
+-- the array or the object
 abbrev pub BeginsWith : Expected → ℕ → (List Token → Type 0) → List Token → Type 0
 BeginsWith Value outer More ts = Begins json_tokens depth outer More ts
 BeginsWith Member outer More ts =
@@ -27,11 +28,12 @@ BeginsWith Item outer More ts = Begins items_tokens items_depth outer More ts
 BeginsWith Key outer More ts = Begins members_tokens members_depth outer More ts
 BeginsWith End outer More ts = More ts
 
--- the tokens are what is expected first, then what is expected after it, and so on to the last
+-- the tokens are those of the expected parts, one after another
 abbrev pub AreExpected : List Expected → List Token → Type 0
 AreExpected [] ts = ts ≡ []
 AreExpected (first ∷ more) ts = BeginsWith first (length more) (AreExpected more) ts
 
--- all that is expected, up to the end of the outermost array or object
+-- all parts that are expected: first the next one, and then those after each open bracket, from the inside
+-- out
 abbrev pub expected : Nesting → List Expected
 expected nesting = nesting.next ∷ reverse nesting.outer.items

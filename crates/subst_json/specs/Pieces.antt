@@ -1,4 +1,4 @@
--- Spans of many ranges of one string, each piece of whose token is read alone.
+-- Spans of many ranges of one string. Each piece of the string's token is read by itself.
 use Rattle.std.specs.Prelude.{◌<◌, ◌≤◌, ◌+◌, ℕ, List, [], ◌∷◌, ◌++◌, slice_range}
 use Rattle.std.specs.declared.ops.Range.{Range}
 use Rattle.subst_error.specs.Range.{IsRangeIn}
@@ -6,7 +6,7 @@ use Rattle.subst_document.specs.Pieces.{position, ArePiecesFrom}
 use Rattle.subst_document.specs.declared.pieces.Position.{Position}
 use Rattle.subst_json.specs.Places.{HasQuotes, IsTokenOf}
 
--- From one position of a token to another, its text reads between quotes as that part of its string.
+-- The text s between two positions, put in quotes, is read as the part of the string x between the positions.
 pub record IsPiece (s : List ℕ) (token : Range ℕ) (x : List ℕ) (from to : Position) : Type 0 where
   pub within : IsRangeIn s (record { start = from.place; end = to.place })
   pub forwards : from.place ≤ to.place
@@ -16,8 +16,7 @@ pub record IsPiece (s : List ℕ) (token : Range ℕ) (x : List ℕ) (from to : 
   pub spells : IsTokenOf (34 ∷ slice_range s from.place to.place ++ 34 ∷ [])
       (slice_range x from.offset to.offset)
 
--- The spans are where the text spells these ranges of the string that the token is, from its opening quote
--- on.
+-- `places` are the spans, in the text s, that spell `ranges` of the string whose token is at `token`.
 pub record ArePlacesIn (s : List ℕ) (token : Range ℕ) (ranges places : List (Range ℕ)) : Type 0 where
   pub within : IsRangeIn s token
   pub forwards : token.start ≤ token.end

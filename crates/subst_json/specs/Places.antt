@@ -1,11 +1,11 @@
--- Spans of the text that a tree is read from.
+-- Spans in the text of a tree.
 use Rattle.std.specs.Prelude.{◌≡◌, ◌≤◌, ◌-◌, ℕ, List, [], ◌∷◌, ◌++◌, length, take, slice_index, slice_range, Some}
 use Rattle.std.specs.declared.ops.Range.{Range}
 use Rattle.serde_json.specs.Data.{string}
 use Rattle.serde_json.specs.Read.{read}
 use Rattle.subst_error.specs.Range.{IsRangeIn}
 
--- The text reads as this string, between quotes.
+-- The text `token` by itself is read as the string x.
 abbrev pub IsTokenOf : List ℕ → List ℕ → Type 0
 IsTokenOf token x = read token ≡ Some (string x)
 
@@ -13,13 +13,12 @@ IsTokenOf token x = read token ≡ Some (string x)
 abbrev pub HasQuotes : List ℕ → Type 0
 HasQuotes token = (slice_index token 0 ≡ 34) × (slice_index token (length token - 1) ≡ 34)
 
--- The token's text from its start up to a position spells the first bytes of the string, once it is closed by
--- a quote.
+-- The text s from a token's start to a position, closed by a quote, is read as the string x.
 abbrev pub IsSpelledUntil : List ℕ → ℕ → ℕ → List ℕ → Type 0
 IsSpelledUntil s start place x = IsTokenOf (slice_range s start place ++ 34 ∷ []) x
 
--- The span is where the text spells this range of the string that the token is: up to each end of the span
--- the token spells the string up to that end of the range.
+-- `place` is the span, in the text s, that spells `range` of the string whose token is at `token`. Up to the
+-- start and the end of `place`, the token spells the string up to the start and the end of `range`.
 pub record IsPlaceIn (s : List ℕ) (token range place : Range ℕ) : Type 0 where
   pub within : IsRangeIn s place
   pub after_start : token.start ≤ place.start

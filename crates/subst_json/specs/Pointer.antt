@@ -4,20 +4,20 @@ use Rattle.std.specs.Fmt.{decimal}
 use Rattle.std.specs.List.{flat_map}
 use Rattle.subst_document.specs.Paths.{PathStep, Key, Index}
 
--- a byte of a key: `~` is `~0`, and `/` is `~1`
+-- the spelling of a byte of a key: `~` is `~0`, and `/` is `~1`
 abbrev pub escaped_byte : ℕ → List ℕ
 escaped_byte b = if b == 126 then codes "~0" else if b == 47 then codes "~1" else b ∷ []
 
--- a step: a slash, and then the key, escaped, or the index
+-- the text of a step: a slash, and then the key, escaped, or the index
 abbrev pub step_text : PathStep → List ℕ
 step_text (Key key) = codes "/" ++ flat_map escaped_byte key
 step_text (Index i) = codes "/" ++ decimal i
 
--- a path: its steps, one after the other
+-- the text of a path: the texts of its steps, concatenated
 abbrev pub pointer_text : List PathStep → List ℕ
 pointer_text path = flat_map step_text path
 
--- the indices are those of a `usize`
+-- each index is a `usize`
 abbrev pub HasUsizeIndices : List PathStep → Type 0
 HasUsizeIndices [] = ⊤
 HasUsizeIndices (Key key ∷ path) = HasUsizeIndices path

@@ -1,4 +1,4 @@
--- What is reported of a JSON text.
+-- Error reports for a JSON text.
 use Rattle.std.specs.Prelude.{◌≡◌, ⊤, ℕ, List, Option, None, MatchOption}
 use Rattle.std.specs.declared.ops.Range.{Range}
 use Rattle.serde_json.specs.Read.{read}
@@ -15,16 +15,17 @@ use Rattle.subst_json.specs.declared.error.Error.{Error}
 use Rattle.subst_json.specs.declared.error.Error.TheVariants.{Json, Subst, OutOfMemory}
 use Rattle.subst_document.specs.Report.{lines_of, ReportsAll, ReportsFault}
 
--- the range of its fault is in its string
+-- the range of the fault is within the refused string
 abbrev pub HasRange : RefusalAt → Type 0
 HasRange it = HasRangeInText (refusal_at it)
 
--- the text reports the refused string
+-- the text reports the refused string `it` of the text s of a file
 abbrev pub ReportsRefused : (file s : List ℕ) → RefusalAt → List ℕ → Type 0
 ReportsRefused file s it text =
     ReportsFault IsPlaceIn file s (pointer_text (steps_of it.path)) it.span (error_fault it.error) text
 
--- The text says what a reader says: of the text s, where that isn't JSON, at a place in it; and else of a type.
+-- `text` is the reader's message. If s isn't JSON, the message has a position in s. If the error is that of a
+-- type, the message has none.
 abbrev pub ReportsReader : (file s text : List ℕ) → Type 0
 ReportsReader file s text =
     (place : Option (Range ℕ)) × (message : List ℕ)

@@ -1,4 +1,4 @@
-//! Tokens of a text, compared with those of the text filled in.
+//! Comparison of an output's tokens with those of its source.
 
 ghost use Rattle.std.specs.Prelude.{◌≡◌, ◌∷◌, ℕ, List, IfOk, IsTrue, Some, string_bytes};
 ghost use Rattle.json.specs.Lex.{tokens};
@@ -9,7 +9,7 @@ ghost use Rattle.fast_float.specs.Text.{scan};
 ghost use Rattle.serde_json.specs.Read.{number_of, number_from};
 ghost use Rattle.subst_language.specs.Language.Several.{GivesBy};
 ghost use Rattle.subst_document.specs.Stays.{AreValues};
-ghost use Rattle.subst_json.specs.Compared.{AreLeft};
+ghost use Rattle.subst_json.specs.Compared.{AreRemaining};
 ghost use Rattle.subst_json.specs.Filled.{strings_in, AreFilled, IsFilledToken};
 ghost use Rattle.subst_json.specs.Nesting.{AreOfValue};
 
@@ -17,16 +17,16 @@ use crate::nesting::Nesting;
 use fast_float::Numeral;
 use json::{Reader, Scratch, Token};
 use std::alloc::{AllocError, Global};
-use subst_document::{Fill, ValueAt, Values};
+use subst_document::{ChangedValues, Fill, ValueAt};
 
-/// Returns whether `source` is one value, which nests no deeper than the reader of trees allows, and the tokens
-/// of `output` are those of `source`, with each string filled in, and each number is one that the reader takes.
-/// The values are what the strings of `source` that change become by `filler`, which isn't asked again.
+/// Returns whether `output` is `source` with its strings filled in, token by token. `source` has to be one
+/// value, with nesting and numbers in the range of the reader of trees. `values` are the new values of the
+/// strings that change: `filler` isn't called again.
 pub(crate) fn is_filled<F: Fill>(
     alloc: Global,
     source: &str,
     output: &str,
-    values: &Values,
+    values: &ChangedValues,
     filler: &F,
 ) -> Result<bool, AllocError>
     requires { AreValues (GivesBy (F.answers filler.now)) 0 (strings_in (tokens source.now))
@@ -37,7 +37,7 @@ pub(crate) fn is_filled<F: Fill>(
         (tokens output.now)) }
 {
     let mut nesting = Nesting::new(alloc);
-    let mut left = Left {
+    let mut left = RemainingStrings {
         index: 0,
         list: values.list.as_slice(),
         text: values.text.as_str(),
@@ -50,41 +50,41 @@ pub(crate) fn is_filled<F: Fill>(
         let Some(filled) = reader_of_output.next() else {
             return Ok(false);
         };
-        if !nesting.takes(token)? || !left.takes(token, filled, filler) {
+        if !nesting.accept(token)? || !left.check_token(token, filled, filler) {
             return Ok(false);
         }
     }
     Ok(nesting.is_at_end() && reader_of_output.next().is_none())
 }
 
-/// The strings of a text that are still to come.
+/// The strings of a text that haven't been compared yet.
 #[derive(Clone, Copy)]
-struct Left<'v> {
-    /// The index of the next one.
+struct RemainingStrings<'v> {
+    /// The index of the next string.
     index: usize,
     /// The strings that change.
     list: &'v [ValueAt],
-    /// Their values, one after the other.
+    /// The new values of the strings that change, concatenated.
     text: &'v str,
 }
 
-impl Left<'_> {
-    /// Takes the next token, and returns whether the other one is the token, filled in.
-    fn takes<F: Fill>(&mut self, token: Token<'_>, filled: Token<'_>, filler: &F) -> bool
+impl RemainingStrings<'_> {
+    /// Takes `token`, the next one, and returns whether `filled` is `token`, filled in.
+    fn check_token<F: Fill>(&mut self, token: Token<'_>, filled: Token<'_>, filler: &F) -> bool
         ensures { IsTrue result → (rest : List spec.Token)
-            → AreLeft (GivesBy (F.answers filler.now)) self.old (token_of token.entry ∷ rest)
+            → AreRemaining (GivesBy (F.answers filler.now)) self.old (token_of token.entry ∷ rest)
             → IsFilledToken (GivesBy (F.answers filler.now)) (token_of token.entry)
             (token_of filled.entry)
-            × AreLeft (GivesBy (F.answers filler.now)) self.new rest }
+            × AreRemaining (GivesBy (F.answers filler.now)) self.new rest }
     {
         match (token, filled) {
-            (Token::String(text), Token::String(value)) => self.becomes(text, value, filler),
+            (Token::String(text), Token::String(value)) => self.check_string(text, value, filler),
             (token, filled) => is_same(token, filled),
         }
     }
 
-    /// Takes the next string, and returns whether it becomes this value.
-    fn becomes<F: Fill>(&mut self, text: &str, value: &str, filler: &F) -> bool
+    /// Takes `text`, the next string, and returns whether `value` is the output of `text`.
+    fn check_string<F: Fill>(&mut self, text: &str, value: &str, filler: &F) -> bool
         ensures { IsTrue result → (rest : List (List ℕ))
             → AreValues (GivesBy (F.answers filler.now)) self.old.index (text.now ∷ rest)
             self.old.list.now self.old.text.now
@@ -111,7 +111,7 @@ impl Left<'_> {
     }
 }
 
-/// Returns whether two tokens are the same, and no strings. A number has to be one that the reader takes.
+/// Returns whether two tokens are equal, and neither is a string. A number has to be in the reader's range.
 pub(crate) fn is_same(token: Token<'_>, other: Token<'_>) -> bool
     ensures { IsTrue result
         → IsFilledToken (λ _ _. ⊥) (token_of token.entry) (token_of other.entry) }
@@ -129,7 +129,7 @@ pub(crate) fn is_same(token: Token<'_>, other: Token<'_>) -> bool
     }
 }
 
-/// Returns whether a number is one that the reader takes: it refuses what is too large for a float.
+/// Returns whether a number is in the reader's range: numbers too large for a float are refused.
 #[tactic(auto, using(crate::proofs::NumberLemmas::with_minus, crate::proofs::NumberLemmas::without_minus))]
 fn is_in_range(number: &str) -> bool
     ensures { IsTrue result → (n : Num) × (number_of number.now ≡ Some n) }
@@ -145,7 +145,7 @@ fn is_in_range(number: &str) -> bool
     }
 }
 
-/// Returns whether the float that is nearest to a number is finite.
+/// Returns whether the float nearest to a number is finite.
 fn has_finite_float(digits: &[u8], is_negative: bool) -> bool
     ensures { IsTrue result
         → (n : Num) × (number_from is_negative (scan digits.now) ≡ Some n) }

@@ -1,4 +1,4 @@
-//! JSON texts whose strings are filled in where they stand: each other byte stays.
+//! Filling in of the strings of a JSON text in place, with every other byte kept.
 
 ghost use Rattle.std.specs.Prelude.{◌≡◌, ⊤, IfErr, IfNone, IfOk, IfSome, None, Some, string_bytes};
 ghost use Rattle.json.specs.Lex.{tokens};
@@ -24,10 +24,10 @@ use std::str::from_utf8;
 use subst_document::{Fill, Filled, Filler};
 use subst_language::VariableMap;
 
-/// Returns a JSON text with its strings filled in from `variables`, whose values are texts. Each other byte
-/// stays: white space, keys and their order, equal keys, the form of numbers, and the spelling of each string
-/// that gives itself. In a string that changes, all but its placeholders stays as it is spelled. Of members with
-/// equal keys the string of each one is filled in.
+/// Returns a JSON text with its strings filled in from `variables`, whose values are texts. Every other byte
+/// is kept: white space, keys and their order, equal keys, and the spelling of numbers and of each string
+/// that doesn't change. In a string that changes, only the placeholders are rewritten. If several members
+/// have the same key, the string of each is filled in.
 ///
 /// ```rust
 /// let source = r#"{ "$home": "${home:/root}/.config", "scale": 1.50 }"#;
@@ -35,14 +35,14 @@ use subst_language::VariableMap;
 /// // Some("{ \"$home\": \"/root/.config\", \"scale\": 1.50 }")
 /// ```
 ///
-/// If a string changes, the output is read and compared with the source before it is returned. It is `None`
-/// where it isn't confirmed so; no text is known for which that happens.
+/// If a string changes, the output is read and compared with the source before it is returned. The result is
+/// `None` if this check fails; no text is known for which the check fails.
 ///
 /// # Errors
 ///
-/// `Json` where the source isn't JSON, as `serde_json` decides, whatever its strings are; that error names
-/// the line. Otherwise `Subst` with the fault of the first string that is refused, in the order of the text;
-/// positions are byte offsets in that string. `OutOfMemory` when allocation fails.
+/// - `Json` if the source isn't JSON for `serde_json`, even if a string is refused; the error has the line.
+/// - `Subst` for the first refused string, in document order. Positions are byte offsets in that string.
+/// - `OutOfMemory` if allocation fails.
 pub fn fill_in<'a, M: VariableMap<'a>>(
     alloc: Global,
     source: &str,
@@ -56,11 +56,11 @@ where
     fill_in_by(alloc, source, &Filler { variables })
 }
 
-/// Returns a JSON text with its strings filled in, from bytes, as [`fill_in`].
+/// Fills in the strings of a JSON text, given as bytes, as [`fill_in`].
 ///
 /// # Errors
 ///
-/// As [`fill_in`]; it is `Json` too where the bytes aren't UTF-8.
+/// As [`fill_in`]. Also `Json` if the bytes aren't UTF-8.
 pub fn fill_in_slice<'a, M: VariableMap<'a>>(
     alloc: Global,
     source: &[u8],
@@ -80,8 +80,8 @@ where
     }
 }
 
-/// Returns a JSON text with its strings filled in by `filler`, as [`fill_in`]. A string that is seen to give
-/// itself ([`Fill::gives_itself`]) isn't filled in.
+/// Fills in the strings of a JSON text by `filler`, as [`fill_in`]. A string is skipped if
+/// [`Fill::needs_no_filling`] returns `true` for it.
 ///
 /// # Errors
 ///
@@ -97,11 +97,11 @@ pub fn fill_in_by<F: Fill>(alloc: Global, source: &str, filler: &F) -> Result<Op
     }
 }
 
-/// Returns a text that was filled in, or `None` where the reader doesn't confirm it.
+/// Returns a filled-in text, or `None` if the comparison with the source fails.
 ///
 /// # Errors
 ///
-/// `Json` where the source isn't JSON. `OutOfMemory` when allocation fails.
+/// `Json` if the source isn't JSON, or `OutOfMemory` if allocation fails.
 fn confirmed<F: Fill>(
     alloc: Global,
     source: &str,
@@ -127,11 +127,11 @@ fn confirmed<F: Fill>(
     }
 }
 
-/// Returns a text in which no string changes, if it is JSON.
+/// Returns `output`, the text of a source in which no string changes, if `source` is JSON.
 ///
 /// # Errors
 ///
-/// `Json` where the source isn't JSON. `OutOfMemory` when allocation fails.
+/// `Json` if the source isn't JSON, or `OutOfMemory` if allocation fails.
 fn unchanged(alloc: Global, source: &str, output: String) -> Result<Option<String>, Error>
     ensures same { IfOk result
         (λ confirmed. (confirmed ≡ Some output) × ReadsAsTree source.now (λ _. ⊤)) }
@@ -144,11 +144,11 @@ fn unchanged(alloc: Global, source: &str, output: String) -> Result<Option<Strin
     Ok(Some(output))
 }
 
-/// Returns nothing for a text that isn't confirmed.
+/// Returns `None`, the result for a source whose filled-in text isn't confirmed, if the source is JSON.
 ///
 /// # Errors
 ///
-/// `Json` where the source isn't JSON. `OutOfMemory` when allocation fails.
+/// `Json` if the source isn't JSON, or `OutOfMemory` if allocation fails.
 fn unconfirmed(alloc: Global, source: &str) -> Result<Option<String>, Error>
     ensures none { IfOk result (λ output. (output ≡ None) × ReadsAsTree source.now (λ _. ⊤)) }
     ensures json { OnJson result (read source.now ≡ None) }
@@ -160,11 +160,11 @@ fn unconfirmed(alloc: Global, source: &str) -> Result<Option<String>, Error>
     Ok(None)
 }
 
-/// Returns the error for a text of which a string is refused.
+/// Returns the error of `source`, which has a string that is refused for `e`.
 ///
 /// # Errors
 ///
-/// `Json` where the source isn't JSON, and that of the string otherwise.
+/// `Json` if the source isn't JSON, and otherwise the error of the string.
 fn refused(alloc: Global, source: &str, e: subst_error::Error) -> Result<Option<String>, Error>
     ensures never { IfOk result (λ _. ⊥) }
     ensures json { OnJson result (read source.now ≡ None) }

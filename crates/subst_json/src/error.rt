@@ -1,17 +1,15 @@
-//! Why a text isn't read and filled in. Each `From` keeps the error inside, and gives out of memory its
-//! own case.
+//! The error of reading and filling in a text. Each `From` keeps the inner error, but converts a failure to
+//! allocate into `OutOfMemory`.
 
 use std::alloc::{AllocError, AllocFailed};
 use std::fmt;
 
-/// Why a text isn't read and filled in.
+/// The error of reading and filling in a text.
 #[derive(Debug, Drop)]
 pub enum Error {
-    /// The text isn't JSON; or, of the calls that return a type of the caller's, its tree is none of that
-    /// type.
+    /// The text isn't JSON, or the filled-in tree doesn't fit the type that the call returns.
     Json(serde_json::Error),
-    /// A string of the tree is refused. Positions are byte offsets in that string. It is never
-    /// `OutOfMemory`.
+    /// A string of the tree is refused, never for `OutOfMemory`. Positions are byte offsets in that string.
     Subst(subst_error::Error),
     /// An allocation failed.
     OutOfMemory(AllocError),
@@ -67,7 +65,7 @@ impl<T: Drop> From<AllocFailed<T>> for Error {
     }
 }
 
-/// The text of the error inside, or `out of memory`.
+/// The text of the inner error, or `out of memory`.
 impl fmt::Display for Error {
     ghost use Rattle.std.specs.Fmt.{DisplaysOnOk};
     ghost use Rattle.subst_error.specs.Display.{IsDisplayOfError};
@@ -77,8 +75,8 @@ impl fmt::Display for Error {
 
     ghost output = { display_of_json };
 
-    // Of an error of a substitution the text is there also where it quotes a character past ASCII, which
-    // has two forms.
+    // `writes` states no text that quotes a character past ASCII, since that has two forms. If a string is
+    // refused, `text` states the error's text, with one of these forms.
     fn fmt<W: fmt::Write>(&self, f: &mut fmt::Formatter<W>) -> fmt::Result
         ensures writes { DisplaysOnOk W.write_str_gives f.old result
             (display_of_json self.now) f.new }

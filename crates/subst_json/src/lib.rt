@@ -1,17 +1,17 @@
-//! JSON whose strings are filled in after it was read, so no value can break out of its string.
+//! JSON whose strings are filled in after it was read, so that no value can break out of its string.
 //!
-//! Each string of the tree becomes what `substitute` of `subst` gives for it. Keys stay as they are, and so
-//! do numbers, booleans, nulls and the shape of the tree. Arrays are walked by index, and objects in the byte
-//! order of their keys; where strings are refused, the error is that of the first one.
+//! Each string of the tree is expanded as by `substitute` of `subst`. Keys, numbers, booleans, nulls and the
+//! shape of the tree are kept. Arrays are visited by index, and objects in the byte order of their keys; the
+//! error is that of the first refused string.
 //!
-//! [`substitute_string_values`] fills in a tree in place, [`value_from_str`] and [`value_from_slice`] read a
-//! tree first, and [`from_str`] and [`from_slice`] go on to read a type of the caller's from it, by `serde`.
+//! [`substitute_string_values`] fills in a tree in place. [`value_from_str`] and [`value_from_slice`] read a
+//! tree first. [`from_str`] and [`from_slice`] then convert it into a type of the caller's, by `serde`.
 //!
-//! [`fill_in`], [`fill_in_slice`] and [`fill_in_by`] fill in a text where its strings stand, and each other
-//! byte of it stays. [`strings`] lists the strings of a text, and [`refusals_in`] those that are refused.
+//! [`fill_in`], [`fill_in_slice`] and [`fill_in_by`] fill in the strings of a text, and keep every other byte
+//! of it. [`strings`] lists the strings of a text, and [`refusals_in`] the refused ones.
 //!
-//! The walk calls itself for each array and object that is inside another one. The reader refuses what is
-//! nested more than 127 deep; a deeper tree, which a caller has built, takes as much more of the stack.
+//! The walk recurses into nested arrays and objects. The reader refuses a nesting depth of more than 127; a
+//! deeper tree, built by a caller, takes proportionally more stack.
 #![tactic(auto)]
 
 ghost use Rattle.std.specs.Prelude.{◌≡◌, ◌⊎◌, Err, IfErr, IfOk, IsUtf8, None, OnErr, OnOk};
@@ -42,11 +42,11 @@ pub use subst_document::{Fill, Filler, PathStep, StringAt};
 use subst_language::VariableMap;
 use typed::FromTree;
 
-mod apart;
 mod changes;
 mod compared;
 mod document;
 mod error;
+mod exact_spans;
 pub mod laws;
 mod listing;
 mod nesting;
@@ -59,12 +59,12 @@ mod stop;
 mod tokens;
 mod typed;
 
-/// Fills in the strings of a tree from `variables`, whose values are texts.
+/// Fills in the strings of a tree in place from `variables`, whose values are texts.
 ///
 /// # Errors
 ///
-/// The fault of the first string that is refused, as `substitute` of `subst` returns it: positions are byte
-/// offsets in that string. `OutOfMemory` when allocation fails. After an error the tree is as it was.
+/// The error of the first refused string, as of `substitute`: positions are byte offsets in that string.
+/// `OutOfMemory` if allocation fails. After an error the tree is unchanged.
 pub fn substitute_string_values<'a, M: VariableMap<'a>>(
     alloc: Global,
     value: &mut Value,
@@ -73,7 +73,7 @@ pub fn substitute_string_values<'a, M: VariableMap<'a>>(
 where
     M::Value: AsStr + Drop,
 
-    // Each string is replaced by what it gives from the map, and all else is as it was.
+    // Each string is expanded from the map, and all else is unchanged.
     ensures ok { OnOk result
         (IsEach (GivesBy (AnswersText M.Value.text M.see (M.look_up variables.now)))
         (view value.old) (view value.new)) }
@@ -81,7 +81,7 @@ where
         (RefusesFirst (AnswersText M.Value.text M.see (M.look_up variables.now))
         (strings (view value.old))) }
 
-    // The range of a fault can be asked for.
+    // The range of a fault fits into `usize`.
     ensures range { OnFault error_fault result HasRange }
     ensures unchanged { OnErr result (value.new ≡ value.old) }
 {
@@ -90,7 +90,7 @@ where
     Ok(())
 }
 
-/// Reads JSON, and returns its tree with its strings filled in from `variables`, whose values are texts.
+/// Reads a JSON tree, and fills in its strings from `variables`, whose values are texts.
 ///
 /// ```rust
 /// let source = r#"{"$home": "${home:/root}/.config"}"#;
@@ -101,9 +101,9 @@ where
 ///
 /// # Errors
 ///
-/// `Json` where the source isn't JSON, as `serde_json` decides, whatever its strings are; that error names
-/// the line. Otherwise `Subst` with the fault of the first string that is refused; positions are byte offsets
-/// in that string. `OutOfMemory` when allocation fails.
+/// - `Json` if the source isn't JSON for `serde_json`, even if a string is refused; the error has the line.
+/// - `Subst` for the first refused string. Positions are byte offsets in that string.
+/// - `OutOfMemory` if allocation fails.
 pub fn value_from_str<'a, M: VariableMap<'a>>(
     alloc: Global,
     source: &str,
@@ -112,27 +112,27 @@ pub fn value_from_str<'a, M: VariableMap<'a>>(
 where
     M::Value: AsStr + Drop,
 
-    // It is the tree that the source is read as, with its strings filled in.
+    // The tree of the source, with its strings filled in.
     ensures ok { ReturnsTree M.Value.text M.see (M.look_up variables.now) source.now result }
     ensures json { OnJson result (read source.now ≡ None) }
 
-    // What the error says is of a text that is no tree, and not of a type.
+    // The error is of a text that isn't a tree, and not of a type.
     ensures kind { IfJson result IsOfText }
     ensures subst { StatesFirst M.Value.text M.see (M.look_up variables.now) source.now result }
     ensures range { OnSubst result HasRange }
 
-    // Neither `Json` nor `Subst` says that memory ran out.
+    // Neither `Json` nor `Subst` is an error of memory.
     ensures memory { IfErr result HasOwnMemory }
 {
     let value = Value::from_str(alloc, source)?;
     fill_tree(alloc, value, variables)
 }
 
-/// Reads JSON from bytes, and returns its tree with its strings filled in, as [`value_from_str`].
+/// Reads a JSON tree from bytes, and fills in its strings, as [`value_from_str`].
 ///
 /// # Errors
 ///
-/// As [`value_from_str`]; it is `Json` too where the bytes aren't UTF-8.
+/// As [`value_from_str`]. Also `Json` if the bytes aren't UTF-8.
 pub fn value_from_slice<'a, M: VariableMap<'a>>(
     alloc: Global,
     source: &[u8],
@@ -142,7 +142,7 @@ where
     M::Value: AsStr + Drop,
     ensures ok { ReturnsTree M.Value.text M.see (M.look_up variables.now) source.now result }
 
-    // The strings of a tree are filled in only where the bytes are UTF-8, and one is refused only there.
+    // Strings are filled in, or refused, only if the bytes are UTF-8.
     ensures utf8 { OnOk result (IsUtf8 source.now) }
     ensures refused_utf8 { OnSubst result (λ f. IsUtf8 source.now) }
     ensures json { OnJson result (IsUtf8 source.now → read source.now ≡ None) }
@@ -155,9 +155,10 @@ where
     fill_tree(alloc, value, variables)
 }
 
-/// Reads JSON, fills in its strings from `variables`, whose values are texts, and reads a `T` from the tree.
+/// Reads JSON, fills in its strings from `variables`, whose values are texts, and converts the tree into a
+/// `T`.
 ///
-/// A string stays a string when it is filled in, so no variable gives a `T` its number.
+/// A filled-in string stays a string, so no variable can supply a number to a `T`.
 ///
 /// ```rust
 /// let output: String = json::from_str(alloc, r#""${home:/root}/.config""#, &NoSubstitution)?;
@@ -166,7 +167,7 @@ where
 ///
 /// # Errors
 ///
-/// As [`value_from_str`]. It is `Json` too where the tree with its strings filled in is no `T`.
+/// As [`value_from_str`]. Also `Json` if the filled-in tree isn't a `T`.
 pub fn from_str<'a, T: FromTree, M: VariableMap<'a>>(
     alloc: Global,
     source: &str,
@@ -175,10 +176,10 @@ pub fn from_str<'a, T: FromTree, M: VariableMap<'a>>(
 where
     M::Value: AsStr + Drop,
 
-    // It is what the step that reads a `T` returns for the tree with its strings filled in.
+    // The result of the conversion for the tree with its strings filled in.
     ensures ok { ReadsType M.Value.text M.see (M.look_up variables.now) T.reads source.now result }
 
-    // `Json` is the reader's error, of a text that is no tree, or what that step returns for such a tree.
+    // `Json` is the reader's error, of a text that isn't a tree, or that of the conversion.
     ensures json { IfJson result (λ e. ((read source.now ≡ None) × IsOfText e)
         ⊎ ReadsAsTree source.now (λ d. IsReadFilledIn
         (AnswersText M.Value.text M.see (M.look_up variables.now)) T.reads d (Err e))) }
@@ -190,11 +191,11 @@ where
     Ok(T::from_tree(alloc, tree)?)
 }
 
-/// Reads JSON from bytes, fills in its strings, and reads a `T` from the tree, as [`from_str`].
+/// Reads JSON from bytes, fills in its strings, and converts the tree into a `T`, as [`from_str`].
 ///
 /// # Errors
 ///
-/// As [`value_from_slice`]. It is `Json` too where the tree with its strings filled in is no `T`.
+/// As [`value_from_slice`]. Also `Json` if the filled-in tree isn't a `T`.
 pub fn from_slice<'a, T: FromTree, M: VariableMap<'a>>(
     alloc: Global,
     source: &[u8],
@@ -204,7 +205,7 @@ where
     M::Value: AsStr + Drop,
     ensures ok { ReadsType M.Value.text M.see (M.look_up variables.now) T.reads source.now result }
 
-    // The strings of a tree are filled in only where the bytes are UTF-8, and one is refused only there.
+    // Strings are filled in, or refused, only if the bytes are UTF-8.
     ensures utf8 { OnOk result (IsUtf8 source.now) }
     ensures refused_utf8 { OnSubst result (λ f. IsUtf8 source.now) }
     ensures json { IfJson result
@@ -219,7 +220,7 @@ where
     Ok(T::from_tree(alloc, tree)?)
 }
 
-/// Returns a tree that was read, with its strings filled in.
+/// Fills in the strings of a tree that was read, and returns it.
 fn fill_tree<'a, M: VariableMap<'a>>(
     alloc: Global,
     mut value: Value,

@@ -1,11 +1,11 @@
-//! The strings of a JSON text, in its order, with where they stand.
+//! Lists of a JSON text's strings and of its refused strings, with their spans.
 
 ghost use Rattle.std.specs.Prelude.{IfOk, IfSome};
 ghost use Rattle.subst_language.specs.Calls.Clauses.{AnswersText};
 ghost use Rattle.subst_json.specs.InPlace.{Lists};
 ghost use Rattle.subst_json.specs.Listed.{AreAllRefused, IsListing};
 
-use crate::apart::are_apart;
+use crate::exact_spans::are_exact;
 use crate::paths::JsonPaths;
 use crate::tokens::{JsonStrings, JsonTokens};
 use crate::{Error, Path};
@@ -16,16 +16,16 @@ use std::convert::AsStr;
 use subst_document::{Fill, Filler, StringAt, refusals};
 use subst_language::VariableMap;
 
-/// A string of a text that is refused.
+/// A refused string of a JSON text, with its path and span.
 pub type RefusalAt = subst_document::RefusalAt<Path>;
 
-/// Returns the strings of `source`, a JSON text, in its order. A key is none of them, and of members with
-/// equal keys the string of each one is there. Each span is read by itself before it is returned. It is
-/// `None` where one isn't confirmed so; no text is known for which that happens.
+/// Lists the string values of `source`, a JSON text, in document order. Keys aren't listed. If several
+/// members have the same key, the string of each is listed. Each span is read again before it is returned.
+/// The result is `None` if this check fails; no text is known for which the check fails.
 ///
 /// # Errors
 ///
-/// `Json` where the source isn't JSON, as `serde_json` decides. `OutOfMemory` when allocation fails.
+/// `Json` if the source isn't JSON, as `serde_json` decides, or `OutOfMemory` if allocation fails.
 pub fn strings(alloc: Global, source: &str) -> Result<Option<Vec<StringAt>>, Error>
     ensures listed { Lists (IsListing source.now) source.now result }
 {
@@ -33,13 +33,13 @@ pub fn strings(alloc: Global, source: &str) -> Result<Option<Vec<StringAt>>, Err
     Ok(listed(alloc, source)?)
 }
 
-/// Returns all refused strings of `source`, a JSON text, in its order, where its strings are filled in from
-/// `variables`, whose values are texts. Each span is read by itself before it is returned. It is `None` where
-/// one isn't confirmed so; no text is known for which that happens.
+/// Lists in document order the strings of `source`, a JSON text, that are refused if it is filled in from
+/// `variables`, whose values are texts. Each span is read again before it is returned. The result is `None`
+/// if this check fails; no text is known for which the check fails.
 ///
 /// # Errors
 ///
-/// `Json` where the source isn't JSON, as `serde_json` decides. `OutOfMemory` when allocation fails.
+/// `Json` if the source isn't JSON, as `serde_json` decides, or `OutOfMemory` if allocation fails.
 pub fn refusals_in<'a, M: VariableMap<'a>>(
     alloc: Global,
     source: &str,
@@ -54,8 +54,7 @@ where
     refusals_by(alloc, source, &Filler { variables })
 }
 
-/// Returns all refused strings of `source`, a JSON text, where its strings are filled in by `filler`, as
-/// [`refusals_in`].
+/// Lists the strings of `source`, a JSON text, that `filler` refuses, as [`refusals_in`].
 ///
 /// # Errors
 ///
@@ -71,7 +70,7 @@ pub fn refusals_by<F: Fill>(
     Ok(refusals_of(alloc, source, filler)?)
 }
 
-/// Returns the strings among the tokens of a text.
+/// Returns the strings among the tokens of a text, or `None` if a span isn't confirmed.
 fn listed(alloc: Global, source: &str) -> Result<Option<Vec<StringAt>>, AllocError>
     ensures { IfOk result (λ list. IfSome list (λ list. IsListing source.now list.items)) }
 {
@@ -81,18 +80,18 @@ fn listed(alloc: Global, source: &str) -> Result<Option<Vec<StringAt>>, AllocErr
     let Some(list) = subst_document::listed(alloc, source, &mut strings, &mut format)? else {
         return Ok(None);
     };
-    if are_apart(alloc, source, list.as_slice())? {
+    if are_exact(alloc, source, list.as_slice())? {
         Ok(Some(list))
     } else {
         Ok(None)
     }
 }
 
-/// Returns the refused strings among the tokens of a text.
+/// Returns the refused strings among the tokens of a text, or `None` if a span isn't confirmed.
 ///
 /// # Errors
 ///
-/// When allocation fails, and for nothing else.
+/// If allocation fails.
 pub(crate) fn refusals_of<F: Fill>(
     alloc: Global,
     source: &str,

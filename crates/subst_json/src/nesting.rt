@@ -1,4 +1,4 @@
-//! The nesting of a text's arrays and objects, a token at a time.
+//! Checks, token by token, that a text is one value that doesn't nest too deep.
 
 ghost use Rattle.std.specs.Prelude.{◌≡◌, ◌≤◌, ◌+◌, [], ◌∷◌, ◌++◌, List, IfOk, IfSome, IsTrue, length};
 ghost use Rattle.json.specs.Json.{Json};
@@ -11,10 +11,10 @@ ghost use Rattle.subst_json.specs.Nesting.{expected, AreExpected};
 use json::Token;
 use std::alloc::{AllocError, Global};
 
-/// How deep arrays and objects may nest, as the reader of trees has it.
+/// The maximum nesting depth of arrays and objects, as in the reader of trees.
 const MAX_DEPTH: usize = 127;
 
-/// What may be next in a text.
+/// The next part that may begin in a text.
 #[derive(Clone, Copy)]
 enum Expected {
     /// The value of the text.
@@ -30,7 +30,7 @@ enum Expected {
 }
 
 impl Expected {
-    /// Returns what is expected after a value, or `None` if no value is expected.
+    /// Returns the part expected after a value, or `None` if no value is expected.
     fn after_value(self) -> Option<Expected>
         ensures { IfSome result (λ after. (j : Json) → (more : List Expected)
             → (rest : List spec.Token) → depth j + length more ≤ max_depth
@@ -46,17 +46,17 @@ impl Expected {
     }
 }
 
-/// What is expected after the tokens that were taken so far.
+/// The parser state after the tokens so far.
 #[derive(Drop)]
 pub(crate) struct Nesting {
-    /// What may be next.
+    /// The next expected part.
     next: Expected,
-    /// What may be next after the end of each open array and object, the outermost one first.
+    /// The part expected after each open array and object, the outermost first.
     outer: Vec<Expected>,
 }
 
 impl Nesting {
-    /// Returns what is expected at the start of a text: a value.
+    /// Returns the state at the start of a text: a value is expected.
     pub(crate) fn new(alloc: Global) -> Nesting
         ensures { expected result ≡ Expected.Value ∷ [] }
     {
@@ -70,8 +70,8 @@ impl Nesting {
     ///
     /// # Errors
     ///
-    /// When allocation fails, and for nothing else.
-    pub(crate) fn takes(&mut self, token: Token<'_>) -> Result<bool, AllocError>
+    /// If allocation fails.
+    pub(crate) fn accept(&mut self, token: Token<'_>) -> Result<bool, AllocError>
         requires { length (expected self.old) ≤ max_depth + 1 }
         ensures rest { IfOk result (λ is. IsTrue is → (rest : List spec.Token)
             → AreExpected (expected self.new) rest
@@ -89,14 +89,14 @@ impl Nesting {
                 Ok(true)
             }
             (Token::String(_) | Token::Number(_) | Token::Bool(_) | Token::Null, _) => {
-                Ok(self.pass())
+                Ok(self.accept_value())
             }
             _ => Ok(false),
         }
     }
 
-    /// Passes a value, and returns whether one is expected.
-    fn pass(&mut self) -> bool
+    /// Takes a value that is no array or object. Returns `false` if no value is expected.
+    fn accept_value(&mut self) -> bool
         ensures rest { IsTrue result → (j : Json) → (rest : List spec.Token)
             → depth j + length (expected self.old) ≤ max_depth + 1
             → AreExpected (expected self.new) rest
@@ -110,11 +110,11 @@ impl Nesting {
         true
     }
 
-    /// Opens an array or an object, and returns whether one is expected and doesn't nest too deep.
+    /// Opens an array or object, where `inside` is next. Returns `false` if it isn't expected or is too deep.
     ///
     /// # Errors
     ///
-    /// When allocation fails, and for nothing else.
+    /// If allocation fails.
     fn open(&mut self, inside: Expected) -> Result<bool, AllocError>
         requires { length (expected self.old) ≤ max_depth + 1 }
         ensures array { inside ≡ Expected.Item → IfOk result (λ is. IsTrue is
@@ -136,7 +136,7 @@ impl Nesting {
         Ok(true)
     }
 
-    /// Closes the innermost array or object, and returns whether one is open.
+    /// Closes the innermost array or object. Returns `false` if no array or object is open.
     fn close(&mut self) -> bool
         ensures rest { IsTrue result
             → expected self.old ≡ self.old.next ∷ expected self.new }
@@ -149,7 +149,7 @@ impl Nesting {
         true
     }
 
-    /// Returns whether nothing more is expected.
+    /// Returns whether the text is complete.
     pub(crate) fn is_at_end(&self) -> bool
         ensures { IsTrue result → AreExpected (expected self.now) [] }
     {

@@ -12,15 +12,15 @@ use std::fmt;
 use std::fmt::Write;
 use subst_document::PathStep;
 
-/// The path from a tree to a string of it. It displays as a JSON Pointer (RFC 6901), as
+/// The path from a tree to one of its strings. It displays as a JSON Pointer (RFC 6901), such as
 /// `/server/list/0/x~1y`.
 #[derive(Clone, Debug, PartialEq, Eq, Drop)]
 pub struct Path {
-    /// The steps, the first one from the root.
+    /// The steps, from the root.
     pub steps: Vec<PathStep>,
 }
 
-/// For each step `/` and then its key, with `~` as `~0` and `/` as `~1`, or its index.
+/// Writes for each step `/` and then its index, or its key with `~` as `~0` and `/` as `~1`.
 impl fmt::Display for Path {
     ghost output = { λ path. Some (pointer_text (steps_of path)) };
 
@@ -32,11 +32,11 @@ impl fmt::Display for Path {
     }
 }
 
-/// Writes a step.
+/// Writes a step: `/`, and then its index or its escaped key.
 ///
 /// # Errors
 ///
-/// That of the writer, where it fails.
+/// If the writer fails.
 fn write_step<W: fmt::Write>(f: &mut fmt::Formatter<W>, step: &PathStep) -> fmt::Result
     ensures { WritesOnOk W.write_str_gives f.old result (step_text (step_of step.now)) f.new }
 {
@@ -47,11 +47,11 @@ fn write_step<W: fmt::Write>(f: &mut fmt::Formatter<W>, step: &PathStep) -> fmt:
     }
 }
 
-/// Writes a key, escaped.
+/// Writes a key with `~` as `~0` and `/` as `~1`.
 ///
 /// # Errors
 ///
-/// That of the writer, where it fails.
+/// If the writer fails.
 fn write_escaped<W: fmt::Write>(f: &mut fmt::Formatter<W>, key: &str) -> fmt::Result
     ensures { WritesOnOk W.write_str_gives f.old result (flat_map escaped_byte key.now) f.new }
 {
@@ -61,11 +61,11 @@ fn write_escaped<W: fmt::Write>(f: &mut fmt::Formatter<W>, key: &str) -> fmt::Re
     Ok(())
 }
 
-/// Writes a character of a key, escaped.
+/// Writes a character of a key, escaped if it is `~` or `/`.
 ///
 /// # Errors
 ///
-/// That of the writer, where it fails.
+/// If the writer fails.
 fn write_escaped_char<W: fmt::Write>(f: &mut fmt::Formatter<W>, c: char) -> fmt::Result
     ensures { WritesOnOk W.write_str_gives f.old result
         (flat_map escaped_byte (encode_utf8 c)) f.new }

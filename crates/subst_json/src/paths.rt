@@ -1,17 +1,17 @@
-//! The paths to the strings of a JSON text.
+//! Paths to the strings of a JSON text.
 
 ghost use Rattle.std.specs.Prelude.{◌≡◌, ◌+◌, IfOk, IsTrue, length, map, reverse};
 ghost use Rattle.json.specs.Reads.{token_of};
 ghost use Rattle.subst_document.specs.Paths.{step_of};
 ghost use Rattle.subst_json.specs.Filled.{strings_of_token};
-ghost use Rattle.subst_json.specs.Listed.{past_token, past_value, IsPathTo, IsSeen};
+ghost use Rattle.subst_json.specs.Listed.{past_token, past_value, IsCollected, IsPathTo};
 
 use crate::Path;
 use json::{Reader, Scratch, Token};
 use std::alloc::{AllocError, Global};
 use subst_document::{PathStep, Paths, RefusalAt};
 
-/// The paths to the strings of a JSON text.
+/// The paths to the strings of a JSON text, found by reading its tokens.
 #[derive(Clone, Copy)]
 pub(crate) struct JsonPaths<'t> {
     pub(crate) source: &'t str,
@@ -30,43 +30,43 @@ impl Paths for JsonPaths<'_> {
         let mut scratch = Scratch::new(alloc);
         let mut reader = Reader::new(self.source, &mut scratch)?;
         let mut steps = Vec::new(alloc);
-        let mut wanted = Wanted {
+        let mut collector = PathCollector {
             rest: refused,
             index: 0,
             paths: Vec::with_capacity(alloc, refused.len())?,
         };
         while let Some(token) = reader.next() {
-            if !wanted.see(alloc, token, &steps)? || !pass(alloc, &mut steps, token)? {
+            if !collector.collect(alloc, token, &steps)? || !advance(alloc, &mut steps, token)? {
                 return Ok(None);
             }
         }
-        if wanted.rest.is_empty() {
-            Ok(Some(wanted.paths))
+        if collector.rest.is_empty() {
+            Ok(Some(collector.paths))
         } else {
             Ok(None)
         }
     }
 }
 
-/// The refused strings whose paths are wanted, in the order of the text.
+/// A collector of the paths to refused strings, in document order.
 #[derive(Drop)]
-struct Wanted<'w> {
-    /// Those that are still to come.
+struct PathCollector<'w> {
+    /// The refused strings that weren't reached yet.
     rest: &'w [RefusalAt<usize>],
     /// The index of the next string of the text.
     index: usize,
-    /// The paths to those before it.
+    /// The paths to the refused strings reached so far.
     paths: Vec<Path>,
 }
 
-impl Wanted<'_> {
-    /// Adds the path to a token, if it is a string that is wanted. `steps` lead to it. Returns `false` if there
-    /// are more strings than a `usize` counts.
+impl PathCollector<'_> {
+    /// Adds `steps`, the path to `token`, if `token` is the next refused string. Returns `false` if the
+    /// number of strings exceeds `usize::MAX`.
     ///
     /// # Errors
     ///
-    /// When allocation fails, and for nothing else.
-    fn see(
+    /// If allocation fails.
+    fn collect(
         &mut self,
         alloc: Global,
         token: Token<'_>,
@@ -75,7 +75,7 @@ impl Wanted<'_> {
         ensures counted { IfOk result (λ is. IsTrue is
             → self.new.index ≡ self.old.index + length (strings_of_token (token_of token.entry))) }
         ensures found { IfOk result (λ is. IsTrue is
-            → IsSeen (map step_of steps.now.items) (strings_of_token (token_of token.entry))
+            → IsCollected (map step_of steps.now.items) (strings_of_token (token_of token.entry))
             self.old.index self.old.rest.now self.new.rest.now self.old.paths.items
             self.new.paths.items) }
     {
@@ -99,7 +99,7 @@ impl Wanted<'_> {
     }
 }
 
-/// Returns a copy of these steps.
+/// Returns a copy of the steps.
 fn copied(alloc: Global, steps: &Vec<PathStep>) -> Result<Vec<PathStep>, AllocError>
     ensures { IfOk result
         (λ copied. map step_of copied.items ≡ map step_of steps.now.items) }
@@ -121,10 +121,9 @@ fn copied_step(alloc: Global, step: &PathStep) -> Result<PathStep, AllocError>
     }
 }
 
-/// Goes on from the steps that lead to where a token begins to those that lead to where the next one does. In
-/// an object, the last step is the key that came last, and an empty one before the first. It is `false` where
-/// an index doesn't fit.
-fn pass(alloc: Global, steps: &mut Vec<PathStep>, token: Token<'_>) -> Result<bool, AllocError>
+/// Changes `steps`, the path to `token`, into the path to the next token. In an object, the last step is the
+/// latest key, or an empty key before the first. Returns `false` if an index overflows.
+fn advance(alloc: Global, steps: &mut Vec<PathStep>, token: Token<'_>) -> Result<bool, AllocError>
     ensures { IfOk result (λ is. IsTrue is → reverse (map step_of steps.new.items)
         ≡ past_token (token_of token.entry) (reverse (map step_of steps.old.items))) }
 {
@@ -144,16 +143,17 @@ fn pass(alloc: Global, steps: &mut Vec<PathStep>, token: Token<'_>) -> Result<bo
         }
         Token::EndObject | Token::EndArray => {
             steps.pop();
-            pass_value(steps)
+            advance_past_value(steps)
         }
         Token::String(_) | Token::Number(_) | Token::Bool(_) | Token::Null | Token::Bad => {
-            pass_value(steps)
+            advance_past_value(steps)
         }
     }
 }
 
-/// Goes on past a value: to the next index, in an array.
-fn pass_value(steps: &mut Vec<PathStep>) -> Result<bool, AllocError>
+/// Changes `steps`, the path to a value, into the path to the next part: in an array, the next index. Returns
+/// `false` if the index overflows.
+fn advance_past_value(steps: &mut Vec<PathStep>) -> Result<bool, AllocError>
     ensures { IfOk result (λ is. IsTrue is → reverse (map step_of steps.new.items)
         ≡ past_value (reverse (map step_of steps.old.items))) }
 {

@@ -1,4 +1,4 @@
-//! Where a part of a string is spelled in the JSON that it is read from. The reader confirms each span before
+//! Spans of parts of a string in the JSON text it is read from. Each span is confirmed by the reader before
 //! it is returned.
 
 ghost use Rattle.std.specs.Prelude.{◌≡◌, ◌++◌, ◌<◌, ◌≤◌, ◌∷◌, [], length, string_bytes, take, IfOk, IfSome, MatchOption, None, Some};
@@ -11,17 +11,17 @@ use std::alloc::{AllocError, Global};
 use std::ops::Range;
 use subst_document::slice;
 
-/// Returns the byte range in `source`, a JSON text, that spells a range of a string of it.
+/// Returns the byte range in `source`, a JSON text, that spells a range of one of its strings.
 ///
-/// `token` is the byte range in `source` of the string with its quotes, as [`strings`](crate::strings) returns
-/// it, and `range` is in byte offsets of the string. The position of a byte offset is where the character
-/// there begins to be spelled, and that of the string's end is the closing quote. It is `None` where the token
-/// is no string, where an end of the range is past the string's end or within a character, or where the range
-/// ends before it begins.
+/// `token` is the byte range in `source` of the string with its quotes, as returned by
+/// [`strings`](crate::strings). `range` is in byte offsets of the string. A byte offset maps to the start of
+/// the character's spelling there, and the string's end to the closing quote. The result is `None` if the
+/// token isn't a string or the range ends before it starts. It is also `None` if an end of the range is past
+/// the string's end or inside a character.
 ///
 /// # Errors
 ///
-/// That an allocation failed.
+/// If allocation fails.
 pub fn place_in(
     alloc: Global,
     source: &str,
@@ -49,7 +49,7 @@ pub fn place_in(
     Ok(Some(place))
 }
 
-/// Returns the tree that a text is read as, or `None` where it isn't JSON.
+/// Returns the tree of a text, or `None` if it isn't JSON.
 fn read_tree(alloc: Global, text: &str) -> Result<Option<Value>, AllocError>
     ensures { IfOk result
         (λ tree. MatchOption tree (read text.now ≡ None)
@@ -62,7 +62,7 @@ fn read_tree(alloc: Global, text: &str) -> Result<Option<Value>, AllocError>
     }
 }
 
-/// Returns the string that a text is read as, or `None` where it is none.
+/// Returns the string that a text spells, or `None` if the text isn't a JSON string.
 fn read_string(alloc: Global, text: &str) -> Result<Option<String>, AllocError>
     ensures { IfOk result
         (λ read. IfSome read (λ string. IsTokenOf text.now (string_bytes string))) }
@@ -73,8 +73,8 @@ fn read_string(alloc: Global, text: &str) -> Result<Option<String>, AllocError>
     }
 }
 
-/// Returns how many bytes of a token, with its opening quote, spell the first `offset` bytes of its string.
-/// It is `None` where the reader doesn't confirm it.
+/// Returns how many bytes of `token`, opening quote included, spell the first `offset` bytes of `string`.
+/// Returns `None` if these bytes, closed with a quote, aren't read back as that part of the string.
 fn spelled_until(
     alloc: Global,
     token: &str,
@@ -103,7 +103,7 @@ fn spelled_until(
     Ok(Some(len))
 }
 
-/// Counts the bytes of a token, with its opening quote, that spell the first `offset` bytes of its string.
+/// Returns how many bytes of `token`, opening quote included, spell the first `offset` bytes of the string.
 pub(crate) fn spelling_len(token: &[u8], offset: usize) -> usize {
     let mut len = 1;
     let mut spelled = 0;
@@ -115,17 +115,17 @@ pub(crate) fn spelling_len(token: &[u8], offset: usize) -> usize {
     len
 }
 
-/// How a character is spelled, or a part of it.
+/// The spelling of a character, or of a part of it.
 #[derive(Clone, Copy)]
 struct Spelling {
-    /// How many bytes of the token it takes.
+    /// The number of bytes of the token.
     len: usize,
-    /// How many bytes of the string those spell.
+    /// The number of bytes of the string that these bytes of the token spell.
     spelled: usize,
 }
 
-/// Returns how the rest of a token begins. An escape is passed whole, and each half of a surrogate pair
-/// spells two of the four bytes.
+/// Returns the first spelling in the rest of a token. An escape is never split. Each half of a surrogate pair
+/// counts as two of the character's four bytes.
 fn first_spelling(rest: &[u8]) -> Spelling
     ensures { (0 < result.spelled) × (result.spelled ≤ result.len) × (result.len ≤ 6) }
 {

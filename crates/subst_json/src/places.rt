@@ -1,5 +1,5 @@
-//! Spans of many ranges of one string: each piece of its token is read alone between quotes, and what the
-//! reader doesn't confirm is never returned.
+//! Spans of many ranges of one string. Each piece of the string's token is read by itself between quotes, and
+//! no span is returned that the reader doesn't confirm.
 
 ghost use Rattle.std.specs.Prelude.{◌≡◌, ◌++◌, ◌∷◌, [], IfOk, IfSome, IsTrue};
 ghost use Rattle.subst_json.specs.Places.{IsTokenOf};
@@ -11,11 +11,11 @@ use std::alloc::{AllocError, Global};
 use std::ops::Range;
 use subst_document::{Pieces, Position, StringFormat, slice, spans};
 
-/// A token of a string.
+/// A token, the spelling of a string in the source, with that string.
 #[derive(Clone, Copy)]
 struct Token<'t> {
     source: &'t str,
-    /// Its byte range in the source.
+    /// The token's byte range in the source.
     span: &'t Range<usize>,
     string: &'t str,
 }
@@ -52,27 +52,27 @@ impl Pieces for Token<'_> {
     }
 }
 
-/// Finds where ranges of many strings of one document are spelled, each as [`places_in`] does. What strings
-/// are read with is made once, and so a call takes as long as its token.
+/// A finder of spans, as [`places_in`], for many strings of one document. It keeps the reader's buffers, so
+/// each call takes time linear in the length of the string's token.
 #[derive(Drop)]
 pub struct RangeFinder {
     format: JsonStrings,
 }
 
 impl RangeFinder {
-    /// Returns a finder.
+    /// Creates a finder.
     pub fn new(alloc: Global) -> RangeFinder {
         RangeFinder {
             format: JsonStrings::new(alloc),
         }
     }
 
-    /// Returns the byte ranges in `source`, a JSON text, that spell these ranges of a string of it, as
-    /// [`places_in`]. The token is passed over once.
+    /// Returns the byte ranges in `source`, a JSON text, that spell `ranges` of one of its strings, as
+    /// [`places_in`]. The string's token is scanned once.
     ///
     /// # Errors
     ///
-    /// That an allocation failed.
+    /// If allocation fails.
     pub fn find(
         &mut self,
         alloc: Global,
@@ -106,16 +106,16 @@ impl RangeFinder {
     }
 }
 
-/// Returns the byte ranges in `source`, a JSON text, that spell these ranges of a string of it.
+/// Returns the byte ranges in `source`, a JSON text, that spell `ranges` of one of its strings.
 ///
 /// `token` is the byte range in `source` of the string with its quotes. `ranges` are in byte offsets of the
-/// string, and none begins before the end of the one before it. Each is spelled where `place_in` returns it,
-/// and the token is passed over once for all. It is `None` where the token is no string between quotes, where
-/// an end of a range is past the string's end or within a character, or where the ranges overlap.
+/// string, in order and without overlaps. Each maps to the span that `place_in` returns, but the token is
+/// scanned only once. The result is `None` if the token isn't a string between quotes, or if the ranges
+/// overlap. It is also `None` if an end of a range is past the string's end or inside a character.
 ///
 /// # Errors
 ///
-/// That an allocation failed.
+/// If allocation fails.
 pub fn places_in(
     alloc: Global,
     source: &str,
@@ -128,11 +128,11 @@ pub fn places_in(
     RangeFinder::new(alloc).find(alloc, source, token, ranges)
 }
 
-/// Returns the spans in a token of these ranges of its string, or `None` if one isn't found.
+/// Returns the spans in `token` that spell `ranges` of `string`, or `None` if a span isn't found.
 ///
 /// # Errors
 ///
-/// That an allocation failed.
+/// If allocation fails.
 pub(crate) fn spans_of(
     alloc: Global,
     format: &mut JsonStrings,
@@ -153,7 +153,7 @@ pub(crate) fn spans_of(
     Ok(found)
 }
 
-/// Returns whether a text between quotes is read as this string.
+/// Returns whether `text`, put between quotes, spells `string`.
 pub(crate) fn reads_as(
     alloc: Global,
     format: &mut JsonStrings,

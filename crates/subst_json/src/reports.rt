@@ -1,4 +1,4 @@
-//! Reports of what is wrong with a JSON text.
+//! Error reports for JSON texts.
 
 ghost use Rattle.std.specs.Prelude.{IfOk, string_bytes};
 ghost use Rattle.subst_language.specs.Calls.Clauses.{AnswersText};
@@ -13,14 +13,13 @@ use subst_document::Filler;
 use subst_document::report::{ReportFormat, fault, lines, refusals};
 use subst_language::VariableMap;
 
-/// Returns what is wrong with `source`, the text of a file, for which a call of this crate returned the
-/// error `e` with these variables.
+/// Returns the report of `e`, the error of a call of this crate for `source`, a file's text, and `variables`.
 ///
-/// If a string is refused, each refused one is reported, in the order of the text, by a line
-/// `FILE:LINE:COLUMN: PATH: fault` and, where `error::underline` of `subst` shows it, the line of the text
-/// below it, with the fault underlined. Where the text isn't JSON, so is what the reader says, without a
-/// path. What is wrong with a type has no place in the text: it is `FILE: message`. So is a fault whose place
-/// isn't confirmed; no text is known for which that happens.
+/// If a string is refused, every refused string is reported, in document order. The report of each is a line
+/// `FILE:LINE:COLUMN: PATH: fault`, and the underlined line of the text if `error::underline` of `subst`
+/// returns one. If the text isn't JSON, the reader's message is reported in the same form, without a path.
+/// The report has no line and column if a tree doesn't fit a type, or if the position of a fault isn't
+/// confirmed. No text is known for which a position isn't confirmed.
 ///
 /// ```text
 /// web.json:1:4: /0: ..
@@ -30,7 +29,7 @@ use subst_language::VariableMap;
 ///
 /// # Errors
 ///
-/// When allocation fails, and where the error says that it did.
+/// If allocation fails, or if `e` is an allocation failure.
 pub fn report<'a, M: VariableMap<'a>>(
     alloc: Global,
     file: &str,
@@ -41,13 +40,13 @@ pub fn report<'a, M: VariableMap<'a>>(
 where
     M::Value: AsStr + Drop,
 
-    // The text reports each refused string, or what the reader says.
+    // The text reports each refused string, or the reader's message.
     ensures report { IfOk result (λ text.
         Reports (AnswersText M.Value.text M.see (M.look_up variables.now)) file.now source.now
         e.now (string_bytes text)) }
 {
     match e {
-        Error::Json(e) => unread(alloc, file, source, e),
+        Error::Json(e) => reader_report(alloc, file, source, e),
         Error::Subst(e) => {
             let all = refusals_of(alloc, source, &Filler { variables })?;
             refusals::<JsonReports>(alloc, file, source, all, e)
@@ -56,7 +55,7 @@ where
     }
 }
 
-/// How a refused string of a JSON text is reported.
+/// The report format of a refused string of a JSON text.
 struct JsonReports;
 
 impl ReportFormat for JsonReports {
@@ -79,12 +78,12 @@ impl ReportFormat for JsonReports {
     }
 }
 
-/// Returns what a reader says of a text that isn't JSON, or whose tree is none of a type.
+/// Returns the report of the reader's error: the text isn't JSON, or its tree doesn't fit a type.
 ///
 /// # Errors
 ///
-/// When allocation fails, and for nothing else.
-fn unread(
+/// If allocation fails.
+fn reader_report(
     alloc: Global,
     file: &str,
     source: &str,

@@ -1,24 +1,24 @@
-//! Where the reader stops at a text that isn't JSON.
+//! The position at which the reader stops in a text that isn't JSON.
 
 ghost use Rattle.std.specs.Prelude.{IfOk};
 ghost use Rattle.std.specs.Str.{IsCharBoundary};
 
 use std::alloc::{AllocError, Global};
 
-/// Where the reader stopped, and why.
+/// The position and the message of the reader's error.
 #[derive(Debug, Drop)]
 pub struct ReaderStop {
     /// The byte offset in the text.
     pub offset: usize,
-    /// What the reader says, without its line and column.
+    /// The reader's message, without its line and column.
     pub message: String,
 }
 
-/// Returns where the reader stopped in `source`, and why, as its error says it by line and column.
+/// Returns the position and the message of the reader's error `e`, from its line and column in `source`.
 ///
 /// # Errors
 ///
-/// When allocation fails, and for nothing else.
+/// If allocation fails.
 pub fn reader_stop(
     alloc: Global,
     source: &str,
@@ -36,7 +36,7 @@ pub fn reader_stop(
     })
 }
 
-/// Returns the byte offset at which a line of a text begins; lines are counted from 1 and end at line feeds.
+/// Returns the byte offset at which a line begins. Lines are counted from 1 and end at line feeds.
 fn line_start(text: &str, line: usize) -> usize {
     let mut rest = text;
     for _ in 1..line {

@@ -1,4 +1,4 @@
-//! The tokens of a JSON text, with where they stand.
+//! The tokens of a JSON text, with their spans.
 
 ghost use Rattle.std.specs.Prelude.{◌≡◌, [], ◌∷◌, IfOk, IfSome, IsTrue, MatchOption, string_bytes};
 ghost use Rattle.std.specs.List.{list_all};
@@ -7,7 +7,7 @@ ghost use Rattle.json.specs.Reads.{token_of};
 ghost use Rattle.subst_error.specs.ErrorFault.{error_fault};
 ghost use Rattle.subst_language.specs.Calls.Outcome.{OnFault};
 ghost use Rattle.subst_language.specs.Language.Several.{GivesBy, RefusesFirst};
-ghost use Rattle.subst_document.specs.Stays.{AreValues, SomeChanges, TellsChange};
+ghost use Rattle.subst_document.specs.Stays.{AreValues, SomeChanges, StatesChange};
 ghost use Rattle.subst_document.specs.Texts.{HasRange};
 ghost use Rattle.subst_json.specs.Filled.{is_plain, strings_of_token, strings_in, IsFilledJson, IsPartOf, IsStringToken};
 
@@ -20,7 +20,7 @@ use std::str::from_utf8;
 use subst_document::{Content, Fill, Filled, Part, Spelled, StringFormat, Strings};
 use subst_error::Error;
 
-/// How JSON spells its strings.
+/// The string format of JSON.
 #[derive(Drop)]
 pub(crate) struct JsonStrings {
     scratch: Scratch,
@@ -33,11 +33,11 @@ impl JsonStrings {
         }
     }
 
-    /// Returns the string that a part of a text spells, or `None` where it spells none.
+    /// Returns the string that a token spells, or `None` if the token isn't a string between quotes.
     ///
     /// # Errors
     ///
-    /// That an allocation failed.
+    /// If allocation fails.
     pub(crate) fn read<'s>(&'s mut self, token: &'s str) -> Result<Option<&'s str>, AllocError>
         ensures { IfOk result
             (λ read. IfSome read (λ string. IsStringToken token.now string.now)) }
@@ -62,7 +62,7 @@ impl StringFormat for JsonStrings {
 
     ghost is_part = { IsPartOf };
 
-    // Every value does, with escapes.
+    // Every value fits, with escapes.
     ghost is_fit = { λ _ _. Unit {0} };
 
     fn spells(&mut self, alloc: Global, token: &str, text: &str) -> Result<bool, AllocError> {
@@ -152,7 +152,7 @@ impl StringFormat for JsonStrings {
     }
 }
 
-/// Returns whether a token is this string as it is, between quotes.
+/// Returns whether `token` is `text` between quotes, and `text` needs no escapes.
 fn is_verbatim(token: &str, text: &str) -> bool
     ensures { IsTrue result → IsStringToken token.now text.now }
 {
@@ -162,11 +162,11 @@ fn is_verbatim(token: &str, text: &str) -> bool
     content == text.as_bytes() && are_unescaped(content)
 }
 
-/// Returns whether a string has these bytes as they are.
+/// Returns whether none of these bytes has to be escaped in a string.
 fn are_unescaped(bytes: &[u8]) -> bool
     ensures { result ≡ list_all is_plain bytes.now }
 {
-    // The loop has no early exit, so that many bytes are compared at once.
+    // The loop has no early exit, so that it can be vectorized.
     let mut are = true;
     for byte in bytes {
         are &= is_unescaped(*byte);
@@ -174,28 +174,28 @@ fn are_unescaped(bytes: &[u8]) -> bool
     are
 }
 
-/// Returns whether a string has the byte as it is.
+/// Returns whether a byte need not be escaped in a string.
 fn is_unescaped(byte: u8) -> bool
     ensures { result ≡ is_plain byte }
 {
     byte >= b' ' && byte != b'"' && byte != b'\\'
 }
 
-/// The strings of a text, as its reader comes to them.
+/// An iterator over the strings of a text.
 #[derive(Drop)]
 pub(crate) struct JsonTokens<'t> {
     reader: Reader<'t>,
     source: &'t str,
-    /// The byte offset at which the next token begins.
+    /// The byte offset of the next token.
     start: usize,
 }
 
 impl<'t> JsonTokens<'t> {
-    /// Returns those of a text.
+    /// Creates an iterator over the strings of a text.
     ///
     /// # Errors
     ///
-    /// That an allocation failed.
+    /// If allocation fails.
     pub(crate) fn new(
         source: &'t str,
         scratch: &'t mut Scratch,
@@ -232,7 +232,7 @@ impl<'t> Strings<'t> for JsonTokens<'t> {
     }
 }
 
-/// Returns the string that a token is, if it is one. A key is none.
+/// Returns the string of a token, or `None` if the token isn't a string. A key is no string here.
 fn string_of<'t>(token: Token<'t>) -> Option<&'t str>
     ensures { MatchOption result (strings_of_token (token_of token.entry) ≡ [])
         (λ text. strings_of_token (token_of token.entry) ≡ text.now ∷ []) }
@@ -251,12 +251,12 @@ fn string_of<'t>(token: Token<'t>) -> Option<&'t str>
     }
 }
 
-/// Returns a text with its strings filled in, or `None` where one isn't found in it. Whether the text is JSON
-/// isn't asked.
+/// Returns a text with its strings filled in, or `None` if a string changes but its old or new token isn't
+/// found. Doesn't check that the text is JSON.
 ///
 /// # Errors
 ///
-/// The fault of the first string that is refused. `OutOfMemory` when allocation fails.
+/// If a string is refused, the error of the first such string. `OutOfMemory` if allocation fails.
 pub(crate) fn filled_in<F: Fill>(
     alloc: Global,
     source: &str,
@@ -266,7 +266,7 @@ pub(crate) fn filled_in<F: Fill>(
         (GivesBy (F.answers filler.now)) source.now (string_bytes filled.text))) }
     ensures changed { IfOk result (λ filled. MatchOption filled
         (SomeChanges (GivesBy (F.answers filler.now)) (strings_in (tokens source.now)))
-        (λ filled. TellsChange (GivesBy (F.answers filler.now)) (strings_in (tokens source.now))
+        (λ filled. StatesChange (GivesBy (F.answers filler.now)) (strings_in (tokens source.now))
         source.now (string_bytes filled.text) filled.is_changed)) }
     ensures values { IfOk result (λ filled. IfSome filled
         (λ filled. AreValues (GivesBy (F.answers filler.now)) 0 (strings_in (tokens source.now))
@@ -281,8 +281,8 @@ pub(crate) fn filled_in<F: Fill>(
     subst_document::filled_in(alloc, source, &mut strings, &mut format, filler, true)
 }
 
-/// Returns the byte range of a string of a text, which ends with the last quote before the next token: the
-/// reader goes on past white space and a comma.
+/// Returns the byte range of the string at the start of `place`, up to the last quote in `place`. White space
+/// and a comma may follow the string, since `place` ends at the next token.
 pub(crate) fn span_in(text: &str, place: Range<usize>) -> Range<usize> {
     let passed = text.get(..place.end).unwrap_or("");
     let end = passed.rfind('"').map_or(0, |last| last + 1);

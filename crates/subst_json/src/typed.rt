@@ -1,4 +1,5 @@
-//! The step that reads a type of the caller's. It is handed the tree alone, so no variable is in its reach.
+//! Conversion of a tree into a type of the caller's. The conversion gets only the tree, so no variable is in
+//! its reach.
 
 ghost use Rattle.serde_json.specs.Data.{Data};
 ghost use Rattle.serde_json.specs.View.{view};
@@ -9,13 +10,13 @@ use serde::DeserializeOwned;
 use serde_json::Value;
 use std::alloc::Global;
 
-/// A type that is read from a tree, as each that `serde` reads.
+/// A type that a tree can be converted into: any that `serde` deserializes.
 pub trait FromTree: Sized + Drop {
-    // What is returned for a tree. Of the types of `serde` nothing is known of it; but a call that is proved
-    // for any such relation has read the type from the tree that it names.
+    // The possible results for a tree. For the types of `serde` nothing is known about them. A contract that
+    // holds for all such relations still states which tree is converted.
     ghost reads: { Data → Result Self Error → Type 0 };
 
-    /// Reads the type from a tree.
+    /// Converts a tree, or returns an error if it doesn't fit this type.
     fn from_tree(alloc: Global, tree: Value) -> Result<Self, serde_json::Error>
         ensures read { reads (view tree) result };
 }

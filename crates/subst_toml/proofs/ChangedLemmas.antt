@@ -1,4 +1,4 @@
--- Trees whose values become others, item by item and member by member.
+-- Trees whose values change, item by item and member by member.
 use Rattle.std.proofs.Common.{◌≡◌, ℕ, List, [], ◌∷◌, String, Global, BTreeMap, Vec, refl, sym, ap, ◌∙◌, subst}
 use Rattle.std.specs.Map.{keys_of, values_of}
 use Rattle.toml.specs.Data.{Data, string, integer, float, boolean, datetime, array, table}
@@ -11,7 +11,7 @@ use Rattle.subst_document.proofs.ChangeLemmas.{inside-Inside}
 use Rattle.subst_toml.specs.Changed.{changed, with_items, with_members}
 use Rattle.subst_toml.specs.Mapped.{IsEach, AreEach, HasEachMember}
 
--- a value that stays
+-- a kept value is unchanged
 pub changed-Kept : (d : Data) (n : ℕ) → changed d (Kept n) ≡ d
 changed-Kept (string s) n = refl
 changed-Kept (array ds) n = refl
@@ -21,17 +21,17 @@ changed-Kept (float x) n = refl
 changed-Kept (boolean b) n = refl
 changed-Kept (datetime t) n = refl
 
--- a change of one value, alone
+-- a change in a list of its own is the same change
 pub changed-one : (d : Data) (change : Change) → changed d (one change) ≡ changed d change
 changed-one d (Kept n) = changed-Kept d 0 ∙ sym (changed-Kept d n)
 changed-one d (Text x) = refl
 changed-one d (Inside' shape all) = refl
 
--- what a value becomes
+-- the value after a change
 abbrev pub IsMade : Value → Change → Value → Type 0
 IsMade v change w = view w ≡ changed (view v) change
 
--- each string of a value is what it becomes
+-- each string of a value becomes the string after the change
 abbrev pub GivesEach : (List ℕ → List ℕ → Type 0) → Value → Change → Value → Type 0
 GivesEach Becomes v change w = IsEach Becomes (view v) (changed (view v) change)
 
@@ -68,7 +68,7 @@ members_made (e ∷ es) (f ∷ fs) (change ∷ changes) same h =
     let first : view f.1 ≡ changed (view e.1) change = h.0 in
     let rest = members_made es fs changes others h.1 in cc
 
--- the members of a table
+-- the members of a table change
 pub table_made : (m n : BTreeMap (String Global) Value) (v : Vec Change Global)
     → members_view n.entries ≡ with_members (members_view m.entries) (slots v.items)
     → view (Table n) ≡ changed (view (Table m)) (Inside v)

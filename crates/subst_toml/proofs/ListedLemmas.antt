@@ -11,7 +11,7 @@ use Rattle.subst_toml.specs.Listed.{AreAllRefused, AreRefusedIn, IsPathTo}
 use Rattle.subst_toml.specs.Outcome.{ReadsAsTree}
 use Rattle.subst_toml.specs.declared.path.Path.{Path}
 
--- the refused strings of a list are so without their paths
+-- the refused strings of a list are the same without their paths
 refusals_of_listed : (ask : List ℕ → Answer → Type 0) (LeadsTo : ℕ → Path → Type 0) (index : ℕ)
     (list : List StringAt) (all : List (RefusalAt Path)) → AreRefusedOf ask LeadsTo index list all
     → AreRefusalsIn ask (map spelled_of list) (map refusal_in all)
@@ -27,7 +27,7 @@ refusals_of_listed ask LeadsTo index (it ∷ list) all (inr (refusal, more, is, 
       refusals_of_listed ask LeadsTo (index + 1) list more h,
     )
 
--- refused strings of the document, each at its span and where its path leads, are all that are refused
+-- the listed refused strings of the document are all its refused strings
 pub all_refused : (ask : List ℕ → Answer → Type 0) (source : List ℕ) (all : List (RefusalAt Path))
     → AreRefusedIn ask source all → ReadsAsTree source (λ d. AllByRecursion (IsFound source d) all)
     → AreAllRefused ask source all
@@ -38,7 +38,7 @@ all_refused ask source all (list, strings, h) found = record {
   range = ranges_within ask (IsPathTo source list) refusal_in HasFaultInText (λ it within. within) 0 list all h;
 }
 
--- what two lists are place by place may be said in a weaker way
+-- two lists are related element by element by any weaker relation
 pub AllZip-weaker : {A B : Type 0} (R S : A → B → Type 0) → ((x : A) (y : B) → R x y → S x y) → (xs : List A)
     (ys : List B) → AllZip R xs ys → AllZip S xs ys
 AllZip-weaker R S weaker [] [] h = h

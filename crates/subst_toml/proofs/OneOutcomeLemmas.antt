@@ -9,7 +9,7 @@ use Rattle.subst_toml.specs.Laws.{IsMappedOrRefused}
 use Rattle.subst_toml.specs.Mapped.{strings, IsEach, AreEach, HasEachMember}
 use Rattle.subst_toml.proofs.MappedLemmas.{given, each_given}
 
--- where a string has one answer, a tree is filled in as one tree at most
+-- if each string has one answer, a tree is filled in as at most one tree
 module _ (ask : List ℕ → Answer → Type 0) (one : HasOneAnswer ask) where
   mutual
     each_unique : (d e f : Data) → IsEach (GivesBy ask) d e → IsEach (GivesBy ask) d f → e ≡ f
@@ -38,7 +38,7 @@ module _ (ask : List ℕ → Answer → Type 0) (one : HasOneAnswer ask) where
         let rest = members_unique ms ns os h.2 k.2 in cc
     members_unique _ _ _ h k = search rules
 
--- a tree is mapped or refused, and not both
+-- a tree is mapped or refused, and never both
 pub one_outcome : (look : LookUp) (d : Data) → IsMappedOrRefused look d
 one_outcome look d = record {
   either = elim (given_or_refused (under look) (answered look) (strings d)) [

@@ -1,4 +1,4 @@
--- What was returned for a document that was read, as said of its text.
+-- Results for a document that was read, stated for its text.
 use Rattle.std.proofs.Common.{◌≡◌, ℕ, List, Some, Result, Ok, Err, IfSome, IsErrAnd, subst, sym}
 use Rattle.toml.specs.Data.{Members, table}
 use Rattle.toml.specs.Parse.{parse_document}
@@ -14,7 +14,7 @@ use Rattle.subst_toml.specs.Outcome.{ReadsAsTree, IsPrinted, IsReadFilledIn, IfT
 use Rattle.subst_toml.specs.declared.error.Error.{Error}
 use Rattle.subst_toml.specs.declared.error.Error.TheVariants.{InvalidUtf8, Toml, Subst, OutOfMemory}
 
--- the refused string is one of the tree that the text is read as
+-- the refused string is one of the text's tree
 pub refused_as_read : {T : Type 0} (ask : List ℕ → Answer → Type 0) (text : List ℕ) (ms : Members)
     (e : substituting.Error) (result : Result T Error) → parse_document text ≡ Some ms
     → IsErrAnd result (IsOfSubstitution e)
@@ -27,7 +27,7 @@ refused_as_read ask text ms e (Err (Subst d)) is of h =
     rw of.0 (IfSome_then (error_fault e) h (λ f refused. (ms, is, refused)))
 refused_as_read ask text ms e (Err (OutOfMemory d)) is of h = tt
 
--- a type that is read from the filled table, printed, is read from the tree of the source, filled in
+-- a conversion from the printed, filled-in table is one from the source's filled-in tree
 pub read_from_printed : {T : Type 0} (ask : List ℕ → Answer → Type 0) (source : List ℕ) (ns : Members)
     (printed text : List ℕ) (Reads : List ℕ → Result T reading.Error → Type 0)
     (result : Result T reading.Error)
@@ -36,7 +36,7 @@ pub read_from_printed : {T : Type 0} (ask : List ℕ → Answer → Type 0) (sou
 read_from_printed ask source ns printed text Reads result (ms, is, each) shown same reads =
     (ms, is, (ns, each, (text, subst (λ bs. IsPrinted ns bs) (sym same) shown, reads)))
 
--- what holds of the error that a type is refused with, holds of that inside
+-- a property of the error of the conversion holds for the inner error
 pub type_refused : {T : Type 0} (e : reading.Error) (result : Result T Error) (P : reading.Error → Type 0)
     → IsErrAnd result (IsOfReader e) → P e → IfToml result P
 type_refused e (Ok value) P of h = tt

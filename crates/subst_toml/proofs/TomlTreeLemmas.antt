@@ -20,7 +20,7 @@ strings_of_values : (es : List Entry)
 strings_of_values [] = refl
 strings_of_values (e ∷ es) = ap (λ ss. strings (view e.1) ++ ss) (strings_of_values es)
 
--- where some string of a value becomes another one, so does some string of what the value is in
+-- if some string of a value changes, so does some string of the value around it
 module _ (Becomes : List ℕ → List ℕ → Type 0) where
   item_changes : (done more : List Value) (v : Value) → SomeChanges Becomes (strings (view v))
       → SomeChanges Becomes (strings_of_items (items_view (done ++ v ∷ more)))
@@ -41,9 +41,9 @@ module _ (Becomes : List ℕ → List ℕ → Type 0) where
   table_changes es done more v is h =
       subst (SomeChanges Becomes) (sym (strings_of_values es)) (array_changes (values_of es) done more v is h)
 
--- `ask` tells which answers a string has
+-- `ask` relates a string to its answers
 module _ (ask : List ℕ → Answer → Type 0) where
-  -- the first refusal of an item, after items that are filled in, is that of the array
+  -- if an item is the first to be refused, its fault is that of the array
   item_refused : (done more : List Value) (v : Value) (filled : Items) (f : Fault)
       → AreEach (GivesBy ask) (items_view done) filled → RefusesFirst ask (strings (view v)) f
       → RefusesFirst ask (strings_of_items (items_view (done ++ v ∷ more))) f
@@ -54,7 +54,7 @@ module _ (ask : List ℕ → Answer → Type 0) where
       refusal_after ask (strings (view x)) (strings_of_items (items_view (done ++ v ∷ more))) f
       (given ask (view x) e h.0) (item_refused done more v es f h.1 k)
 
-  -- if an item is refused after items that are filled in, so is the array
+  -- if an item is refused after items that are filled in, the array is refused
   pub array_refused : (all done more : List Value) (v : Value) (filled : Items)
       (fault : Option Fault) → all ≡ done ++ v ∷ more → AreEach (GivesBy ask) (items_view done) filled
       → IfSome fault (RefusesFirst ask (strings (view v)))
@@ -64,7 +64,7 @@ module _ (ask : List ℕ → Answer → Type 0) where
       subst (λ vs. RefusesFirst ask (strings_of_items (items_view vs)) f) (sym is)
       (item_refused done more v filled f h k)
 
-  -- if a value is refused after values that are filled in, so is the table
+  -- if a value is refused after values that are filled in, the table is refused
   pub table_refused : (es : List Entry) (done more : List Value) (v : Value) (filled : Items)
       (fault : Option Fault) → values_of es ≡ done ++ v ∷ more
       → AreEach (GivesBy ask) (items_view done) filled

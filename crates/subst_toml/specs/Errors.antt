@@ -1,4 +1,4 @@
--- How an error of a reading call is made of the error of one of its steps.
+-- The error of a call, from the error of one of its steps.
 use Rattle.std.specs.Prelude.{◌≡◌, ⊤, ℕ, List, Option, Some, None, codes, IsSome}
 use Rattle.toml.specs.Errors.{IsMemory}
 use Rattle.toml.specs.declared.de.error.Error as reading
@@ -8,35 +8,35 @@ use Rattle.subst_error.specs.declared.Error as substituting
 use Rattle.subst_toml.specs.declared.error.Error.{Error}
 use Rattle.subst_toml.specs.declared.error.Error.TheVariants.{InvalidUtf8, Toml, Subst, OutOfMemory}
 
--- the error is that of the reader, which says that memory ran out by its own case
+-- the error is `Toml` of the reader's error e, or `OutOfMemory` if e is a failure to allocate
 abbrev pub IsOfReader : reading.Error → Error → Type 0
 IsOfReader e (InvalidUtf8 d) = ⊥
 IsOfReader e (Toml d) = (d ≡ e) × ¬ (IsMemory e)
 IsOfReader e (Subst d) = ⊥
 IsOfReader e (OutOfMemory d) = IsMemory e
 
--- the error is that of a substitution, which says that memory ran out by its own case
+-- the error is `Subst` of the substitution's error e, or `OutOfMemory` if e is a failure to allocate
 abbrev pub IsOfSubstitution : substituting.Error → Error → Type 0
 IsOfSubstitution e (InvalidUtf8 d) = ⊥
 IsOfSubstitution e (Toml d) = ⊥
 IsOfSubstitution e (Subst d) = (d ≡ e) × IsSome (error_fault e)
 IsOfSubstitution e (OutOfMemory d) = error_fault e ≡ None
 
--- memory that ran out has a case of its own, and is said by no other
+-- the error isn't `Toml` or `Subst` of a failure to allocate, which is `OutOfMemory` instead
 abbrev pub HasOwnMemory : Error → Type 0
 HasOwnMemory (InvalidUtf8 e) = ⊤
 HasOwnMemory (Toml e) = ¬ (IsMemory e)
 HasOwnMemory (Subst e) = IsSome (error_fault e)
 HasOwnMemory (OutOfMemory e) = ⊤
 
--- the text of an error, where it is known: that of bytes and of the reader's errors isn't
+-- the text of an error, or `None` for `InvalidUtf8 e` and `Toml e`, since the text of e isn't known
 abbrev pub display_of_toml : Error → Option (List ℕ)
 display_of_toml (InvalidUtf8 e) = None
 display_of_toml (Toml e) = None
 display_of_toml (Subst e) = display_of_error (error_fault e)
 display_of_toml (OutOfMemory e) = Some (codes "out of memory")
 
--- P holds of the error of a substitution, if that is what is inside
+-- if the error is `Subst` of an error of a substitution, P holds of that inner error
 abbrev pub IfSubst : Error → (substituting.Error → Type 0) → Type 0
 IfSubst (InvalidUtf8 e) P = ⊤
 IfSubst (Toml e) P = ⊤

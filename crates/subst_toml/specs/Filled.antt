@@ -1,4 +1,4 @@
--- The strings of a TOML text that are values, and the text with its strings filled in.
+-- The string values of a TOML text, and the text with its strings filled in.
 use Rattle.std.specs.Prelude.{◌≡◌, ◌≤◌, ◌⊎◌, true, ℕ, zero, suc, ◌-◌, ◌==◌, if◌then◌else◌, List, [], ◌∷◌, ◌++◌, length, take, drop, map, slice_get, Option, Some, None, option_map, option_and_then, string_bytes, IsTrue}
 use Rattle.std.specs.declared.ops.Range.{Range}
 use Rattle.toml_parser.specs.Lexical.{Read, left_bracket, right_bracket, left_brace, right_brace, comma, first, skip_blank}
@@ -21,18 +21,18 @@ use Rattle.subst_toml.specs.Pieces.{between}
 use Rattle.subst_toml.specs.Places.{part_at, quotes_of, IsTokenOf}
 use Rattle.subst_toml.specs.declared.document.tokens.Bracket.{Bracket}
 use Rattle.subst_toml.specs.declared.document.tokens.Bracket.TheVariants.{Array, InlineTable}
-use Rattle.subst_toml.specs.declared.document.tokens.Progress as code
+use Rattle.subst_toml.specs.declared.document.tokens.Scanner as code
 use Rattle.subst_toml.specs.declared.path.Path.{Path}
 
--- the text alone is read as this string, and begins with its quote
+-- the token spells this string, and begins with a quote
 abbrev pub IsQuotedToken : List ℕ → List ℕ → Type 0
 IsQuotedToken token x = (starts_string token ≡ true) × IsTokenOf token x
 
--- the piece of a token is read between its quotes as this part of its string
+-- a piece of a token, put between the token's quotes, is read as this part of the string
 abbrev pub IsPartOf : List ℕ → List ℕ → List ℕ → Type 0
 IsPartOf token piece part = IsTokenOf (between (quotes_of token) piece) part
 
--- the value fits into the kind of the token
+-- the token's kind of string can spell the value
 abbrev pub IsFit : List ℕ → List ℕ → Type 0
 IsFit token value = IsTrue (fits token value)
 
@@ -41,27 +41,27 @@ pub record Spelled : Type 0 where
   pub text : List ℕ
   pub span : Range ℕ
 
--- the string that is found
+-- the `Spelled` for a string of the code
 abbrev pub spelled_of : StringAt → Spelled
 spelled_of it = record { text = string_bytes it.text; span = it.span }
 
--- What has been read of a text of this length: the brackets that are open, the innermost one last, and the
+-- The state of the walk through a text of this length: the open brackets, the innermost one last, and the
 -- strings so far.
-pub record Progress : Type 0 where
+pub record Scanner : Type 0 where
   pub len : ℕ
   pub brackets : List Bracket
   pub found : List Spelled
 
--- one bracket more is open
-abbrev pub opened : Bracket → Progress → Progress
+-- the state with one more open bracket
+abbrev pub opened : Bracket → Scanner → Scanner
 opened bracket p = record { len = p.len; brackets = p.brackets ++ bracket ∷ []; found = p.found }
 
--- the innermost bracket is closed
-abbrev pub closed : Progress → Progress
+-- the state without the innermost open bracket
+abbrev pub closed : Scanner → Scanner
 closed p = record { len = p.len; brackets = take (length p.brackets - 1) p.brackets; found = p.found }
 
--- one string more is found, between what is left of the text at it and after it
-abbrev pub with_string : Progress → List ℕ → List ℕ → List ℕ → Progress
+-- the state with one more string x, which is spelled where `text` begins, up to where `rest` begins
+abbrev pub with_string : Scanner → List ℕ → List ℕ → List ℕ → Scanner
 with_string p x text rest = record {
   len = p.len;
   brackets = p.brackets;
@@ -71,28 +71,28 @@ with_string p x text rest = record {
   } ∷ [];
 }
 
--- at a value, of which an array and an inline table are read up to their opening bracket
-abbrev pub value : Progress → List ℕ → Read Progress
+-- the state and the text after a value, or after only the opening bracket of an array or inline table
+abbrev pub value : Scanner → List ℕ → Read Scanner
 value p text =
     if starts_string text then option_map (λ r. (with_string p r.0 text r.1, r.1)) (quoted text)
     else if first text == left_bracket then Some (opened Array p, drop 1 text)
     else if first text == left_brace then Some (opened InlineTable p, drop 1 text)
     else option_map (λ r. (p, r.1)) (unquoted text)
 
--- at a key with its value
-abbrev pub pair : Progress → List ℕ → Read Progress
+-- the state and the text after a key and its value, as by `value`
+abbrev pub pair : Scanner → List ℕ → Read Scanner
 pair p text = option_and_then (λ k. value p k.1) (key_equals text)
 
--- after the first bracket of a header, or of one in double brackets
+-- the text after a header, whose first bracket is before `text`
 abbrev pub header : List ℕ → Option (List ℕ)
 header text =
     if first text == left_bracket
     then option_and_then (λ k. after_byte right_bracket k.1) (header_key (drop 1 text))
     else option_map (λ k. k.1) (header_key text)
 
--- what is next where this bracket is the innermost one: an item of an array, a member of an inline table, or
--- else a line
-abbrev pub step_in : Option Bracket → Progress → List ℕ → Read Progress
+-- The state and the text after the next part inside this innermost open bracket. The part is an item of an
+-- array, a member of an inline table, or, with no bracket open, a header or a pair.
+abbrev pub step_in : Option Bracket → Scanner → List ℕ → Read Scanner
 step_in None p text =
     if first text == left_bracket then option_map (λ rest. (p, rest)) (header (drop 1 text)) else pair p text
 step_in (Some Array) p text =
@@ -104,60 +104,60 @@ step_in (Some InlineTable) p text =
     else if first text == right_brace then Some (closed p, drop 1 text)
     else pair p text
 
-abbrev pub step : Progress → List ℕ → Read Progress
+abbrev pub step : Scanner → List ℕ → Read Scanner
 step p text = step_in (slice_get p.brackets (length p.brackets - 1)) p text
 
--- the strings after at most n steps more
-unfoldable pub strings_from : ℕ → Progress → List ℕ → Option (List Spelled)
+-- the strings found so far and the strings of `text`, if reading `text` takes fewer than n steps
+unfoldable pub strings_from : ℕ → Scanner → List ℕ → Option (List Spelled)
 strings_from zero p text = None
 strings_from (suc n) p text =
     let start = skip_blank text in
     if length start == 0 then Some p.found
     else option_and_then (λ s. strings_from n s.0 s.1) (step p start)
 
--- The strings of a document that are values, in the order of the text. Keys are none of them.
+-- The string values of a document, in order. Keys aren't among them.
 abbrev pub strings_in : List ℕ → Option (List Spelled)
 strings_in text =
     strings_from (suc (length text)) (record { len = length text; brackets = []; found = [] }) (skip_bom text)
 
--- what has been read
-abbrev pub progress_of : code.Progress → Progress
-progress_of p = record {
+-- the `Scanner` of the definitions for a state of the code
+abbrev pub scanner_of : code.Scanner → Scanner
+scanner_of p = record {
   len = p.source_len;
   brackets = p.brackets.items;
   found = map spelled_of p.found.items;
 }
 
--- The second text is the first one with its strings filled in: each becomes one of which `Becomes` holds.
+-- The output is the source with its strings filled in: `Becomes` relates each string to its new value.
 abbrev pub IsFilledIn : (List ℕ → List ℕ → Type 0) → List ℕ → List ℕ → Type 0
 IsFilledIn Becomes source output =
     (found : List Spelled) × (strings_in source ≡ Some found)
     × IsFilledText IsQuotedToken IsPartOf IsFit Becomes (map (λ it. it.text) found) source output
 
--- so, or it is the first one itself, where each string of its tree becomes itself
+-- the output is the source, filled in, or the source itself if each string of its tree is its own value
 abbrev pub IsFilledOrSame : (List ℕ → List ℕ → Type 0) → List ℕ → List ℕ → Type 0
 IsFilledOrSame Becomes source output = IsFilledIn Becomes source output
     ⊎ ((output ≡ source) × ReadsAsTree source (λ d. IsEach Becomes d d))
 
--- the part of the text at this span is the string's token
+-- the part of the text s at this span is a token of the string x
 abbrev pub IsSpelledAt : List ℕ → Range ℕ → List ℕ → Type 0
 IsSpelledAt s span x = IsRangeIn s span × (span.start ≤ span.end) × IsQuotedToken (part_at s span) x
 
--- a string that is refused, with its span and its fault
+-- a refused string, with its span and its fault
 pub record RefusalIn : Type 0 where
   pub text : List ℕ
   pub span : Range ℕ
   pub fault : Option Fault
 
--- the refusal, without its path
+-- the `RefusalIn` for a refusal of the code, without the path
 abbrev pub refusal_in : RefusalAt Path → RefusalIn
 refusal_in it = record { text = string_bytes it.text; span = it.span; fault = error_fault it.error }
 
--- the range of its fault is in its string
+-- the range of the fault is within the refused string
 abbrev pub HasFaultInText : RefusalIn → Type 0
 HasFaultInText it = IsRangeIn it.text (range_of it.fault)
 
--- The refusals of those of these strings that are refused, in their order. Each other one gives bytes.
+-- The refusals of these strings, in order. Each other string has an output.
 abbrev pub AreRefusalsIn : (List ℕ → Answer → Type 0) → List Spelled → List RefusalIn → Type 0
 AreRefusalsIn ask [] refusals = refusals ≡ []
 AreRefusalsIn ask (it ∷ found) refusals =
@@ -166,12 +166,12 @@ AreRefusalsIn ask (it ∷ found) refusals =
     × (refusals ≡ record { text = it.text; span = it.span; fault = Some f } ∷ more)
     × AreRefusalsIn ask found more)
 
--- they are all refusals of the strings of the text
+-- the refusals are those of all refused strings of the text s
 abbrev pub AreAllRefusals : (List ℕ → Answer → Type 0) → List ℕ → List RefusalIn → Type 0
 AreAllRefusals ask s refusals =
     (found : List Spelled) × (strings_in s ≡ Some found) × AreRefusalsIn ask found refusals
 
--- its path leads to its string in the tree, and the text has its token at its span
+-- the path of the refusal leads to its string in the tree d, and its span spells the string in the text s
 abbrev pub IsFound : List ℕ → Data → RefusalAt Path → Type 0
 IsFound s d it = Leads (steps_of it.path) d (string_bytes it.text)
     × IsSpelledAt s it.span (string_bytes it.text)

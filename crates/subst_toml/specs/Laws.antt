@@ -1,4 +1,4 @@
--- Laws of the definitions on trees.
+-- Laws about trees.
 use Rattle.std.specs.Prelude.{◌≡◌, ◌⊎◌}
 use Rattle.toml.specs.Data.{Data}
 use Rattle.subst_error.specs.Fault.{Fault}
@@ -6,7 +6,7 @@ use Rattle.subst_language.specs.Language.LookUp.{LookUp}
 use Rattle.subst_language.specs.Language.Several.{IsFirstRefusal}
 use Rattle.subst_toml.specs.Mapped.{strings, IsMapped}
 
--- the tree is mapped to one tree under the look-up, or refused for one fault, and never both
+-- under the look-up the tree is mapped to one tree or refused for one fault, never both
 pub record IsMappedOrRefused (look : LookUp) (d : Data) : Type 0 where
   pub either : ((e : Data) × IsMapped look d e) ⊎ ((f : Fault) × IsFirstRefusal look (strings d) f)
   pub mapped_unique : (e f : Data) → IsMapped look d e → IsMapped look d f → e ≡ f

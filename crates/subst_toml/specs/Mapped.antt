@@ -1,11 +1,11 @@
--- A tree whose strings are filled in. Keys, shape and all other values stay.
+-- A tree whose strings are filled in, with its keys, its shape and all other values kept.
 use Rattle.std.specs.Prelude.{◌≡◌, ⊤, ℕ, List, [], ◌∷◌, ◌++◌}
 use Rattle.toml.specs.Data.{Data, string, integer, float, boolean, datetime, array, table, Items, no_items, item, Members, no_members, member}
 use Rattle.subst_language.specs.Language.LookUp.{LookUp}
 use Rattle.subst_language.specs.Language.Several.{GivesBy, under}
 
--- The strings of a tree: those of an array by index, those of a table in the byte order of its keys, as the
--- reader's trees have them. A key is none of them, and no date is.
+-- The strings of a tree: those of an array by index, and those of a table in the reader's order, by the bytes
+-- of keys. Keys and dates aren't among them.
 abbrev mutual
   pub strings : Data → List (List ℕ)
   strings (string s) = s ∷ []
@@ -24,8 +24,7 @@ abbrev mutual
   strings_of_members no_members = []
   strings_of_members (member key d ms) = strings d ++ strings_of_members ms
 
--- The second tree is the first one, but each string is what the string becomes that is there in the
--- first one. A date is the same in all its parts.
+-- The second tree is the first one with its strings filled in. Dates are equal in all their parts.
 abbrev mutual
   pub IsEach : (List ℕ → List ℕ → Type 0) → Data → Data → Type 0
   IsEach Becomes (string s) (string x) = Becomes s x
@@ -48,6 +47,6 @@ abbrev mutual
       (key ≡ other) × IsEach Becomes d e × HasEachMember Becomes ms ns
   HasEachMember Becomes _ _ = ⊥
 
--- each string is what it gives
+-- the second tree is the first one with each string expanded, under this look-up
 abbrev pub IsMapped : LookUp → Data → Data → Type 0
 IsMapped look = IsEach (GivesBy (under look))

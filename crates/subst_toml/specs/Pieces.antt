@@ -1,4 +1,4 @@
--- Spans of many ranges of one string, each piece of whose token is read alone.
+-- Spans of many ranges of one string. Each piece of the string's token is read by itself.
 use Rattle.std.specs.Prelude.{ℕ, ◌≤◌, ◌==◌, if◌then◌else◌, List, [], ◌∷◌, ◌++◌, length, slice_range}
 use Rattle.std.specs.declared.ops.Range.{Range}
 use Rattle.toml_parser.specs.Lexical.{line_feed}
@@ -7,12 +7,14 @@ use Rattle.subst_document.specs.Pieces.{position, ArePiecesFrom}
 use Rattle.subst_document.specs.declared.pieces.Position.{Position}
 use Rattle.subst_toml.specs.Places.{part_at, quotes_of, IsTokenOf, IsReadUpTo}
 
--- the piece between these quotes; after three of them is a newline, which is left out there
+-- the piece between these quotes; three opening quotes are followed by a newline, which isn't part of the
+-- string
 abbrev pub between : List ℕ → List ℕ → List ℕ
 between quotes piece =
     quotes ++ ((if length quotes == 3 then line_feed ∷ [] else []) ++ (piece ++ quotes))
 
--- From one position of a token to another, its text reads between these quotes as that part of its string.
+-- The text s between two positions, put between `quotes`, is read as the part of the string x between the
+-- positions.
 pub record IsPiece (s : List ℕ) (token : Range ℕ) (quotes x : List ℕ) (from to : Position) : Type 0 where
   pub within : IsRangeIn s (record { start = from.place; end = to.place })
   pub forwards : from.place ≤ to.place
@@ -22,8 +24,8 @@ pub record IsPiece (s : List ℕ) (token : Range ℕ) (quotes x : List ℕ) (fro
   pub spells : IsTokenOf (between quotes (slice_range s from.place to.place))
       (slice_range x from.offset to.offset)
 
--- The spans are where the text spells these ranges of the string that the token is, from where its content
--- begins: if the token ended there, its string would be empty.
+-- `places` are the spans, in the text s, that spell `ranges` of the string whose token is at `token`. The
+-- content of the token begins at `start`: if the token ended there, the string would be empty.
 pub record ArePlacesIn (s : List ℕ) (token : Range ℕ) (ranges places : List (Range ℕ)) : Type 0 where
   pub within : IsRangeIn s token
   pub forwards : token.start ≤ token.end

@@ -1,4 +1,4 @@
--- Spans in a TOML document: of the strings of its tree, and of parts of them.
+-- Spans in a TOML document: those of its tree's strings, and of their parts.
 use Rattle.std.specs.Prelude.{◌≡◌, ◌⊎◌, ℕ, ◌+◌, ◌-◌, ◌≤◌, ◌&&◌, ◌==◌, if◌then◌else◌, List, ◌++◌, length, take, slice_index, slice_range, Some}
 use Rattle.std.specs.declared.ops.Range.{Range}
 use Rattle.toml_parser.specs.Lexical.{carriage_return, line_feed}
@@ -10,30 +10,30 @@ use Rattle.subst_error.specs.Range.{IsRangeIn}
 abbrev pub part_at : List ℕ → Range ℕ → List ℕ
 part_at s range = slice_range s range.start range.end
 
--- the text alone is read as this string
+-- the text by itself is read as this string
 abbrev pub IsTokenOf : List ℕ → List ℕ → Type 0
 IsTokenOf token x = parse_value token ≡ Some (string x)
 
--- the quotes before and after the string of a token: three if it begins with three, else one
+-- the quotes of a token: three if it begins with three, and otherwise one
 abbrev pub quotes_of : List ℕ → List ℕ
 quotes_of token =
     if slice_index token 1 == slice_index token 0 && slice_index token 2 == slice_index token 0
     then take 3 token else take 1 token
 
--- the token at this range would be read as this string if it ended at the position
+-- the token at this range of s would spell the string x if it ended at the position `place`
 abbrev pub IsReadUpTo : List ℕ → Range ℕ → ℕ → List ℕ → Type 0
 IsReadUpTo s token place x =
     IsTokenOf (slice_range s token.start place ++ quotes_of (part_at s token)) x
 
--- the offset is between the two characters of a newline that the string ends with
+-- the offset is inside the two-byte newline that the string ends with
 abbrev pub IsInNewline : List ℕ → ℕ → Type 0
 IsInNewline x offset =
     (length x ≡ offset + 1) × (slice_index x (offset - 1) ≡ carriage_return)
     × (slice_index x offset ≡ line_feed)
 
--- The span is within the token of a string that has the range. If the token ended where the span begins, its
--- string would end where the range begins. If it ended where the span ends, its string would end where the
--- range ends, or with the newline that the range ends in.
+-- `place` is within the token at `token`, whose string has `range`. If the token ended at the start of
+-- `place`, its string would end at the start of `range`. If it ended at the end of `place`, its string would
+-- end at the end of `range`, or after the newline that `range` ends in.
 abbrev pub IsPlaceIn : List ℕ → Range ℕ → Range ℕ → Range ℕ → Type 0
 IsPlaceIn s token range place =
     IsRangeIn s place × (token.start ≤ place.start) × (place.start ≤ place.end) × (place.end ≤ token.end)

@@ -1,4 +1,4 @@
--- What is reported of a TOML document.
+-- Error reports for a TOML document.
 use Rattle.std.specs.Prelude.{◌≡◌, ⊤, ℕ, List, Option, None, MatchOption}
 use Rattle.std.specs.declared.ops.Range.{Range}
 use Rattle.toml.specs.Errors.{span_start, span_end}
@@ -22,21 +22,21 @@ use Rattle.subst_document.specs.Report.{lines_of, ReportsAll, ReportsFault}
 abbrev pub RefusalAt : Type 0
 RefusalAt = found.RefusalAt Path
 
--- the range of its fault is in its string
+-- the range of the fault is within the refused string
 abbrev pub HasRange : RefusalAt → Type 0
 HasRange it = HasFaultInText (refusal_in it)
 
--- the text reports the refused string
+-- the text reports the refused string `it` of the text s of a file
 abbrev pub ReportsRefused : (file s : List ℕ) → RefusalAt → List ℕ → Type 0
 ReportsRefused file s it text =
     ReportsFault IsPlaceIn file s (dotted_text (steps_of it.path)) it.span (error_fault it.error) text
 
--- where the reader stopped
+-- the span of the reader's error
 abbrev pub span_of : reading.Error → Range ℕ
 span_of e = record { start = span_start e; end = span_end e }
 
--- The text says what a reader says: of the text s, where that isn't a document, at a place in it, which is
--- where the reader stopped if that is one; and else of a type.
+-- `text` is the reader's message. If s isn't a document, the message has a position, which is the span of the
+-- error e if this is a range of s. If the error is that of a type, the message has no position.
 abbrev pub ReportsReader : reading.Error → (file s text : List ℕ) → Type 0
 ReportsReader e file s text =
     (place : Option (Range ℕ)) × (message : List ℕ)

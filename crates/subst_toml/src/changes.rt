@@ -1,24 +1,23 @@
-//! The walks that fill in a tree in place: the first one finds what each value becomes, while the tree stays
-//! as it is, or returns the refusal of the first string that is refused; the second one puts the texts in.
-//! Items are walked by index, and members by their keys.
+//! Fills in a tree by two walks. The first computes the changes without touching the tree, or returns the
+//! first refusal. The second moves the new texts in. Items are visited by index, and members by key.
 
 ghost use Rattle.std.specs.Prelude.{◌≡◌, IfOk, IsTrue};
 ghost use Rattle.toml.specs.View.{view, items_view, members_view};
 ghost use Rattle.subst_error.specs.ErrorFault.{error_fault};
 ghost use Rattle.subst_language.specs.Calls.Outcome.{OnFault};
 ghost use Rattle.subst_language.specs.Language.Several.{GivesBy, RefusesFirst};
-ghost use Rattle.subst_document.specs.Changes.{slots, inside, is_other, left_of, next_of, rest_of};
+ghost use Rattle.subst_document.specs.Changes.{slots, inside, is_other, remaining_of, next_of, rest_of};
 ghost use Rattle.subst_document.specs.Stays.{SomeChanges};
 ghost use Rattle.subst_document.specs.Texts.{HasRange};
 ghost use Rattle.subst_toml.specs.Changed.{changed, with_items, with_members};
 ghost use Rattle.subst_toml.specs.Mapped.{strings, strings_of_items, strings_of_members, IsEach, AreEach, HasEachMember};
 
 use std::alloc::Global;
-use subst_document::{Change, Fill, Found, Left, change_of_text};
+use subst_document::{Change, Fill, FoundChanges, RemainingChanges, change_of_text};
 use subst_error::Error;
 use toml::{Table, Value};
 
-/// Returns the members of a table with their strings filled in.
+/// Fills in the strings of a table's members, and returns the table.
 pub(crate) fn filled_members<F: Fill>(
     alloc: Global,
     mut members: Table,
@@ -36,7 +35,7 @@ pub(crate) fn filled_members<F: Fill>(
     Ok(members)
 }
 
-/// Returns what a tree becomes.
+/// Returns the change that fills in a tree, or the error of its first refused string.
 #[cycle(find)]
 pub(crate) fn change_of<F: Fill>(alloc: Global, value: &Value, filler: &F) -> Result<Change, Error>
     ensures ok { IfOk result (λ change.
@@ -58,7 +57,7 @@ pub(crate) fn change_of<F: Fill>(alloc: Global, value: &Value, filler: &F) -> Re
     }
 }
 
-/// Returns what an array with these items becomes.
+/// Returns the change that fills in an array with these items, as [`change_of`].
 #[cycle(find)]
 fn change_of_items<F: Fill>(alloc: Global, items: &Vec<Value>, filler: &F) -> Result<Change, Error>
     ensures ok { IfOk result (λ change. AreEach (GivesBy (F.answers filler.now))
@@ -71,14 +70,14 @@ fn change_of_items<F: Fill>(alloc: Global, items: &Vec<Value>, filler: &F) -> Re
         (RefusesFirst (F.answers filler.now) (strings_of_items (items_view items.now.items))) }
     ensures range { OnFault error_fault result HasRange }
 {
-    let mut found = Found::new(alloc);
+    let mut found = FoundChanges::new(alloc);
     for item in items {
         found.add(change_of(alloc, item, filler)?)?;
     }
     Ok(found.into_change())
 }
 
-/// Returns what a table with these members becomes.
+/// Returns the change that fills in a table with these members, as [`change_of`].
 #[cycle(find)]
 pub(crate) fn change_of_members<F: Fill>(
     alloc: Global,
@@ -96,14 +95,14 @@ pub(crate) fn change_of_members<F: Fill>(
         (strings_of_members (members_view members.now.entries))) }
     ensures range { OnFault error_fault result HasRange }
 {
-    let mut found = Found::new(alloc);
+    let mut found = FoundChanges::new(alloc);
     for member in members.values() {
         found.add(change_of(alloc, member, filler)?)?;
     }
     Ok(found.into_change())
 }
 
-/// Changes a tree.
+/// Applies a change to a tree.
 #[cycle(make)]
 pub(crate) fn make(value: &mut Value, change: Change)
     ensures { view value.new ≡ changed (view value.old) change }
@@ -131,31 +130,31 @@ pub(crate) fn make(value: &mut Value, change: Change)
     }
 }
 
-/// Changes the items of an array.
+/// Applies changes to the items of an array.
 #[cycle(make)]
 fn make_items(items: &mut Vec<Value>, changes: Vec<Change>)
     ensures { items_view items.new.items
         ≡ with_items (items_view items.old.items) (slots changes.items) }
 {
-    let mut left = Left::new(changes);
+    let mut left = RemainingChanges::new(changes);
     for item in items.iter_mut() {
         make(item, left.next());
     }
 }
 
-/// Changes the members of a table.
+/// Applies changes to the members of a table.
 #[cycle(make)]
 pub(crate) fn make_members(members: &mut Table, changes: Vec<Change>)
     ensures { members_view members.new.entries
         ≡ with_members (members_view members.old.entries) (slots changes.items) }
 {
-    let mut left = Left::new(changes);
+    let mut left = RemainingChanges::new(changes);
     members.retain(
         |_, member|
             ensures stays { IsTrue result }
             ensures made { view member.new
-                ≡ changed (view member.old) (next_of (left_of left.entry)) }
-            ensures rest { left_of left.exit ≡ rest_of (left_of left.entry) }
+                ≡ changed (view member.old) (next_of (remaining_of left.entry)) }
+            ensures rest { remaining_of left.exit ≡ rest_of (remaining_of left.entry) }
         {
             make(member, left.next());
             true

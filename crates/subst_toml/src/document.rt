@@ -1,8 +1,8 @@
-//! Documents whose strings are filled in where they are: comments, keys, the order of lines and all else
-//! between strings stay as they are.
+//! Filling in of a document's strings in place, with comments, keys, the order of lines and every other byte
+//! kept.
 //!
-//! A walk over the text finds its strings, and each that changes is written anew. Then the kit's reader is
-//! asked whether the text is read as the tree with its strings filled in.
+//! A walk over the text finds its strings, and each one that changes is rewritten. The output is then read
+//! again, and compared with the filled-in tree.
 
 ghost use Rattle.std.specs.Prelude.{◌≡◌, Some, IfOk, IfSome, IsTrue, string_bytes};
 ghost use Rattle.toml.specs.Parse.{parse_document};
@@ -22,28 +22,29 @@ use subst_language::VariableMap;
 use token::Quoted;
 use toml::Table;
 
+pub(crate) mod indexed;
 mod kind;
 pub(crate) mod listing;
-pub(crate) mod numbered;
 mod same;
 pub(crate) mod token;
 pub(crate) mod tokens;
 
-/// Reads a TOML document, and returns its text with its strings filled in from `variables`, whose values are
-/// texts. Each other byte of the text stays. So does a string that becomes itself, and in another one all but
-/// its placeholders, with the quotes. If a value doesn't fit into single quotes, the string gets double ones.
+/// Returns a TOML document with its strings filled in from `variables`, whose values are texts. Every other
+/// byte is kept, and so is each string that doesn't change. In a string that changes, only the placeholders
+/// are rewritten, and its quotes are kept. If a value doesn't fit into single quotes, the string gets double
+/// quotes.
 ///
 /// ```rust
 /// let output = toml::fill_in(alloc, "home = '${home:/root}' # where it is\n", &NoSubstitution)?;
 /// // Some("home = '/root' # where it is\n")
 /// ```
 ///
-/// The result is `None` if some string changes and the text with its strings filled in isn't read as the tree
-/// with its strings filled in, which was never seen. A document in which no string changes is its own output.
+/// The result is `None` if a string changes and the output isn't read as the filled-in tree; no document is
+/// known for which that happens. If no string changes, the output is the source.
 ///
 /// # Errors
 ///
-/// Those of [`value_from_str`](crate::value_from_str).
+/// As [`value_from_str`](crate::value_from_str).
 pub fn fill_in<'a, M: VariableMap<'a>>(
     alloc: Global,
     source: &str,
@@ -57,11 +58,11 @@ where
     fill_in_by(alloc, source, &Filler { variables })
 }
 
-/// Reads a TOML document from bytes, and returns its text with its strings filled in, as [`fill_in`].
+/// Fills in the strings of a TOML document, given as bytes, as [`fill_in`].
 ///
 /// # Errors
 ///
-/// Those of [`value_from_slice`](crate::value_from_slice).
+/// As [`value_from_slice`](crate::value_from_slice).
 pub fn fill_in_slice<'a, M: VariableMap<'a>>(
     alloc: Global,
     source: &[u8],
@@ -75,7 +76,7 @@ where
     fill_in(alloc, text_of(source)?, variables)
 }
 
-/// Reads a TOML document, and returns its text with its strings filled in by `filler`, as [`fill_in`].
+/// Fills in the strings of a TOML document by `filler`, as [`fill_in`].
 ///
 /// # Errors
 ///
@@ -100,7 +101,8 @@ pub fn fill_in_by<F: Fill>(alloc: Global, source: &str, filler: &F) -> Result<Op
     }
 }
 
-/// Returns a document with its strings filled in, or nothing where one of them is refused.
+/// Returns a document with its strings filled in. Returns `None` if a string is refused, or if a string
+/// changes but its old or new token isn't found.
 fn written<F: Fill>(alloc: Global, source: &str, filler: &F) -> Result<Option<String>, AllocError>
     ensures { IfOk result (λ output. IfSome output (λ output.
         IsFilledIn (GivesBy (F.answers filler.now)) source.now (string_bytes output))) }

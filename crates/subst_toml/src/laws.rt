@@ -4,9 +4,9 @@ ghost use Rattle.toml.specs.Data.{Data};
 ghost use Rattle.subst_language.specs.Language.LookUp.{LookUp};
 ghost use Rattle.subst_toml.specs.Laws.{IsMappedOrRefused};
 
-/// The law of one outcome. Under each look-up a tree is filled in as exactly one tree, or is refused for
-/// exactly one fault, never both. So a call that fills in a tree succeeds exactly where each string of the
-/// tree gives bytes, unless memory runs out.
+/// The law of one outcome. Under each look-up, a tree is filled in as exactly one tree or refused for exactly
+/// one fault, never both. So filling in a tree succeeds exactly if no string is refused, unless memory runs
+/// out.
 pub fn trees_have_one_outcome()
     ensures outcome { (look : LookUp) (d : Data) → IsMappedOrRefused look d }
 {}

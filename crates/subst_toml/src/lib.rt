@@ -1,20 +1,20 @@
-//! TOML whose strings are filled in after it was read, so no value can break out of its string.
+//! TOML whose strings are filled in after it was read, so that no value can break out of its string.
 //!
-//! Each string of the tree becomes what `substitute` of `subst` gives for it. Keys stay as they are, and so
-//! do numbers, booleans, dates and the shape of the tree. Arrays are walked by index, and tables in the byte
-//! order of their keys; where strings are refused, the error is that of the first one.
+//! Each string of the tree is expanded as by `substitute` of `subst`. Keys, numbers, booleans, dates and the
+//! shape of the tree are kept. Arrays are visited by index, and tables in the byte order of their keys; the
+//! error is that of the first refused string.
 //!
-//! [`substitute_string_values`] fills in a tree in place, [`value_from_str`] and [`value_from_slice`] read a
-//! document first, whose tree is a table, and [`from_str`] and [`from_slice`] go on to read a type of the
-//! caller's from it, by `serde`.
+//! [`substitute_string_values`] fills in a tree in place. [`value_from_str`] and [`value_from_slice`] read a
+//! document first, whose tree is a table. [`from_str`] and [`from_slice`] then convert it into a type of the
+//! caller's, by `serde`.
 //!
-//! [`fill_in`], [`fill_in_slice`] and [`fill_in_by`] fill in a document where its strings stand, and each
-//! other byte of it stays. [`strings`] lists the strings of a document, [`refusals_in`] those that are
-//! refused, and [`place_in`] tells where a part of one is spelled, as the range of a fault.
+//! [`fill_in`], [`fill_in_slice`] and [`fill_in_by`] fill in the strings of a document, and keep every other
+//! byte of it. [`strings`] lists the strings of a document, and [`refusals_in`] the refused ones.
+//! [`place_in`] finds the span of a part of a string, such as the range of a fault.
 //!
-//! The walk calls itself for each array and table that is inside another one. A document has up to 6,639 of
-//! them in each other, as the reader allows 80 parts of a key and 80 arrays and inline tables; for so many
-//! 7.5 MiB of stack were enough. A deeper tree, which a caller has built, takes as much more.
+//! The walk recurses into nested arrays and tables. The reader allows 80 parts of a key and 80 arrays and
+//! inline tables, so a document nests up to 6,639 deep. 7.5 MiB of stack were enough for that. A deeper tree,
+//! built by a caller, takes proportionally more stack.
 #![tactic(auto)]
 
 ghost use Rattle.std.specs.Prelude.{◌≡◌, IfErr, IfOk, IsUtf8, MatchResult, None, OnErr, OnOk};
@@ -30,7 +30,7 @@ ghost use Rattle.subst_language.specs.Language.Several.{GivesBy, RefusesFirst};
 ghost use Rattle.subst_document.specs.Texts.{HasRange};
 ghost use Rattle.subst_toml.specs.Mapped.{strings, IsEach};
 ghost use Rattle.subst_toml.specs.Errors.{HasOwnMemory};
-ghost use Rattle.subst_toml.specs.Outcome.{ReadsAsTree, IfToml, OnToml, OnSubst, TellsUtf8, ReturnsTree, ReadsType, StatesFirst, StatesReading};
+ghost use Rattle.subst_toml.specs.Outcome.{ReadsAsTree, IfToml, OnToml, OnSubst, StatesUtf8, ReturnsTree, ReadsType, StatesFirst, StatesReading};
 
 pub use document::listing::{RefusalAt, refusals_by, refusals_in, strings};
 pub use document::{fill_in, fill_in_by, fill_in_slice};
@@ -57,12 +57,12 @@ mod places;
 mod reports;
 mod typed;
 
-/// Fills in the strings of a tree from `variables`, whose values are texts.
+/// Fills in the strings of a tree in place from `variables`, whose values are texts.
 ///
 /// # Errors
 ///
-/// The fault of the first string that is refused, as `substitute` of `subst` returns it: positions are byte
-/// offsets in that string. `OutOfMemory` when allocation fails. After an error the tree is as it was.
+/// The error of the first refused string, as of `substitute`: positions are byte offsets in that string.
+/// `OutOfMemory` if allocation fails. After an error the tree is unchanged.
 pub fn substitute_string_values<'a, M: VariableMap<'a>>(
     alloc: Global,
     value: &mut Value,
@@ -71,7 +71,7 @@ pub fn substitute_string_values<'a, M: VariableMap<'a>>(
 where
     M::Value: AsStr + Drop,
 
-    // Each string is replaced by what it gives from the map, and all else is as it was.
+    // Each string is expanded from the map, and all else is unchanged.
     ensures ok { OnOk result
         (IsEach (GivesBy (AnswersText M.Value.text M.see (M.look_up variables.now)))
         (view value.old) (view value.new)) }
@@ -79,7 +79,7 @@ where
         (RefusesFirst (AnswersText M.Value.text M.see (M.look_up variables.now))
         (strings (view value.old))) }
 
-    // The range of a fault can be asked for.
+    // The range of a fault fits into `usize`.
     ensures range { OnFault error_fault result HasRange }
     ensures unchanged { OnErr result (value.new ≡ value.old) }
 {
@@ -88,8 +88,8 @@ where
     Ok(())
 }
 
-/// Reads a TOML document, and returns its tree, a table, with its strings filled in from `variables`, whose
-/// values are texts.
+/// Reads a TOML document, and fills in the strings of its tree, a table, from `variables`, whose values are
+/// texts.
 ///
 /// ```rust
 /// let tree = toml::value_from_str(alloc, "home = '${home:/root}/.config'", &NoSubstitution)?;
@@ -99,9 +99,9 @@ where
 ///
 /// # Errors
 ///
-/// `Toml` where the source isn't a document, as `toml` decides, whatever its strings are; that error names
-/// the line. Otherwise `Subst` with the fault of the first string that is refused; positions are byte offsets
-/// in that string. `OutOfMemory` when allocation fails.
+/// - `Toml` if the source isn't a document for `toml`, even if a string is refused; the error has the line.
+/// - `Subst` for the first refused string. Positions are byte offsets in that string.
+/// - `OutOfMemory` if allocation fails.
 pub fn value_from_str<'a, M: VariableMap<'a>>(
     alloc: Global,
     source: &str,
@@ -110,29 +110,29 @@ pub fn value_from_str<'a, M: VariableMap<'a>>(
 where
     M::Value: AsStr + Drop,
 
-    // It is the tree that the source is read as, with its strings filled in.
+    // The tree of the source, with its strings filled in.
     ensures ok { ReturnsTree M.Value.text M.see (M.look_up variables.now) source.now result }
 
     // A text is UTF-8, so the error is never `InvalidUtf8`.
-    ensures utf8 { TellsUtf8 source.now result }
+    ensures utf8 { StatesUtf8 source.now result }
     ensures toml { OnToml result (parse_document source.now ≡ None) }
 
-    // Where the error is, is a range of the source.
+    // The span of the error is a range of the source.
     ensures span { IfToml result (IsWithin source.now) }
     ensures subst { StatesFirst M.Value.text M.see (M.look_up variables.now) source.now result }
     ensures range { OnSubst result HasRange }
 
-    // Neither `Toml` nor `Subst` says that memory ran out.
+    // Neither `Toml` nor `Subst` is an error of memory.
     ensures memory { IfErr result HasOwnMemory }
 {
     Ok(Value::Table(filled_table(alloc, source, variables)?))
 }
 
-/// Reads a TOML document from bytes, and returns its tree with its strings filled in, as [`value_from_str`].
+/// Reads a TOML document from bytes, and fills in its strings, as [`value_from_str`].
 ///
 /// # Errors
 ///
-/// `InvalidUtf8` where the bytes aren't UTF-8, which is found before anything is read; otherwise as
+/// `InvalidUtf8` if the bytes aren't UTF-8, which is checked before anything is read; otherwise as
 /// [`value_from_str`].
 pub fn value_from_slice<'a, M: VariableMap<'a>>(
     alloc: Global,
@@ -143,8 +143,8 @@ where
     M::Value: AsStr + Drop,
     ensures ok { ReturnsTree M.Value.text M.see (M.look_up variables.now) source.now result }
 
-    // `InvalidUtf8` is returned where the bytes aren't UTF-8, and only there; it says how far they are.
-    ensures utf8 { TellsUtf8 source.now result }
+    // `InvalidUtf8` is returned exactly if the bytes aren't UTF-8, with the length of the valid prefix.
+    ensures utf8 { StatesUtf8 source.now result }
     ensures toml { OnToml result (parse_document source.now ≡ None) }
     ensures span { IfToml result (IsWithin source.now) }
     ensures subst { StatesFirst M.Value.text M.see (M.look_up variables.now) source.now result }
@@ -154,16 +154,15 @@ where
     value_from_str(alloc, text_of(source)?, variables)
 }
 
-/// Reads a TOML document, fills in its strings from `variables`, whose values are texts, and reads a `T` from
-/// the tree.
+/// Reads a TOML document, fills in its strings from `variables`, whose values are texts, and converts the
+/// tree into a `T`.
 ///
-/// A string stays a string when it is filled in, so no variable gives a `T` its number or its date.
+/// A filled-in string stays a string, so no variable can supply a number or a date to a `T`.
 ///
 /// # Errors
 ///
-/// As [`value_from_str`]. It is `Toml` too where the tree with its strings filled in is no `T`, and may be
-/// where that tree is nested more than 80 deep: a `T` is read from the text of the tree, in which the place of
-/// that error is.
+/// As [`value_from_str`]. Also `Toml` if the filled-in tree isn't a `T`, or possibly if it nests more than 80
+/// deep. The error's position refers to the printed tree, from which a `T` is read.
 pub fn from_str<'a, T: FromText, M: VariableMap<'a>>(
     alloc: Global,
     source: &str,
@@ -172,11 +171,11 @@ pub fn from_str<'a, T: FromText, M: VariableMap<'a>>(
 where
     M::Value: AsStr + Drop,
 
-    // It is what the step that reads a `T` returns for the tree with its strings filled in, printed.
+    // The result of the conversion for the tree with its strings filled in, printed.
     ensures ok { ReadsType M.Value.text M.see (M.look_up variables.now) T.reads source.now result }
-    ensures utf8 { TellsUtf8 source.now result }
+    ensures utf8 { StatesUtf8 source.now result }
 
-    // `Toml` is the reader's error, of a text that is no document, or what that step returns for such a tree.
+    // `Toml` is the reader's error, of a text that isn't a document, or that of the conversion.
     ensures toml { StatesReading M.Value.text M.see (M.look_up variables.now) T.reads
         source.now result }
     ensures subst { StatesFirst M.Value.text M.see (M.look_up variables.now) source.now result }
@@ -188,11 +187,11 @@ where
     Ok(T::from_text(alloc, text.as_str())?)
 }
 
-/// Reads a TOML document from bytes, fills in its strings, and reads a `T` from the tree, as [`from_str`].
+/// Reads a TOML document from bytes, fills in its strings, and converts the tree into a `T`, as [`from_str`].
 ///
 /// # Errors
 ///
-/// As [`value_from_slice`], and those of [`from_str`].
+/// As [`value_from_slice`] and [`from_str`].
 pub fn from_slice<'a, T: FromText, M: VariableMap<'a>>(
     alloc: Global,
     source: &[u8],
@@ -201,7 +200,7 @@ pub fn from_slice<'a, T: FromText, M: VariableMap<'a>>(
 where
     M::Value: AsStr + Drop,
     ensures ok { ReadsType M.Value.text M.see (M.look_up variables.now) T.reads source.now result }
-    ensures utf8 { TellsUtf8 source.now result }
+    ensures utf8 { StatesUtf8 source.now result }
     ensures toml { StatesReading M.Value.text M.see (M.look_up variables.now) T.reads
         source.now result }
     ensures subst { StatesFirst M.Value.text M.see (M.look_up variables.now) source.now result }
@@ -211,11 +210,11 @@ where
     from_str(alloc, text_of(source)?, variables)
 }
 
-/// Returns the text that bytes are.
+/// Returns bytes as a text.
 ///
 /// # Errors
 ///
-/// Where they aren't UTF-8, with how far they are.
+/// If the bytes aren't UTF-8. The error has the length of the valid prefix.
 fn text_of(source: &[u8]) -> Result<&str, Utf8Error>
     ensures { MatchResult result (λ text. (text.now ≡ source.now) × IsUtf8 source.now)
         (λ e. ¬ (IsUtf8 source.now) × IsValidUpTo source.now (valid_up_to e)) }
@@ -226,7 +225,7 @@ fn text_of(source: &[u8]) -> Result<&str, Utf8Error>
     }
 }
 
-/// Returns the table that a document is, with its strings filled in.
+/// Returns the table of a document, with its strings filled in.
 fn filled_table<'a, M: VariableMap<'a>>(
     alloc: Global,
     source: &str,
@@ -237,7 +236,7 @@ where
     ensures ok { IfOk result (λ filled. ReadsAsTree source.now
         (λ d. IsEach (GivesBy (AnswersText M.Value.text M.see (M.look_up variables.now)))
         d (table (table_view filled)))) }
-    ensures utf8 { TellsUtf8 source.now result }
+    ensures utf8 { StatesUtf8 source.now result }
     ensures toml { OnToml result (parse_document source.now ≡ None) }
     ensures span { IfToml result (IsWithin source.now) }
     ensures subst { StatesFirst M.Value.text M.see (M.look_up variables.now) source.now result }

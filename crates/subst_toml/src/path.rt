@@ -11,16 +11,15 @@ use std::fmt::Write;
 use subst_document::PathStep;
 use toml_writer::write_key;
 
-/// The path from a tree to a string of it. It displays as a dotted key, with indices in brackets, as
+/// The path from a tree to one of its strings. It displays as a dotted key with indices in brackets, such as
 /// `a."b c"[2].d`.
 #[derive(Clone, Debug, PartialEq, Eq, Drop)]
 pub struct Path {
-    /// The steps, the first one from the root.
+    /// The steps, from the root.
     pub steps: Vec<PathStep>,
 }
 
-/// The keys, quoted where they have to be, after dots, and the indices in brackets. Before the first key is
-/// no dot.
+/// Writes the keys, quoted if need be, with dots between them, and the indices in brackets.
 impl fmt::Display for Path {
     ghost output = { λ path. Some (dotted_text (steps_of path)) };
 
@@ -38,7 +37,7 @@ impl fmt::Display for Path {
 ///
 /// # Errors
 ///
-/// That of the writer, where it fails.
+/// If the writer fails.
 fn write_step<W: fmt::Write>(f: &mut fmt::Formatter<W>, dot: &str, step: &PathStep) -> fmt::Result
     ensures { WritesOnOk W.write_str_gives f.old result
         (step_text dot.now (step_of step.now)) f.new }

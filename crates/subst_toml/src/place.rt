@@ -1,4 +1,4 @@
-//! Where a part of a string is spelled in its TOML document. The kit's reader confirms each span before it is
+//! Spans of parts of a string in its TOML document. Each span is confirmed by the reader before it is
 //! returned.
 
 ghost use Rattle.std.specs.Prelude.{◌≡◌, ◌≤◌, ◌++◌, IfOk, IfSome, IsTrue, map, string_bytes};
@@ -17,22 +17,23 @@ use toml_parser::bytes::byte_at;
 
 pub(crate) mod spelling;
 
-/// Returns where a part of a string is spelled in its document. `token` is the range of the string's token in
-/// `source`, with its quotes, as [`strings`](crate::strings) returns it, and `range` is the part, in byte
-/// offsets of the string. The result is in byte offsets of `source`.
+/// Returns the byte range in `source`, a TOML document, that spells a range of one of its strings. `token` is
+/// the byte range in `source` of the string with its quotes, as returned by [`strings`](crate::strings).
+/// `range` is in byte offsets of the string.
 ///
-/// It begins where the character at `range.start` begins to be spelled, after what the document leaves out
-/// before it: the newline after the opening quotes of a multi-line string, and a backslash at the end of a
-/// line with the white space and newlines after it. At the end of the string it is at the closing quotes. It
-/// ends where the last character of the part has been spelled; where that is a carriage return before a line
-/// feed, after both. The span of an empty range is empty.
+/// The span begins at the spelling of the character at `range.start`, or at the closing quotes for the
+/// string's end. It skips the newline after the opening quotes of a multi-line string. It also skips a
+/// backslash at a line's end, with the white space and newlines after it. The span ends after the spelling of
+/// the last character; if that is a carriage return before a line feed, after both. The span of an empty
+/// range is empty.
 ///
-/// It is `None` where the token is no string, or an offset is past its end or within a character. It is also
-/// `None` where the range begins between a carriage return and a line feed, which no document can separate.
+/// The result is `None` if the token isn't a string, or if an offset is past the string's end or inside a
+/// character. It is also `None` if the range begins between a carriage return and a line feed, which no
+/// document can separate.
 ///
 /// # Errors
 ///
-/// An allocation failed.
+/// If allocation fails.
 pub fn place_in(
     alloc: Global,
     source: &str,
@@ -71,8 +72,8 @@ pub fn place_in(
     }
 }
 
-/// Returns the string that a token would be read as if it ended at the end of the range, with these closing
-/// quotes after it.
+/// Returns the string that a token would spell if it were `range` of `source`, followed by `quotes`. Returns
+/// `None` if that isn't the token of a string.
 pub(crate) fn read_up_to(
     alloc: Global,
     source: &str,
@@ -91,7 +92,7 @@ pub(crate) fn read_up_to(
     string_of(alloc, closed.as_str())
 }
 
-/// Returns the quotes that a token begins with: three, if the first byte is there three times, else one.
+/// Returns the opening quotes of a token: three if it begins with the same byte thrice, and otherwise one.
 pub(crate) fn quotes(token: &str) -> Option<&str>
     ensures { IfSome result (λ quotes. quotes.now ≡ quotes_of token.now) }
 {
@@ -104,7 +105,7 @@ pub(crate) fn quotes(token: &str) -> Option<&str>
     }
 }
 
-/// Whether an offset is between the carriage return and the line feed at the end of a string.
+/// Returns whether `offset` is between a carriage return and a line feed that `string` ends with.
 fn is_in_newline(string: &[u8], offset: usize) -> bool
     ensures { IsTrue result → IsInNewline string.now offset }
 {
@@ -115,7 +116,7 @@ fn is_in_newline(string: &[u8], offset: usize) -> bool
         && byte_at(string, offset) == b'\n'
 }
 
-/// Returns the string that a text is read as, if it is read as one.
+/// Returns the string that a text spells, or `None` if the text isn't a TOML string.
 pub(crate) fn string_of(alloc: Global, token: &str) -> Result<Option<String>, AllocError>
     ensures { IfOk result (λ read. IfSome read (λ text. IsTokenOf token.now (string_bytes text))) }
 {
@@ -130,7 +131,7 @@ pub(crate) fn string_of(alloc: Global, token: &str) -> Result<Option<String>, Al
     }
 }
 
-/// Returns the table that a document is, if it is one.
+/// Returns the table of a document, or `None` if `source` isn't a document.
 pub(crate) fn table_of(alloc: Global, source: &str) -> Result<Option<Table>, AllocError>
     ensures { IfOk result (λ read. IfSome read
         (λ members. parse_document source.now ≡ Some (table_view members))) }
@@ -142,7 +143,7 @@ pub(crate) fn table_of(alloc: Global, source: &str) -> Result<Option<Table>, All
     }
 }
 
-/// Returns the string that the steps lead to from a tree.
+/// Returns the string to which `steps` lead in `tree`, or `None` if they lead to no string.
 pub(crate) fn string_at<'t>(tree: &'t Value, steps: &[PathStep]) -> Option<&'t str>
     ensures { IfSome result (λ text. Leads (map step_of steps.now) (view tree.now) text.now) }
 {

@@ -1,5 +1,5 @@
-//! Spans of many ranges of one string: each piece of its token is read alone between its quotes, and what the
-//! reader doesn't confirm is never returned.
+//! Spans of many ranges of one string. Each piece of the string's token is read by itself between the quotes,
+//! and no span is returned that the reader doesn't confirm.
 
 ghost use Rattle.std.specs.Prelude.{◌≡◌, ◌++◌, ◌∷◌, [], IfOk, IfSome, IsTrue, string_bytes};
 ghost use Rattle.subst_toml.specs.Places.{IsTokenOf};
@@ -12,42 +12,42 @@ use std::alloc::{AllocError, Global};
 use std::ops::Range;
 use subst_document::{Content, Pieces, Position, slice, spans};
 
-/// A token of a string.
+/// A token, the spelling of a string in the source, with that string.
 #[derive(Clone, Copy)]
 struct Token<'t> {
     source: &'t str,
-    /// Its byte range in the source.
+    /// The token's byte range in the source.
     span: &'t Range<usize>,
     quotes: &'t str,
     string: &'t str,
 }
 
 impl Token<'_> {
-    /// Returns how its string is spelled.
+    /// Returns the token's kind of string.
     fn style(&self) -> Style {
         Style::of(self.quotes)
     }
 
-    /// Returns what its closing quotes end, from an offset in the text on.
+    /// Returns the token's content from an offset in the source on, without the closing quotes.
     fn content(&self, from: usize) -> Option<&str> {
         let end = self.span.end.checked_sub(self.quotes.len())?;
         self.source.get(from..end)
     }
 
-    /// Returns the offset in the text of what is left of the content.
+    /// Returns the offset in the source at which `rest`, the end of the token's content, begins.
     fn place_of(&self, rest: &str) -> Option<usize> {
         let end = self.span.end.checked_sub(self.quotes.len())?;
         end.checked_sub(rest.len())
     }
 
-    /// Returns where its content begins.
+    /// Returns the offset in the source at which the token's content begins.
     fn start(&self) -> Option<usize> {
         let opened = self.span.start.checked_add(self.quotes.len())?;
         self.place_of(without_newline(self.content(opened)?, self.style()))
     }
 
-    /// Returns where this many bytes have been spelled from an offset in the text on; if a range begins
-    /// there, after what is left out.
+    /// Returns the offset in the source after the spelling of the next `len` bytes from `from` on. If
+    /// `is_start`, backslashes at a line's end, which spell nothing, are skipped too.
     fn place_after(&self, from: usize, len: usize, is_start: bool) -> Option<usize> {
         let rest = after_spelling(self.content(from)?, len, self.style())?;
         if is_start {
@@ -91,17 +91,17 @@ impl Pieces for Token<'_> {
     }
 }
 
-/// Returns the ranges in `source`, in byte offsets, that spell these ranges of a string of it.
+/// Returns the byte ranges in `source`, a TOML document, that spell `ranges` of one of its strings.
 ///
-/// `token` is the range in `source` of the string's token, with its quotes. `ranges` are in byte offsets of
-/// the string, and none begins before the end of the one before it. Each is spelled where `place_in` returns
-/// it, and the token is passed over once for all. It is `None` where the token is no string, where an end of
-/// a range is past the string's end, within a character or between a carriage return and a line feed, or
-/// where the ranges overlap.
+/// `token` is the byte range in `source` of the string with its quotes. `ranges` are in byte offsets of the
+/// string, in order and without overlaps. Each maps to the span that `place_in` returns, but the token is
+/// scanned only once. The result is `None` if the token isn't a string, or if the ranges overlap. It is also
+/// `None` if a range ends past the string's end, inside a character, or between a carriage return and a line
+/// feed.
 ///
 /// # Errors
 ///
-/// An allocation failed.
+/// If allocation fails.
 pub fn places_in(
     alloc: Global,
     source: &str,
@@ -145,12 +145,11 @@ pub fn places_in(
     Ok(Some(places))
 }
 
-/// Returns where the content of a token is, and the spans of these ranges of its string in it, or `None` if one
-/// isn't found.
+/// Returns the content of `token`, with the spans of `ranges` of `string`, or `None` if a span isn't found.
 ///
 /// # Errors
 ///
-/// An allocation failed.
+/// If allocation fails.
 pub(crate) fn content_of(
     alloc: Global,
     token: &str,
@@ -186,11 +185,11 @@ pub(crate) fn content_of(
     }))
 }
 
-/// Returns whether a text between these quotes is read as this string.
+/// Returns whether `text`, put between `quotes`, spells `string`.
 ///
 /// # Errors
 ///
-/// An allocation failed.
+/// If allocation fails.
 pub(crate) fn reads_as(
     alloc: Global,
     quotes: &str,
@@ -206,7 +205,8 @@ pub(crate) fn reads_as(
     }
 }
 
-/// Returns a text between quotes; after three of them is a newline, which is left out there.
+/// Returns a text between quotes. Three opening quotes are followed by a newline, which isn't part of the
+/// string.
 fn quoted(alloc: Global, quotes: &str, text: &str) -> Result<String, AllocError>
     ensures { IfOk result (λ token. string_bytes token ≡ between quotes.now text.now) }
 {

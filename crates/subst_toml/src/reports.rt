@@ -1,4 +1,4 @@
-//! Reports of what is wrong with a TOML document.
+//! Error reports for TOML documents.
 
 ghost use Rattle.std.specs.Prelude.{◌≡◌, IfOk, IfSome, string_bytes};
 ghost use Rattle.subst_error.specs.Range.{IsRangeIn};
@@ -14,18 +14,17 @@ use subst_document::report::{ReportFormat, fault, lines, refusals};
 use subst_language::VariableMap;
 use toml::de;
 
-/// Returns what is wrong with `source`, the text of a file, for which a call of this crate returned the
-/// error `e` with these variables.
+/// Returns the report of `e`, the error of a call of this crate for `source`, a file's text, and `variables`.
 ///
-/// If a string is refused, each refused one is reported, in the order of the text, by a line
-/// `FILE:LINE:COLUMN: PATH: fault` and, where `error::underline` of `subst` shows it, the line of the text
-/// below it, with the fault underlined. Where the text isn't a document, so is what the reader says, without
-/// a path. What is wrong with a type has no place in the text: it is `FILE: message`, with the key. So is a
-/// fault whose place isn't confirmed, which was never seen.
+/// If a string is refused, every refused string is reported, in document order. The report of each is a line
+/// `FILE:LINE:COLUMN: PATH: fault`, and the underlined line of the text if `error::underline` of `subst`
+/// returns one. If the text isn't a document, the reader's message is reported in the same form, without a
+/// path. If a tree doesn't fit a type, the report has the key, but no line and column. A fault whose position
+/// isn't confirmed has no line and column either; no document is known for which that happens.
 ///
 /// # Errors
 ///
-/// When allocation fails, and where the error says that it did.
+/// If allocation fails, or if `e` is an allocation failure.
 pub fn report<'a, M: VariableMap<'a>>(
     alloc: Global,
     file: &str,
@@ -36,7 +35,7 @@ pub fn report<'a, M: VariableMap<'a>>(
 where
     M::Value: AsStr + Drop,
 
-    // The text reports each refused string, or what the reader says.
+    // The text reports each refused string, or the reader's message.
     ensures report { IfOk result (λ text.
         Reports (AnswersText M.Value.text M.see (M.look_up variables.now)) file.now source.now
         e.now (string_bytes text)) }
@@ -46,7 +45,7 @@ where
             let said = format!(in alloc; "{e}")?;
             lines(alloc, file, source, None, &said)
         }
-        Error::Toml(e) => unread(alloc, file, source, e),
+        Error::Toml(e) => reader_report(alloc, file, source, e),
         Error::Subst(e) => {
             let all = all_refused(alloc, source, variables)?;
             refusals::<TomlReports>(alloc, file, source, all, e)
@@ -55,7 +54,7 @@ where
     }
 }
 
-/// How a refused string of a TOML document is reported.
+/// The report format of a refused string of a TOML document.
 struct TomlReports;
 
 impl ReportFormat for TomlReports {
@@ -78,11 +77,11 @@ impl ReportFormat for TomlReports {
     }
 }
 
-/// Returns the strings that are refused, where they are known.
+/// Returns all refused strings, or `None` if one isn't confirmed or the source isn't a document.
 ///
 /// # Errors
 ///
-/// When allocation fails, and for nothing else.
+/// If allocation fails.
 fn all_refused<'a, M: VariableMap<'a>>(
     alloc: Global,
     source: &str,
@@ -101,12 +100,17 @@ where
     }
 }
 
-/// Returns what a reader says of a text that isn't a document, or whose tree is none of a type.
+/// Returns the report of the reader's error: the text isn't a document, or its tree doesn't fit a type.
 ///
 /// # Errors
 ///
-/// When allocation fails, and where the error says that it did.
-fn unread(alloc: Global, file: &str, source: &str, e: &de::Error) -> Result<String, AllocError>
+/// If allocation fails, or if `e` is an allocation failure.
+fn reader_report(
+    alloc: Global,
+    file: &str,
+    source: &str,
+    e: &de::Error,
+) -> Result<String, AllocError>
     ensures { IfOk result (λ text. ReportsReader e.now file.now source.now (string_bytes text)) }
 {
     match toml::table_from_str(alloc, source) {
@@ -125,7 +129,7 @@ fn unread(alloc: Global, file: &str, source: &str, e: &de::Error) -> Result<Stri
     }
 }
 
-/// Returns a range with each end at the nearest character boundary of the text before it.
+/// Moves each end of a range back to the nearest character boundary of the text.
 fn in_text(source: &str, span: &Range<usize>) -> Range<usize>
     ensures within { IsRangeIn source.now result }
     ensures same { IsRangeIn source.now span.now → result ≡ span.now }
@@ -133,11 +137,11 @@ fn in_text(source: &str, span: &Range<usize>) -> Range<usize>
     source.floor_char_boundary(span.start)..source.floor_char_boundary(span.end)
 }
 
-/// Returns the message of an error about a type, and the key of the value that is none.
+/// Returns the message of an error about a type, with the key of the value that doesn't fit.
 ///
 /// # Errors
 ///
-/// When allocation fails, and for nothing else.
+/// If allocation fails.
 fn with_key(alloc: Global, e: &de::Error) -> Result<String, AllocError> {
     let said = format!(in alloc; "{e}")?;
     let key = match said.split_once(e.message()) {

@@ -1,6 +1,6 @@
-//! The step that reads a type of the caller's. It is handed a text alone, so no variable is in its reach: the
-//! tree, printed, since the kit's `toml` reads types from texts alone. The text writes that tree and, where it
-//! is nested at most 80 deep, is read as it; with a date that no text can hold, it isn't read.
+//! Conversion of a tree into a type of the caller's. The kit's `toml` reads types only from texts, so the
+//! conversion gets the tree as a printed text, and no variables. A tree that nests at most 80 deep is read
+//! back from the text. If a tree has a date that no text can hold, the text isn't TOML.
 
 ghost use Rattle.std.specs.Prelude.{◌≡◌, ◌≤◌, false, true, None, Some, Result, IfErr, IfOk, List, ℕ, string_bytes};
 ghost use Rattle.toml.specs.Data.{members_depth, members_have_valid_dates};
@@ -14,13 +14,13 @@ use serde::DeserializeOwned;
 use std::alloc::{AllocError, Global};
 use toml::{Table, ser};
 
-/// A type that is read from a text, as each that `serde` reads.
+/// A type that a text can be converted into: any that `serde` deserializes.
 pub trait FromText: Sized + Drop {
-    // What is returned for a text. Of the types of `serde` it is known where an error is; but a call that is
-    // proved for any such relation has read the type from the text that it names.
+    // The possible results for a text. For the types of `serde` only the position of an error is known. A
+    // contract that holds for all such relations still states which text is converted.
     ghost reads: { List ℕ → Result Self Error → Type 0 };
 
-    /// Reads the type from a text.
+    /// Converts a text, or returns an error if it isn't a document or doesn't fit this type.
     fn from_text(alloc: Global, text: &str) -> Result<Self, toml::de::Error>
         ensures read { reads text.now result };
 }
@@ -33,11 +33,11 @@ impl<T: DeserializeOwned> FromText for T {
     }
 }
 
-/// A text with a date of no month, which isn't read.
+/// A text that isn't a document: its date has no month.
 const NO_DATE: &str = "date = 0000-00-00\n";
 
-/// Returns the text of this table, which is read as it where it isn't nested too deep. With a date that no
-/// text can hold, as no table has that was read, it is a text that isn't read.
+/// Returns a table as a text that is read as this table, unless the table nests more than 80 deep. If the
+/// table has a date that no text can hold, the text isn't a document. No table that was read has such a date.
 pub(crate) fn printed(alloc: Global, table: &Table) -> Result<String, AllocError>
     ensures dates { IfOk result (λ text. members_have_valid_dates (table_view table.now) ≡ false
         → parse_document (string_bytes text) ≡ None) }

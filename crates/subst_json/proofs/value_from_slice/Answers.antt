@@ -1,4 +1,4 @@
--- What holds of the tree that was read, said of the text.
+-- The properties of the tree that was read, stated for the text.
 use Rattle.std.proofs.Common.{◌≡◌, Some, rules}
 use Rattle.serde_json.specs.Read.{read}
 use Rattle.serde_json.specs.View.{view}

@@ -1,4 +1,4 @@
--- What holds of the table that was read, said of the text.
+-- The properties of the table that was read, stated for the text.
 use Rattle.std.proofs.Common.{◌≡◌, Some, rules}
 use Rattle.toml.specs.Parse.{parse_document}
 use Rattle.toml.specs.View.{members_view}

@@ -1,4 +1,4 @@
--- The tree that was read is filled in and printed, and the type is read from that text.
+-- The tree that was read is filled in and printed, and the conversion reads that text.
 use Rattle.std.proofs.Common.{inr, string_bytes}
 use Rattle.toml.specs.View.{members_view}
 use Rattle.subst_language.specs.Calls.Clauses.{AnswersText}

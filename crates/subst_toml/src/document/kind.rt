@@ -1,4 +1,4 @@
-//! How values are spelled in each kind of TOML's strings.
+//! Spelling of values in each kind of TOML string.
 
 ghost use Rattle.std.specs.Prelude.{◌≡◌, ◌++◌, ℕ, List, IfOk, IsTrue, OnOk, string_bytes};
 ghost use Rattle.std.specs.List.{list_all};
@@ -11,30 +11,30 @@ use subst_document::Part;
 use toml_parser::bytes::is_non_eol;
 use toml_parser::text::{first, starts_newline};
 
-/// Returns whether a value fits into the kind of a token: it isn't empty, and has no quotes and no control
-/// characters if the token is in single quotes.
+/// Returns whether a value can be spelled in a token's kind of string. An empty value can't. In single
+/// quotes, a value with a single quote or a control character other than a tab can't either.
 pub(super) fn fits(token: &str, value: &str) -> bool
     ensures { result ≡ kinds.fits token.now value.now }
 {
     !value.is_empty() && (first(token) != b'\'' || are_literal(value.as_bytes()))
 }
 
-/// Returns whether a string in single quotes may have these bytes.
+/// Returns whether a string in single quotes may contain these bytes.
 fn are_literal(bytes: &[u8]) -> bool
     ensures { result ≡ list_all kinds.is_literal bytes.now }
 {
     bytes.iter().all(|byte| is_literal(*byte))
 }
 
-/// Returns whether a string in single quotes may have the byte.
+/// Returns whether a string in single quotes may contain a byte.
 fn is_literal(byte: u8) -> bool
     ensures { result ≡ kinds.is_literal byte }
 {
     is_non_eol(byte) && byte != b'\''
 }
 
-/// Appends a value as it is spelled in the kind of a token, or returns `false` if it can't be. A document that
-/// has carriage returns gets no line ends from values.
+/// Appends `value`, spelled in the kind of `token`. Returns `false` if the kind can't spell it. If the
+/// document's lines end in `\r\n`, no line feed of `value` is kept as it is.
 pub(super) fn write_value(
     token: &str,
     value: &str,
@@ -44,7 +44,7 @@ pub(super) fn write_value(
     ensures { IfOk result (λ is. IsTrue is → (spelled : List ℕ)
         × (string_bytes output.new ≡ string_bytes output.old ++ spelled)) }
 {
-    let is_multi_line = has_three(token);
+    let is_multi_line = has_three_quotes(token);
     if first(token) == b'\'' {
         if !is_raw(value, is_multi_line, has_crlf) {
             return Ok(false);
@@ -57,24 +57,24 @@ pub(super) fn write_value(
         return Ok(true);
     }
     let mut rest = value;
-    if is_multi_line && ends_left_out(output.as_str()) {
+    if is_multi_line && ends_in_continuation(output.as_str()) {
         rest = write_blank(value, output)?;
     }
     write_escaped(rest, is_multi_line && !has_crlf, output)?;
     Ok(true)
 }
 
-/// Returns whether a string in double quotes has the byte as it is, wherever it is.
+/// Returns whether a byte needs no escape anywhere in a string in double quotes.
 fn is_unescaped(byte: u8) -> bool {
     byte > b' ' && byte != b'"' && byte != b'\\' && byte != 0x7f
 }
 
 /// Returns whether a token begins with three quotes.
-fn has_three(token: &str) -> bool {
+fn has_three_quotes(token: &str) -> bool {
     quotes(token).is_some_and(|quotes| quotes.len() == 3)
 }
 
-/// Returns whether a value can be in single quotes as it is.
+/// Returns whether a string in single quotes may contain a value.
 fn is_raw(value: &str, is_multi_line: bool, has_crlf: bool) -> bool {
     value.as_bytes().iter().all(|byte| match byte {
         b'\n' => is_multi_line && !has_crlf,
@@ -83,15 +83,15 @@ fn is_raw(value: &str, is_multi_line: bool, has_crlf: bool) -> bool {
     })
 }
 
-/// Returns whether a text ends with a backslash at a line's end and what it leaves out, which would go on in a
-/// value that begins with white space.
-fn ends_left_out(text: &str) -> bool {
+/// Returns whether a text ends in a line continuation: a backslash at a line's end, and the white space after
+/// it. White space at the start of a value would extend the continuation.
+fn ends_in_continuation(text: &str) -> bool {
     let before = text.trim_end();
     let blanks = text.get(before.len()..).unwrap_or("");
     before.ends_with('\\') && blanks.contains('\n')
 }
 
-/// Appends the white space or line end that a value begins with as an escape, and returns the rest.
+/// Appends the first character of a value, escaped, if it is a space or a line feed. Returns the rest.
 fn write_blank<'v>(value: &'v str, output: &mut String) -> Result<&'v str, AllocError>
     ensures { OnOk result ((spelled : List ℕ)
         × (string_bytes output.new ≡ string_bytes output.old ++ spelled)) }
@@ -109,7 +109,7 @@ fn write_blank<'v>(value: &'v str, output: &mut String) -> Result<&'v str, Alloc
     })
 }
 
-/// Appends a text as it is spelled in double quotes. Its line feeds may stay as they are.
+/// Appends a text, escaped for double quotes. Line feeds are kept if `keeps_lines`.
 fn write_escaped(text: &str, keeps_lines: bool, output: &mut String) -> Result<(), AllocError>
     ensures { OnOk result ((spelled : List ℕ)
         × (string_bytes output.new ≡ string_bytes output.old ++ spelled)) }
@@ -120,7 +120,7 @@ fn write_escaped(text: &str, keeps_lines: bool, output: &mut String) -> Result<(
     Ok(())
 }
 
-/// Appends a character, or its escape. A line feed may stay as it is.
+/// Appends a character, escaped if need be. A line feed is kept if `keeps_lines`.
 fn write_in_lines(c: char, keeps_lines: bool, output: &mut String) -> Result<(), AllocError>
     ensures { OnOk result ((spelled : List ℕ)
         × (string_bytes output.new ≡ string_bytes output.old ++ spelled)) }
@@ -132,7 +132,7 @@ fn write_in_lines(c: char, keeps_lines: bool, output: &mut String) -> Result<(),
     }
 }
 
-/// Appends a character, or its escape.
+/// Appends a character, escaped if need be.
 fn write_char(c: char, output: &mut String) -> Result<(), AllocError>
     ensures { OnOk result ((spelled : List ℕ)
         × (string_bytes output.new ≡ string_bytes output.old ++ spelled)) }
@@ -152,7 +152,7 @@ fn write_char(c: char, output: &mut String) -> Result<(), AllocError>
     }
 }
 
-/// Appends an escape: its beginning, and the last hex digit of a character's code.
+/// Appends `escape`, the beginning of an escape, and then the last hex digit of the code of `c`.
 fn write_code(escape: &str, c: char, output: &mut String) -> Result<(), AllocError>
     ensures { OnOk result ((spelled : List ℕ)
         × (string_bytes output.new ≡ string_bytes output.old ++ spelled)) }
@@ -162,7 +162,7 @@ fn write_code(escape: &str, c: char, output: &mut String) -> Result<(), AllocErr
     output.push(digit.to_ascii_uppercase())
 }
 
-/// Appends a line end, as those of the document.
+/// Appends a line end of the document's kind, and returns `true`.
 pub(super) fn write_line_end(has_crlf: bool, output: &mut String) -> Result<bool, AllocError>
     ensures { IfOk result (λ is. IsTrue is → (spelled : List ℕ)
         × (string_bytes output.new ≡ string_bytes output.old ++ spelled)) }
@@ -172,15 +172,15 @@ pub(super) fn write_line_end(has_crlf: bool, output: &mut String) -> Result<bool
     Ok(true)
 }
 
-/// Returns a token in double quotes of the string that these parts make. It has as many quotes as the token
-/// before, and the string's own line ends are as they were there.
-pub(super) fn respelled(
+/// Returns a token in double quotes for the string that `parts` make. The new token has as many quotes as
+/// `token`, the old one, and keeps the line ends of the string's own text.
+pub(super) fn double_quoted(
     alloc: Global,
     token: &str,
     parts: &[Part<'_>],
     has_crlf: bool,
 ) -> Result<String, AllocError> {
-    let is_multi_line = has_three(token);
+    let is_multi_line = has_three_quotes(token);
     let quotes = if is_multi_line { "\"\"\"" } else { "\"" };
     let mut content = String::new(alloc);
     for part in parts {
@@ -200,7 +200,7 @@ pub(super) fn respelled(
     Ok(output)
 }
 
-/// Returns the line end after three opening quotes, which is no part of the string.
+/// Returns the line end after three opening quotes, which isn't part of the string, or an empty text.
 fn opening_newline(token: &str) -> &str {
     let Some(quotes) = quotes(token) else {
         return "";
@@ -210,7 +210,7 @@ fn opening_newline(token: &str) -> &str {
     content.strip_suffix(rest).unwrap_or("")
 }
 
-/// Appends a string's own text. In a string of several lines its line ends stay.
+/// Appends a string's own text. In a multi-line string the line ends of the text are kept.
 fn write_own(text: &str, is_multi_line: bool, output: &mut String) -> Result<(), AllocError> {
     for (at, c) in text.char_indices() {
         if is_multi_line && starts_newline(text.get(at..).unwrap_or("")) {

@@ -1,4 +1,4 @@
-//! The strings of a document with their spans, and those that are refused.
+//! Lists of a document's strings and of its refused strings, with their spans.
 
 ghost use Rattle.std.specs.Prelude.{IfOk, IfSome, IsTrue};
 ghost use Rattle.std.specs.List.{AllByRecursion};
@@ -8,7 +8,7 @@ ghost use Rattle.subst_toml.specs.Filled.{IsFound};
 ghost use Rattle.subst_toml.specs.InPlace.{Lists};
 ghost use Rattle.subst_toml.specs.Listed.{AreAllRefused, AreRefusedIn, IsListing};
 
-use super::numbered::TomlPaths;
+use super::indexed::TomlPaths;
 use super::token::{Quoted, is_spelled};
 use super::tokens;
 use crate::error::Error;
@@ -20,17 +20,17 @@ use subst_document::{Fill, Filler, StringAt, are_spelled, refusals};
 use subst_language::VariableMap;
 use toml::Value;
 
-/// A string of a document that is refused, and where it stands.
+/// A refused string of a document.
 pub type RefusalAt = subst_document::RefusalAt<Path>;
 
-/// Reads a TOML document, and returns its strings in the order of the text, each with the byte range that
-/// spells it. Keys are none of them.
+/// Lists the string values of a TOML document, in order, each with the byte range that spells it. Keys aren't
+/// listed.
 ///
-/// The result is `None` where a range isn't read as its string, which was never seen.
+/// The result is `None` if a range isn't read as its string; no document is known for which that happens.
 ///
 /// # Errors
 ///
-/// `Toml` where the source isn't a document. `OutOfMemory` when allocation fails.
+/// `Toml` if the source isn't a document, or `OutOfMemory` if allocation fails.
 pub fn strings(alloc: Global, source: &str) -> Result<Option<Vec<StringAt>>, Error>
     ensures listed { Lists (IsListing source.now) source.now result }
 {
@@ -45,13 +45,14 @@ pub fn strings(alloc: Global, source: &str) -> Result<Option<Vec<StringAt>>, Err
     }
 }
 
-/// Reads a TOML document, and returns each of its strings that is refused, in the order of the text.
+/// Lists the strings of a TOML document that are refused if it is filled in from `variables`, in order.
 ///
-/// The result is `None` where a string wasn't found at its path or its range, which was never seen.
+/// The result is `None` if a string isn't found by its path or its range; no document is known for which that
+/// happens.
 ///
 /// # Errors
 ///
-/// `Toml` where the source isn't a document. `OutOfMemory` when allocation fails.
+/// `Toml` if the source isn't a document, or `OutOfMemory` if allocation fails.
 pub fn refusals_in<'a, M: VariableMap<'a>>(
     alloc: Global,
     source: &str,
@@ -66,7 +67,7 @@ where
     refusals_by(alloc, source, &Filler { variables })
 }
 
-/// Reads a TOML document, and returns each of its strings that `filler` refuses, as [`refusals_in`].
+/// Lists the strings of a TOML document that `filler` refuses, as [`refusals_in`].
 ///
 /// # Errors
 ///
@@ -82,7 +83,7 @@ pub fn refusals_by<F: Fill>(
     Ok(refusals_of(alloc, source, &tree, filler)?)
 }
 
-/// Returns the strings of a document that are refused. `tree` is its tree.
+/// Returns the refused strings of `source`, or `None` if one isn't confirmed in `tree`, the tree of `source`.
 fn refusals_of<F: Fill>(
     alloc: Global,
     source: &str,
@@ -107,7 +108,7 @@ fn refusals_of<F: Fill>(
     }
 }
 
-/// Returns whether each of these strings is where its path leads and at its span.
+/// Returns whether each refused string is at its path in `tree`, and spelled at its span in `source`.
 fn are_found(
     alloc: Global,
     source: &str,
@@ -126,7 +127,7 @@ fn are_found(
     Ok(true)
 }
 
-/// Returns whether a string is where its path leads and at its span.
+/// Returns whether the refused string `it` is at its path in `tree`, and spelled at its span in `source`.
 fn is_found(alloc: Global, source: &str, tree: &Value, it: &RefusalAt) -> Result<bool, AllocError>
     ensures { IfOk result (λ is. IsTrue is → IsFound source.now (view tree.now) it.now) }
 {

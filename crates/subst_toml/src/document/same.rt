@@ -1,5 +1,4 @@
-//! Whether two trees are the same: each key, string, integer and boolean, each float by its bits, and each
-//! part of a date.
+//! Equality of trees: by keys, strings, integers, booleans, the bits of floats, and all parts of dates.
 
 ghost use Rattle.std.specs.Prelude.{◌≡◌, IsTrue};
 ghost use Rattle.toml.specs.View.{view, items_view, members_view};
@@ -7,7 +6,7 @@ ghost use Rattle.toml.specs.View.{view, items_view, members_view};
 use toml::value::{Date, Datetime, Offset, Time};
 use toml::{Table, Value};
 
-/// Returns whether two trees are the same.
+/// Returns whether two trees are equal.
 #[cycle(same)]
 pub(super) fn is_same(tree: &Value, other: &Value) -> bool
     ensures { IsTrue result → view tree.now ≡ view other.now }
@@ -24,7 +23,7 @@ pub(super) fn is_same(tree: &Value, other: &Value) -> bool
     }
 }
 
-/// Returns whether two arrays have the same items.
+/// Returns whether two arrays have equal items.
 #[cycle(same)]
 fn are_same(items: &Vec<Value>, other: &Vec<Value>) -> bool
     ensures { IsTrue result → items_view items.now.items ≡ items_view other.now.items }
@@ -40,7 +39,7 @@ fn are_same(items: &Vec<Value>, other: &Vec<Value>) -> bool
     true
 }
 
-/// Returns whether two tables have the same members.
+/// Returns whether two tables have equal members.
 #[cycle(same)]
 pub(super) fn is_same_table(members: &Table, other: &Table) -> bool
     ensures { IsTrue result → members_view members.now.entries ≡ members_view other.now.entries }
@@ -62,7 +61,7 @@ pub(super) fn is_same_table(members: &Table, other: &Table) -> bool
     true
 }
 
-/// Returns whether two floats are the same, where each NaN is.
+/// Returns whether two floats have the same bits, or are both NaN.
 fn is_same_float(number: f64, other: f64) -> bool
     ensures { IsTrue result → number ≡ other }
 {
@@ -75,7 +74,7 @@ fn is_same_float(number: f64, other: f64) -> bool
     number.to_bits() == other.to_bits()
 }
 
-/// Returns whether two dates have the same parts.
+/// Returns whether two dates have equal parts.
 fn is_same_date(date: &Datetime, other: &Datetime) -> bool
     ensures { IsTrue result → date.now ≡ other.now }
 {

@@ -1,4 +1,4 @@
-//! How TOML spells strings.
+//! The string format of TOML.
 
 ghost use Rattle.std.specs.Prelude.{IfOk, IsTrue};
 ghost use Rattle.subst_toml.specs.Filled.{IsFit, IsPartOf, IsQuotedToken, IsSpelledAt};
@@ -11,20 +11,20 @@ use std::ops::Range;
 use subst_document::{Content, Part, StringFormat, slice};
 use toml_parser::starts_string;
 
-/// Strings between the quotes of TOML.
+/// The string format of TOML, for one document.
 #[derive(Clone, Copy)]
 pub(crate) struct Quoted {
-    /// Whether the lines of their document end with a carriage return and a line feed.
+    /// Whether the document has lines that end in a carriage return and a line feed.
     has_crlf: bool,
 }
 
 impl Quoted {
-    /// Returns those of a document whose lines end with a line feed, or that isn't filled in.
+    /// Creates the format for a document without carriage returns, or for one that is only read.
     pub(crate) fn new() -> Quoted {
         Quoted { has_crlf: false }
     }
 
-    /// Returns those of this document.
+    /// Creates the format for filling in the document `source`.
     pub(super) fn of(source: &str) -> Quoted {
         Quoted {
             has_crlf: source.contains("\r\n"),
@@ -96,11 +96,11 @@ impl StringFormat for Quoted {
         token: &str,
         parts: &[Part<'_>],
     ) -> Result<String, AllocError> {
-        kind::respelled(alloc, token, parts, self.has_crlf)
+        kind::double_quoted(alloc, token, parts, self.has_crlf)
     }
 }
 
-/// Returns whether a string is spelled at a span.
+/// Returns whether a span of `source` spells the string `text`, between quotes.
 pub(crate) fn is_spelled(
     alloc: Global,
     source: &str,

@@ -1,38 +1,38 @@
-//! The strings of a document that are values, in the order of the text: a walk from token to token. Keys are
-//! read, too, so that none is taken for a value.
+//! The string values of a document, in order, found token by token. Keys are read too, so that none is taken
+//! for a value.
 
 ghost use Rattle.std.specs.Prelude.{◌≡◌, ◌<◌, ◌≤◌, true, ◌∷◌, drop, Some, IfOk, IfSome, length, map, option_map, slice_index};
 ghost use Rattle.toml_parser.specs.Strings.{starts_string};
 ghost use Rattle.toml.specs.Parse as toml;
 ghost use Rattle.subst_toml.specs.Filled as spec;
-ghost use Rattle.subst_toml.specs.Filled.{progress_of, spelled_of};
+ghost use Rattle.subst_toml.specs.Filled.{scanner_of, spelled_of};
 
 use std::alloc::{AllocError, Global};
 use subst_document::StringAt;
 use toml_parser::text::{byte_at, first, skip, skip_blank, skip_ws};
 use toml_parser::{ErrorKind, ParseError, dotted_key, quoted, starts_string, unquoted};
 
-/// A bracket that is open.
+/// An open bracket.
 #[derive(Clone, Copy)]
 enum Bracket {
-    /// That of an array.
+    /// The bracket of an array.
     Array,
-    /// That of an inline table.
+    /// The brace of an inline table.
     InlineTable,
 }
 
-/// What has been read of a document.
+/// The state of the walk through a document.
 #[derive(Drop)]
-struct Progress {
-    /// How long the document is.
+struct Scanner {
+    /// The length of the document in bytes.
     source_len: usize,
-    /// The brackets that are open, the innermost one last.
+    /// The open brackets, the innermost one last.
     brackets: Vec<Bracket>,
     /// The strings so far.
     found: Vec<StringAt>,
 }
 
-/// Returns the strings of a document, or nothing where the text is none.
+/// Returns the string values of a document, or `None` if the text isn't a document.
 pub(crate) fn strings_in(alloc: Global, source: &str) -> Result<Option<Vec<StringAt>>, AllocError>
     ensures { IfOk result (λ found. IfSome found
         (λ found. spec.strings_in source.now ≡ Some (map spelled_of found.items))) }
@@ -44,12 +44,12 @@ pub(crate) fn strings_in(alloc: Global, source: &str) -> Result<Option<Vec<Strin
     }
 }
 
-/// Returns the strings of a document.
+/// Returns the string values of a document.
 fn all_strings(alloc: Global, source: &str) -> Result<Vec<StringAt>, ParseError>
     ensures { IfOk result
         (λ found. spec.strings_in source.now ≡ Some (map spelled_of found.items)) }
 {
-    let mut progress = Progress {
+    let mut scanner = Scanner {
         source_len: source.len(),
         brackets: Vec::new(alloc),
         found: Vec::new(alloc),
@@ -58,17 +58,17 @@ fn all_strings(alloc: Global, source: &str) -> Result<Vec<StringAt>, ParseError>
     'tokens: loop {
         let start = skip_blank(rest, true);
         if start.is_empty() {
-            return Ok(progress.found);
+            return Ok(scanner.found);
         }
-        rest = progress.step(alloc, start)?;
+        rest = scanner.step(alloc, start)?;
     }
 }
 
-impl Progress {
-    /// Reads what comes next, and returns what follows it.
+impl Scanner {
+    /// Reads the next token at `text`, and returns the text after it.
     fn step<'s>(&mut self, alloc: Global, text: &'s str) -> Result<&'s str, ParseError>
-        ensures reads { IfOk result (λ rest. spec.step (progress_of self.old) text.now
-            ≡ Some (progress_of self.new, rest.now)) }
+        ensures reads { IfOk result (λ rest. spec.step (scanner_of self.old) text.now
+            ≡ Some (scanner_of self.new, rest.now)) }
         ensures shorter { IfOk result (λ rest. length rest.now < length text.now) }
     {
         match self.brackets.last() {
@@ -79,12 +79,12 @@ impl Progress {
         }
     }
 
-    /// Reads an item of an array, a comma, or the closing bracket.
+    /// Reads an item of an array, a comma or the closing bracket, and returns the text after it.
     fn item<'s>(&mut self, alloc: Global, text: &'s str) -> Result<&'s str, ParseError>
         requires { 0 < length self.old.brackets.items }
         ensures reads { IfOk result (λ rest. spec.step_in (Some Bracket.Array)
-            (progress_of self.old) text.now
-            ≡ Some (progress_of self.new, rest.now)) }
+            (scanner_of self.old) text.now
+            ≡ Some (scanner_of self.new, rest.now)) }
         ensures shorter { IfOk result (λ rest. length rest.now < length text.now) }
     {
         match first(text) {
@@ -94,12 +94,12 @@ impl Progress {
         }
     }
 
-    /// Reads a member of an inline table, a comma, or the closing brace.
+    /// Reads a member of an inline table, a comma or the closing brace, and returns the text after it.
     fn member<'s>(&mut self, alloc: Global, text: &'s str) -> Result<&'s str, ParseError>
         requires { 0 < length self.old.brackets.items }
         ensures reads { IfOk result (λ rest. spec.step_in (Some Bracket.InlineTable)
-            (progress_of self.old) text.now
-            ≡ Some (progress_of self.new, rest.now)) }
+            (scanner_of self.old) text.now
+            ≡ Some (scanner_of self.new, rest.now)) }
         ensures shorter { IfOk result (λ rest. length rest.now < length text.now) }
     {
         match first(text) {
@@ -109,12 +109,12 @@ impl Progress {
         }
     }
 
-    /// Reads a closing bracket.
+    /// Reads a closing bracket, and returns the text after it.
     fn close<'s>(&mut self, text: &'s str) -> &'s str
         requires some { 0 < slice_index text.now 0 }
         requires ascii { slice_index text.now 0 < 128 }
         requires inside { 0 < length self.old.brackets.items }
-        ensures reads { progress_of self.new ≡ spec.closed (progress_of self.old) }
+        ensures reads { scanner_of self.new ≡ spec.closed (scanner_of self.old) }
         ensures rest { result.now ≡ drop 1 text.now }
         ensures shorter { length result.now < length text.now }
     {
@@ -122,19 +122,19 @@ impl Progress {
         skip(text, 1)
     }
 
-    /// Reads a key, and its value as far as [`Progress::value`] does.
+    /// Reads a key and its value, as [`Scanner::value`], and returns the text after both.
     fn pair<'s>(&mut self, alloc: Global, text: &'s str) -> Result<&'s str, ParseError>
-        ensures reads { IfOk result (λ rest. spec.pair (progress_of self.old) text.now
-            ≡ Some (progress_of self.new, rest.now)) }
+        ensures reads { IfOk result (λ rest. spec.pair (scanner_of self.old) text.now
+            ≡ Some (scanner_of self.new, rest.now)) }
         ensures shorter { IfOk result (λ rest. length rest.now < length text.now) }
     {
         self.value(alloc, key_equals(alloc, text)?)
     }
 
-    /// Reads a value, of an array or an inline table the opening bracket alone.
+    /// Reads a value, or only the opening bracket of an array or inline table. Returns the text after it.
     fn value<'s>(&mut self, alloc: Global, text: &'s str) -> Result<&'s str, ParseError>
-        ensures reads { IfOk result (λ rest. spec.value (progress_of self.old) text.now
-            ≡ Some (progress_of self.new, rest.now)) }
+        ensures reads { IfOk result (λ rest. spec.value (scanner_of self.old) text.now
+            ≡ Some (scanner_of self.new, rest.now)) }
         ensures shorter { IfOk result (λ rest. length rest.now < length text.now) }
     {
         if starts_string(text) {
@@ -153,11 +153,11 @@ impl Progress {
         }
     }
 
-    /// Reads a string.
+    /// Reads a string, adds it to the strings found, and returns the text after it.
     fn string<'s>(&mut self, alloc: Global, text: &'s str) -> Result<&'s str, ParseError>
         requires { starts_string text.now ≡ true }
-        ensures reads { IfOk result (λ rest. spec.value (progress_of self.old) text.now
-            ≡ Some (progress_of self.new, rest.now)) }
+        ensures reads { IfOk result (λ rest. spec.value (scanner_of self.old) text.now
+            ≡ Some (scanner_of self.new, rest.now)) }
         ensures shorter { IfOk result (λ rest. length rest.now < length text.now) }
     {
         let (string, rest) = quoted(alloc, text)?;
@@ -171,7 +171,7 @@ impl Progress {
     }
 }
 
-/// Reads a header after its first bracket.
+/// Reads the rest of a header, whose first bracket precedes `text`. Returns the text after the header.
 fn header(alloc: Global, text: &str) -> Result<&str, ParseError>
     ensures reads { IfOk result (λ rest. spec.header text.now ≡ Some rest.now) }
     ensures shorter { IfOk result (λ rest. length rest.now < length text.now) }
@@ -183,7 +183,7 @@ fn header(alloc: Global, text: &str) -> Result<&str, ParseError>
     }
 }
 
-/// Reads the key of a header and its first closing bracket.
+/// Reads the key of a header and one closing bracket, and returns the text after both.
 #[tactic(auto, unfolding(toml::specs::Parse::header_key))]
 fn header_key(alloc: Global, text: &str) -> Result<&str, ParseError>
     ensures reads { IfOk result
@@ -194,7 +194,7 @@ fn header_key(alloc: Global, text: &str) -> Result<&str, ParseError>
     after_byte(after, b']')
 }
 
-/// Reads a key, and `=` with the white space after it.
+/// Reads a key, the `=`, and white space. Returns the text after the white space.
 #[tactic(auto, unfolding(toml::specs::Parse::key_equals))]
 fn key_equals(alloc: Global, text: &str) -> Result<&str, ParseError>
     ensures reads { IfOk result
@@ -205,7 +205,7 @@ fn key_equals(alloc: Global, text: &str) -> Result<&str, ParseError>
     Ok(skip_ws(after_byte(after, b'=')?))
 }
 
-/// Returns the text without a byte order mark.
+/// Returns the text without its byte order mark, if there is one.
 fn without_mark(text: &str) -> &str
     ensures rest { result.now ≡ toml.skip_bom text.now }
     ensures within { length result.now ≤ length text.now }
@@ -217,7 +217,7 @@ fn without_mark(text: &str) -> &str
     }
 }
 
-/// Returns what follows this byte.
+/// Returns `text` without its first byte, or an error if that byte isn't `byte`.
 fn after_byte(text: &str, byte: u8) -> Result<&str, ParseError>
     requires some { 0 < byte }
     requires ascii { byte < 128 }

@@ -1,30 +1,30 @@
-//! How a token spells its string: piece by piece, where a piece spells a character or is left out.
+//! The spelling of a string in its token, in pieces. Each piece spells a character, or spells nothing.
 
 ghost use Rattle.std.specs.Prelude.{◌<◌, ◌≤◌, IfSome, length};
 
 use std::ops::Range;
 use toml_parser::text::{first, skip, skip_blank, skip_ws, starts_newline};
 
-/// The first piece of what is left of a token.
+/// The first piece of the rest of a token.
 #[derive(Clone, Copy, Drop)]
 struct Piece<'s> {
-    /// How many bytes of the string it spells, which are none if it is left out.
+    /// The number of bytes of the string that the piece spells, which may be 0.
     len: usize,
-    /// What follows it.
+    /// The text after the piece.
     rest: &'s str,
 }
 
-/// How the string of a token is spelled.
+/// The kind of string that a token spells.
 #[derive(Clone, Copy)]
 pub(crate) struct Style {
     /// Whether a backslash begins an escape.
     has_escapes: bool,
-    /// Whether it may have several lines.
+    /// Whether the string may span several lines.
     is_multi_line: bool,
 }
 
 impl Style {
-    /// Returns that of a token with these quotes.
+    /// Returns the style of a token with these quotes.
     pub(crate) fn of(quotes: &str) -> Self {
         Style {
             has_escapes: first(quotes) == b'"',
@@ -33,9 +33,9 @@ impl Style {
     }
 }
 
-/// Returns where a part of a string is spelled, by byte offsets of the document that has `text`, a token, at
-/// the range `token`, with this many quotes before and after it. `range` is in byte offsets of the string; an
-/// offset within a character is taken to be after it.
+/// Returns the span in the document of `range`, a range of a string. `text` is the string's token, which is
+/// at `token` in the document and has `quotes` quotes at each end. The span is right only if `range` starts
+/// and ends between characters.
 pub(super) fn place(
     text: &str,
     quotes: usize,
@@ -53,7 +53,7 @@ pub(super) fn place(
     Some(content_end.checked_sub(start.len())?..content_end.checked_sub(end.len())?)
 }
 
-/// Returns what follows the newline that is left out after opening quotes.
+/// Returns `content` without the newline after three opening quotes, which is no part of the string.
 pub(crate) fn without_newline(content: &str, style: Style) -> &str {
     match content.strip_prefix('\n') {
         Some(rest) if style.is_multi_line => rest,
@@ -64,7 +64,7 @@ pub(crate) fn without_newline(content: &str, style: Style) -> &str {
     }
 }
 
-/// Returns what follows where this many bytes of the string have been spelled.
+/// Returns `text` after the spelling of the string's next `len` bytes, or `None` if `text` ends before.
 pub(crate) fn after_spelling(text: &str, len: usize, style: Style) -> Option<&str> {
     let mut rest = text;
     let mut left = len;
@@ -76,7 +76,7 @@ pub(crate) fn after_spelling(text: &str, len: usize, style: Style) -> Option<&st
     Some(rest)
 }
 
-/// Returns what follows what is left out.
+/// Returns `text` after the pieces at its start that spell nothing: backslashes at a line's end.
 pub(crate) fn after_left_out(text: &str, style: Style) -> &str {
     let mut rest = text;
     'pieces: while let Some(
@@ -91,7 +91,7 @@ pub(crate) fn after_left_out(text: &str, style: Style) -> &str {
     rest
 }
 
-/// Returns the first piece, if there is one.
+/// Returns the first piece of `text`, or `None` if `text` is empty or begins with an invalid escape.
 fn first_piece(text: &str, style: Style) -> Option<Piece<'_>>
     ensures shorter { IfSome result (λ piece. length piece.rest.now < length text.now) }
 {
@@ -107,7 +107,7 @@ fn first_piece(text: &str, style: Style) -> Option<Piece<'_>>
     }
 }
 
-/// Returns the piece that a backslash before this text begins.
+/// Returns the piece of an escape whose backslash precedes `text`, or `None` if it isn't an escape.
 fn escape(text: &str, is_multi_line: bool) -> Option<Piece<'_>>
     ensures within { IfSome result (λ piece. length piece.rest.now ≤ length text.now) }
 {
@@ -125,7 +125,7 @@ fn escape(text: &str, is_multi_line: bool) -> Option<Piece<'_>>
     }
 }
 
-/// Returns the piece of an escape with this many digits.
+/// Returns the piece of a hex escape with `digits` digits at the start of `text`, or `None` if it is invalid.
 fn hex_escape(text: &str, digits: usize) -> Option<Piece<'_>>
     ensures within { IfSome result (λ piece. length piece.rest.now ≤ length text.now) }
 {
@@ -137,7 +137,7 @@ fn hex_escape(text: &str, digits: usize) -> Option<Piece<'_>>
     })
 }
 
-/// Returns the piece of a character that stands for itself, or for one of as many bytes after a backslash.
+/// Returns the first character of `text` as a piece that spells as many bytes, or `None` for an empty text.
 fn character(text: &str) -> Option<Piece<'_>>
     ensures shorter { IfSome result (λ piece. length piece.rest.now < length text.now) }
 {

@@ -1,4 +1,4 @@
--- A text that isn't plain is refused for what its substitution says.
+-- The refusal of a text that isn't plain is the error of its substitution.
 use Rattle.std.proofs.Common.{◌≡◌, ℕ, List, is_some, string_bytes, true, subst, rules}
 use Rattle.std.specs.List.{All}
 use Rattle.subst_error.specs.ErrorFault.{error_fault}

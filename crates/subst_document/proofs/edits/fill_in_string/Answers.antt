@@ -1,4 +1,4 @@
--- Where the string changes, the value is written in place of its token.
+-- If the string changes, a token of the value replaces its token.
 use Rattle.std.proofs.Common.{Some, rules, subst}
 use Rattle.std.specs.Option.{option_map}
 use Rattle.std.specs.Prelude.{string_bytes}
@@ -7,8 +7,8 @@ use Rattle.subst_document.specs.Edits.{IsChanged}
 use Rattle.subst_document.proofs.EditLemmas.{edited}
 use Rattle.subst_document.proofs.edits.fill_in_string.Goals as goal
 
-pub returns-clause-passed : goal.returns-clause-passed
-returns-clause-passed g c =
+pub returns-clause-outcome : goal.returns-clause-outcome
+returns-clause-outcome g c =
     let Becomes = GivesBy (g.F.Fill.answers c.args.filler.now) in
     let changed : IsChanged Becomes c.args.text.now (option_map (λ v. string_bytes v)
     (Some c.in-Some.value)) =

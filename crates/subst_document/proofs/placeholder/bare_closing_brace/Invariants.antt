@@ -1,4 +1,4 @@
--- What was read leaves the open braces open, but for its backslashes.
+-- The text that was read, without its backslashes, leaves the open braces open.
 use Rattle.std.proofs.Common.{◌≤◌, take}
 use Rattle.subst_document.specs.Splice.{bare}
 use Rattle.subst_document.proofs.PlaceholderLemmas.{LeavesOpen}

@@ -1,4 +1,4 @@
--- What was read leaves the open braces open.
+-- The text that was read leaves the open braces open.
 use Rattle.std.proofs.Common.{◌≤◌, take}
 use Rattle.subst_document.proofs.PlaceholderLemmas.{Reaches}
 use Rattle.subst_document.proofs.placeholder.closing_brace.Given as goal

@@ -1,4 +1,4 @@
--- Each refusal gets the path of its index.
+-- Each refusal has the path of its index.
 use Rattle.std.proofs.Common.{◌≡◌, [], sym, subst, arith}
 use Rattle.std.proofs.lemmas.Grind.{common_steps}
 use Rattle.std.proofs.lemmas.Option.{IfSome_then}

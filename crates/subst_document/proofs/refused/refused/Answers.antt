@@ -1,4 +1,4 @@
--- A string more gives bytes, or is refused.
+-- One more string has an output, or is refused.
 use Rattle.std.proofs.Common.{◌≡◌, ℕ, ◌+◌, List, [], ◌∷◌, ◌++◌, ◌<◌, length, get_or, drop, inl, inr, refl, sym, ap, ◌∙◌, subst, append_assoc, append-nil}
 use Rattle.std.proofs.lemmas.List.{drop_more, drop_all}
 use Rattle.subst_document.specs.Refused.{AreRefusedOf}

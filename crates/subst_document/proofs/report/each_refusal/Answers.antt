@@ -1,4 +1,4 @@
--- Each turn appends the report of one more.
+-- Each turn appends one more report.
 use Rattle.std.proofs.Common.{◌≡◌, suc, [], ◌∷◌, ◌++◌, drop, drop-cons, sym, ap, ◌∙◌, refl, subst, append_assoc, append-nil, add-one, rules, string_bytes}
 use Rattle.std.proofs.Math.ListN.{drop_of_length-le}
 use Rattle.subst_document.specs.Report.{AreReports}

@@ -1,4 +1,4 @@
--- With the reports of those that are left, the reports so far are those of all.
+-- The reports so far, with those of the refusals left, are those of all.
 use Rattle.std.proofs.Common.{ℕ, List, ◌++◌, drop, string_bytes}
 use Rattle.subst_document.specs.Report.{AreReports}
 use Rattle.subst_document.proofs.report.each_refusal.Given as goal

@@ -1,4 +1,4 @@
--- The path comes before the text of the fault, where there is one.
+-- The path, if there is one, precedes the text of the fault.
 use Rattle.std.proofs.Common.{◌≡◌, ◌==◌, false, ◌++◌, codes, length, ℕ, List, [], ◌∷◌, string_bytes, rules, append_assoc, sym, ap, ◌∙◌}
 use Rattle.std.proofs.lemmas.Result.{IfOk-weaker}
 use Rattle.subst_document.specs.Report.{lines_of, with_path}
@@ -13,9 +13,9 @@ pub returns : goal.returns
 returns c =
     let shown = string_bytes c.in_ok-shown.shown in
     let first = a_path_first c.args.path.now shown (search rules) in
-    let said : c.deref-2.result.now ≡ string_bytes c.in_ok-said.said = search rules in
+    let message : c.deref-2.result.now ≡ string_bytes c.in_ok-message.message = search rules in
     let same : c.deref-2.result.now ≡ with_path c.args.path.now shown =
-    said ∙ (c.in_ok-said.ensures.ok ∙ first) in
+    message ∙ (c.in_ok-message.ensures.ok ∙ first) in
     IfOk-weaker c.lines-2.result _ _ (λ text is. (
       shown,
       c.in_ok-shown.ensures,

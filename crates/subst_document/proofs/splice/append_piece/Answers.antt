@@ -1,4 +1,4 @@
--- A piece stays, or is a placeholder and spelled anew.
+-- A piece stays, or is a placeholder and rewritten.
 use Rattle.std.proofs.Common.{rules, ◌≡◌, ◌⊎◌}
 use Rattle.subst_document.specs.Splice.{IsPlaceholder}
 use Rattle.subst_document.proofs.SpliceLemmas.{appends_kept, appends_placed}

@@ -1,4 +1,4 @@
--- The piece before a placeholder stays, and after it is that of the placeholder.
+-- The piece before a placeholder stays, and the placeholder's follows.
 use Rattle.std.proofs.Common.{rules, string_bytes}
 use Rattle.std.proofs.lemmas.Result.{IfOk-weaker}
 use Rattle.subst_document.specs.Splice.{AppendsPieces}

@@ -1,4 +1,4 @@
--- The value is after the line end.
+-- The value follows the line end.
 use Rattle.std.proofs.Common.{rules, ◌≡◌, ◌++◌, ℕ, List, ap, ◌∙◌, append_assoc, string_bytes}
 use Rattle.subst_document.proofs.splice.append_value.Goals as goal
 

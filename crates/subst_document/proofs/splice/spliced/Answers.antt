@@ -1,4 +1,4 @@
--- Each placeholder is spelled anew after what comes before it.
+-- Each placeholder is rewritten after the pieces before it.
 use Rattle.std.proofs.Common.{rules, ◌≡◌, ◌++◌, sym, ◌∙◌, string_bytes, append_assoc}
 use Rattle.subst_document.specs.Splice.{AppendsPieces}
 use Rattle.subst_document.proofs.SpliceLemmas.{appends_more, spliced_to_end}

@@ -1,4 +1,4 @@
--- Each part becomes its output after those before it.
+-- The output of each part follows those before it.
 use Rattle.std.proofs.Common.{rules, ◌≡◌, ◌++◌, [], refl, sym, string_bytes, append-nil}
 use Rattle.subst_language.specs.Language.Several.{GivesBy}
 use Rattle.subst_document.specs.Splice.{AreParts}

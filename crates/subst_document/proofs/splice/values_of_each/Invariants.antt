@@ -1,4 +1,4 @@
--- The parts so far became the joined outputs.
+-- The joined outputs are those of the parts so far.
 use Rattle.std.proofs.Common.{[], string_bytes}
 use denote.Text.{Utf8}
 use denote.Shadow.{shadow}

@@ -7,9 +7,9 @@ use Rattle.subst_error.specs.ErrorFault.{error_fault}
 use Rattle.subst_language.specs.Language.Several.{GivesBy}
 use Rattle.subst_language.proofs.Language.SeveralLemmas.{refusal_alone, refusal_before, refusal_after}
 use Rattle.subst_document.specs.Edits.{IsFilledUpTo}
-use Rattle.subst_document.specs.Stays.{TellsChange}
+use Rattle.subst_document.specs.Stays.{StatesChange}
 use Rattle.subst_document.proofs.EditLemmas.{filled_then, given_so_far, none_filled, stayed}
-use Rattle.subst_document.proofs.StaysLemmas.{some_after, tells_more, values_kept, values_more}
+use Rattle.subst_document.proofs.StaysLemmas.{some_after, states_more, values_kept, values_more}
 use Rattle.subst_document.proofs.strings.filled_in.Goals as goal
 
 pub returns-in_err-fill_in_string-clause-err : goal.returns-in_err-fill_in_string-clause-err
@@ -34,7 +34,7 @@ returns-in-NotFound-clause-changed g c =
     let (is_utf8, done, all, filled, tells, count, values) = c.loop-it.invariant in
     let here = c.in-Some.it.text.now in
     let more = g.S.Strings.left c.next.new.self in
-    let other = rw c.in-NotFound.is at c.in_ok-fill_in_string.ensures.passed in
+    let other = rw c.in-NotFound.is at c.in_ok-fill_in_string.ensures.outcome in
     rw (all, c.in-Some.ensures) (some_after Becomes done (here ∷ more) (inl other))
 
 pub loop-it-init : goal.loop-it-init
@@ -54,8 +54,8 @@ loop-it-init g c =
       λ _. search rules,
     )
 
-pub loop-it-preserved-in-Stays : goal.loop-it-preserved-in-Stays
-loop-it-preserved-in-Stays g c =
+pub loop-it-preserved-in-Unchanged : goal.loop-it-preserved-in-Unchanged
+loop-it-preserved-in-Unchanged g c =
     let l = c.loop-it in
     let (is_utf8, done, all, filled, tells, count, values) = l.invariant in
     let IsToken = g.T.StringFormat.is_token in
@@ -63,15 +63,15 @@ loop-it-preserved-in-Stays g c =
     let Fits = g.T.StringFormat.is_fit in
     let here = c.in-Some.it.text.now in
     let Becomes = GivesBy (g.F.Fill.answers c.args.filler.now) in
-    let (same, kept) = rw c.in-Stays.is at c.in_ok-fill_in_string.ensures.passed in
+    let (same, kept) = rw c.in-Unchanged.is at c.in_ok-fill_in_string.ensures.outcome in
     let next = stayed IsToken IsPart Fits Becomes here l.rest.now _ _ same kept in (
       search rules,
       done ++ here ∷ [],
       all ∙ ap (λ xs. done ++ xs) c.in-Some.ensures
           ∙ sym (append_assoc done (here ∷ []) (g.S.Strings.left c.next.new.self)),
       filled_then IsToken IsPart Fits Becomes done (here ∷ []) _ _ _ [] _ _ filled next,
-      subst (λ output. TellsChange Becomes (done ++ here ∷ []) c.args.source.now (output ++ l.rest.now)
-          l.is_changed) (sym kept) (tells_more Becomes done here _ _ l.is_changed tells same),
+      subst (λ output. StatesChange Becomes (done ++ here ∷ []) c.args.source.now (output ++ l.rest.now)
+          l.is_changed) (sym kept) (states_more Becomes done here _ _ l.is_changed tells same),
       grind (arith, common_steps, count),
       λ keeps. values_kept Becomes 0 done here _ _ (values keeps) same,
     )
@@ -85,7 +85,7 @@ loop-it-preserved g c =
     let Fits = g.T.StringFormat.is_fit in
     let here = c.in-Some.it.text.now in
     let Becomes = GivesBy (g.F.Fill.answers c.args.filler.now) in
-    let (becomes, other, next) = rw c.in-Changed.is at c.in_ok-fill_in_string.ensures.passed in
+    let (becomes, other, next) = rw c.in-Changed.is at c.in_ok-fill_in_string.ensures.outcome in
     let at : l.count ≡ 0 + length done = omega (arith, count) in (
       search rules,
       done ++ here ∷ [],

@@ -1,4 +1,4 @@
--- At each step of the walk: what was found, with what the string, item or member becomes that comes next.
+-- At each step of the walk: the changes so far, with that of the next string, item or member.
 use Rattle.std.proofs.Common.{◌≡◌, ◌+◌, [], ◌∷◌, ◌++◌, take, drop, sym, ap, ◌∙◌, subst, append_assoc, append-nil, arith}
 use Rattle.std.proofs.lemmas.List.{take_all, take_more, drop_more, take-append-drop, length-append, length-take-le}
 use Rattle.std.proofs.lemmas.Option.{IfSome_then}

@@ -6,13 +6,13 @@ use Rattle.subst_document.specs.Changes.{found_so_far, AreMade}
 use Rattle.subst_json.proofs.ChangedLemmas.{GivesEach}
 use Rattle.subst_json.proofs.changes.+find.Given as goal
 
--- what the items so far become is found
+-- the changes of the items so far are found
 abbrev pub invariant-change_of_items-loop-item : goal.invariant-change_of_items-loop-item
 invariant-change_of_items-loop-item g l = (length (found_so_far l.found) ≡ l.item-index)
     × AreMade (GivesEach (GivesBy (g.F.Fill.answers l.filler))) (take l.item-index l.item-items)
     (found_so_far l.found) (take l.item-index l.item-items)
 
--- what the values of the members so far become is found
+-- the changes of the members' values so far are found
 abbrev pub invariant-change_of_members-loop-member : goal.invariant-change_of_members-loop-member
 invariant-change_of_members-loop-member g l = (done : List Value)
     × (values_of l.members.entries ≡ done ++ l.member-iterator)

@@ -1,4 +1,4 @@
--- The number is one, whether an integer or a float.
+-- The number is in range, whether an integer or a float.
 use Rattle.std.proofs.Common.{◌≡◌, true, rules}
 use Rattle.std.specs.Float.{binary64, float_is_finite}
 use Rattle.fast_float.specs.Text.{scan, nearest}

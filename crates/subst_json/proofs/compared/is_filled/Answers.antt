@@ -6,7 +6,7 @@ pub loop-token-preserved : goal.loop-token-preserved
 loop-token-preserved g c =
     let l = c.loop-token in
     let left = rw c.in-Some.ensures.value at l.invariant.left in
-    let taken = c.takes-else-not-branch.ensures (search rules) c.next.new.self left in record {
+    let taken = c.check_token.ensures (search rules) c.next.new.self left in record {
       within = search rules;
       value = search rules;
       filled = λ rest. l.invariant.filled

@@ -1,4 +1,4 @@
--- The trees of both texts are known by their tokens.
+-- The trees of both texts follow from their tokens.
 use Rattle.std.proofs.Common.{string_bytes, rules}
 use Rattle.json.specs.Lex.{tokens}
 use Rattle.subst_language.specs.Language.Several.{GivesBy}

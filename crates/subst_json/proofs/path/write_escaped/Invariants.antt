@@ -1,4 +1,4 @@
--- What is written, with what is left, escaped, is the key, escaped.
+-- The written bytes and the remaining ones, escaped, are the key, escaped.
 use Rattle.std.proofs.Common.{◌≡◌, ℕ, List, ◌++◌, flat_map}
 use Rattle.std.specs.Fmt.{HasWritten, IsPlainFormatter}
 use Rattle.std.specs.Str.Iter.{chars_rest}

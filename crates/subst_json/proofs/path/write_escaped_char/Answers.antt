@@ -1,4 +1,4 @@
--- A character that isn't escaped is written as it is.
+-- A character that isn't escaped is written unchanged.
 use Rattle.std.proofs.Common.{arith}
 use Rattle.subst_json.proofs.PointerLemmas.{escaped-char}
 use Rattle.subst_json.proofs.path.write_escaped_char.Goals as goal

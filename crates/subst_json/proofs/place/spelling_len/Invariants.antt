@@ -1,7 +1,7 @@
 use Rattle.std.proofs.Common.{◌+◌, ◌-◌, ◌≤◌, length}
 use Rattle.subst_json.proofs.place.spelling_len.Given as goal
 
--- so that neither sum is too large
+-- neither sum overflows
 abbrev pub invariant-loop-spelled : goal.invariant-loop-spelled
 invariant-loop-spelled l = (l.spelled ≤ l.len) × (l.len ≤ length l.token + 6)
 

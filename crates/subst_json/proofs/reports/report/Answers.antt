@@ -1,4 +1,4 @@
--- What holds of each refusal holds of all.
+-- A property of each refusal holds for all.
 use Rattle.std.proofs.lemmas.Option.{IfSome_then}
 use Rattle.subst_json.specs.Listed.{refusal_at}
 use Rattle.subst_document.proofs.RefusalLemmas.{holds_of_all}

@@ -1,4 +1,4 @@
--- so far all bytes are as they are
+-- so far no byte has to be escaped
 use Rattle.std.proofs.Common.{◌≡◌, take}
 use Rattle.std.specs.List.{list_all}
 use Rattle.subst_json.specs.Filled.{is_plain}

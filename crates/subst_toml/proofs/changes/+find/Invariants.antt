@@ -9,7 +9,7 @@ use Rattle.subst_toml.specs.Mapped.{strings_of_items, strings_of_members}
 use Rattle.subst_toml.proofs.ChangedLemmas.{GivesEach}
 use Rattle.subst_toml.proofs.changes.+find.Given as goal
 
--- what the items so far become is found
+-- the changes of the items so far are found
 abbrev pub invariant-change_of_items-loop-item : goal.invariant-change_of_items-loop-item
 invariant-change_of_items-loop-item g l = (length (found_so_far l.found) ≡ l.item-index)
     × AreMade (GivesEach (GivesBy (g.F.Fill.answers l.filler))) (take l.item-index l.item-items)
@@ -17,7 +17,7 @@ invariant-change_of_items-loop-item g l = (length (found_so_far l.found) ≡ l.i
     × (IsTrue (has_other l.found) → SomeChanges (GivesBy (g.F.Fill.answers l.filler))
     (strings_of_items (items_view l.item-items)))
 
--- what the values of the members so far become is found
+-- the changes of the members' values so far are found
 abbrev pub invariant-change_of_members-loop-member : goal.invariant-change_of_members-loop-member
 invariant-change_of_members-loop-member g l = (done : List Value)
     × (values_of l.members.entries ≡ done ++ l.member-iterator)

@@ -1,10 +1,10 @@
--- At each step of the walk: a change is less deep than those that it is inside of, and makes a value.
+-- At each step of the walk: a change nests less deep than the one around it, and is applied to a value.
 use Rattle.std.proofs.Common.{◌≡◌, ◌≤◌, ◌+◌, ◌*◌, ◌<◌, [], ◌++◌, length, take, drop, set, append-nil, sym, ap, ◌∙◌, subst, rules, arith}
 use Rattle.std.proofs.Math.ListN.{drop_of_length-le}
 use Rattle.std.proofs.lemmas.List.{take_all}
 use Rattle.toml.specs.View.{view, items_view, members_view}
 use Rattle.toml.specs.declared.value.Value.{the_lemmas}
-use Rattle.subst_document.specs.Changes.{slots, left_of, next_of, rest_of, AreMade}
+use Rattle.subst_document.specs.Changes.{slots, remaining_of, next_of, rest_of, AreMade}
 use Rattle.subst_document.proofs.ChangeLemmas.{changes_depth, depth-slots, depth-rest, made_at, made_by_retain, callable}
 use Rattle.subst_toml.specs.Changed.{changed, with_members}
 use Rattle.subst_toml.proofs.ChangedLemmas.{IsMade, changed-Kept, table_made, items_made, members_made}
@@ -24,17 +24,17 @@ make_items-loop-item-init t c =
       subst (λ cs. changes_depth cs ≤ changes_depth c.args.changes.items) (sym is)
           (depth-slots c.args.changes.items),
       λ ws h. subst (λ cs. AreMade IsMade c.args.items.now.items cs ws) is
-          (subst (λ vs. AreMade IsMade vs (left_of c.new-left.result) ws)
+          (subst (λ vs. AreMade IsMade vs (remaining_of c.new-left.result) ws)
           c.deref_mut-item-items.ensures.value h),
     )
 
 pub make_items-loop-item-preserved : goal.make_items-loop-item-preserved
 make_items-loop-item-preserved t c =
     let l = c.loop-item in
-    let left = left_of l.left in
+    let left = remaining_of l.left in
     let v = c.item-item.result in
     let w = c.make.new.value in
-    let is : left_of c.next.new.self ≡ rest_of left = c.next.ensures.rest in
+    let is : remaining_of c.next.new.self ≡ rest_of left = c.next.ensures.rest in
     let within : l.item-index < length l.item-items = search rules in
     let made : view w ≡ changed (view v) (next_of left) =
     c.make.ensures ∙ ap (λ x. changed (view x) c.next.result) (sym c.item-item.is)
@@ -59,7 +59,7 @@ make_items-returns t c =
     let made : AreMade IsMade items changes l.item-items =
     subst (AreMade IsMade items changes)
     (append-nil (take l.item-index l.item-items) ∙ take_all l.item-index l.item-items long)
-    (l.invariant.1 [] (subst (λ vs. AreMade IsMade vs (left_of l.left) [])
+    (l.invariant.1 [] (subst (λ vs. AreMade IsMade vs (remaining_of l.left) [])
     (sym (drop_of_length-le l.item-items long)) tt)) in
     let whole : take c.args.items.now.len (l.item-items ++ drop (length l.item-items) items) ≡ l.item-items =
     let same = l.auto.item-items in
@@ -73,18 +73,18 @@ make_items-returns t c =
 pub make_members-retain-requires : goal.make_members-retain-requires
 make_members-retain-requires t c =
     let all = changes_depth c.args.changes.items in
-    callable _ _ (λ f. changes_depth (left_of f.0.now) ≤ all)
+    callable _ _ (λ f. changes_depth (remaining_of f.0.now) ≤ all)
     (λ f k v b w f' called i.
-    let rest : left_of f'.0.now ≡ rest_of (left_of f.0.now) = search rules in
-    let less = depth-rest (left_of f.0.now) in
+    let rest : remaining_of f'.0.now ≡ rest_of (remaining_of f.0.now) = search rules in
+    let less = depth-rest (remaining_of f.0.now) in
     let same = ap changes_depth rest in omega arith)
     (λ f k v i p q is_k is_v.
-    let less : 3 * changes_depth (left_of f.0.now) + 1 < 3 * all + 2 = omega arith in search rules) _ _
+    let less : 3 * changes_depth (remaining_of f.0.now) + 1 < 3 * all + 2 = omega arith in search rules) _ _
     (subst (λ cs. changes_depth cs ≤ all) (sym c.new-left.ensures) (depth-slots c.args.changes.items))
 
 pub make_members-returns : goal.make_members-returns
 make_members-returns t c =
-    let made = made_by_retain IsMade _ (λ f. left_of f.0.now) (λ f k v b w f' called. search rules) _ _ _
+    let made = made_by_retain IsMade _ (λ f. remaining_of f.0.now) (λ f k v b w f' called. search rules) _ _ _
     c.retain.ensures.filtered in
-    members_made c.args.members.now.entries c.retain.new.self.entries (left_of c.new-left.result) made.0 made.1
+    members_made c.args.members.now.entries c.retain.new.self.entries (remaining_of c.new-left.result) made.0 made.1
     ∙ ap (with_members (members_view c.args.members.now.entries)) c.new-left.ensures

@@ -1,4 +1,4 @@
--- The strings that are filled in are those that were found.
+-- The filled-in strings are those that were found.
 use Rattle.std.proofs.Common.{◌≡◌, ◌∙◌, Some, ap, map, string_bytes, subst, sym}
 use Rattle.std.proofs.lemmas.Simd.{map-map}
 use Rattle.subst_language.specs.Language.Several.{GivesBy}

@@ -1,4 +1,4 @@
--- The reader, on the text with a date of no month.
+-- The reader refuses the text with a date of no month.
 use Rattle.std.proofs.Common.{◌≡◌, None, codes, refl, ◌∙◌, ap}
 use Rattle.std.proofs.lemmas.Result.{IfOk-weaker}
 use Rattle.toml.specs.Parse.{parse_document}

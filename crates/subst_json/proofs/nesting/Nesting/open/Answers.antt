@@ -1,4 +1,4 @@
--- What is expected after the value is put to what is expected after it.
+-- The part expected after the value is pushed.
 use Rattle.std.proofs.Common.{[], ◌∷◌, ap, ap₂, ◌∙◌, reverse}
 use Rattle.std.proofs.lemmas.List.{reverse-append}
 use Rattle.subst_json.proofs.NestingLemmas.{begin_array_before, begin_object_before}

@@ -1,4 +1,4 @@
--- What is written is the text of the steps so far.
+-- The text of the steps so far is written.
 use Rattle.std.proofs.Common.{map, take}
 use Rattle.std.specs.Fmt.{HasWritten, IsPlainFormatter}
 use Rattle.subst_document.specs.Paths.{step_of}

@@ -1,4 +1,4 @@
--- The one token of the part is the string.
+-- The only token of the part is the string.
 use Rattle.std.proofs.Common.{◌≡◌, [], ◌∷◌, sym, ap, ap₂, ◌∙◌, rules, arith}
 use Rattle.std.proofs.lemmas.Grind.{common_steps}
 use Rattle.json.specs.Lex.{tokens}

@@ -4,7 +4,7 @@ use Rattle.toml.specs.View.{view}
 use Rattle.subst_toml.specs.Filled.{IsFound}
 use Rattle.subst_toml.proofs.document.listing.are_found.Given as goal
 
--- if the rest are found, all are
+-- if the remaining strings are found, all are
 abbrev pub invariant-loop-it : goal.invariant-loop-it
 invariant-loop-it l = AllByRecursion (IsFound l.source (view l.tree)) (drop l.it-index l.it-items)
     → AllByRecursion (IsFound l.source (view l.tree)) l.it-items

@@ -1,4 +1,4 @@
--- They are all refused strings, and the tree is that of the text.
+-- The refused strings are all of them, and the tree is that of the text.
 use Rattle.std.proofs.Common.{◌≡◌, Some, subst, rules}
 use Rattle.std.proofs.lemmas.Option.{IfSome_then}
 use Rattle.std.specs.List.{AllByRecursion}

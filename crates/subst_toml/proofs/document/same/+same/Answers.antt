@@ -1,4 +1,4 @@
--- An item more, and a member more.
+-- One more item is equal, and one more member.
 use Rattle.std.proofs.Common.{◌≡◌, ℕ, ◌+◌, ◌<◌, List, [], ◌∷◌, ◌++◌, length, get_or, take, ap, sym, ◌∙◌, append_assoc, string_bytes, rules, arith}
 use Rattle.std.proofs.lemmas.List.{take_more, length-append}
 use Rattle.toml.specs.View.{view, items_view}

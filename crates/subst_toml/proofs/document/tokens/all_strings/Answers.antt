@@ -1,17 +1,17 @@
--- A token is read at each step.
+-- Each step reads a token.
 use Rattle.std.proofs.Common.{◌≡◌, ℕ, zero, suc, ◌-◌, ◌<◌, ◌==◌, true, false, List, length, Some, ◌∙◌, rules, arith}
 use Rattle.std.proofs.lemmas.Grind.{common_steps}
 use Rattle.toml_parser.specs.Lexical.{skip_blank}
-use Rattle.subst_toml.specs.Filled.{Progress, progress_of, step, strings_from}
+use Rattle.subst_toml.specs.Filled.{Scanner, scanner_of, step, strings_from}
 use Rattle.subst_toml.proofs.document.tokens.all_strings.Goals as goal
 
-ended : (n : ℕ) (p : Progress) (text : List ℕ) → 0 < n → (length (skip_blank text) == 0) ≡ true
+ended : (n : ℕ) (p : Scanner) (text : List ℕ) → 0 < n → (length (skip_blank text) == 0) ≡ true
     → strings_from n p text ≡ Some p.found
 unfolding strings_from
 ended zero p text some none = absurd (omega arith)
 ended (suc n) p text some none = rw none
 
-more : (n : ℕ) (p next : Progress) (text rest : List ℕ) → 0 < n → (length (skip_blank text) == 0) ≡ false
+more : (n : ℕ) (p next : Scanner) (text rest : List ℕ) → 0 < n → (length (skip_blank text) == 0) ≡ false
     → step p (skip_blank text) ≡ Some (next, rest) → strings_from n p text ≡ strings_from (n - 1) next rest
 unfolding strings_from
 more zero p next text rest some other read = absurd (omega arith)
@@ -33,7 +33,7 @@ returns-then-is_empty c =
     let start_is = c.skip_blank-start.ensures.rest in
     let none : (length (skip_blank l.rest.now) == 0) ≡ true = grind (arith, common_steps) in
     l.invariant.3
-    ∙ ended l.invariant.1 (progress_of l.progress) l.rest.now (omega (arith, l.invariant.2)) none
+    ∙ ended l.invariant.1 (scanner_of l.scanner) l.rest.now (omega (arith, l.invariant.2)) none
 
 pub tokens-preserved : goal.tokens-preserved
 tokens-preserved c =
@@ -47,6 +47,6 @@ tokens-preserved c =
       l.invariant.1 - 1,
       omega arith,
       l.invariant.3
-          ∙ more l.invariant.1 (progress_of l.progress) _ l.rest.now _ (omega arith) other
+          ∙ more l.invariant.1 (scanner_of l.scanner) _ l.rest.now _ (omega arith) other
           (rw start_is at c.in_ok-rest.ensures.reads),
     )

@@ -1,4 +1,4 @@
--- A byte order mark is one character.
+-- A byte order mark is one character of three bytes.
 use Rattle.std.proofs.Common.{rules, arith}
 use Rattle.std.proofs.lemmas.Bool.Decides.{nat_tests}
 use Rattle.std.proofs.lemmas.Grind.{common_steps}

@@ -1,11 +1,11 @@
--- What is written is the text of the steps so far. The next key is after a dot, if there were any.
+-- The text of the steps so far is written. A dot precedes the next key, unless it is the first step.
 use Rattle.std.proofs.Common.{◌≡◌, ℕ, List, [], ◌∷◌, codes, map, take}
 use Rattle.std.specs.Fmt.{HasWritten, IsPlainFormatter}
 use Rattle.subst_document.specs.Paths.{PathStep, step_of}
 use Rattle.subst_toml.specs.DottedKey.{dotted_text}
 use Rattle.subst_toml.proofs.path.PathDisplay.fmt.Given as goal
 
--- what comes before the next key
+-- the separator before the next key
 abbrev pub dot_after : List PathStep → List ℕ
 dot_after [] = []
 dot_after (step ∷ path) = codes "."
