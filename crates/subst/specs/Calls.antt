@@ -1,4 +1,4 @@
--- What callers see beside the language: maps as look-ups, and results as answers.
+-- Definitions for callers besides those of the language: maps as look-ups, and results as answers.
 pub use Rattle.subst_language.specs.Calls.Clauses
 pub use Rattle.subst_language.specs.Calls.Outcome
 pub use Rattle.subst_language.specs.Calls.VariableMap

@@ -1,4 +1,4 @@
--- The types of errors, as specs and proofs of callers name them. The cases of an error are under its name.
+-- The types of errors, for specs and proofs of callers. The cases of `Error` are in `error`, and so on.
 pub use Rattle.subst_error.specs.declared.CharOrByte.{CharOrByte}
 pub use Rattle.subst_error.specs.declared.Error.{Error}
 pub use Rattle.subst_error.specs.declared.ExpandError.{ExpandError}

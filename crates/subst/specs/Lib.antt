@@ -3,6 +3,7 @@ pub mod Errors
 pub mod Json
 pub mod Styles
 pub mod Toml
+pub mod Yaml
 pub use Rattle.subst_language.specs.Earlier
 pub use Rattle.subst_language.specs.Language
 pub use Rattle.subst_error.specs.Display

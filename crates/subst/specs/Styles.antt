@@ -1,5 +1,4 @@
--- The types of texts of other tools, as specs and proofs of callers name them. The cases of a type have its
--- name.
+-- The types of texts of other tools, for specs and proofs of callers. The cases of `Forms` are in `forms`.
 pub use Rattle.subst_foreign.specs.declared.forms.Forms.{Forms}
 pub use Rattle.subst_foreign.specs.declared.forms.Missing.{Missing}
 pub use Rattle.subst_foreign.specs.declared.forms.Operator.{Operator}

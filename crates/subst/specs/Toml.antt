@@ -1,4 +1,4 @@
--- What contracts of the module `toml` cite, and the type of its errors.
+-- Definitions that contracts of the module `toml` cite, and the type of its errors.
 pub use Rattle.subst_toml.specs.declared.error.Error.{Error}
 pub use Rattle.subst_toml.specs.declared.error.Error.TheVariants as error
 pub use Rattle.subst_toml.specs.Errors

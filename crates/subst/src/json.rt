@@ -1,21 +1,19 @@
-//! JSON whose strings are filled in after it was read.
+//! JSON whose strings are filled in after it was read, so that no value can break out of its string.
 //!
-//! [`substitute_string_values`] fills in a tree of `serde_json` in place; [`value_from_str`] and
-//! [`value_from_slice`] read a tree first; [`from_str`] and [`from_slice`] go on to read a type of the
-//! caller's from it, by `serde`. Keys stay as they are, and no value of a variable can break out of its
-//! string.
+//! [`substitute_string_values`] fills in a tree of `serde_json` in place. [`value_from_str`] and
+//! [`value_from_slice`] read a tree first. [`from_str`] and [`from_slice`] then convert it into a type of the
+//! caller's, by `serde`. Keys are kept.
 //!
-//! [`fill_in`] and [`fill_in_slice`] fill in a text where its strings stand, and each other byte of it stays.
-//! [`strings`] and [`refusals_in`] list the strings of a text, or those that are refused, with where they
-//! stand.
+//! [`fill_in`] and [`fill_in_slice`] fill in the strings of a text, and keep every other byte of it.
+//! [`strings`] lists the strings of a text, and [`refusals_in`] the refused ones, with their spans.
 //!
-//! [`place_in`] returns where the text spells a range of one of its strings, and [`places_in`] where it
-//! spells many of one string; a [`RangeFinder`] does so for many strings. [`fill_in_by`] and [`refusals_by`]
-//! take a [`Fill`], a way to fill in a string, which by a map is [`Filler`]. [`reader_stop`] returns where a
-//! text that is no JSON goes wrong.
+//! [`place_in`] returns the span of a text that spells a range of a string, and [`places_in`] the spans for
+//! many ranges. A [`RangeFinder`] finds the spans for many strings. [`fill_in_by`] and [`refusals_by`] take a
+//! [`Fill`], a way to fill in a string; [`Filler`] fills in from a map. [`reader_stop`] returns the position
+//! of the error in a text that isn't JSON.
 //!
-//! [`report`] tells people what is wrong with a text for which a call returned an error: all strings that are
-//! refused, with line, column and path, or what the reader says.
+//! [`report`] returns the report of an error for users: all refused strings with line, column and path, or
+//! the reader's message.
 
 pub use subst_json::{
     Error, Fill, Filler, Path, PathStep, RangeFinder, ReaderStop, RefusalAt, StringAt, fill_in,

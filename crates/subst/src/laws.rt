@@ -1,5 +1,5 @@
-//! Laws of the definitions that the contracts cite. Each is the contract of a function that does nothing. And
-//! [`escaped`], of which one of them speaks.
+//! Laws of the definitions that contracts cite, each the contract of a function that does nothing, and
+//! [`escaped`], which one of the laws is about.
 
 pub use subst_foreign::escape::escaped;
 pub use subst_foreign::laws::{
@@ -17,3 +17,4 @@ pub use subst_language::maps::laws::{
     layers_are_look_ups_of_texts, maps_are_look_ups, maps_are_look_ups_of_texts,
 };
 pub use subst_toml::laws::trees_have_one_outcome as toml_trees_have_one_outcome;
+pub use subst_yaml::laws::filled_texts_keep_their_shape;

@@ -1,5 +1,4 @@
-//! Counters of steps, which go up by what is added. They take no bytes at run time: only contracts see
-//! the counts.
+//! Counters of steps, for contracts. They only grow, and take no bytes at run time.
 
 pub use subst_expand::Turns;
 pub use subst_parse::Reads;

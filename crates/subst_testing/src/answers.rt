@@ -1,9 +1,10 @@
-//! Answers as texts: `gives Hello world!`, or a fault by its kind, as `6..7: MissingVariableName`.
+//! Answers as texts: `gives Hello world!`, or a fault by its range and kind, such as `6..7:
+//! MissingVariableName`.
 
 use std::alloc::{AllocError, Global};
 use subst_error::{CharOrByte, Error};
 
-/// How many bytes of the source an escape takes, of which this is the character.
+/// Returns the length in bytes of a backslash and the character after it, or of a backslash alone.
 fn escape_len(character: &Option<CharOrByte>) -> usize {
     match character {
         Some(character) => character.source_len().saturating_add(1),
@@ -11,8 +12,8 @@ fn escape_len(character: &Option<CharOrByte>) -> usize {
     }
 }
 
-/// Where a fault begins and how many bytes of the source it takes.
-fn place_of(fault: &Error) -> (usize, usize) {
+/// Returns the byte offset and the length in bytes of a fault.
+fn offset_and_len(fault: &Error) -> (usize, usize) {
     match fault {
         Error::InvalidEscapeSequence(e) => (e.position, escape_len(&e.character)),
         Error::MissingVariableName(e) => (e.position, e.len),
@@ -23,8 +24,8 @@ fn place_of(fault: &Error) -> (usize, usize) {
     }
 }
 
-/// The kind of a fault, and the name or the character that it names, as it is in the source.
-fn told_kind(alloc: Global, fault: &Error) -> Result<String, AllocError> {
+/// Returns the kind of a fault as a text, with the fault's name or character.
+fn kind_text(alloc: Global, fault: &Error) -> Result<String, AllocError> {
     match fault {
         Error::InvalidEscapeSequence(e) => match e.character {
             Some(character) => format!(in alloc; "InvalidEscapeSequence \\{character}"),
@@ -40,32 +41,32 @@ fn told_kind(alloc: Global, fault: &Error) -> Result<String, AllocError> {
     }
 }
 
-/// The range of a fault in its source, in byte offsets, and its kind.
-pub fn told_fault(alloc: Global, fault: &Error) -> Result<String, AllocError> {
-    let (start, len) = place_of(fault);
+/// Returns a fault as a text: its byte range in the source, and its kind.
+pub fn fault_text(alloc: Global, fault: &Error) -> Result<String, AllocError> {
+    let (start, len) = offset_and_len(fault);
     let end = start.saturating_add(len);
-    let kind = told_kind(alloc, fault)?;
+    let kind = kind_text(alloc, fault)?;
     format!(in alloc; "{start}..{end}: {kind}")
 }
 
-/// What a call gives that fills in a text, or its fault.
-pub fn told_text(alloc: Global, filled: Result<String, Error>) -> Result<String, AllocError> {
+/// Returns the result of a call that expands a text: `gives` and the output, or the fault as a text.
+pub fn text_or_fault(alloc: Global, filled: Result<String, Error>) -> Result<String, AllocError> {
     match filled {
         Ok(text) => format!(in alloc; "gives {text}"),
-        Err(fault) => told_fault(alloc, &fault),
+        Err(fault) => fault_text(alloc, &fault),
     }
 }
 
-/// What a call gives that fills in bytes, or its fault.
-pub fn told_bytes(alloc: Global, filled: Result<Vec<u8>, Error>) -> Result<String, AllocError> {
+/// Returns the result of a call that expands bytes: `gives` and the output, or the fault as a text.
+pub fn bytes_or_fault(alloc: Global, filled: Result<Vec<u8>, Error>) -> Result<String, AllocError> {
     match filled {
-        Ok(bytes) => told_output(alloc, bytes.as_slice()),
-        Err(fault) => told_fault(alloc, &fault),
+        Ok(bytes) => output_text(alloc, bytes.as_slice()),
+        Err(fault) => fault_text(alloc, &fault),
     }
 }
 
-/// The bytes that a call gives; those that aren't UTF-8 in numbers.
-fn told_output(alloc: Global, bytes: &[u8]) -> Result<String, AllocError> {
+/// Returns `gives` and an output as a text, or as a list of numbers if it isn't UTF-8.
+fn output_text(alloc: Global, bytes: &[u8]) -> Result<String, AllocError> {
     match str::from_utf8(bytes) {
         Ok(text) => format!(in alloc; "gives {text}"),
         Err(_) => format!(in alloc; "gives {bytes:?}"),

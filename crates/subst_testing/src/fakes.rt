@@ -1,10 +1,10 @@
-//! A reader and a writer that move one byte per call and fail from a given call on.
+//! A fake reader and a fake writer, which move one byte per call and fail from a given call on.
 
 use std::alloc::{AllocError, Global};
 use std::io;
 use std::io::{ErrorKind, Read, Write};
 
-/// A device fails with this kind of error at the call of this number, counted from 0, and at each later one.
+/// The failure of a device: an error of this kind, from the call with this number on, counted from 0.
 #[derive(Clone, Copy)]
 pub struct Fault {
     pub call: usize,
@@ -12,7 +12,7 @@ pub struct Fault {
 }
 
 impl Fault {
-    /// The fault of a device that never fails.
+    /// Creates the fault of a device that never fails.
     pub fn never() -> Self {
         Fault {
             call: usize::MAX,
@@ -20,7 +20,7 @@ impl Fault {
         }
     }
 
-    /// Counts a call, or fails it.
+    /// Counts a call, or returns the error if the call has to fail.
     fn count_call(&mut self) -> io::Result<()> {
         if self.call == 0 {
             return Err(io::Error::from(self.kind));
@@ -30,7 +30,7 @@ impl Fault {
     }
 }
 
-/// A reader of these bytes.
+/// A fake reader, which returns one byte of `left` per call.
 #[derive(Drop)]
 pub struct Trickle<'a> {
     pub left: &'a [u8],
@@ -52,18 +52,18 @@ impl Read for Trickle<'_> {
     }
 }
 
-/// A writer that keeps the bytes that were written, and counts those that were flushed.
+/// A fake writer, which accepts one byte per call and keeps it. `flushed` is the number of bytes flushed.
 #[derive(Drop)]
 pub struct Drip {
     pub taken: Vec<u8>,
     pub flushed: usize,
-    /// How many bytes it takes: none after these, though it doesn't fail.
+    /// The number of bytes that the writer accepts. Later calls accept none, but don't fail.
     pub capacity: usize,
     pub fault: Fault,
 }
 
 impl Drip {
-    /// A writer that takes so many bytes, and asks for no memory for the first 128.
+    /// Creates a writer that accepts `capacity` bytes. Its buffer has capacity for the first 128.
     pub fn new(alloc: Global, capacity: usize, fault: Fault) -> Result<Self, AllocError> {
         let (taken, flushed) = (Vec::with_capacity(alloc, 128)?, 0);
         Ok(Drip {

@@ -1,4 +1,5 @@
-//! What tests of several crates share: variables of pairs, answers as texts, and a fake reader and writer.
+//! Helpers for the tests of several crates: variables from pairs, answers as texts, and a fake reader and
+//! writer.
 #![tactic(auto)]
 
 pub mod answers;

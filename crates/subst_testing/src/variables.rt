@@ -1,15 +1,15 @@
-//! Variables of pairs as `a=1,b=2`.
+//! Variables from pairs such as `a=1,b=2`.
 
 use std::alloc::{AllocError, Global};
 use std::collections::BTreeMap;
 
-/// Variables whose values are texts, by their names.
+/// A map of texts by name.
 pub type Texts<'a> = BTreeMap<&'a str, &'a str>;
 
-/// Variables whose values are bytes, by their names.
+/// A map of bytes by name.
 pub type ByteValues<'a> = BTreeMap<&'a str, &'a [u8]>;
 
-/// Returns owned pairs.
+/// Returns an owned copy of pairs of names and values.
 pub fn owned_pairs(
     alloc: Global,
     texts: &[(&str, &str)],
@@ -22,7 +22,8 @@ pub fn owned_pairs(
     Ok(pairs)
 }
 
-/// The variables of these pairs. What has no `=` is left out, and of two values of a name the last one stays.
+/// Returns a map of the variables in `pairs`. A part without `=` is left out; if a name has several values,
+/// the last one wins.
 pub fn texts<'a>(alloc: Global, pairs: &'a str) -> Result<Texts<'a>, AllocError> {
     let mut variables = BTreeMap::new(alloc);
     for pair in pairs.split(',') {
@@ -33,7 +34,7 @@ pub fn texts<'a>(alloc: Global, pairs: &'a str) -> Result<Texts<'a>, AllocError>
     Ok(variables)
 }
 
-/// The variables of these pairs, as those of `texts`, with values as bytes.
+/// Returns a map of the variables in `pairs`, as `texts` does, with bytes as values.
 pub fn byte_values<'a>(alloc: Global, pairs: &'a str) -> Result<ByteValues<'a>, AllocError> {
     let mut variables = BTreeMap::new(alloc);
     for pair in pairs.split(',') {

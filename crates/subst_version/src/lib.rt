@@ -1,7 +1,7 @@
-//! The version of this project, which is here alone.
+//! The version of this project, defined only here.
 #![tactic(auto)]
 
-/// The version: one of its numbers, or its text.
+/// Expands to a number of the version, or to its text.
 macro_rules! version {
     ($part:ident) => {
         version!($part of 0, 3, 0)
@@ -20,14 +20,14 @@ macro_rules! version {
     };
 }
 
-/// The first number of the version.
+/// The major version.
 pub const MAJOR: u32 = version!(major);
 
-/// The second number of the version, below 100.
+/// The minor version, below 100.
 pub const MINOR: u32 = version!(minor);
 
-/// The third number of the version, below 100.
+/// The patch version, below 100.
 pub const PATCH: u32 = version!(patch);
 
-/// The version as text, its three numbers with dots between.
+/// The version as a text: its three numbers, separated by dots.
 pub const TEXT: &str = version!(text);
