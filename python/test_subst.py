@@ -1,5 +1,5 @@
-"""Tests of the package subst, over the library that it finds. What it returns for each stored row, every text of a fault
-with it, is compared by tests/test_vectors.py.
+"""Tests of the package subst, over the library that it finds. tests/test_vectors.py compares its answers to all stored
+rows, and the text of every fault.
 """
 import collections.abc
 import concurrent.futures
@@ -23,7 +23,7 @@ from subst import (DocumentError, FaultKind, Forms, ShellError, ShellForm, Subst
                    _library, _source, _style)
 
 MIB = 1 << 20
-# Lengths of values around those of the memory that is kept.
+# Lengths of values around the sizes of the memory that is kept.
 SIZES = (64 * 1024 - 1, 64 * 1024, MIB, 3 * MIB + 1)
 
 
@@ -37,20 +37,20 @@ def encoded(variables):
 
 
 class Case(unittest.TestCase):
-    """What tests share."""
+    """A case, and what all tests share."""
 
     def refused(self, call, *arguments, **more):
-        """The error that a call ends with."""
+        """Returns the SubstError that a call raises."""
         with self.assertRaises(SubstError) as caught:
             call(*arguments, **more)
         return caught.exception
 
 
 class Results(Case):
-    """What is filled in."""
+    """Outputs of sources."""
 
     def expect(self, source, variables, wanted):
-        """A text, and then its bytes, give this in each way."""
+        """Expects this output in each way, for a text and for its bytes."""
         for source, variables, wanted in ((source, variables, wanted),
                                           (source.encode(), encoded(variables), wanted.encode())):
             template = Template(source)
@@ -125,13 +125,14 @@ class Results(Case):
         self.assertEqual(subst.missing('$a $b', b=''), [(VariableKind.REQUIRED, 'a', 1)])
         self.assertEqual(subst.fill_in_json('["$a"]', a='1'), '["1"]')
         self.assertEqual(subst.fill_in_toml('a = "$a"', {'a': '2'}, a='1'), 'a = "1"')
+        self.assertEqual(subst.fill_in_yaml('a: $a', {'a': '2'}, a='1'), 'a: 1')
 
 
 class Asked(Case):
-    """What a mapping is asked for."""
+    """Lookups in a mapping."""
 
     class Mapping(collections.abc.Mapping):
-        """A mapping that has a value for each name, and keeps the names that it was asked for."""
+        """A mapping with a value for each name, which records the lookups."""
 
         def __init__(self):
             self.asked = []
@@ -147,7 +148,7 @@ class Asked(Case):
             raise AssertionError('its length is not asked for')
 
     def asked(self, call):
-        """What a call returns, and the names that it asks a mapping for."""
+        """Returns the result of a call, and the names that it looks up."""
         variables = self.Mapping()
         return call(variables), variables.asked
 
@@ -170,6 +171,8 @@ class Asked(Case):
         self.assertEqual(self.asked(lambda it: subst.fill_in_json(text, it))[1], ['k', 'ab', 'e', 'c', 'd'])
         text = 'a = """$na\\\n  me \\U00000024b"""\nc = \'\\\\$d\' # $e'
         self.assertEqual(self.asked(lambda it: subst.fill_in_toml(text, it))[1], ['name', 'b', 'd', 'e'])
+        text = 'a: "\\x24k\\u0061b $b\\/"\nc: \'\\\\$d\'\n# ${e\\\nf: $g\n'
+        self.assertEqual(self.asked(lambda it: subst.fill_in_yaml(text, it))[1], ['kab', 'b', 'd', 'ef', 'g'])
 
     def test_mappings_that_make_values(self):
         class Upper(dict):
@@ -201,7 +204,7 @@ class Asked(Case):
 
 
 class Choices(Case):
-    """Which placeholders are variables, and which of these need a value."""
+    """The choice of names, and of optional variables."""
 
     def test_only(self):
         text = 'C:\\dir $HOST ${PORT} $HOSTS ${PORT:1} $ ${ {}:\\$é'
@@ -377,7 +380,7 @@ class Trees(Case):
 
 
 class Templates(Case):
-    """A template, which is filled in for several rows."""
+    """Templates, which are expanded for several rows."""
 
     def test_rows(self):
         letter = Template('Dear ${name:friend},')
@@ -427,10 +430,10 @@ class Templates(Case):
 
 
 class Faults(Case):
-    """What is refused, and what is reported of it."""
+    """Refused sources, and their errors."""
 
     def expect(self, kind, source, part):
-        """Every call that can says this of a text, and of its bytes, where this part is at fault, by the same text."""
+        """Expects this fault, at this part, from each call that finds it, in a text and in its bytes."""
         for source, part in ((source, part), (source.encode(), part.encode())):
             calls = [(subst.fill_in, source, {}), (lambda: Template(source).fill_in_each([{}]),)]
             if kind is not FaultKind.NO_SUCH_VARIABLE:
@@ -482,7 +485,7 @@ class Faults(Case):
 
 
 class Documents(Case):
-    """JSON and TOML, whose strings are filled in where they are."""
+    """Documents of JSON, TOML and YAML, whose strings are filled in."""
 
     def test_filled_in(self):
         variables = {'a': 'x"\\é', 'b': '$a', 'name': 'world', 'quote': 'a"b'}
@@ -498,8 +501,20 @@ class Documents(Case):
                 (subst.fill_in_toml,
                  '# $name\r\n"$name" = \'\'\'${name}\'\'\' # $name\r\nb = [ 1_0, "\\u0041" ]\r\nc = "$quote"',
                  '# $name\r\n"$name" = \'\'\'world\'\'\' # $name\r\nb = [ 1_0, "\\u0041" ]\r\nc = "a\\"b"'),
-                (subst.fill_in_toml, '', '')):
-            self.assertEqual(call(text, variables), wanted)
+                (subst.fill_in_toml, '', ''),
+                (subst.fill_in_yaml,
+                 '# $a\r\n$name: &a ${name} # $name\r\n"é": [*a, \'$quote\', "${a}\\x41"]\r\n',
+                 '# $a\r\n$name: &a world # $name\r\n"é": [*a, \'a"b\', "x\\"\\\\éA"]\r\n'),
+                (subst.fill_in_yaml, '--- $name\n---\n- |\n $b\n', '--- world\n---\n- |\n $a\n'),
+                (subst.fill_in_yaml, 'a: "$name\\n"  # $name\nb: [$none, \\$a]', 'a: "world\\n"  # $name\nb: [x, $a]'),
+                (subst.fill_in_yaml, '', '')):
+            self.assertEqual(call(text, {**variables, 'none': 'x'}), wanted)
+
+    def test_values_of_yaml_get_double_quotes(self):
+        for before, value, after in (('$x', 'a: b', '"a: b"'), ('$x', '', '""'), ('[$x]', 'a, b', '["a, b"]'),
+                                     ("'$x'", "it's", "'it''s'"), ("'$x'", 'l1\nl2', '"l1\\nl2"'),
+                                     ('"$x"', 'a"b\\c', '"a\\"b\\\\c"'), ('|\n  $x\n', ' x', '" x\\n"\n')):
+            self.assertEqual(subst.fill_in_yaml(f'a: {before}', x=value), f'a: {after}')
 
     def test_refused(self):
         for call, text, said, start in (
@@ -518,6 +533,33 @@ class Documents(Case):
             self.assertEqual((error.line, error.column), (len(lines), len(lines[-1]) + 1))
             self.assertEqual((error.highlighting, error.row), ('', None))
 
+    def test_refused_in_yaml(self):
+        """The span of a fault is its own, within its value."""
+        for text, said, start, kind, name in (
+                ('é: 1\nb: [$a, "é $none"]', 'b[1]: ', 'none', FaultKind.NO_SUCH_VARIABLE, 'none'),
+                ('- a: x$a # c\n- b\\x', '[1]: ', '\\x', FaultKind.INVALID_ESCAPE_SEQUENCE, None),
+                ('$none', '', 'none', FaultKind.NO_SUCH_VARIABLE, 'none'),
+                ('a: 1\n---\n$none', '2: ', 'none', FaultKind.NO_SUCH_VARIABLE, 'none'),
+                ('a: 1\n---\nb:\n  c: ${\n', '2:b.c: ', '${', FaultKind.MISSING_VARIABLE_NAME, None)):
+            error = self.refused(subst.fill_in_yaml, text, {'a': '1'})
+            alone = self.refused(subst.fill_in, '$none' if start == 'none' else start, {})
+            self.assertEqual((error.message, error.kind, error.name), (said + alone.message, kind, name))
+            self.assertEqual((error.position, error.length), (text.index(start), len(start)))
+            lines = text[:error.position].split('\n')
+            self.assertEqual((error.line, error.column), (len(lines), len(lines[-1]) + 1))
+            self.assertEqual((error.highlighting, error.row), ('', None))
+
+    def test_no_yaml(self):
+        for text, position, length, said in (
+                ('é: 1\n\tb: 2', 5, 1, 'a tab in the indentation'), ('a: $none\nb', 9, 1, None),
+                ('a: b: c', 3, 1, None), ('- "$none', 2, 1, 'a missing closing quote'), ('%YAML 1.2', 0, 1, None)):
+            with self.assertRaises(DocumentError) as caught:
+                subst.fill_in_yaml(text, {})
+            error = caught.exception
+            self.assertEqual((error.position, error.length), (position, length), text)
+            self.assertIn(said or '', error.message)
+            self.assertEqual(vars(pickle.loads(pickle.dumps(error))), vars(error))
+
     def test_no_document(self):
         for call, text, position, line, column in (
                 (subst.fill_in_json, '', 0, 1, 1), (subst.fill_in_json, '["é",\n é]', 7, 2, 2),
@@ -532,20 +574,21 @@ class Documents(Case):
             self.assertEqual(vars(pickle.loads(pickle.dumps(error))), vars(error))
 
     def test_types(self):
-        for call in (subst.fill_in_json, subst.fill_in_toml):
+        for call in (subst.fill_in_json, subst.fill_in_toml, subst.fill_in_yaml):
             with self.assertRaisesRegex(TypeError, '^the document must be str, not bytes$'):
                 call(b'', {})
             with self.assertRaisesRegex(TypeError, 'must be str as the source is, not bytes'):
                 call('"$a"', {'a': b''})
 
     def test_not_confirmed(self):
-        library = mock.Mock(**{'subst_json.return_value': 8})
+        library = mock.Mock(**{'subst_json.return_value': 8, 'subst_yaml.return_value': 8})
         with mock.patch.object(_source, '_library', library):
-            self.assertRaisesRegex(RuntimeError, 'not confirmed', subst.fill_in_json, '""', {})
+            for call in (subst.fill_in_json, subst.fill_in_yaml):
+                self.assertRaisesRegex(RuntimeError, 'not confirmed', call, '""', {})
 
 
 class Types(Case):
-    """What is no source and no variables."""
+    """Wrong types of sources and variables."""
 
     def calls(self, source, variables):
         yield lambda: subst.fill_in(source, variables)
@@ -595,18 +638,19 @@ class Types(Case):
 
 
 class Outside(Case):
-    """Memory, threads, and where the library is."""
+    """Memory, threads, and the search for the library."""
 
     def test_out_of_memory(self):
         template = Template('$a')
         others = ('subst_fault_text', 'subst_fault_highlighting', 'subst_json_fault_text', 'subst_toml_fault_text',
-                  'subst_shell_form_text', 'subst_place', 'subst_version')
+                  'subst_yaml_fault_text', 'subst_shell_form_text', 'subst_place', 'subst_version')
         names = [name for name in _library.ARGUMENTS if name not in others]
         library = mock.Mock(**{f'{name}.return_value': 4 for name in names})
         with mock.patch.object(_source, '_library', library), mock.patch.object(_style, '_library', library):
             for call in (lambda: subst.fill_in('x' * MIB, {}), lambda: subst.check(''), lambda: subst.variables('no'),
                          lambda: template.missing({}), lambda: template.fill_in_each([]),
                          lambda: subst.fill_in_json('', {}), lambda: subst.fill_in_toml('', {}),
+                         lambda: subst.fill_in_yaml('', {}),
                          lambda: subst.from_shell(''), lambda: subst.fill_in_by_style('', forms=Forms.OWN)):
                 self.assertRaises(MemoryError, call)
         self.assertEqual(sorted(name for name in names if getattr(library, name).called), sorted(names))
@@ -627,7 +671,7 @@ class Outside(Case):
             self.assertEqual(list(threads.map(work, 'abcd')), list('abcd'))
 
     def test_large(self):
-        """Each byte of 40 MiB of a source and of 40 MiB of a value comes."""
+        """Each byte of 40 MiB of a source and of 40 MiB of a value is in the output."""
         plain, value = bytes(range(97, 123)) * (40 * MIB // 26), bytes(range(65, 91)) * (40 * MIB // 26)
         for source, variables in ((plain + b'$a', {b'a': value}), ((plain + b'$a').decode(), {'a': value.decode()})):
             wanted = plain + value
@@ -635,7 +679,7 @@ class Outside(Case):
                 self.assertTrue((found if isinstance(found, bytes) else found.encode()) == wanted)
 
     def test_other_threads_run(self):
-        """While a call works, another thread counts."""
+        """Another thread counts while a call works."""
         source, variables, ticks = '$a' * (4 * MIB), {'a': 'x'}, []
         template, is_done = Template(source), threading.Event()
 
@@ -655,7 +699,7 @@ class Outside(Case):
 
     @staticmethod
     def timed(call):
-        """A call that keeps when it began and ended."""
+        """Returns the call, which records when it began and ended."""
         def timed(*arguments):
             begin = time.perf_counter()
             result = call(*arguments)
@@ -664,7 +708,7 @@ class Outside(Case):
         return timed
 
     def test_time_is_linear(self):
-        """Eight times the variables take at most twenty times as long."""
+        """Eight times as many variables take at most twenty times as long."""
         def took(count, runs):
             source = ''.join(f'$a{number} é' for number in range(count))
             variables = {f'a{number}': 'é' for number in range(count)}
@@ -678,7 +722,7 @@ class Outside(Case):
         self.assertLess(took(400000, 1), 20 * took(50000, 2))
 
     def test_types_are_checked(self):
-        """The package and these uses of it have the types that mypy finds, where it is there."""
+        """mypy, if it is installed, finds the types of the package and of these uses of it right."""
         mypy = shutil.which('mypy')
         if mypy is None:
             self.skipTest('mypy is not installed')
@@ -690,7 +734,7 @@ class Outside(Case):
             self.assertEqual(ran.returncode, 0, ran.stdout)
 
     def imported(self, folder, **variables):
-        """The path of the library that the module in a folder loads, or the end of the error."""
+        """Returns the path of the library that the module in a folder loads, or the last line of the error."""
         code = 'from subst import _library; print(_library.library._name)'
         environment = {name: value for name, value in os.environ.items() if name != 'SUBST_LIBRARY'}
         environment.update(variables, PYTHONPATH=str(folder), PYTHONDONTWRITEBYTECODE='1')

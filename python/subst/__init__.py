@@ -5,30 +5,28 @@
     >>> fill_in(b'Hello ${name:nobody}!', {})
     b'Hello nobody!'
 
-Without a value ${name?} gives nothing, and ${name:default} its default, which is a template too. A backslash escapes
-each of \\ $ { } and :. Values are inserted as they are, and never read as templates.
+An unset ${name?} expands to nothing, and an unset ${name:default} to its default, which is a template too. A backslash
+escapes each of \\ $ { } and :. Values are inserted as they are, and never parsed as templates.
 
-A source is str or bytes, and the names, the values and the result are of its type: another type is a TypeError, and
-nothing is converted, but a bytearray or a memoryview is taken as bytes. A mapping is asked for the names of the source,
-once for each and in the order of the source, and for nothing else. Values may be keyword arguments too, which count
-before the mapping, as fill_in('Hello $name!', name='world'). Calls that take them have no other names for the source
-and the mapping than their places.
+A source is str or bytes, and its names, values and result have the same type. A bytearray or a memoryview counts as
+bytes. Any other type raises TypeError; nothing is converted. Only the names of the source are looked up in a mapping,
+once each, in the order of the source. Values may be keyword arguments too, which take precedence over the mapping, as
+in fill_in('Hello $name!', name='world'). In such calls the source and the mapping are positional.
 
-Where only is given, $NAME and ${NAME} of these names alone are variables, and all else is text, as in the files that
-envsubst takes. Where optional is True, a variable without a value gives nothing.
+With only, $NAME and ${NAME} of these names alone are variables, and all else is text, as in the files of envsubst. With
+optional=True, an unset variable expands to nothing.
 
     >>> print(fill_in('C:\\\\dir costs $5 on $HOST${PORT}', HOST='db', only=['HOST', 'PORT'], optional=True))
     C:\\dir costs $5 on db
 
-A str with lone surrogates, as a value of os.environ may have, is a UnicodeEncodeError where it is used. A source that is
-refused is a SubstError, and a lack of memory is a MemoryError. Calls share nothing that they change, so they may be made
-in several threads, of which each lets the others run. Templates of the last short sources are kept.
+A refused source raises SubstError, and a lack of memory raises MemoryError. A str with lone surrogates, as in a value
+of os.environ, raises UnicodeEncodeError if it is used. Several threads may call at once, and each lets the others run.
+Templates of the last short sources are cached.
 
-fill_in_json and fill_in_toml fill in the strings of a document, which is a str, and leave all else of it as it is.
+fill_in_json, fill_in_toml and fill_in_yaml fill in the strings of a document, a str, and leave all else as it is.
 
-The work is done by the library libsubst.so.0: the one that the variable SUBST_LIBRARY of the environment names, or else
-the one in the folder of this package, or three folders above it, where tools/install puts it, or the one that the loader
-finds.
+The package calls the library libsubst.so.0: the file that the environment variable SUBST_LIBRARY names, or else the one
+in the folder of this package, or three folders above it, where tools/install puts it, or the one that the loader finds.
 """
 from __future__ import annotations
 
@@ -44,16 +42,16 @@ from ._types import DocumentError, FaultKind, Forms, ShellError, ShellForm, Subs
 
 __all__ = ['DocumentError', 'FaultKind', 'Forms', 'ShellError', 'ShellForm', 'SubstError', 'Template', 'Variable',
            'VariableKind', 'check', 'fill_in', 'fill_in_by_style', 'fill_in_json', 'fill_in_toml', 'fill_in_tree',
-           'from_envsubst', 'from_shell', 'missing', 'variables']
+           'fill_in_yaml', 'from_envsubst', 'from_shell', 'missing', 'variables']
 
-# What is taken as bytes, and what has no values.
+# The types that count as bytes, and a mapping without values.
 _BytesLike = Union[bytes, bytearray, memoryview]
 _NONE: Mapping[Any, Any] = {}
 
 
 class Template(Generic[AnyStr]):
-    """A source that was checked, so that only a variable without a value can be wrong with it. It never changes, and is
-    equal to one of the same source, names and choice.
+    """A checked source: only an unset variable can be wrong with it. It is immutable, and equal to any other with the
+    same source, only and optional.
 
         >>> letter = Template('Dear ${name:friend},')
         >>> letter.fill_in_each([{'name': 'Ann'}, {}])
@@ -73,7 +71,7 @@ class Template(Generic[AnyStr]):
                  optional: bool = ...) -> None: ...
 
     def __init__(self, source: Any, *, only: Optional[Iterable[Any]] = None, optional: bool = False) -> None:
-        """Raises SubstError where the source is no template."""
+        """Parses the source. Raises SubstError if it is no template."""
         self._source = _source_of(source, only, optional)
 
     def __repr__(self) -> str:
@@ -92,28 +90,28 @@ class Template(Generic[AnyStr]):
 
     @property
     def source(self) -> AnyStr:
-        """The source that it was made of."""
+        """The source of this template."""
         return self._source.given
 
     def fill_in(self, variables: Mapping[AnyStr, AnyStr] = _NONE, /, **more: AnyStr) -> AnyStr:
-        """Returns the source with its variables filled in. Raises SubstError where one has no value."""
+        """Expands the template, and returns the output. Raises SubstError if a needed variable is unset."""
         return self._source.fill_in(variables, more)
 
     def fill_in_each(self, rows: Iterable[Mapping[AnyStr, AnyStr]]) -> List[AnyStr]:
-        """Returns the source with its variables filled in for each row of variables, and parses it once for all.
+        """Expands the template for each row of variables, and returns the outputs in order.
 
-        Raises SubstError for the first row in which a variable has no value.
+        Raises SubstError for the first row in which a needed variable is unset.
         """
         return self._source.fill_in_each(rows)
 
     def variables(self) -> List[Variable[AnyStr]]:
-        """Returns the variables in the order of the source, also those in defaults. A name that is there twice comes
+        """Returns the variables in the order of the source, also those in defaults. A name that occurs twice is listed
         twice."""
         return self._source.variables()
 
     def missing(self, variables: Mapping[AnyStr, AnyStr] = _NONE, /, **more: AnyStr) -> List[Variable[AnyStr]]:
-        """Returns the variables that are needed and have no value, in the order of the source. Those of a default are
-        needed only where it is used."""
+        """Returns the variables that are needed and unset, in the order of the source. Those of a default are needed
+        only if it is used."""
         return self._source.missing(variables, more)
 
     def _choice(self) -> Any:
@@ -142,44 +140,60 @@ def fill_in(source: _BytesLike, variables: Mapping[bytes, _BytesLike] = ..., /, 
 
 def fill_in(source: Any, variables: Mapping[Any, Any] = _NONE, /, *, only: Optional[Iterable[Any]] = None,
             optional: bool = False, **more: Any) -> Any:
-    """Returns the source with its variables filled in. Raises SubstError where it is refused."""
+    """Expands a source, and returns the output. Raises SubstError if the source is refused."""
     if type(variables) is dict and type(source) in _kept and len(source) > _LARGE and len(variables) <= _FEW:
         if not more and only is None and not optional:
             try:
                 return _fill_in_large(_encoding_of(source), source, variables)
             except (TypeError, UnicodeEncodeError):
-                # One of them may be no name or no value, which counts only where it is used.
+                # A wrong type, or a lone surrogate, is an error only if it is used.
                 pass
     return _source_of(source, only, optional).fill_in(variables, more)
 
 
 def fill_in_json(text: str, variables: Mapping[str, str] = _NONE, /, **more: str) -> str:
-    """Returns a JSON document with its strings filled in, each as a source of its own. All else of it stays as it is,
-    keys, numbers and blanks too. The mapping is asked for all names after a dollar, also in keys.
+    """Fills in the strings of a JSON document, each as a source of its own, and returns the document. All else stays as
+    it is, also keys, numbers and white space. All names after a dollar are looked up in the mapping, also those in
+    keys.
 
         >>> print(fill_in_json('{"name":  "$name", "price": 2.50}', {'name': 'a"b'}))
         {"name":  "a\\"b", "price": 2.50}
 
-    Raises DocumentError where the text isn't JSON, and SubstError for the first string that is refused.
+    Raises DocumentError if the text isn't JSON, and SubstError for the first string that is refused.
     """
     return _document_of('json', text).fill_in(variables, more)
 
 
 def fill_in_toml(text: str, variables: Mapping[str, str] = _NONE, /, **more: str) -> str:
-    """Returns a TOML document with its strings filled in, as fill_in_json. Comments and dates stay as they are too.
+    """Fills in the strings of a TOML document, as fill_in_json does. Comments and dates stay as they are too.
 
         >>> print(fill_in_toml('name = "$name" # $name', {'name': 'a"b'}))
         name = "a\\"b" # $name
 
-    Raises DocumentError where the text isn't TOML, and SubstError for the first string that is refused.
+    Raises DocumentError if the text isn't TOML, and SubstError for the first string that is refused.
     """
     return _document_of('toml', text).fill_in(variables, more)
 
 
+def fill_in_yaml(text: str, variables: Mapping[str, str] = _NONE, /, **more: str) -> str:
+    """Fills in the values of one or several YAML documents in a text, as fill_in_json does. Keys, anchors, tags and
+    comments stay as they are too. Without quotes YAML decides what a value is, such as a number; in quotes it is a
+    string. A value that doesn't fit in its place, or in its quotes, gets double quotes.
+
+        >>> print(fill_in_yaml('port: $port # $port\\nname: $name', {'port': '80', 'name': 'a: b'}))
+        port: 80 # $port
+        name: "a: b"
+
+    Raises DocumentError if the text isn't YAML that the library reads, and SubstError for the first value that is
+    refused.
+    """
+    return _document_of('yaml', text).fill_in(variables, more)
+
+
 def fill_in_tree(tree: Any, variables: Mapping[str, str] = _NONE, /, *, only: Optional[Iterable[str]] = None,
                  optional: bool = False, **more: str) -> Any:
-    """Returns a new tree of dict and list in which each str is filled in as a source of its own. Keys stay as they are,
-    and so does all else, a tuple too.
+    """Fills in each str of a tree of dict and list, as a source of its own, and returns a new tree. Keys and all other
+    objects stay as they are, also tuples.
 
         >>> fill_in_tree({'$name': ['$name', 2.5]}, name='x')
         {'$name': ['x', 2.5]}
@@ -218,15 +232,15 @@ def fill_in_by_style(text: _BytesLike, variables: Mapping[bytes, _BytesLike] = .
 def fill_in_by_style(text: Any, variables: Mapping[Any, Any] = _NONE, /, *, forms: Forms,
                      only: Optional[Iterable[Any]] = None, known: bool = False, optional: bool = False,
                      **more: Any) -> Any:
-    """Returns a text of another tool with its variables filled in: these forms of all names, of the names in only, or,
-    where known is True, of the names that have a value, and of all names in forms with a default, another value or a
-    message. All else is text. The mapping is asked for all names after a dollar, of those in only if it is given.
+    """Expands a text of another tool, and returns the output. Variables have these forms, and any name by default; with
+    only, one of these names; with known=True, a name that has a value, or any name in a form with a default, another
+    value or a message. All else is text. All names after a dollar are looked up in the mapping, or only those in only.
 
         >>> fill_in_by_style('listen ${PORT:-80}; $host', forms=Forms.SHELL, only=['PORT'])
         'listen 80; $host'
 
-    Raises ShellError for the first form that is refused, and SubstError where a variable has no value, with its message.
-    Where optional is True, one without a default and a message gives nothing then.
+    Raises ShellError for the first form that is refused, and SubstError if a variable has no value, with its message.
+    With optional=True, a variable without a default or a message expands to nothing instead.
     """
     if known and only is not None:
         raise TypeError('only and known are two choices of names: give one of them')
@@ -243,13 +257,13 @@ def from_envsubst(text: _BytesLike, *, only: Optional[Iterable[_BytesLike]] = ..
 
 
 def from_envsubst(text: Any, *, only: Optional[Iterable[Any]] = None, optional: bool = False) -> Any:
-    """Returns a template that gives a text of envsubst with its variables filled in, those with these names if they are
-    given. All else is text.
+    """Returns a template for a text of envsubst. Its variables are $NAME and ${NAME}, with only those of these names;
+    all else is text.
 
         >>> from_envsubst('$5 for ${name}')
         '\\\\$5 for ${name}'
 
-    A variable without a value is then missing, where envsubst gives nothing, as an optional one does.
+    An unset variable is then an error, as it isn't in envsubst; with optional=True it expands to nothing.
     """
     encoding = _encoding_of(text)
     names = _names_of(encoding, only)
@@ -267,13 +281,13 @@ def from_shell(text: _BytesLike) -> bytes: ...
 
 
 def from_shell(text: Any) -> Any:
-    """Returns a template for a text of a shell, as far as Docker Compose reads it so too: $name, ${name},
-    ${name:-default}, ${name:?message}, and $$ for a dollar. It is to be filled in from a mapping without empty values.
+    """Returns a template for a text of a shell, as far as Docker Compose reads it in the same way: $name, ${name},
+    ${name:-default}, ${name:?message}, and $$ for a dollar. Expand it with a mapping without empty values.
 
         >>> from_shell('$host:${port:-80}')
         '${host?}:${port:80}'
 
-    Raises ShellError for the first form for which there is no template.
+    Raises ShellError for the first form that has no template.
     """
     encoding = _encoding_of(text)
     return _from_shell(encoding, encoding.encoded(text))
@@ -288,7 +302,7 @@ def check(source: _BytesLike) -> None: ...
 
 
 def check(source: Any) -> None:
-    """Raises SubstError where the source is no template. It may have variables that are needed."""
+    """Checks a source without its variables. Raises SubstError if it is no template."""
     encoding = _encoding_of(source)
     _check(encoding, encoding.encoded(source))
 
@@ -302,7 +316,7 @@ def variables(source: _BytesLike) -> List[Variable[bytes]]: ...
 
 
 def variables(source: Any) -> Any:
-    """Returns the variables of a source, as Template.variables. Raises SubstError where the source is no template."""
+    """Returns the variables of a source, as Template.variables does. Raises SubstError if it is no template."""
     return _source_of(source).variables()
 
 
@@ -316,13 +330,13 @@ def missing(source: _BytesLike, variables: Mapping[bytes, _BytesLike] = ..., /,
 
 
 def missing(source: Any, variables: Mapping[Any, Any] = _NONE, /, **more: Any) -> Any:
-    """Returns what a source is missing, as Template.missing. Raises SubstError where the source is no template."""
+    """Returns the needed variables that are unset, as Template.missing. Raises SubstError if it is no template."""
     return _source_of(source).missing(variables, more)
 
 
-# How many variables are few, of a dict, and how long a source is that is large.
+# The most variables of a dict, and the length past which a source is large, for a call of fill_in_large.
 _FEW, _LARGE = 1 << 10, 1 << 16
-# The sources that were last used, by their type, so many at most, of so many characters at most.
+# The cached sources by their type: at most this many, each of at most this length.
 _kept: Dict[type, Dict[Any, _Source[Any]]] = {str: {}, bytes: {}}
 _KEPT_SOURCES, _KEPT_LENGTH = 64, 4096
 
@@ -351,7 +365,7 @@ def _encoding_of(given: object) -> _Encoding[Any]:
 
 
 def _names_of(encoding: _Encoding[Any], only: Optional[Iterable[Any]]) -> Optional[FrozenSet[bytes]]:
-    """The bytes of the names that alone are variables."""
+    """Returns the encoded names, or None if all names are variables."""
     if only is None:
         return None
     names = [only] if isinstance(only, (str, *_BYTES.types)) else [*only]

@@ -1,16 +1,16 @@
-"""Templates for texts in which other placeholders are variables, or in which variables may have no value."""
+"""Templates for texts of other tools, and for sources whose variables are optional."""
 from __future__ import annotations
 
 import re
 from typing import Callable, List, Sequence, Tuple
 
-# A placeholder as envsubst knows it, or a byte that a template has to escape.
+# A placeholder of envsubst, or a byte that a template has to escape.
 _SPECIAL = re.compile(rb'\$(?:([0-9A-Za-z_]+)|\{([0-9A-Za-z_]+)\})|[$\\]')
 
 
 def template_for(text: bytes, is_chosen: Callable[[bytes], bool], optional: bool) -> Tuple[bytes, List[int]]:
-    """A template for a text in which $NAME and ${NAME} of the chosen names are variables and all else is text, and
-    where in the text the names of these variables begin. Optional ones give nothing where they have no value."""
+    """Returns a template for a text in which $NAME and ${NAME} of the chosen names are variables and all else is text,
+    and the byte offsets in the text of these variables' names. Optional ones expand to nothing if they are unset."""
     places: List[int] = []
 
     def written(special: re.Match[bytes]) -> bytes:
@@ -24,13 +24,13 @@ def template_for(text: bytes, is_chosen: Callable[[bytes], bool], optional: bool
 
 
 def is_shell_name(name: bytes) -> bool:
-    """Whether envsubst takes a name for that of a variable."""
+    """Returns whether a name is one of envsubst's: it begins with no digit."""
     return not name[:1].isdigit()
 
 
 def with_optional(template: bytes, required: Sequence[Tuple[int, int]]) -> bytes:
-    """The template in which these variables, $name or ${name}, are ${name?}. Each has its name from one offset to
-    another."""
+    """Returns the template with ${name?} in place of these variables, $name or ${name}, each by the start and the end
+    of its name."""
     parts, before = [], 0
     for start, end in required:
         is_braced = template[start - 1:start] == b'{'
@@ -39,26 +39,29 @@ def with_optional(template: bytes, required: Sequence[Tuple[int, int]]) -> bytes
     return b''.join([*parts, template[before:]])
 
 
-# What begins a variable in a text, or in a string of a document, and how its readers let a character be spelled otherwise.
+# A name after a dollar, in a text or in a string of a document.
 _USED = re.compile(rb'\$\{?([0-9A-Za-z_]+)')
-_ESCAPE = re.compile(rb'\\(?:[uUx]((?<=u)[0-9A-Fa-f]{4}|(?<=U)[0-9A-Fa-f]{8}|(?<=x)[0-9A-Fa-f]{2})|\s*\n\s*|.)', re.DOTALL)
+# Escapes of characters and of line ends, by the kind of document. JSON has no escaped line ends.
+_ESCAPES = {kind: re.compile(rb'\\(?:[uUx]((?<=u)[0-9A-Fa-f]{4}|(?<=U)[0-9A-Fa-f]{8}|(?<=x)[0-9A-Fa-f]{2})|%b|.)' % line,
+                             re.DOTALL)
+            for kind, line in (('json', rb'\n'), ('toml', rb'\s*\n\s*'), ('yaml', rb'\r?\n[ \t]*'))}
 
 
 def names_in_text(text: bytes) -> List[bytes]:
-    """The names that a text may use, in their order: those after its dollars."""
+    """Returns the names that a text may use, in order: those after its dollars."""
     return _USED.findall(text)
 
 
-def names_in_document(document: bytes) -> List[bytes]:
-    """The names that the strings of a JSON or TOML document may use, in their order: those after its dollars, also in
-    keys and comments, once escapes are read."""
+def names_in_document(kind: str, document: bytes) -> List[bytes]:
+    """Returns the names that the strings of a document may use, in order: those after its dollars, also in keys and
+    comments, once escapes are read."""
     if b'\\' in document:
-        document = _ESCAPE.sub(_meant, document)
+        document = _ESCAPES[kind].sub(_meant, document)
     return names_in_text(document)
 
 
 def _meant(escape: re.Match[bytes]) -> bytes:
-    """The ASCII character that an escape stands for, nothing for a line that goes on, and else what is in no name."""
+    """Returns the ASCII character that an escape spells, nothing for an escaped line end, or a byte of no name."""
     if escape[1]:
         return bytes([min(int(escape[1], 16), 0x7f)])
     return b'' if b'\n' in escape[0] else b' '

@@ -1,4 +1,4 @@
-"""The shared library, and what subst.h declares of it. Pointers but those to sources are passed as addresses."""
+"""The shared library, and the declarations of subst.h. Pointers are passed as addresses, but not those to sources."""
 from __future__ import annotations
 
 import ctypes
@@ -6,7 +6,7 @@ import os
 from typing import Any, Dict, List
 
 DONE, REFUSED, OUT_OF_MEMORY, ROOM_TOO_SMALL, NOT_CONFIRMED = 0, 1, 4, 5, 8
-# The kinds of faults of a source that is no document, and of a text that has a form that is refused.
+# The kinds of fault of a source that is no document, and of a text with a form that is refused.
 INVALID_DOCUMENT, REFUSED_FORM = 6, 7
 # The choices of names of a style.
 ALL_NAMES, ONLY_NAMES, KNOWN_NAMES = 0, 1, 2
@@ -22,6 +22,7 @@ ARGUMENTS: Dict[str, List[Any]] = {
     'subst_bytes_each': [*_SOURCE, *_ITEMS, *_ITEMS, *_ITEMS, _ADDRESS, _ADDRESS, _ADDRESS],
     'subst_json': _FILL_IN,
     'subst_toml': _FILL_IN,
+    'subst_yaml': _FILL_IN,
     'subst_check': [*_SOURCE, _ADDRESS],
     'subst_variables': [*_SOURCE, *_ITEMS, _ADDRESS, _ADDRESS],
     'subst_missing': _FILL_IN,
@@ -29,6 +30,7 @@ ARGUMENTS: Dict[str, List[Any]] = {
     'subst_fault_highlighting': _SAY,
     'subst_json_fault_text': _SAY,
     'subst_toml_fault_text': _SAY,
+    'subst_yaml_fault_text': _SAY,
     'subst_from_shell': [*_SOURCE, *_ITEMS, _ADDRESS, _ADDRESS, _ADDRESS],
     'subst_shell_form_text': [ctypes.c_uint32, *_ITEMS, _ADDRESS],
     'subst_bytes_by_style': [*_SOURCE, _ADDRESS, *_ITEMS, *_ITEMS, _ADDRESS, _ADDRESS],
@@ -40,14 +42,14 @@ FILE = 'libsubst.so.0'
 
 
 def _path() -> str:
-    """The path of the library, or its name alone, by which the loader looks for it."""
+    """Returns the path of the library, or its name alone, which the loader searches."""
     folder = os.path.dirname(os.path.realpath(__file__))
     places = [os.path.join(folder, FILE), os.path.join(folder, '..', '..', '..', FILE)]
     return os.environ.get('SUBST_LIBRARY', '') or next((place for place in places if os.path.exists(place)), FILE)
 
 
 def _loaded(path: str) -> ctypes.CDLL:
-    """The library, with what each of its calls takes and returns."""
+    """Loads the library, and declares its calls. Raises ImportError if that fails, or if a call is missing."""
     try:
         found = ctypes.CDLL(path)
     except OSError as error:
@@ -61,7 +63,7 @@ def _loaded(path: str) -> ctypes.CDLL:
 
 
 def version() -> str:
-    """The version of the library, which it returns as one number, 102 for 0.1.2."""
+    """Returns the version of the library, as 0.1.2 for its number 102."""
     number: int = library.subst_version()
     return f'{number // 10000}.{number // 100 % 100}.{number % 100}'
 

@@ -1,4 +1,4 @@
-"""Sources and values as the library takes them, and the memory that a call works in."""
+"""The encoding of sources and values, and the memory of calls."""
 from __future__ import annotations
 
 import ctypes
@@ -7,13 +7,13 @@ from abc import ABC, abstractmethod
 from array import array
 from typing import AnyStr, Callable, Generic, List, NamedTuple, Sequence, Tuple, Type
 
-# The words that a call writes beside its output: what is needed, the fault's kind, position and length, and a row; and
-# how many words a pair has, a row, and a variable: its kind, and its name's position and length.
+# The indices of the words that a call writes: the length needed; a fault's kind, position and length; and a row. HEAD
+# is how many these are. The words of a pair, and of a variable: its kind, and its name's position and length.
 NEEDED, FAULT, ROW, HEAD = 0, 1, 4, 5
 PAIR, RECORD = 4, 3
-# The bytes and words of memory that is kept for later calls.
+# The sizes of memory that is kept for later calls, in bytes and in words.
 _KEPT_BYTES, _KEPT_WORDS = 1 << 16, 1 << 10
-# The bytes of a source that has frames, at most, and those of the values in one.
+# The most bytes of a source that has frames, and of the values in a frame.
 FRAME_SOURCE, FRAME_VALUES = 1 << 14, 1 << 10
 
 
@@ -21,32 +21,32 @@ class Encoding(ABC, Generic[AnyStr]):
     """The type of a source, its names, its values and its result."""
 
     kind: Type[AnyStr]
-    # What is taken as that type.
+    # The types that are accepted as that type.
     types: Tuple[type, ...]
 
     @abstractmethod
     def joined(self, words: Sequence[AnyStr]) -> Tuple[bytes, List[int]]:
-        """The bytes of all words together, and how many each has. A word of another type is a TypeError."""
+        """Returns the bytes of all words together, and their lengths. Raises TypeError for a word of another type."""
 
     @abstractmethod
     def decoded(self, output: bytearray) -> AnyStr:
-        """Bytes that the library gives."""
+        """Decodes bytes that the library wrote."""
 
     def encoded(self, word: AnyStr) -> bytes:
-        """The bytes of one word."""
+        """Returns the bytes of one word."""
         return self.joined([word])[0]
 
     @abstractmethod
     def parts(self, source: bytes, starts: Sequence[int], lengths: Sequence[int]) -> List[AnyStr]:
-        """The parts of a source that are here, and are ASCII."""
+        """Returns these parts of a source, which are ASCII."""
 
     def cut(self, output: bytearray, ends: Sequence[int]) -> List[AnyStr]:
-        """The parts of what the library gives that end at these offsets."""
+        """Returns the parts of an output that end at these offsets."""
         return [self.decoded(output[start:end]) for start, end in zip([0, *ends], ends)]
 
 
 class _Text(Encoding[str]):
-    """Methods of str itself are called, since a class over it may have others."""
+    """Text. Methods of str itself are called, since a subclass may override them."""
 
     kind, types = str, (str,)
 
@@ -72,7 +72,7 @@ class _Text(Encoding[str]):
 
 
 class _Bytes(Encoding[bytes]):
-    """A bytearray and a memoryview are taken as bytes. A class over bytes may report another length than it has."""
+    """Bytes, also from a bytearray or a memoryview. A subclass of bytes may report another length than it has."""
 
     kind, types = bytes, (bytes, bytearray, memoryview)
 
@@ -98,13 +98,13 @@ TEXT, BYTES = _Text(), _Bytes()
 
 
 def address_of(memory: bytearray) -> int:
-    """The address of memory whose length never changes and isn't 0."""
+    """Returns the address of memory whose length never changes and isn't 0."""
     return ctypes.addressof(ctypes.c_char.from_buffer(memory))
 
 
 class Memory:
-    """Memory that one call at a time works in: words, of which the first are written by the call, and the others are
-    pairs or what it takes; and bytes, for the values and then for the output."""
+    """The memory of one call at a time: words, first those that the call writes, and then pairs or other arguments; and
+    bytes, for the values and then for the output."""
 
     __slots__ = ('words', 'head_at', 'fault_at', 'items_at', 'room', 'bytes_at', 'size', 'is_kept')
 
@@ -117,12 +117,12 @@ class Memory:
 
     @property
     def fault(self) -> Tuple[int, int, int]:
-        """The kind of the fault, of which the word has the lower half, its position and its length."""
+        """The kind of the fault, in the lower half of its word, its position and its length."""
         kind, position, length = self.words[FAULT:FAULT + 3]
         return kind & 0xffffffff, position, length
 
     def put(self, pairs: array[int], values: bytes, lengths: Sequence[int], absent: Sequence[int] = ()) -> None:
-        """Puts pairs into memory, and their values. One whose value is absent has no name, as no variable has."""
+        """Writes pairs and their values to memory. A pair without a value has an empty name, as no variable has."""
         self.room[:len(values)] = values
         words, at, index = self.words, self.bytes_at, HEAD + 2
         words[HEAD:HEAD + len(pairs)] = pairs
@@ -135,22 +135,22 @@ class Memory:
             words[HEAD + PAIR * missing + 1] = 0
 
     def has_value(self, index: int) -> bool:
-        """Whether the pair at an index has a value, which may be empty."""
+        """Returns whether the pair at an index has a value, which may be empty."""
         return self.words[HEAD + PAIR * index + 1] > 0
 
 
 class Frame(NamedTuple):
-    """Memory for a source that is filled in often, and the call with all its arguments."""
+    """The memory of a source that is filled in often, and the call with all its arguments."""
 
     run: Callable[[], int]
     words: array[int]
-    # The values, and after so many bytes as they may have the output; and the address of this.
+    # The values, and after FRAME_VALUES bytes the output; and the address of these bytes.
     room: bytearray
     at: int
 
 
 def frame_for(call: Callable[..., int], source: bytes, pairs: array[int]) -> Frame:
-    """A frame for a source and its pairs, and for a call that has no types of arguments."""
+    """Returns a frame for a source and its pairs, and for a call without declared types of arguments."""
     size = 2 * FRAME_VALUES + len(source)
     memory = Memory(len(pairs), size)
     memory.words[HEAD:HEAD + len(pairs)] = pairs
@@ -166,7 +166,7 @@ _kept: List[Memory] = []
 
 
 def taken(words: int, size: int) -> Memory:
-    """Memory for so many words and bytes, which nothing else has until it is given back."""
+    """Takes memory of this many words and bytes, for one caller until it is given back."""
     if words > _KEPT_WORDS or size > _KEPT_BYTES:
         return Memory(words, size)
     try:
@@ -176,6 +176,6 @@ def taken(words: int, size: int) -> Memory:
 
 
 def given_back(memory: Memory) -> None:
-    """Keeps memory for later calls, if it is such. What isn't given back is freed."""
+    """Keeps memory for later calls, if it is of the kept sizes. Memory that isn't given back is freed."""
     if memory.is_kept:
         _kept.append(memory)

@@ -1,4 +1,4 @@
-"""Sources, over the calls of the library."""
+"""Sources and documents, over the calls of the library."""
 from __future__ import annotations
 
 import re
@@ -17,18 +17,18 @@ from ._types import DocumentError, FaultKind, ShellError, ShellForm, SubstError,
 
 _Call = Callable[..., int]
 _Joined = Tuple[bytes, List[int], Sequence[int]]
-# Stands for the value of a variable that has none, and what has no values.
+# The value of an unset variable, and a mapping without values.
 _ABSENT: Any = object()
 _NONE: Mapping[str, Any] = {}
-# How many bytes an output is first thought to have at most, beside the source and the values: the output of one row, and
-# those of several.
+# The most bytes that the first buffer of an output has beside the lengths of the source and of the values: for one row,
+# and for several.
 _MORE, _MOST = 1 << 20, 1 << 24
 # The columns of the widest line that is underlined.
 _WIDEST = 60
 
 
 class Filler(ABC, Generic[AnyStr]):
-    """What is filled in, with the names of its variables, for which a mapping is asked."""
+    """A text that is filled in, with the names that are looked up in a mapping."""
 
     __slots__ = ('encoding', 'encoded', 'length', 'call', 'names', 'all_of', 'uses', 'pairs', 'held', 'frames', 'is_used')
 
@@ -38,8 +38,8 @@ class Filler(ABC, Generic[AnyStr]):
 
     def __init__(self, encoding: Encoding[Any], encoded: bytes, call: _Call, names: Iterable[Any],
                  uses: int) -> None:
-        """The call fills in, as subst_bytes_into. The names are asked for in this order. There are so many variables at
-        most."""
+        """Takes a call with the parameters of subst_bytes_into, the names in the order of their lookups, and the most
+        variables that the text may have."""
         self.encoding, self.encoded, self.length, self.call, self.uses = encoding, encoded, len(encoded), call, uses
         self.names = tuple(names)
         self.all_of = _getter(self.names)
@@ -55,10 +55,10 @@ class Filler(ABC, Generic[AnyStr]):
 
     @abstractmethod
     def refused(self, memory: Memory) -> Exception:
-        """The error that the fault is that the call left in memory."""
+        """Returns the error for the fault that the call left in memory."""
 
     def fill_in(self, variables: Mapping[Any, Any], more: Mapping[str, Any]) -> AnyStr:
-        """Fills in by a frame, if there is one."""
+        """Fills in, by a frame if there is one, and returns the output."""
         values = self.asked(variables, more)
         try:
             joined, lengths = self.encoding.joined(values)
@@ -84,7 +84,7 @@ class Filler(ABC, Generic[AnyStr]):
         return output
 
     def fill_in_joined(self, joined: bytes, lengths: Sequence[int], absent: Sequence[int]) -> AnyStr:
-        """Fills in from what `joined` returned."""
+        """Fills in from a result of `joined`, and returns the output."""
         start = len(joined)
         size = start + self.length + min(start * self.uses, start + _MORE)
         while True:
@@ -105,7 +105,7 @@ class Filler(ABC, Generic[AnyStr]):
         return output
 
     def asked(self, variables: Mapping[Any, Any], more: Mapping[str, Any] = _NONE) -> Sequence[Any]:
-        """The value of each name, which is absent where neither has one."""
+        """Returns the value of each name, or _ABSENT if both have none. Keyword arguments take precedence."""
         if type(variables) is dict and not more:
             try:
                 return self.all_of(variables)
@@ -126,8 +126,8 @@ class Filler(ABC, Generic[AnyStr]):
         return values
 
     def joined(self, values: Sequence[Any]) -> _Joined:
-        """These values, of the names in turn, as the library takes them: all together, how many bytes each has, and the
-        indices of those that are absent."""
+        """Returns these values, of the names in turn, as the library takes them: the bytes of all, the length of each,
+        and the indices of those that are absent. Raises TypeError for a value of another type."""
         try:
             return (*self.encoding.joined(values), ())
         except TypeError:
@@ -154,8 +154,8 @@ class Source(Filler[AnyStr]):
 
     def __init__(self, encoding: Encoding[AnyStr], given: AnyStr, only: Optional[FrozenSet[bytes]] = None,
                  optional: bool = False, names: Optional[Iterable[AnyStr]] = None) -> None:
-        """Raises SubstError where it is none. Where names are given, which are all that have a value, that isn't known,
-        and the variables aren't listed."""
+        """Raises SubstError if the source is no template. If names are passed, which must be all that have a value,
+        this isn't checked, and the variables aren't listed."""
         original = encoded = encoding.encoded(given)
         self.given = given if isinstance(given, encoding.kind) else encoding.decoded(bytearray(original))
         self.original, self.only, self.is_optional = original, only, optional
@@ -168,7 +168,7 @@ class Source(Filler[AnyStr]):
             encoded = _foreign.with_optional(original, [
                 (start, start + length) for kind, start, length in _triples(records) if kind == VariableKind.REQUIRED])
         self.records = _records(encoding, encoded) if names is None else array('Q')
-        # Where in the source the names begin that are elsewhere in the template for it.
+        # The offset in the source of each name, by its offset in the template.
         self.places = dict(zip(self.records[1::RECORD], starts)) if starts else {}
         if names is None:
             names = dict.fromkeys(encoding.parts(encoded, self.records[1::RECORD], self.records[2::RECORD]))
@@ -178,7 +178,7 @@ class Source(Filler[AnyStr]):
         return self.error(memory.fault, memory.items_at)
 
     def error(self, fault: Tuple[int, int, int], pairs_at: int, row: Optional[int] = None) -> SubstError:
-        """The error that a fault is, with the pairs at this address."""
+        """Returns the error for a fault, with the pairs at this address."""
         kind, position, length = fault
         place = self.places.get(position, position)
         arguments = (self.encoded, self.length, pairs_at, len(self.names))
@@ -229,7 +229,7 @@ class Source(Filler[AnyStr]):
         return self.listed(found.words[HEAD:HEAD + RECORD * found.words[NEEDED]])
 
     def listed(self, records: Sequence[int]) -> List[Variable[AnyStr]]:
-        """The variables of records of the template."""
+        """Returns the variables of these records of the template."""
         places = [self.places.get(start, start) for start in records[1::RECORD]]
         indices = _indices(self.encoding, self.original, places)
         names = self.encoding.parts(self.encoded, records[1::RECORD], records[2::RECORD])
@@ -243,9 +243,9 @@ class Document(Filler[str]):
     __slots__ = ('kind',)
 
     def __init__(self, kind: str, text: str) -> None:
-        """The kind is json or toml."""
+        """Takes a document of the kind json, toml or yaml."""
         encoded = TEXT.encoded(text)
-        names = [name.decode() for name in _foreign.names_in_document(encoded)]
+        names = [name.decode() for name in _foreign.names_in_document(kind, encoded)]
         super().__init__(TEXT, encoded, getattr(_library, f'subst_{kind}'), dict.fromkeys(names), len(names))
         self.kind = kind
 
@@ -259,21 +259,21 @@ class Document(Filler[str]):
 
 
 def fill_in_large(encoding: Encoding[AnyStr], given: AnyStr, variables: Dict[Any, Any]) -> AnyStr:
-    """Fills in from all variables, of which few are there for the size of the source, and doesn't list those that it
-    has. It is a TypeError or a UnicodeEncodeError where one of them is no name or no value, used or not."""
+    """Fills in a large source from few variables. All are passed to the library, and the names of the source aren't
+    listed. Raises TypeError or UnicodeEncodeError if one has a wrong type or a lone surrogate, used or not."""
     items = [*variables.items()]
     source: Source[AnyStr] = Source(encoding, given, names=[name for name, _ in items])
     return source.fill_in_joined(*encoding.joined([value for _, value in items]), ())
 
 
 def _getter(names: Sequence[Any]) -> Callable[[Mapping[Any, Any]], Sequence[Any]]:
-    """What gives the values of names."""
+    """Returns a function that looks up the values of names."""
     if len(names) > 1:
         return itemgetter(*names)
     return lambda variables: [variables[name] for name in names]
 
 
-# What calls take and say
+# Arguments and texts of calls
 
 
 def check(encoding: Encoding[Any], source: bytes) -> None:
@@ -285,7 +285,7 @@ def check(encoding: Encoding[Any], source: bytes) -> None:
 
 
 def from_shell(encoding: Encoding[AnyStr], text: bytes) -> AnyStr:
-    """The template for a text of a shell."""
+    """Returns the template for a text of a shell. Raises ShellError for the first form that has none."""
     result, memory = _put(
         lambda memory: _library.subst_from_shell(text, len(text), memory.bytes_at, memory.size, memory.head_at,
                                                  memory.fault_at, memory.fault_at + 8), 2 * len(text))
@@ -296,7 +296,7 @@ def from_shell(encoding: Encoding[AnyStr], text: bytes) -> AnyStr:
 
 
 def _records(encoding: Encoding[Any], source: bytes) -> array[int]:
-    """The variables of a source, of which there are no more than dollars."""
+    """Returns the records of the variables of a source, which has at most as many as dollars."""
     count = source.count(b'$')
     memory = taken(RECORD * count, 0)
     result = _library.subst_variables(source, len(source), memory.items_at, count, memory.head_at, memory.fault_at)
@@ -308,19 +308,19 @@ def _records(encoding: Encoding[Any], source: bytes) -> array[int]:
 
 
 def _triples(records: Sequence[int]) -> Iterable[Tuple[int, int, int]]:
-    """The kind of each variable, of which the word has the lower half, the position of its name, and the length."""
+    """Returns the kind of each variable, in the lower half of its word, and the position and the length of its name."""
     return zip((word & 0xffffffff for word in records[0::RECORD]), records[1::RECORD], records[2::RECORD])
 
 
 def _failure(result: int) -> Exception:
-    """The error that a result is, but that of a source that is refused."""
+    """Returns the error for a result, other than that for a refused source."""
     if result == NOT_CONFIRMED:
         return RuntimeError('the document with its strings filled in was not confirmed')
     return MemoryError('subst is out of memory')
 
 
 def _fault_alone(encoding: Encoding[Any], source: bytes, memory: Memory) -> SubstError:
-    """The error that the fault of a source is, whatever the variables."""
+    """Returns the error for a fault of a source with any variables."""
     text, shown = (said(call, source, len(source), None, 0)
                    for call in (_library.subst_fault_text, _library.subst_fault_highlighting))
     return _error(encoding, source, memory.fault, text, shown)
@@ -328,14 +328,14 @@ def _fault_alone(encoding: Encoding[Any], source: bytes, memory: Memory) -> Subs
 
 def _error(encoding: Encoding[Any], source: bytes, fault: Tuple[int, int, int], text: str, shown: str = '',
            row: Optional[int] = None) -> SubstError:
-    """The error with this text. The text of a variable without a value ends with its name."""
+    """Returns the error with this text. The text about an unset variable ends in its name."""
     kind, position, length = fault
     name = text.rpartition('$')[2] if kind == FaultKind.NO_SUCH_VARIABLE else None
     return SubstError(text, FaultKind(kind), *span(encoding, source, position, length), shown, row, name)
 
 
 def _put(call: Callable[[Memory], Any], size: int) -> Tuple[int, Memory]:
-    """The result of a call, and memory that has room for all that it puts there. So many bytes are tried first."""
+    """Makes a call until its memory is large enough, first with this many bytes. Returns the result and the memory."""
     while True:
         memory = Memory(0, size)
         result = call(memory)
@@ -347,20 +347,20 @@ def _put(call: Callable[[Memory], Any], size: int) -> Tuple[int, Memory]:
 
 
 def said(call: _Call, *arguments: Any) -> str:
-    """What a call says of a source."""
+    """Returns the text that a call writes, or an empty one if it isn't done."""
     result, memory = _put(lambda memory: call(*arguments, memory.bytes_at, memory.size, memory.head_at), 256)
     return memory.room[:memory.words[NEEDED]].decode() if result == DONE else ''
 
 
 def span(encoding: Encoding[Any], source: bytes, position: int,
           length: int) -> Tuple[int, int, Optional[int], Optional[int]]:
-    """The position of a part of the source, its length, its line and its column."""
+    """Returns the position and the length of a part of the source, and its line and column."""
     start, end = _indices(encoding, source, [position, position + length])
     return (start, end - start, *_place(source, position))
 
 
 def _place(source: bytes, offset: int) -> Tuple[Optional[int], Optional[int]]:
-    """The line and the column at an offset, where the source is UTF-8."""
+    """Returns the line and the column at an offset, or None for both if the source isn't UTF-8."""
     memory = taken(2, 0)
     at = memory.items_at
     if _library.subst_place(source, len(source), offset, at, at + 8) != DONE:
@@ -371,7 +371,7 @@ def _place(source: bytes, offset: int) -> Tuple[Optional[int], Optional[int]]:
 
 
 def underlined(source: bytes, position: int, length: int) -> str:
-    """The line of a name, underlined as the library does it."""
+    """Returns the line of a name, underlined as the library does it, or an empty text if the library shows none."""
     line, column = _place(source, position)
     if line is None or column is None:
         return ''
@@ -381,7 +381,7 @@ def underlined(source: bytes, position: int, length: int) -> str:
 
 
 def _indices(encoding: Encoding[Any], source: bytes, offsets: Iterable[int]) -> List[int]:
-    """Offsets in a source, in order, as indices of what was given."""
+    """Converts ascending byte offsets to indices of the source as it was given."""
     if encoding is BYTES or source.isascii():
         return list(offsets)
     found: List[int] = []

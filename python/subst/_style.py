@@ -10,8 +10,7 @@ from ._memory import Encoding, Memory, address_of
 from ._source import Filler, said, span, underlined
 from ._types import FaultKind, Forms, ShellError, ShellForm, SubstError
 
-# How many words a style has, and a fault of a text: its kind and form, the position and the length of what is at fault, and
-# those of its message.
+# The words of a fault of a text: its kind and form, its position and length, and those of its message.
 _FAULT = 5
 
 
@@ -36,7 +35,7 @@ class Text(Filler[AnyStr]):
         self.style = array('Q', (forms | choice << 32, optional, self.only.buffer_info()[0], len(only or ())))
 
     def filled(self, source: bytes, length: int, *arguments: int) -> int:
-        """The result of the call, which is passed the style, and reports a fault beside its memory."""
+        """Calls the library with the style, and returns the result. A fault is written beside the memory."""
         result: int = _library.subst_bytes_by_style(source, length, self.style.buffer_info()[0], *arguments[:-1],
                                                     self.fault.buffer_info()[0])
         return result
@@ -56,7 +55,7 @@ class Text(Filler[AnyStr]):
                           underlined(self.encoded, position, length), None, name)
 
     def expanded(self, message: bytes, memory: Memory) -> bytes:
-        """A message with its variables filled in from the pairs in memory, or as it is if it is refused."""
+        """Returns a message with its variables filled in from the pairs in memory, or as it is if it is refused."""
         needed = array('Q', (len(message),))
         while True:
             room = bytearray(needed[0] or 1)

@@ -1,4 +1,4 @@
-"""What calls take and report: the forms of texts, the kinds of faults and variables, and the errors."""
+"""The types of arguments and results: the forms of texts, the kinds of faults and variables, and the errors."""
 from __future__ import annotations
 
 import enum
@@ -6,7 +6,7 @@ from typing import TYPE_CHECKING, Any, AnyStr, Generic, NamedTuple, Optional
 
 
 class FaultKind(enum.IntEnum):
-    """What is wrong with a source.
+    """The kind of a fault: what is wrong with a source.
 
     INVALID_ESCAPE_SEQUENCE: a backslash before a character that can't be escaped, or at the end of the source.
     MISSING_VARIABLE_NAME: a placeholder with no name.
@@ -23,11 +23,11 @@ class FaultKind(enum.IntEnum):
 
 
 class VariableKind(enum.IntEnum):
-    """What there is in place of a variable without a value.
+    """The kind of a variable: how it expands if it is unset.
 
-    REQUIRED: $name or ${name}, and the source is refused.
-    OPTIONAL: ${name?}, nothing.
-    WITH_DEFAULT: ${name:default}, its default.
+    REQUIRED: $name or ${name}. The source is refused.
+    OPTIONAL: ${name?}, to nothing.
+    WITH_DEFAULT: ${name:default}, to its default.
     """
 
     REQUIRED = 0
@@ -36,10 +36,10 @@ class VariableKind(enum.IntEnum):
 
 
 class ShellForm(enum.IntEnum):
-    """A form of a shell for which there is no template.
+    """A form of a shell that has no template, or is refused in a text of another tool.
 
-    DOLLAR: a dollar before no name, dollar or opening brace, as in $1, $(command) or 5 $.
-    NO_NAME: ${ before no name, as in ${1} or ${#name}.
+    DOLLAR: a dollar that no name, dollar or opening brace follows, as in $1, $(command) or 5 $.
+    NO_NAME: ${ that no name follows, as in ${1} or ${#name}.
     MINUS: ${name-default}.
     QUESTION: ${name?message}.
     EQUALS: ${name=default}.
@@ -77,13 +77,13 @@ class ShellForm(enum.IntEnum):
 class Forms(enum.IntEnum):
     """The forms of variables in a text of another tool.
 
-    OWN: $name, ${name}, ${name?} and ${name:default}, where a backslash is text. A default that begins with one of - = ?
-    and + makes it no variable.
+    OWN: $name, ${name}, ${name?} and ${name:default}. A backslash is text. With a default that begins with one of - = ?
+    and + it is no variable.
     ENVSUBST: $name and ${name}.
     SHELL: $name, ${name}, ${name:-default}, ${name-default}, ${name:+other}, ${name+other}, ${name:?message} and
-    ${name?message}. Of all names they are the whole language of Docker Compose: $$ is a dollar, and every other form after
-    ${ is refused.
-    COMMON: those of from_shell. An empty value is none, and a variable without a value gives nothing.
+    ${name?message}. With all names this is the whole language of Docker Compose: $$ is a dollar, and every other form
+    after ${ is refused.
+    COMMON: those of from_shell. An empty value counts as none, and an unset variable expands to nothing.
     """
 
     OWN = 0
@@ -99,7 +99,7 @@ if TYPE_CHECKING:
         position: int
 else:
     class Variable(NamedTuple):
-        """A variable of a source, whose name begins at source[position]: a str is counted in characters, bytes in
+        """A variable of a source. Its name begins at source[position], which counts characters of a str, and bytes of
         bytes."""
 
         kind: VariableKind
@@ -111,7 +111,7 @@ else:
 
 
 class _Located(ValueError):
-    """An error with a text of its own, the message, and a place in a source."""
+    """An error with a message of its own and a span in a source."""
 
     message: str
     position: int
@@ -132,15 +132,17 @@ class _Located(ValueError):
 
 
 class SubstError(_Located):
-    """A source that is refused. Its message is the library's, and its kind says what is wrong; the text of the error
-    has the line and the column too. Its name is that of a variable without a value, and None for other faults.
+    """A refused source. The text of the error is its message with the line and the column.
 
-    What is at fault is source[position:position + length]: a str is counted in characters, bytes in bytes. Its line and
-    column count from 1, columns as a terminal has them, a tab as one; they are None where the source isn't UTF-8. The
-    highlighting is that line with carets below what is seen of the fault, and is empty where the source isn't UTF-8 or
-    the line is wider than 60 columns. The row is the index of the one that fill_in_each can't fill in, and None for
-    other calls. Of a document, the source is its text, and the highlighting is empty. Of a document and of a tree, the
-    message begins with the path of the string, unless that is all of it.
+    - message, kind: the library's text, and what is wrong. In a document or a tree the message begins with the path of
+      the string, unless that is all of it.
+    - position, length: the fault is source[position:position + length], in characters of a str, in bytes of bytes. For
+      a document this is its text.
+    - line, column: from 1, columns as in a terminal, a tab as one. None if the source isn't UTF-8.
+    - highlighting: that line, with carets below the visible part of the fault. Empty if the source isn't UTF-8, if the
+      line is wider than 60 columns, and for documents.
+    - row: the index of the row that is refused in fill_in_each, or None for other calls.
+    - name: that of a variable without a value, or None for other faults.
     """
 
     def __init__(self, message: str, kind: FaultKind, position: int, length: int, line: Optional[int],
@@ -154,13 +156,13 @@ class SubstError(_Located):
         self.name = name
 
     def below(self, path: str) -> SubstError:
-        """The same error of the string that is in a tree at a path."""
+        """Returns the same error for the string at a path of a tree."""
         return SubstError(f'{path}: {self.message}', *self.args[1:])
 
 
 class DocumentError(_Located):
-    """A text that isn't JSON, or isn't TOML, as the call asks. Its message is the reader's, which stopped at
-    text[position:position + length]. Its line and column are as those of a SubstError.
+    """A text that isn't JSON, TOML or YAML, as the call requires. Its message is the reader's, which stopped at
+    text[position:position + length]. line and column are as in SubstError.
     """
 
     def __init__(self, message: str, position: int, length: int, line: Optional[int], column: Optional[int]) -> None:
@@ -169,8 +171,8 @@ class DocumentError(_Located):
 
 
 class ShellError(_Located):
-    """A text of another tool that has a form that is refused. Its message is the library's. The form begins at
-    text[position], a dollar or a brace. Its line and column are as those of a SubstError.
+    """A text of another tool with a form that is refused. Its message is the library's. The form begins at
+    text[position], with a dollar or a brace. line and column are as in SubstError.
     """
 
     def __init__(self, message: str, form: ShellForm, position: int, length: int, line: Optional[int],

@@ -1,11 +1,11 @@
--- What is put into the buffer is what was wanted.
+-- The items that are written to the buffer are the wanted ones.
 use Rattle.std.proofs.Common.{◌≡◌, ◌<◌, ◌≤◌, ℕ, ◌+◌, List, [], ◌∷◌, ◌++◌, drop, get_or, length, map, take, ap, ◌∙◌, subst, sym, append_assoc, arith}
 use Rattle.std.proofs.Math.ListN.{set}
 use Rattle.std.proofs.Math.Seq.{set-append_seam}
 use Rattle.std.proofs.lemmas.List.{drop_more, length-map, length-take-le, map-append, take_more}
 use Rattle.subst_c.specs.Buffer.{FillsBuffer, IsPut}
 
--- what is put into the buffer is so, wherever what is wanted is so
+-- items that are written as wanted are so too under a weaker property
 pub put_as : {A : Type 0} {W V : List A → Type 0} {needed : ℕ} {old new : List A}
     → ((x : List A) → W x → V x) → IsPut W needed old new → IsPut V needed old new
 put_as so put = record {
@@ -15,7 +15,7 @@ put_as so put = record {
   put = put.put;
 }
 
--- a call fills the buffer so, wherever what is wanted is so
+-- a call that fills the buffer with wanted items does so too under a weaker property
 pub fills_as : {A : Type 0} {W V : List A → Type 0} {result needed_old needed : ℕ} {old new : List A}
     → ((x : List A) → W x → V x) → FillsBuffer W result needed_old needed old new
     → FillsBuffer V result needed_old needed old new
@@ -38,7 +38,7 @@ pub fills_with : {A : Type 0} {W : List A → Type 0} {items : List A} {result n
     → FillsBuffer W result needed_old needed old new
 fills_with {W = W} wanted fills = fills_as (λ x same. subst W (sym same) wanted) fills
 
--- one more item of a list is written to the buffer, after those before it
+-- the next item of a list is written to the buffer after those before it
 pub one_more_put : {A B : Type 0} (f : A → B) (xs : List A) (old new : List B) (i : ℕ) (x : A) (y : B)
     → i < length xs → length xs ≤ length old → x ≡ get_or xs i x → y ≡ f x
     → new ≡ map f (take i xs) ++ drop i old

@@ -1,4 +1,4 @@
--- Outputs of rows, one after the other.
+-- The concatenated outputs of rows.
 use Rattle.std.proofs.Common.{◌≡◌, ℕ, suc, ◌+◌, ◌<◌, ◌≤◌, List, [], ◌∷◌, ◌++◌, take, get_or, length, Option, Some, None, IfSome, Result, Ok, Err, IfErr, option_map, inl, inr, refl, sym, ap, ◌∙◌, subst, arith, append-nil, length-append}
 use Rattle.std.proofs.lemmas.List.{length-take-le, take_more}
 use Rattle.std.proofs.lemmas.List.Folds.{concat-append}
@@ -27,7 +27,7 @@ length-ends_from : (n : ℕ) (outputs : List (List ℕ)) → length (ends_from n
 length-ends_from n [] = refl
 length-ends_from n (o ∷ outputs) = ap suc (length-ends_from (n + length o) outputs)
 
--- one more output ends where all of them end
+-- the next output ends where all of them end
 ends_from-append : (n : ℕ) (outputs : List (List ℕ)) (output : List ℕ) → ends_from n (outputs ++ output ∷ [])
     ≡ ends_from n outputs ++ (n + length (concat outputs ++ output)) ∷ []
 ends_from-append n [] output = refl
@@ -38,7 +38,7 @@ ends_from-append n (o ∷ outputs) output =
     omega (arith, length-append all output, length-append o all, length-append (o ++ all) output) in
     ap (λ l. (n + length o) ∷ l) (later ∙ ap (λ m. ends_from (n + length o) outputs ++ m ∷ []) e)
 
--- the outputs joined, with one more
+-- the concatenated outputs, with one more
 concat-more : (outputs : List (List ℕ)) (output : List ℕ)
     → concat (outputs ++ output ∷ []) ≡ concat outputs ++ output
 concat-more outputs output =
@@ -85,7 +85,7 @@ row_refused s rows i d bytes ends new_ends e o h are same states refused =
         inr (subst (λ n. RefusesAt (under_row s) rows n f) (sym counted)
         (refused_at (under_row s) rows i d f h (are.outputs, are.given) r))
 
--- the range of such a fault ends within the source
+-- the range of such a fault ends in the source
 pub refused_within : (s : List ℕ) (rows : List Row) (i : ℕ) (e : Error)
     → IfSome (error_fault e) (IsRefusedIn s rows i) → (range_of (error_fault e)).end ≤ length s
 refused_within s rows i e h =
@@ -98,7 +98,7 @@ refused_within s rows i e h =
     some_look (Some f) (inl fault) = ((λ _. None), inl fault.0)
     some_look (Some f) (inr at) = (pair_value at.here.pairs.now, at.refused)
 
--- a variable that is missing is what the source is refused for
+-- a missing variable is the fault that the source is refused for
 pub refused_for_missing : {T : Type 0} (s : List ℕ) (look : LookUp) (t : Tree) (r : Result T ExpandError)
     (e : ExpandError) → IsErrAnd r (λ x. x ≡ e) → Spells t s
     → IfSome (expand_fault e) (IsMissing (value 0 t (look_up_of (λ v. v) look)))
@@ -114,7 +114,7 @@ refused_for_missing s look t (Err x) e same spells h =
     of None missing = tt
     of (Some f) missing = inr (t, spells, missing)
 
--- bytes that are the value of the source's tree are what it gives
+-- bytes that are the value of the source's tree are its output
 pub gives_value : (s x : List ℕ) (look : LookUp) (t : Tree) → Spells t s
     → value 0 t (look_up_of (λ v. v) look) ≡ Bytes x → Answers s look (Gives x)
 gives_value s x look t spells h = (t, spells, subst (λ l. value 0 t l ≡ Bytes x) (same_look_up look) h)

@@ -1,4 +1,4 @@
--- What is reported by the records of a list that says what is so of the source's tree.
+-- The records of a list of variables are those of the source's tree.
 use Rattle.std.proofs.Common.{◌≡◌, ◌≤◌, ◌↔◌, ℕ, ◌+◌, List, length, map, ap, ◌∙◌, subst, sym}
 use Rattle.std.proofs.lemmas.List.{length-map, nil_from_length}
 use Rattle.std.proofs.lemmas.List.Elements.{All-map}
@@ -15,7 +15,7 @@ use Rattle.subst_language.specs.Language.Variables.{Variable, name_range, all_mi
 use Rattle.subst_c.specs.Records.{HasRecords, variable_record}
 use Rattle.subst_c.specs.declared.variables.VariableRecord.{VariableRecord}
 
--- the records of a list whose items are the variables of the source's tree, seen so
+-- the records of a list whose items, as variables, are those of the source's tree
 pub has_records : {A : Type 0} (view : A → Variable) (of : Tree → List Variable) (s template : List ℕ)
     (list items : List A) → template ≡ s → list ≡ items → IsSentence s
     → ByTree template (λ t. map view items ≡ of t)
@@ -31,7 +31,7 @@ has_records view of s template list items same borrowed (t, spells) are within =
           (rw (borrowed, ← same) within);
     }
 
--- there are no records of what is missing exactly where the source gives bytes
+-- there are no records of missing variables exactly if the source has an output
 pub none_where_it_gives : (look : LookUp) (s : List ℕ) (records : List VariableRecord) (n : ℕ)
     → HasRecords s (λ t. all_missing 0 t look) records → n ≡ length records
     → (n ≡ 0 ↔ ((x : List ℕ) × Answers s look (Gives x)))

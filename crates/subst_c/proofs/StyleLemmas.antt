@@ -1,4 +1,4 @@
--- A text that is filled in through its template gives its value, or is missing the variable that its template is.
+-- A text and its template have the same value, or miss the same variable.
 use Rattle.std.proofs.Common.{◌≡◌, ◌==◌, ◌<◌, ◌≤◌, ℕ, zero, suc, Bool, true, false, if◌then◌else◌, List, [], ◌∷◌, length, map, Option, Some, None, IfSome, MatchOption, get_or, option_and_then, option_map, Err, refl, sym, ap, ◌∙◌, subst}
 use Rattle.std.proofs.lemmas.Option.{slice_get-get_or, slice_get-map, slice_get_read}
 use Rattle.std.specs.Borrow.{Bor}
@@ -10,7 +10,7 @@ use Rattle.subst_foreign.specs.Grammar.{Grammar}
 use Rattle.subst_foreign.specs.Foreign.{unplaced}
 use Rattle.subst_foreign.specs.Question.{by_question, is_empty, is_missing, negated, value_of}
 use Rattle.subst_foreign.specs.Reading.{IsListing, Listing, VariableAt, end_of, variable_of, without_place}
-use Rattle.subst_foreign.specs.Template.{IsTemplate, asked, seen_by, told, told_name}
+use Rattle.subst_foreign.specs.Template.{IsTemplate, renamed, seen_by, template_name_of, text_name}
 use Rattle.subst_foreign.specs.Text.{Text, IsText, spelling, variables_of}
 use Rattle.subst_foreign.specs.declared.forms.Forms.{Forms}
 use Rattle.subst_foreign.specs.declared.forms.Forms.TheVariants as of
@@ -34,7 +34,7 @@ use Rattle.subst_c.specs.Style.{HasIndex, IsUnset}
 use Rattle.subst_c.specs.Text.{are_texts}
 use Rattle.subst_c.specs.declared.pairs.Pair.{Pair}
 
--- a look-up without its empty values gives texts where it does
+-- without its empty values, a look-up of texts is one too
 nonempty_texts : (look : LookUp) → GivesTexts look → GivesTexts (without_empty look)
 nonempty_texts look texts name x found = of (look name) refl found
   where
@@ -47,13 +47,13 @@ nonempty_texts look texts name x found = of (look name) refl found
     of None is same = absurd cc
     of (Some y) is same = subst IsUtf8 (kept y (length y == 0) same) (texts name y is)
 
--- the answer to whether there is no value is a text
+-- the answer to whether a value is missing is a text
 negated_text : (o : Option (List ℕ)) (x : List ℕ) → negated o ≡ Some x → IsUtf8 x
 negated_text (Some y) x same = absurd cc
 negated_text None x same =
     let empty : [] ≡ x = cc in subst IsUtf8 empty (IsUtf8-nil)
 
--- so does what answers questions
+-- the values and answers of a look-up of texts are texts
 answers_texts : (look : LookUp) → GivesTexts look → GivesTexts (by_question look)
 answers_texts look texts [] x found = nonempty_texts look texts [] x found
 answers_texts look texts (b ∷ name) x found =
@@ -68,14 +68,14 @@ answers_texts look texts (b ∷ name) x found =
     of false false true same = negated_text (without_empty look name) x same
     of false false false same = nonempty_texts look texts (b ∷ name) x same
 
--- what templates see of a look-up that gives texts gives texts
+-- templates see a look-up of texts as one
 pub seen_texts : (forms : Forms) (look : LookUp) → GivesTexts look → GivesTexts (seen_by forms look)
 seen_texts of.Own look texts = texts
 seen_texts of.Envsubst look texts = texts
 seen_texts of.Shell look texts = answers_texts look texts
 seen_texts of.Common look texts = nonempty_texts look texts
 
--- what a text gives through a template that is a text is a text, where the values are
+-- the output of a text, through a template that is UTF-8, is UTF-8 if the text and the values are
 pub gives_text : (law : TextsGiveTexts) (forms : Forms) (s source : List ℕ) (pairs : List Pair) (x : List ℕ)
     → are_texts s pairs ≡ true → (IsUtf8 s → IsUtf8 source) → IsSentence source
     → ByTree source (λ t. value 0 t (seen_by forms (pair_value pairs)) ≡ Bytes x) → IsUtf8 x
@@ -83,12 +83,12 @@ gives_text law forms s source pairs x are is_text (t, spells) gives =
     law source x 0 (seen_by forms (pair_value pairs)) (is_text (source_is_text s pairs are))
     (seen_texts forms (pair_value pairs) (values_are_texts s pairs are)) t spells (gives t spells)
 
--- the fault that says so says which variable is missing
+-- a value with this fault is that of this missing variable
 pub says_missing : (v : Value) (position : ℕ) (name : List ℕ) → IsFault v (NoSuchVariable position name)
     → v ≡ IsMissing position name
 says_missing v position name (p, n, is, same) = cc (is, same)
 
--- what holds of each holds of the one at an index
+-- a property of each item holds for the one at an index
 pub each_at : {X : Type 0} (P : X → Type 0) (l : List X) (i : ℕ) (x : X) → AllByRecursion P l
     → slice_get l i ≡ Some x → P x
 each_at P [] i x all found = absurd cc
@@ -103,17 +103,17 @@ ListsItems g = (text : Text) (listed : List VariableAt) → IsText g false text 
 
 abbrev pub TellsNames : Grammar → Type 0
 TellsNames g = (text : Text) → IsText g false text []
-    → AllByRecursion (λ v. told_name g.forms (asked g.forms v) ≡ v.name) (variables_of text)
+    → AllByRecursion (λ v. text_name g.forms (template_name_of g.forms v) ≡ v.name) (variables_of text)
 
 -- the law of the names of a tree's variables, which `laws::missing_lists_are_whole` states
 abbrev pub NamesVariables : Type 0
 NamesVariables = (p : ℕ) (t : Tree) → map name_of (tree.variables_of p t) ≡ names_in t
 
--- the name that a template asks for at an index is that of the variable that is listed there, and so the one
--- that is told is the variable's
+-- the name that a template looks up at an index is that of the variable listed there, so the reported name is
+-- the variable's
 told_at : (g : Grammar) (unset : Missing) (s source : List ℕ) → ListsItems g → TellsNames g → NamesVariables
     → (template : IsTemplate g unset s source) (position : ℕ) (name : List ℕ) (v : VariableAt)
-    → HasIndex g s source position name v → told_name g.forms name ≡ v.name
+    → HasIndex g s source position name v → text_name g.forms name ≡ v.name
 told_at g unset s source lists tells names template position name v at =
     let items = template.items in
     let (w, here, placed, named) = at.in_template template.tree template.spells in
@@ -122,18 +122,19 @@ told_at g unset s source lists tells names template position name v at =
     let listed : slice_get (variables_of items) at.index ≡ Some (without_place v) =
     ap (λ l. slice_get l at.index) (sym of_items) ∙ slice_get-map without_place at.listed at.index
     ∙ ap (option_map without_place) at.here in
-    let asks : slice_get (names_in template.tree) at.index ≡ Some (asked g.forms (without_place v)) =
-    ap (λ l. slice_get l at.index) template.names ∙ slice_get-map (asked g.forms) (variables_of items) at.index
-    ∙ ap (option_map (asked g.forms)) listed in
+    let asks : slice_get (names_in template.tree) at.index ≡ Some (template_name_of g.forms (without_place v)) =
+    ap (λ l. slice_get l at.index) template.names
+    ∙ slice_get-map (template_name_of g.forms) (variables_of items) at.index
+    ∙ ap (option_map (template_name_of g.forms)) listed in
     let named_so : slice_get (names_in template.tree) at.index ≡ Some w.name =
     ap (λ l. slice_get l at.index) (sym (names 0 template.tree))
     ∙ slice_get-map name_of (tree.variables_of 0 template.tree) at.index ∙ ap (option_map name_of) here in
-    let same : name ≡ asked g.forms (without_place v) = cc (named, named_so, asks) in
-    ap (told_name g.forms) same
-    ∙ each_at (λ u. told_name g.forms (asked g.forms u) ≡ u.name) (variables_of items) at.index
+    let same : name ≡ template_name_of g.forms (without_place v) = cc (named, named_so, asks) in
+    ap (text_name g.forms) same
+    ∙ each_at (λ u. text_name g.forms (template_name_of g.forms u) ≡ u.name) (variables_of items) at.index
     (without_place v) (tells items template.read) listed
 
--- the variable that a template is missing is at its index in the text
+-- the variable that is missing in a template is at its index in the text
 pub unset_at : (g : Grammar) (unset : Missing) (s source : List ℕ) (look : LookUp) → ListsItems g → TellsNames g
     → NamesVariables → (template : IsTemplate g unset s source) (position : ℕ) (name : List ℕ) (v : VariableAt)
     → HasIndex g s source position name v
@@ -147,18 +148,18 @@ unset_at g unset s source look lists tells names template position name v at is 
       name = name;
       missing = missing;
       at_index = at;
-      says = sym (template.gives look) ∙ ap (λ v. told g.forms (unplaced v)) missing
+      says = sym (template.gives look) ∙ ap (λ v. renamed g.forms (unplaced v)) missing
           ∙ ap (λ n. Err n) (told_at g unset s source lists tells names template position name v at);
     }
 
--- what is reported of a variable at an index lies in the text
+-- a variable at an index lies in the text
 pub ends_within : (g : Grammar) (s source : List ℕ) (position : ℕ) (name : List ℕ) (v : VariableAt)
     → ((listed : List VariableAt) → Listing g 0 0 s listed → AllByRecursion (λ v. end_of v ≤ length s) listed)
     → HasIndex g s source position name v → end_of v ≤ length s
 ends_within g s source position name v within at =
     each_at (λ v. end_of v ≤ length s) at.listed at.index v (within at.listed at.lists) at.here
 
--- the variable of a text is at an index at which the one of its template is that is missing
+-- the index of the missing variable in its template is that of a variable in the text
 pub has_index : (g : Grammar) (s template : List ℕ) (position : ℕ) (name : List ℕ) (listed : List Variable)
     (variables : List TextVariable) (i : ℕ) (d : Variable) (got : Option (Bor TextVariable))
     (P : Bor TextVariable → Type 0)

@@ -1,4 +1,4 @@
--- What a source of text gives, filled in with texts, is a text.
+-- The output of a source that is UTF-8, with values that are UTF-8, is UTF-8.
 use Rattle.std.proofs.Common.{◌≡◌, ℕ, Bool, true, false, ◌&&◌, if◌then◌else◌, List, [], ◌∷◌, Option, Some, None, IfSome, MatchResult, Result, Ok, Err, find, is_ok, refl, subst, sym}
 use Rattle.std.proofs.lemmas.Str.{IsUtf8-from_is_utf8, is_utf8-from_IsUtf8}
 use Rattle.std.specs.Option.{option_map}
@@ -25,7 +25,7 @@ tells_text s P (Err e) none = of (is_utf8 s) refl
     of true is = absurd (none (IsUtf8-from_is_utf8 s is))
     of false is = refl
 
--- both of two tests that pass together
+-- if two tests pass together, each of them passes
 first_passes : (a b : Bool) → (a && b) ≡ true → a ≡ true
 first_passes true b e = refl
 first_passes false b e = absurd cc
@@ -34,7 +34,7 @@ second_passes : (a b : Bool) → (a && b) ≡ true → b ≡ true
 second_passes true b e = e
 second_passes false b e = absurd cc
 
--- the value that is found under a name is one of the values
+-- the value that is found under a name is one of the values, so it is UTF-8
 found_is_text : (pairs : List Pair) (name : List ℕ) → have_texts pairs ≡ true
     → IfSome (find (λ pair. bytes_eq name pair.name.now) pairs) (λ pair. is_utf8 pair.value.now ≡ true)
 found_is_text [] name all = tt
@@ -48,7 +48,7 @@ found_is_text (pair ∷ pairs) name all =
     of true later is rest = is
     of false later is rest = rest
 
--- what is found is a text
+-- the value that is found is UTF-8
 value_is_text : (found : Option Pair) (x : List ℕ) → IfSome found (λ pair. is_utf8 pair.value.now ≡ true)
     → option_map (λ pair. pair.value.now) found ≡ Some x → IsUtf8 x
 value_is_text (Some pair) x is e =
@@ -56,23 +56,23 @@ value_is_text (Some pair) x is e =
     subst (λ (s : List ℕ). IsUtf8 s) same (IsUtf8-from_is_utf8 pair.value.now is)
 value_is_text None x is e = absurd cc
 
--- what pairs have of which all values are texts is a text
+-- if all values of pairs are UTF-8, so is the value of each name
 pub gives_texts : (pairs : List Pair) → have_texts pairs ≡ true → GivesTexts (pair_value pairs)
 gives_texts pairs all name x found =
     value_is_text (find (λ pair. bytes_eq name pair.name.now) pairs) x (found_is_text pairs name all) found
 
--- where all are texts, so is the source, and so is what the pairs have
+-- if the source and all values are UTF-8, so are the source and the value of each name
 pub source_is_text : (s : List ℕ) (pairs : List Pair) → are_texts s pairs ≡ true → IsUtf8 s
 source_is_text s pairs are = IsUtf8-from_is_utf8 s (first_passes (is_utf8 s) _ are)
 
 pub values_are_texts : (s : List ℕ) (pairs : List Pair) → are_texts s pairs ≡ true → GivesTexts (pair_value pairs)
 values_are_texts s pairs are = gives_texts pairs (second_passes (is_utf8 s) _ are)
 
--- where the source is a text, all are texts if the values are
+-- if the source is UTF-8, all are UTF-8 exactly if the values are
 pub texts_of_a_text : (s : List ℕ) (pairs : List Pair) → IsUtf8 s → are_texts s pairs ≡ have_texts pairs
 texts_of_a_text s pairs is = rw (is_utf8-from_IsUtf8 s is)
 
--- where the source is no text, not all are texts
+-- if the source isn't UTF-8, not all are
 pub texts_of_no_text : (s : List ℕ) (pairs : List Pair) → ¬ (IsUtf8 s) → are_texts s pairs ≡ false
 texts_of_no_text s pairs none = of (is_utf8 s) refl
   where
@@ -80,7 +80,7 @@ texts_of_no_text s pairs none = of (is_utf8 s) refl
     of true is = absurd (none (IsUtf8-from_is_utf8 s is))
     of false is = refl
 
--- what the source gives is a text
+-- the output of the source is UTF-8
 pub gives_text : (law : TextsGiveTexts) (s : List ℕ) (pairs : List Pair) → are_texts s pairs ≡ true
     → (x : List ℕ) → GivenBy s pairs x → TextGivenBy s pairs x
 gives_text law s pairs are x (t, spells, gives) = (

@@ -1,29 +1,29 @@
--- What is in the caller's buffer.
+-- The contents of the caller's buffer.
 use Rattle.std.specs.Prelude.{◌≡◌, ◌≢◌, ◌<◌, ℕ, List, ◌++◌, drop, length}
 use Rattle.subst_c.specs.declared.outcome.TheConstants.{DONE, ROOM_TOO_SMALL}
 
--- The buffer begins with what is wanted, which is `needed` items; those after it are as before.
+-- The buffer begins with the wanted items, `needed` in number, and the items after them are unchanged.
 pub record IsPut {A : Type 0} (IsWanted : List A → Type 0) (needed : ℕ) (old new : List A) : Type 0 where
   pub items : List A
   pub wanted : IsWanted items
   pub counted : needed ≡ length items
   pub put : new ≡ items ++ drop needed old
 
--- what is wanted is `needed` items, more than the buffer has
+-- the wanted items are `needed` in number, more than the buffer holds
 pub record IsTooLong {A : Type 0} (IsWanted : List A → Type 0) (needed : ℕ) (buffer : List A) : Type 0 where
   pub items : List A
   pub wanted : IsWanted items
   pub counted : needed ≡ length items
   pub longer : length buffer < needed
 
--- what a call with this result leaves in the buffer, and in the count of what is needed
+-- the effect of a call with this result on the buffer, and on the count of needed items
 pub record FillsBuffer {A : Type 0} (IsWanted : List A → Type 0) (result needed_old needed : ℕ)
     (old new : List A) : Type 0 where
-  -- the buffer begins with what is wanted
+  -- the buffer begins with the wanted items
   pub done : result ≡ DONE → IsPut IsWanted needed old new
-  -- what is wanted is longer than the buffer
+  -- the wanted items are more than the buffer holds
   pub too_small : result ≡ ROOM_TOO_SMALL → IsTooLong IsWanted needed old
-  -- unless the call is done, the buffer stays as it was
+  -- unless the call is done, the buffer is unchanged
   pub buffer_kept : result ≢ DONE → new ≡ old
-  -- the count stays as it was unless what is wanted is known
+  -- unless the call is done or the buffer is too small, the count is unchanged
   pub needed_kept : result ≢ DONE → result ≢ ROOM_TOO_SMALL → needed ≡ needed_old

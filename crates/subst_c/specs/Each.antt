@@ -1,4 +1,4 @@
--- What a source gives under each of several rows of pairs.
+-- The outputs of a source with several rows of pairs.
 use Rattle.std.specs.Prelude.{◌≡◌, ◌⊎◌, ℕ, ◌+◌, List, [], ◌∷◌, length}
 use Rattle.std.specs.List.{concat}
 use Rattle.subst_error.specs.Fault.{Fault}
@@ -9,17 +9,18 @@ use Rattle.subst_language.specs.Language.Several.{EachGives, RefusesAt}
 use Rattle.subst_c.specs.Pairs.{pair_value}
 use Rattle.subst_c.specs.declared.pairs.Row.{Row}
 
--- the answers of the source under a row of pairs
+-- the answers of the source with a row of pairs
 abbrev pub under_row : List ℕ → Row → Answer → Type 0
 under_row s row = Answers s (pair_value row.pairs.now)
 
--- where each of some outputs ends, if they come one after the other from this position on
+-- the position at which each output ends, if the first begins at the position n, and each later one where the
+-- last ends
 abbrev pub ends_from : ℕ → List (List ℕ) → List ℕ
 ends_from n [] = []
 ends_from n (output ∷ outputs) = (n + length output) ∷ ends_from (n + length output) outputs
 
--- the source is a sentence, also where there is no row; the bytes are the outputs one after the other; the
--- ends say where each ends
+-- `bytes` is the outputs of the source s with these rows, concatenated, and `ends` has the position at which
+-- each output ends; s is a sentence, even if there is no row
 pub record AreOutputs (s : List ℕ) (rows : List Row) (bytes ends : List ℕ) : Type 0 where
   pub sentence : IsSentence s
   pub outputs : List (List ℕ)
@@ -27,6 +28,7 @@ pub record AreOutputs (s : List ℕ) (rows : List Row) (bytes ends : List ℕ) :
   pub joined : bytes ≡ concat outputs
   pub ended : ends ≡ ends_from 0 outputs
 
--- the source is refused for its fault, whatever the rows, and the index is 0; or under the row at this index
+-- The fault f is that of the source itself, with any rows, and the index i is 0. Or i is the index of the
+-- first row with which the source is refused, for f.
 abbrev pub IsRefusedIn : List ℕ → List Row → ℕ → Fault → Type 0
 IsRefusedIn s rows i f = (HasFault 0 s f × (i ≡ 0)) ⊎ RefusesAt (under_row s) rows i f

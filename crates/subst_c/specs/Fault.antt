@@ -1,4 +1,4 @@
--- What calls from C report of a fault.
+-- The records that report faults to C.
 use Rattle.std.specs.Prelude.{◌≡◌, ◌≢◌, ◌≤◌, ℕ, ◌+◌, ◌-◌, List, Some, length}
 use Rattle.subst_error.specs.Fault.{Fault, InvalidEscapeSequence, MissingVariableName, UnexpectedCharacter, MissingClosingBrace, NoSuchVariable}
 use Rattle.subst_error.specs.Range.{range_of}
@@ -13,26 +13,26 @@ fault_number (UnexpectedCharacter position character expected) = 3
 fault_number (MissingClosingBrace position) = 4
 fault_number (NoSuchVariable position name) = 5
 
--- the record of a fault: its kind, where it begins, and how many bytes it takes
+-- the record of a fault: its kind, the position where it begins, and its length in bytes
 abbrev pub record_of : Fault → FaultRecord
 record_of f =
     let range = range_of (Some f) in
     record { kind = fault_number f; position = range.start; length = range.end - range.start }
 
--- the record is that of a fault of which this holds
-abbrev pub IsToldOf : (Fault → Type 0) → FaultRecord → Type 0
-IsToldOf IsSuch told = (f : Fault) × IsSuch f × (told ≡ record_of f)
+-- the record is that of a fault with this property
+abbrev pub IsRecordOf : (Fault → Type 0) → FaultRecord → Type 0
+IsRecordOf IsSuch reported = (f : Fault) × IsSuch f × (reported ≡ record_of f)
 
--- it lies in the source s
+-- the span of the record lies in the source s
 abbrev pub LiesIn : List ℕ → FaultRecord → Type 0
-LiesIn s told = told.position + told.length ≤ length s
+LiesIn s reported = reported.position + reported.length ≤ length s
 
--- what a call with this result leaves in the record of a fault
+-- the effect of a call with this result on the record of a fault
 pub record SetsFault (IsSuch : FaultRecord → Type 0) (s : List ℕ) (result : ℕ) (old new : FaultRecord)
     : Type 0 where
-  -- the record is such a one
+  -- the record has the property
   pub refused : result ≡ REFUSED → IsSuch new
-  -- it lies in the source s
+  -- the span of the record lies in the source s
   pub within : result ≡ REFUSED → LiesIn s new
-  -- unless the source is refused, the record stays as it was
+  -- unless the source is refused, the record is unchanged
   pub fault_kept : result ≢ REFUSED → new ≡ old

@@ -1,4 +1,4 @@
--- Templates for texts of other tools, as calls from C make them.
+-- Templates for texts of other tools, for calls from C.
 use Rattle.std.specs.Prelude.{◌≡◌, ◌≢◌, ◌⊎◌, Bool, true, false, ℕ, zero, suc, List, []}
 use Rattle.subst_foreign.specs.Foreign.{HasValue}
 use Rattle.subst_foreign.specs.Grammar.{grammar}
@@ -12,12 +12,12 @@ use Rattle.subst_foreign.specs.declared.refused.ShellForm.TheVariants as form
 use Rattle.subst_foreign.specs.declared.refused.TextError.TheVariants as error
 use Rattle.subst_language.specs.Language.LookUp.{LookUp}
 
--- how an unset variable expands: to a fault if the number is 0
+-- how an unset variable expands: to a fault if the number is 0, and otherwise to nothing
 abbrev pub missing_of : (optional : ℕ) → Missing
 missing_of zero = missing.Fault
 missing_of (suc n) = missing.Nothing
 
--- a name without an operator that the look-up has something for
+-- the name is written without an operator, and has a value under the look-up
 abbrev pub HasPlain : LookUp → (operated : Bool) → List ℕ → Type 0
 HasPlain look true name = ⊥
 HasPlain look false name = HasValue look name
@@ -41,13 +41,13 @@ form_number form.Message = 14
 form_number form.Brace = 15
 form_number form.Unclosed = 16
 
--- the text of a shell is refused for the form of this number, which begins at this position
+-- the text of a shell is refused for the form with this number, which begins at this position
 abbrev pub IsRefusedFor : (s : List ℕ) → (number position : ℕ) → Type 0
 IsRefusedFor s number position = (form : ShellForm) × (number ≡ form_number form)
     × IsRefusalOf (grammar Common true (λ operated name. Unit {0})) s
     (error.Refused (record { position = position; form = form }))
 
--- the text is what the form of this number is shown as, and nothing where no form has it
+-- `text` is the text of the form with this number, or empty if no form has the number
 abbrev pub IsFormText : (number : ℕ) → List ℕ → Type 0
 IsFormText number text =
     ((form : ShellForm) × (number ≡ form_number form) × (text ≡ display_of_form form))

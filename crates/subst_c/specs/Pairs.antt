@@ -1,4 +1,4 @@
--- The variables that pairs from C give.
+-- The variables of pairs from C.
 use Rattle.std.specs.Prelude.{ℕ, List, IsUtf8}
 use Rattle.subst_error.specs.Fault.{Fault}
 use Rattle.subst_language.specs.Language.Answer.{Answers, Gives, Refuses}
@@ -10,14 +10,14 @@ use Rattle.subst_c.specs.declared.pairs.Pair.{Pair}
 abbrev pub pair_value : List Pair → LookUp
 pair_value pairs = first_value_by (λ pair. pair.name.now) (λ pair. pair.value.now) pairs
 
--- what the source s gives under the pairs
+-- x is the output of the source s with the pairs
 abbrev pub GivenBy : List ℕ → List Pair → List ℕ → Type 0
 GivenBy s pairs x = Answers s (pair_value pairs) (Gives x)
 
--- what it gives, and this is UTF-8
+-- x is the output, and is UTF-8
 abbrev pub TextGivenBy : List ℕ → List Pair → List ℕ → Type 0
 TextGivenBy s pairs x = IsUtf8 x × GivenBy s pairs x
 
--- what it is refused for
+-- f is the fault that the source is refused for
 abbrev pub RefusedBy : List ℕ → List Pair → Fault → Type 0
 RefusedBy s pairs f = Answers s (pair_value pairs) (Refuses f)

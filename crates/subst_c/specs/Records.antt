@@ -1,4 +1,4 @@
--- What calls from C report of variables.
+-- The records that report variables to C.
 use Rattle.std.specs.Prelude.{◌≡◌, ◌≤◌, ◌+◌, ℕ, List, length, map}
 use Rattle.std.specs.List.{All}
 use Rattle.subst_language.specs.Language.Sentence.{Spells}
@@ -6,13 +6,13 @@ use Rattle.subst_language.specs.Language.Tree.{Tree}
 use Rattle.subst_language.specs.Language.Variables.{Kind, Required, OrNothing, OrDefault, Variable}
 use Rattle.subst_c.specs.declared.variables.VariableRecord.{VariableRecord}
 
--- the number of a kind
+-- the number of a kind of variable
 abbrev pub kind_number : Kind → ℕ
 kind_number Required = 0
 kind_number OrNothing = 1
 kind_number OrDefault = 2
 
--- the number of a variable's kind, where its name begins, and how many bytes it takes
+-- the record of a variable: the number of its kind, and the position and the length in bytes of its name
 abbrev pub variable_record : Variable → VariableRecord
 variable_record variable = record {
   kind = kind_number variable.kind;
@@ -20,7 +20,7 @@ variable_record variable = record {
   length = length variable.name;
 }
 
--- s is a sentence, and the records are those of these variables of its tree
+-- s is a sentence, and `records` has a record for each variable that `variables_of` lists for the tree of s
 pub record HasRecords (s : List ℕ) (variables_of : Tree → List Variable) (records : List VariableRecord)
     : Type 0 where
   pub tree : Tree

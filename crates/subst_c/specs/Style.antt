@@ -1,4 +1,4 @@
--- Texts of other tools that are filled in by a style, as calls from C take them, and what they report.
+-- Texts of other tools that are expanded by a style, for calls from C, and their faults.
 use Rattle.std.specs.Prelude.{◌≡◌, ◌≢◌, ◌⊎◌, ℕ, Bool, true, false, ◌+◌, ◌<◌, ◌≤◌, List, [], length, Option, Some, None, Ok, Err, IsUtf8, if◌then◌else◌}
 use Rattle.std.specs.List.{slice_get}
 use Rattle.subst_foreign.specs.Foreign.{HasValue, IsKnown}
@@ -27,8 +27,8 @@ use Rattle.subst_c.specs.declared.style.Choice.TheVariants as choice
 use Rattle.subst_c.specs.declared.style.Choices.{Choices}
 use Rattle.subst_c.specs.declared.style.StyleFault.{StyleFault}
 use Rattle.subst_c.specs.declared.style.StyleRecord.{StyleRecord}
-use Rattle.subst_c.specs.declared.style.Unfilled.{Unfilled}
-use Rattle.subst_c.specs.declared.style.Unfilled.TheVariants as unfilled
+use Rattle.subst_c.specs.declared.style.StyleError.{StyleError}
+use Rattle.subst_c.specs.declared.style.StyleError.TheVariants as style_error
 
 -- the numbers of the forms, of the names and of how an unset variable expands
 abbrev pub forms_number : Forms → ℕ
@@ -56,30 +56,30 @@ abbrev pub is_all : Choice → Bool
 is_all choice.All = true
 is_all _ = false
 
--- the names that are chosen: all, those of a list of pairs, or those that are given, and with an operator all
+-- the name is chosen: any name, a name of the pairs `only`, or a name with a value or with an operator
 abbrev pub Has : Choice → (only given : List Pair) → (operated : Bool) → List ℕ → Type 0
 Has choice.All only given operated name = Unit {0}
 Has choice.Only only given operated name = HasValue (pair_value only) name
 Has choice.Known only given operated name = IsKnown (pair_value given) operated name
 
--- what is read as variables by these choices
+-- the grammar of these choices
 abbrev pub grammar_of : Choices → (only given : List Pair) → Grammar
 grammar_of choices only given =
     grammar choices.forms (is_all choices.names) (Has choices.names only given)
 
--- The text s gives x: it is read as items, and x is their value under the look-up.
+-- The output of the text s is x: s is read as items, and x is the value of the items under the look-up.
 pub record IsGiven (g : Grammar) (unset : Missing) (s : List ℕ) (look : LookUp) (x : List ℕ) : Type 0 where
   pub items : Text
   pub read : IsText g false items []
   pub spelled : s ≡ spelling items
   pub gives : text_value g.forms unset items look ≡ Ok x
 
--- where the message of a variable begins whose name ends here: after its operator, if that takes a message
+-- the position of the message of a variable whose name ends at `end`, or 0 if it can have no message
 abbrev pub message_after : Option Operator → (end : ℕ) → ℕ
 message_after None end = 0
 message_after (Some op) end = if takes_message op then end + length (operator_text op) else 0
 
--- what is reported of a form that is refused: the dollar or the brace with which it begins
+-- the record of a form that is refused, with the dollar or the brace that begins it
 abbrev pub fault_of_form : FormAt → StyleFault
 fault_of_form first = record {
   kind = 7;
@@ -90,7 +90,7 @@ fault_of_form first = record {
   message_length = 0;
 }
 
--- what is reported of a variable that has no value: its name, and its message
+-- the record of an unset variable, with its name and its message
 abbrev pub fault_of_variable : VariableAt → StyleFault
 fault_of_variable v = record {
   kind = 5;
@@ -101,7 +101,7 @@ fault_of_variable v = record {
   message_length = length v.message;
 }
 
--- the variable is at the index in the text that the one of this position and name is at in a template
+-- the variable v has the same index in the text s as the variable with this position and name in `template`
 pub record HasIndex (g : Grammar) (s template : List ℕ) (position : ℕ) (name : List ℕ) (v : VariableAt)
     : Type 0 where
   pub index : ℕ
@@ -111,8 +111,8 @@ pub record HasIndex (g : Grammar) (s template : List ℕ) (position : ℕ) (name
   pub in_template : (t : Tree) → Spells t template → (w : Variable)
       × (slice_get (variables_of 0 t) index ≡ Some w) × (w.position ≡ position) × (w.name ≡ name)
 
--- The variable of the text s is missing: a template for it is missing one, this is at the same index in the
--- text, and its name is the one that the value of the text says.
+-- The variable v of the text s is missing: in a template for s, the variable at the same index is missing.
+-- The value of s is an error with the name of v.
 pub record IsUnset (g : Grammar) (unset : Missing) (s : List ℕ) (look : LookUp) (v : VariableAt) : Type 0 where
   pub template : List ℕ
   pub is_template : IsTemplate g unset s template
@@ -122,28 +122,28 @@ pub record IsUnset (g : Grammar) (unset : Missing) (s : List ℕ) (look : LookUp
   pub at_index : HasIndex g s template position name v
   pub says : text_value g.forms unset is_template.items look ≡ Err v.name
 
--- why the text isn't filled in
-abbrev pub IsRefusal : Grammar → Missing → List ℕ → LookUp → Unfilled → Type 0
-IsRefusal g unset s look (unfilled.Refused first) = IsRefusalOf g s (error.Refused first)
-IsRefusal g unset s look (unfilled.Unset v) = IsUnset g unset s look (variable_of v)
-IsRefusal g unset s look (unfilled.OutOfMemory e) = Unit {0}
+-- the text s isn't expanded for this reason; if the reason is out of memory, nothing is stated
+abbrev pub IsRefusal : Grammar → Missing → List ℕ → LookUp → StyleError → Type 0
+IsRefusal g unset s look (style_error.Refused first) = IsRefusalOf g s (error.Refused first)
+IsRefusal g unset s look (style_error.Unset v) = IsUnset g unset s look (variable_of v)
+IsRefusal g unset s look (style_error.OutOfMemory e) = Unit {0}
 
--- the record is that of the form that is refused first, or else of the variable that is missing
+-- the record is that of the first refused form, or, if there is none, of the missing variable
 abbrev pub IsFaultOf : Grammar → Missing → List ℕ → LookUp → StyleFault → Type 0
 IsFaultOf g unset s look fault =
     ((first : FormAt) × IsRefusalOf g s (error.Refused first) × (fault ≡ fault_of_form first))
     ⊎ ((v : VariableAt) × IsUnset g unset s look v × (fault ≡ fault_of_variable v))
 
--- what the text gives by a style
+-- x is the output of the text s, expanded by a style with these pairs
 abbrev pub GivenByStyle : StyleRecord → List Pair → List ℕ → List ℕ → Type 0
 GivenByStyle style given s x = (choices : Choices) × AreOf style choices
     × IsGiven (grammar_of choices style.only.now given) choices.missing s (pair_value given) x
 
--- it gives x, which is UTF-8
+-- x is the output, and is UTF-8
 abbrev pub TextGivenByStyle : StyleRecord → List Pair → List ℕ → List ℕ → Type 0
 TextGivenByStyle style given s x = IsUtf8 x × GivenByStyle style given s x
 
--- why it gives nothing
+-- the record is that of the fault for which the text s is refused by a style with these pairs
 abbrev pub RefusedByStyle : StyleRecord → List Pair → List ℕ → StyleFault → Type 0
 RefusedByStyle style given s fault = (choices : Choices) × AreOf style choices
     × IsFaultOf (grammar_of choices style.only.now given) choices.missing s (pair_value given) fault
@@ -153,23 +153,23 @@ abbrev pub LiesIn : List ℕ → StyleFault → Type 0
 LiesIn s fault = (fault.position + fault.length ≤ length s)
     × (fault.message_position + fault.message_length ≤ length s)
 
--- the record is that of why a text isn't filled in
-abbrev pub IsReported : Unfilled → StyleFault → Type 0
-IsReported (unfilled.Refused first) fault = fault ≡ fault_of_form first
-IsReported (unfilled.Unset v) fault = fault ≡ fault_of_variable (variable_of v)
-IsReported (unfilled.OutOfMemory e) fault = ⊥
+-- the record is that of the reason why a text isn't expanded
+abbrev pub IsReported : StyleError → StyleFault → Type 0
+IsReported (style_error.Refused first) fault = fault ≡ fault_of_form first
+IsReported (style_error.Unset v) fault = fault ≡ fault_of_variable (variable_of v)
+IsReported (style_error.OutOfMemory e) fault = ⊥
 
 -- the form or the variable lies in the text
-abbrev pub IsIn : List ℕ → Unfilled → Type 0
-IsIn s (unfilled.Refused first) = first.position < length s
-IsIn s (unfilled.Unset v) = end_of (variable_of v) ≤ length s
-IsIn s (unfilled.OutOfMemory e) = Unit {0}
+abbrev pub IsIn : List ℕ → StyleError → Type 0
+IsIn s (style_error.Refused first) = first.position < length s
+IsIn s (style_error.Unset v) = end_of (variable_of v) ≤ length s
+IsIn s (style_error.OutOfMemory e) = Unit {0}
 
--- what a call with this result leaves in the record of a fault
+-- the effect of a call with this result on the record of a fault
 pub record SetsStyleFault (style : StyleRecord) (given : List Pair) (s : List ℕ) (result : ℕ)
     (old new : StyleFault) : Type 0 where
-  -- the record says why the text is refused, and lies in it
+  -- the record is that of the refusal, and lies in the text
   pub refused : result ≡ REFUSED → RefusedByStyle style given s new
   pub within : result ≡ REFUSED → LiesIn s new
-  -- unless it is refused, the record stays as it was
+  -- unless the text is refused, the record is unchanged
   pub fault_kept : result ≢ REFUSED → new ≡ old

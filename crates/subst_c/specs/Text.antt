@@ -1,4 +1,4 @@
--- What is said of the answer of a source: its fault, as a text.
+-- The texts of a source's answer, in particular of its fault.
 use Rattle.std.specs.Prelude.{◌≡◌, ℕ, Bool, ◌&&◌, List, [], Some}
 use Rattle.std.specs.List.{list_all}
 use Rattle.std.specs.Str.{is_utf8}
@@ -11,14 +11,14 @@ use Rattle.subst_c.specs.declared.pairs.Pair.{Pair}
 abbrev pub IsHighlighting : List ℕ → Fault → List ℕ → Type 0
 IsHighlighting s f text = text ≡ highlighting_of (Some f) s
 
--- the text says so of the fault of an answer, and nothing where that is bytes
-abbrev pub Says : (Fault → List ℕ → Type 0) → Answer → List ℕ → Type 0
-Says IsSaid (Gives x) text = text ≡ []
-Says IsSaid (Refuses f) text = IsSaid f text
+-- `text` is empty if the answer is an output; if the answer is a fault f, `IsText` holds of f and `text`
+abbrev pub IsFaultText : (Fault → List ℕ → Type 0) → Answer → List ℕ → Type 0
+IsFaultText IsText (Gives x) text = text ≡ []
+IsFaultText IsText (Refuses f) text = IsText f text
 
--- the text says so of the answer
-abbrev pub SaysOf : (Answer → Type 0) → (Fault → List ℕ → Type 0) → List ℕ → Type 0
-SaysOf IsAnswer IsSaid text = (a : Answer) × IsAnswer a × Says IsSaid a text
+-- `text` is the text, as by `IsFaultText`, of an answer for which `IsAnswer` holds
+abbrev pub IsFaultTextOf : (Answer → Type 0) → (Fault → List ℕ → Type 0) → List ℕ → Type 0
+IsFaultTextOf IsAnswer IsText text = (a : Answer) × IsAnswer a × IsFaultText IsText a text
 
 -- the values of pairs are UTF-8
 abbrev pub have_texts : List Pair → Bool

@@ -1,4 +1,4 @@
-//! The answer of a source under pairs, and what it says.
+//! The output or the fault of a source with pairs, as bytes or as texts.
 
 ghost use Rattle.std.specs.Prelude.{◌≡◌, ◌≤◌, IfErr, IfOk, IfSome, MatchOption, length, string_bytes, true, false};
 ghost use Rattle.std.specs.Str.{is_utf8};
@@ -8,7 +8,7 @@ ghost use Rattle.subst_error.specs.Display.{IsDisplayOfError, IsDisplayOfFault};
 ghost use Rattle.subst_error.specs.ErrorFault.{error_fault};
 ghost use Rattle.subst_error.specs.Range.{range_of};
 ghost use Rattle.subst_c.specs.Pairs.{pair_value};
-ghost use Rattle.subst_c.specs.Text.{IsHighlighting, SaysOf, are_texts as all_are_texts, have_texts};
+ghost use Rattle.subst_c.specs.Text.{IsFaultTextOf, IsHighlighting, are_texts as all_are_texts, have_texts};
 
 use crate::pairs::{Pair, Pairs, TextPairs, index_of};
 use std::alloc::{AllocError, Global};
@@ -16,11 +16,11 @@ use std::fmt::{Display, Formatter};
 use subst_error::Error;
 use subst_template::substitute_bytes;
 
-/// Returns the bytes of the source with its variables filled in from the pairs.
+/// Expands the source with the pairs.
 ///
 /// # Errors
 ///
-/// The fault that the source is refused for. `OutOfMemory` when allocation fails.
+/// If the source is refused, or if allocation fails.
 pub fn fill_in(alloc: Global, source: &[u8], pairs: &[Pair]) -> Result<Vec<u8>, Error>
     ensures answer { IfSome (answer_of (λ output. output.items) result)
         (Answers source.now (pair_value pairs.now)) }
@@ -30,13 +30,13 @@ pub fn fill_in(alloc: Global, source: &[u8], pairs: &[Pair]) -> Result<Vec<u8>, 
     substitute_bytes(alloc, source, &Pairs { pairs, index })
 }
 
-/// Returns the text of the fault that the source is refused for, or the empty text where it isn't refused.
+/// Returns the text of the source's fault, or an empty text if the source isn't refused.
 ///
 /// # Errors
 ///
-/// When allocation fails, and for nothing else.
+/// If allocation fails.
 pub fn fault_text(alloc: Global, source: &[u8], pairs: &[Pair]) -> Result<String, AllocError>
-    ensures { IfOk result (λ text. SaysOf (Answers source.now (pair_value pairs.now))
+    ensures { IfOk result (λ text. IsFaultTextOf (Answers source.now (pair_value pairs.now))
         IsDisplayOfFault (string_bytes text)) }
 {
     match fill_in(alloc, source, pairs) {
@@ -52,7 +52,7 @@ pub fn fault_text(alloc: Global, source: &[u8], pairs: &[Pair]) -> Result<String
 ///
 /// # Errors
 ///
-/// When allocation fails, and for nothing else.
+/// If allocation fails.
 pub fn text_of(alloc: Global, e: &Error) -> Result<String, AllocError>
     ensures { IfOk result (λ text. IsDisplayOfError (error_fault e.now) (string_bytes text)) }
 {
@@ -63,14 +63,13 @@ pub fn text_of(alloc: Global, e: &Error) -> Result<String, AllocError>
     }
 }
 
-/// Returns the line of the fault that the source is refused for, underlined, or the empty text where it isn't
-/// refused.
+/// Returns the line of the source's fault, with the fault underlined. Without a fault the text is empty.
 ///
 /// # Errors
 ///
-/// When allocation fails, and for nothing else.
+/// If allocation fails.
 pub fn fault_highlighting(alloc: Global, source: &str, pairs: &[Pair]) -> Result<String, AllocError>
-    ensures { IfOk result (λ text. SaysOf (Answers source.now (pair_value pairs.now))
+    ensures { IfOk result (λ text. IsFaultTextOf (Answers source.now (pair_value pairs.now))
         (IsHighlighting source.now) (string_bytes text)) }
 {
     match fill_in(alloc, source.as_bytes(), pairs) {
@@ -82,7 +81,7 @@ pub fn fault_highlighting(alloc: Global, source: &str, pairs: &[Pair]) -> Result
     }
 }
 
-/// Returns the source as a text, and the pairs as a map of texts, where it and the values of all pairs are
+/// Returns the source as a text and the pairs as a map of texts, or `None` if the source or a value isn't
 /// UTF-8.
 pub fn as_texts<'a>(
     alloc: Global,
@@ -118,7 +117,7 @@ fn values_are_texts(pairs: &[Pair]) -> bool
     pairs.iter().all(|pair| is_text(pair.value))
 }
 
-/// Returns whether bytes are UTF-8.
+/// Returns whether the bytes are UTF-8.
 fn is_text(bytes: &[u8]) -> bool
     ensures { result ≡ is_utf8 bytes.now }
 {

@@ -1,4 +1,4 @@
-//! The caller's buffer.
+//! Writing to the caller's buffer.
 
 ghost use Rattle.std.specs.Prelude.{◌≡◌, ◌≢◌};
 ghost use Rattle.subst_c.specs.Buffer.{FillsBuffer};
@@ -6,8 +6,8 @@ ghost use Rattle.subst_c.specs.declared.outcome.TheConstants.{DONE, ROOM_TOO_SMA
 
 use crate::outcome::{DONE, ROOM_TOO_SMALL};
 
-/// Puts bytes at the front of the buffer, and into `needed` how many they are. Where they are more than the
-/// buffer has, it stays as it is.
+/// Writes bytes to the front of the buffer, and their number to `needed`. If they don't fit, the buffer is
+/// unchanged.
 pub fn deliver(bytes: &[u8], buffer: &mut [u8], needed: &mut usize) -> u32
     ensures buffer { FillsBuffer (λ x. x ≡ bytes.now)
         result needed.old needed.new buffer.old buffer.new }

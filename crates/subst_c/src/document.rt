@@ -1,4 +1,4 @@
-//! Documents whose strings are filled in, of each format.
+//! The results of filling in documents: outputs, and reports of documents that are refused.
 
 ghost use Rattle.std.specs.Prelude.{◌≡◌, ◌≢◌, ℕ, List, ◌+◌, ◌++◌, ◌≤◌, IfOk, Some, string_bytes};
 ghost use Rattle.std.specs.Result.{IsErrAnd, IsOkAnd};
@@ -6,7 +6,7 @@ ghost use Rattle.subst_error.specs.Display.{IsDisplayOfError};
 ghost use Rattle.subst_error.specs.ErrorFault.{error_fault};
 ghost use Rattle.subst_error.specs.Fault.{Fault};
 ghost use Rattle.subst_c.specs.Buffer.{FillsBuffer};
-ghost use Rattle.subst_c.specs.Documents.{IfRefused, IsInvalid, IsRefusedWith, IsSaidBy, Says, before_fault};
+ghost use Rattle.subst_c.specs.Documents.{IfRefused, IsInvalid, IsRefusedWith, IsTextAfterPath, IsTextOfResult, before_fault};
 ghost use Rattle.subst_c.specs.Fault.{fault_number};
 ghost use Rattle.subst_c.specs.Results.{IsOther};
 ghost use Rattle.subst_c.specs.declared.outcome.TheConstants.{DONE, REFUSED, OUT_OF_MEMORY, ROOM_TOO_SMALL, NOT_UTF8, NOT_CONFIRMED};
@@ -21,22 +21,23 @@ use subst_error::Error;
 
 pub(crate) mod of_json;
 pub(crate) mod of_toml;
+pub(crate) mod of_yaml;
 
-/// Why a document isn't filled in.
+/// A reason why a document isn't filled in.
 #[derive(Drop)]
 pub enum Unfilled {
-    /// It is refused.
+    /// The document is refused.
     Refused(Report),
-    /// What was made of it isn't confirmed.
+    /// The output isn't confirmed to be right.
     NotConfirmed,
     /// An allocation failed.
     OutOfMemory(AllocError),
 }
 
-/// What is reported of a document that is refused.
+/// The report of a document that is refused.
 #[derive(Drop)]
 pub struct Report {
-    /// Its fault, at its place in the document.
+    /// The fault, with its span in the document.
     pub fault: FaultRecord,
     /// The text of the fault.
     pub text: String,
@@ -46,14 +47,14 @@ impl From<AllocError> for Unfilled {
     ghost use Rattle.std.specs.Prelude.{◌≡◌};
     ghost use Rattle.subst_c.specs.declared.document.Unfilled.TheVariants.{OutOfMemory};
 
-    ghost from_gives = { λ e unfilled. unfilled ≡ OutOfMemory e };
+    ghost from_gives = { λ e error. error ≡ OutOfMemory e };
 
     fn from(e: AllocError) -> Unfilled {
         Unfilled::OutOfMemory(e)
     }
 }
 
-/// Returns that a text is no document, with what the reader says, which stopped at a range of the text.
+/// Returns the refusal of `source`, a text that is no document, with the reader's message about `range`.
 fn invalid(source: &str, range: Range<usize>, message: String) -> Unfilled
     ensures { IfRefused result (IsInvalid source.now) }
 {
@@ -69,12 +70,11 @@ fn invalid(source: &str, range: Range<usize>, message: String) -> Unfilled
     })
 }
 
-/// Returns that the string of a document to which a path leads is refused for an error, at its range in the
-/// document.
+/// Returns the refusal of the string at `path` for the error `e`, whose range in the document is `range`.
 ///
 /// # Errors
 ///
-/// When allocation fails, and for nothing else.
+/// If allocation fails.
 fn refused(
     alloc: Global,
     path: &str,
@@ -82,11 +82,11 @@ fn refused(
     range: Range<usize>,
 ) -> Result<Unfilled, AllocError>
     requires { range.start ≤ range.end }
-    ensures { IfOk result (λ unfilled. IfRefused unfilled (λ report.
+    ensures { IfOk result (λ refusal. IfRefused refusal (λ report.
         (f : Fault) × (error_fault e.now ≡ Some f) × (report.fault.kind ≡ fault_number f)
         × (report.fault.position ≡ range.start)
         × (report.fault.position + report.fault.length ≡ range.end)
-        × Says path.now (string_bytes report.text) f)) }
+        × IsTextAfterPath path.now (string_bytes report.text) f)) }
 {
     let Some(kind) = fault::kind(e) else {
         return Err(AllocError);
@@ -101,27 +101,27 @@ fn refused(
     }))
 }
 
-/// Returns the text of an error, after the path of its string. A document that is one string has no path.
+/// Returns the text of the error `e` after `path`, which is empty for a document that is a single string.
 ///
 /// # Errors
 ///
-/// When allocation fails, and for nothing else.
+/// If allocation fails.
 fn with_path(alloc: Global, path: &str, e: &Error) -> Result<String, AllocError>
     ensures { IfOk result (λ text. (shown : List ℕ)
         × (string_bytes text ≡ before_fault path.now ++ shown)
         × IsDisplayOfError (error_fault e.now) shown) }
 {
-    let said = text_of(alloc, e)?;
+    let message = text_of(alloc, e)?;
     if path.is_empty() {
-        return Ok(said);
+        return Ok(message);
     }
     let mut text = String::from_str(alloc, path)?;
     text.push_str(": ")?;
-    text.push_str(said.as_str())?;
+    text.push_str(message.as_str())?;
     Ok(text)
 }
 
-/// Puts a document that is filled in at the front of the buffer, or reports why it isn't.
+/// Writes a document's output to the front of the buffer, or its fault to `fault` if the document is refused.
 pub fn deliver(
     filled: Result<String, Unfilled>,
     buffer: &mut [u8],
@@ -149,10 +149,10 @@ pub fn deliver(
     }
 }
 
-/// Puts the text of the fault for which a document isn't filled in at the front of the buffer, or an empty
-/// text where it is.
+/// Writes the text of a document's fault to the front of the buffer, or an empty text if the document is
+/// filled in.
 pub fn deliver_text(filled: Result<String, Unfilled>, buffer: &mut [u8], needed: &mut usize) -> u32
-    ensures buffer { FillsBuffer (IsSaidBy filled)
+    ensures buffer { FillsBuffer (IsTextOfResult filled)
         result needed.old needed.new buffer.old buffer.new }
     ensures others { result ≢ DONE → result ≢ ROOM_TOO_SMALL → result ≢ NOT_CONFIRMED
         → result ≡ OUT_OF_MEMORY }

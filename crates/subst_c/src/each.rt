@@ -1,4 +1,4 @@
-//! One source filled in again and again: it is parsed once.
+//! Expanding one source with several rows of pairs. The source is parsed once.
 
 ghost use Rattle.std.specs.Prelude.{◌≡◌, ◌≢◌, ◌⊎◌, ◌<◌, ℕ, List, ◌++◌, ◌∷◌, [], IfErr, IfOk, IfSome, OnOk, drop, length};
 ghost use Rattle.subst_error.specs.ErrorFault.{error_fault, expand_fault};
@@ -14,18 +14,18 @@ use std::alloc::Global;
 use subst_error::{Error, ExpandError};
 use subst_template::ByteTemplate;
 
-/// What a source gives under each of several rows of pairs.
+/// The outputs of a source with several rows of pairs.
 #[derive(Drop)]
 pub struct Outputs {
-    /// The outputs, one after the other.
+    /// The concatenated outputs.
     pub bytes: Vec<u8>,
-    /// Where in these bytes each output ends.
+    /// The position in these bytes where each output ends.
     pub ends: Vec<usize>,
 }
 
 impl Outputs {
-    /// Puts the outputs at the front of the buffer, their ends at the front of `ends`, and into `needed` how
-    /// many bytes the outputs are. Where one of the two is too small, both stay as they are.
+    /// Writes the outputs to the front of the buffer, their ends to the front of `ends`, and their total
+    /// length in bytes to `needed`. If the buffer or `ends` is too small, both are unchanged.
     pub fn deliver(&self, buffer: &mut [u8], ends: &mut [usize], needed: &mut usize) -> u32
         ensures needed { needed.new ≡ length self.now.bytes.items }
         ensures done { result ≡ DONE
@@ -49,20 +49,20 @@ impl Outputs {
     }
 }
 
-/// Why there are no outputs.
+/// The first refusal of a source with several rows.
 #[derive(Drop)]
 pub struct Refusal {
-    /// The index of the row.
+    /// The index of the refused row, or 0 if the source is refused with any row.
     pub row: usize,
-    /// What is wrong.
+    /// The error.
     pub error: Error,
 }
 
-/// Returns the bytes of the source with its variables filled in from each row of pairs.
+/// Expands the source with each row of pairs.
 ///
 /// # Errors
 ///
-/// The fault of the first row under which the source is refused. `OutOfMemory` when allocation fails.
+/// If the source is refused with a row, or if allocation fails. The error is that of the first such row.
 pub fn fill_in_each(alloc: Global, source: &[u8], rows: &[Row]) -> Result<Outputs, Refusal>
     ensures ok { IfOk result (λ o. AreOutputs source.now rows.now o.bytes.items o.ends.items) }
     ensures err { IfErr result (λ e. IfSome (error_fault e.error)
@@ -95,7 +95,7 @@ pub fn fill_in_each(alloc: Global, source: &[u8], rows: &[Row]) -> Result<Output
     Ok(outputs)
 }
 
-/// Adds what the template gives under a row of pairs to the outputs. Where it gives nothing, no end is added.
+/// Appends the output of the template with `row`, and the output's end. After an error no end is appended.
 fn add(
     alloc: Global,
     template: &ByteTemplate,

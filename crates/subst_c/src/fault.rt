@@ -1,10 +1,10 @@
-//! What calls from C report of a fault.
+//! The records that report faults to C.
 
 ghost use Rattle.std.specs.Prelude.{◌≡◌, ◌≢◌, ◌+◌, ◌^◌, ◌<◌, None, Some};
 ghost use Rattle.std.specs.Option.{option_map};
 ghost use Rattle.subst_error.specs.ErrorFault.{error_fault, expand_into_fault};
 ghost use Rattle.subst_error.specs.Range.{range_of};
-ghost use Rattle.subst_c.specs.Fault.{IsToldOf, record_of, fault_number};
+ghost use Rattle.subst_c.specs.Fault.{IsRecordOf, record_of, fault_number};
 ghost use Rattle.subst_c.specs.declared.outcome.TheConstants.{REFUSED, OUT_OF_MEMORY};
 
 use crate::outcome::{OUT_OF_MEMORY, REFUSED};
@@ -22,13 +22,13 @@ pub const UNEXPECTED_CHARACTER: u32 = 3;
 /// A placeholder that is never closed.
 pub const MISSING_CLOSING_BRACE: u32 = 4;
 
-/// A variable that is needed, and that no pair names.
+/// A needed variable that no pair names.
 pub const NO_SUCH_VARIABLE: u32 = 5;
 
-/// The source of a call that fills in a document is none.
+/// A source that isn't a document of the call's format.
 pub const INVALID_DOCUMENT: u32 = 6;
 
-/// What a fault is, by the number of its kind, and where it is: its first byte, and how many bytes it takes.
+/// The number of a fault's kind, and its span in the source: a byte offset, and a length in bytes.
 #[repr(C)]
 #[derive(Clone, Copy)]
 pub struct FaultRecord {
@@ -37,18 +37,18 @@ pub struct FaultRecord {
     pub length: usize,
 }
 
-/// Reports the fault that the error states. Where it states none, memory ran out.
+/// Writes the fault of `e` to `fault`, and returns `REFUSED`. Returns `OUT_OF_MEMORY` if `e` has no fault.
 pub fn refuse(e: &Error, fault: &mut FaultRecord) -> u32
     requires { (range_of (error_fault e.now)).end < 2 ^ 64 }
-    ensures refused { result ≡ REFUSED → IsToldOf (λ f. error_fault e.now ≡ Some f) fault.new }
+    ensures refused { result ≡ REFUSED → IsRecordOf (λ f. error_fault e.now ≡ Some f) fault.new }
 
-    // What is reported ends where the error's range does.
+    // The record's span ends where the error's range does.
     ensures end { result ≡ REFUSED
         → fault.new.position + fault.new.length ≡ (range_of (error_fault e.now)).end }
     ensures kept { result ≢ REFUSED → fault.new ≡ fault.old }
     ensures others { result ≢ REFUSED → result ≡ OUT_OF_MEMORY }
 
-    // A fault that is stated is reported.
+    // If the error has a fault, it is reported.
     ensures memory { result ≢ REFUSED → error_fault e.now ≡ None }
 {
     let Some(kind) = kind(e) else {
@@ -63,12 +63,12 @@ pub fn refuse(e: &Error, fault: &mut FaultRecord) -> u32
     REFUSED
 }
 
-/// Reports the variable that the error states as missing. Where it states none, the bytes were too many to be
-/// counted.
-#[tactic(auto, using(crate::proofs::AnswerLemmas::told_of_missing))]
+/// Writes the missing variable of an error to `fault`, and returns `REFUSED`. Returns `OUT_OF_MEMORY` if the
+/// error is that the output's length overflows a `usize`.
+#[tactic(auto, using(crate::proofs::AnswerLemmas::record_of_missing))]
 pub fn refuse_missing(e: &ExpandIntoError, fault: &mut FaultRecord) -> u32
     ensures refused { result ≡ REFUSED
-        → IsToldOf (λ f. expand_into_fault e.now ≡ Some f) fault.new }
+        → IsRecordOf (λ f. expand_into_fault e.now ≡ Some f) fault.new }
     ensures end { result ≡ REFUSED
         → fault.new.position + fault.new.length ≡ (range_of (expand_into_fault e.now)).end }
     ensures kept { result ≢ REFUSED → fault.new ≡ fault.old }
@@ -88,7 +88,7 @@ pub fn refuse_missing(e: &ExpandIntoError, fault: &mut FaultRecord) -> u32
     }
 }
 
-/// Returns the number of the kind of fault that an error states.
+/// Returns the number of the kind of an error's fault, or `None` if the error is out of memory.
 pub fn kind(e: &Error) -> Option<u32>
     ensures { result ≡ option_map fault_number (error_fault e.now) }
 {

@@ -18,8 +18,8 @@ use std::alloc::{AllocError, Global};
 use subst_foreign::{Forms, Missing, Names, ShellForm, Style};
 use subst_language::VariableMap;
 
-/// Puts a template for a text in which `$NAME` and `${NAME}` of chosen names are variables at the front of the
-/// buffer. No such text is refused. Where `optional` isn't 0, an unset variable expands to nothing.
+/// Writes a template for `text` to the front of the buffer. In `text`, `$NAME` and `${NAME}` are variables if
+/// `names` has the name. No text is refused. If `optional` isn't 0, an unset variable expands to nothing.
 pub fn deliver<N: Names>(
     alloc: Global,
     text: &[u8],
@@ -45,7 +45,7 @@ pub fn deliver<N: Names>(
     }
 }
 
-/// Returns how an unset variable expands: to a fault if `optional` is 0, or to nothing.
+/// Returns how an unset variable expands: to a fault if `optional` is 0, and otherwise to nothing.
 fn missing_of(optional: u32) -> Missing
     ensures { result ≡ spec_missing_of optional }
 {
@@ -56,7 +56,7 @@ fn missing_of(optional: u32) -> Missing
     }
 }
 
-/// The names of pairs, without an operator.
+/// The choice of the names of pairs, in forms without an operator, such as `${NAME}`.
 #[derive(Clone, Copy)]
 pub struct PlainNames<'n, 'p> {
     pub pairs: &'n Pairs<'p>,
@@ -91,18 +91,18 @@ pub fn has_name(pairs: &Pairs, name: &[u8]) -> bool
     }
 }
 
-/// Returns the number of a form of a shell. A number never changes.
+/// Returns the number of a form of a shell. The numbers never change.
 pub fn number_of(form: ShellForm) -> u32
     ensures { result ≡ form_number form }
 {
     form as u32 + 1
 }
 
-/// Returns the text of the form of a shell that has this number, or the empty text where none has it.
+/// Returns the text of the shell form with this number, or an empty text if there is none.
 ///
 /// # Errors
 ///
-/// When allocation fails.
+/// If allocation fails.
 pub fn form_text(alloc: Global, number: u32) -> Result<String, AllocError>
     ensures { IfOk result (λ text. IsFormText number (string_bytes text)) }
 {
@@ -112,7 +112,7 @@ pub fn form_text(alloc: Global, number: u32) -> Result<String, AllocError>
     }
 }
 
-/// Returns the form of a shell that has this number.
+/// Returns the shell form with this number, or `None` if there is none.
 fn form_of(number: u32) -> Option<ShellForm>
     ensures { MatchOption result ((form : ShellForm) → number ≢ form_number form)
         (λ form. number ≡ form_number form) }

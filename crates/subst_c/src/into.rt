@@ -1,9 +1,9 @@
-//! Filling in straight into the caller's buffer.
+//! Expanding straight into the caller's buffer.
 
 ghost use Rattle.std.specs.Prelude.{◌≡◌, ◌≢◌, ◌^◌, ◌≤◌, length};
 ghost use Rattle.subst_language.specs.Language.Sentence.{ByTree};
 ghost use Rattle.subst_language.specs.Language.Written.{written};
-ghost use Rattle.subst_c.specs.Fault.{IsToldOf, SetsFault};
+ghost use Rattle.subst_c.specs.Fault.{IsRecordOf, SetsFault};
 ghost use Rattle.subst_c.specs.Pairs.{pair_value, GivenBy, RefusedBy};
 ghost use Rattle.subst_c.specs.Buffer.{IsPut, IsTooLong};
 ghost use Rattle.subst_c.specs.declared.outcome.TheConstants.{DONE, REFUSED, OUT_OF_MEMORY, ROOM_TOO_SMALL};
@@ -15,10 +15,10 @@ use crate::pairs::{Pair, Pairs, index_of};
 use std::alloc::Global;
 use subst_template::ByteTemplate;
 
-/// Writes what the template gives under the pairs from the front of the buffer on, and into `needed` how many
-/// bytes it is, also where the buffer is shorter. Memory is taken for an index alone, which it may be refused
-/// for: out of memory says that the bytes are too many for a `usize`. What the buffer has is unspecified
-/// unless all is done.
+/// Expands the template with the pairs into the front of the buffer. The output's length in bytes is written
+/// to `needed`, even if the buffer is shorter. Allocates only an index of the pairs, or searches the pairs if
+/// that fails. Out of memory means that the output's length overflows a `usize`. Unless the result is done,
+/// the buffer is unspecified.
 pub fn expand_into_buffer(
     alloc: Global,
     template: &ByteTemplate,
@@ -29,7 +29,7 @@ pub fn expand_into_buffer(
 ) -> u32
     ensures done { result ≡ DONE
         → IsPut (GivenBy template.now pairs.now) needed.new buffer.old buffer.new }
-    ensures fault { SetsFault (IsToldOf (RefusedBy template.now pairs.now)) template.now
+    ensures fault { SetsFault (IsRecordOf (RefusedBy template.now pairs.now)) template.now
         result fault.old fault.new }
     ensures too_small { result ≡ ROOM_TOO_SMALL
         → IsTooLong (GivenBy template.now pairs.now) needed.new buffer.old }

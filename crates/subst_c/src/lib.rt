@@ -1,9 +1,9 @@
-//! The library under names of C: variables come as pairs, and what is returned goes into the caller's buffer.
+//! The C interface of the library: variables come as pairs, and outputs go into the caller's buffer.
 //!
-//! `include/subst.h.in` declares what is here, and docs/C.md shows how to call it. Each call returns
-//! one of the numbers of [`outcome`]. No argument is null: where a length is 0, the header passes an address
-//! of its own. In a pair or a row a pointer beside a length of 0 may be null, of which contracts know nothing:
-//! it is only tested. What is borrowed to be written overlaps nothing else that is passed.
+//! `include/subst.h.in` declares the functions, and docs/C.md shows how to call them. Each function returns
+//! one of the numbers of [`outcome`]. No argument is null: if a length is 0, the header passes an address of
+//! its own. In a pair or a row, a pointer with the length 0 may be null, which is tested but not in the
+//! contracts. Arguments that are written overlap no other argument.
 #![tactic(auto)]
 
 ghost use Rattle.std.specs.Prelude.{◌≡◌, ◌≢◌, ◌⊎◌, ◌↔◌, ◌+◌, ◌*◌, ◌<◌, ◌++◌, ℕ, List, drop, length, true, false};
@@ -18,21 +18,21 @@ ghost use Rattle.subst_foreign.specs.Grammar.{grammar};
 ghost use Rattle.subst_foreign.specs.Template.{IsTemplate};
 ghost use Rattle.subst_foreign.specs.declared.forms.Forms.TheVariants.{Common, Envsubst, Own};
 ghost use Rattle.subst_foreign.specs.declared.forms.Missing.TheVariants.{Nothing};
-ghost use Rattle.subst_c.specs.Documents.{IsFilledIn, IsReported, IsSaidOf, Json, Toml};
+ghost use Rattle.subst_c.specs.Documents.{IsDocumentFaultText, IsFilledIn, IsReported, Json, Toml, Yaml};
 ghost use Rattle.subst_c.specs.Each.{AreOutputs, IsRefusedIn};
-ghost use Rattle.subst_c.specs.Fault.{IsToldOf, SetsFault};
+ghost use Rattle.subst_c.specs.Fault.{IsRecordOf, SetsFault};
 ghost use Rattle.subst_c.specs.Foreign.{HasPlain, IsFormText, IsRefusedFor, missing_of};
 ghost use Rattle.subst_c.specs.Pairs.{pair_value, GivenBy, TextGivenBy, RefusedBy};
 ghost use Rattle.subst_c.specs.Records.{HasRecords};
 ghost use Rattle.subst_c.specs.Buffer.{FillsBuffer, IsPut, IsTooLong};
 ghost use Rattle.subst_c.specs.Style.{AreOf, GivenByStyle, SetsStyleFault, TextGivenByStyle};
 ghost use Rattle.subst_c.specs.declared.style.Choices.{Choices};
-ghost use Rattle.subst_c.specs.Text.{IsHighlighting, SaysOf, are_texts};
+ghost use Rattle.subst_c.specs.Text.{IsFaultTextOf, IsHighlighting, are_texts};
 ghost use Rattle.subst_c.specs.declared.outcome.TheConstants.{DONE, REFUSED, OUT_OF_MEMORY, ROOM_TOO_SMALL, NOT_UTF8, NOT_A_BOUNDARY, NOT_CONFIRMED, NO_SUCH_STYLE};
 ghost use Rattle.subst_c.specs.Results.{IsOther};
 ghost use Rattle.subst_version.specs.declared.TheConstants.{MAJOR, MINOR, PATCH};
 
-use document::{of_json, of_toml};
+use document::{of_json, of_toml, of_yaml};
 pub use fault::FaultRecord;
 use foreign::PlainNames;
 use outcome::{DONE, NOT_A_BOUNDARY, NOT_UTF8, OUT_OF_MEMORY, REFUSED};
@@ -59,7 +59,7 @@ mod pairs;
 mod style;
 mod variables;
 
-/// Returns the version of the library as one number, as 102 for 0.1.2.
+/// Returns the version of the library as one number, such as 102 for 0.1.2.
 #[unsafe(no_mangle)]
 pub extern "C" fn subst_version() -> u32
     ensures version { result ≡ 10000 * MAJOR + 100 * MINOR + PATCH }
@@ -67,7 +67,7 @@ pub extern "C" fn subst_version() -> u32
     10000 * MAJOR + 100 * MINOR + PATCH
 }
 
-/// Puts the bytes of `source` with its variables filled in from `pairs` at the front of the buffer.
+/// Expands `source` with `pairs`, and writes the output to the front of the buffer.
 #[unsafe(no_mangle)]
 pub extern "C" fn subst_bytes(
     alloc: Global,
@@ -77,15 +77,15 @@ pub extern "C" fn subst_bytes(
     needed: &mut usize,
     fault: &mut FaultRecord,
 ) -> u32
-    // The buffer begins with what the source gives, or is as it was.
+    // The buffer begins with the output, or is unchanged.
     ensures buffer { FillsBuffer (GivenBy source.now pairs.now)
         result needed.old needed.new buffer.old buffer.new }
 
-    // The fault is that which the source is refused for, and lies in it.
-    ensures fault { SetsFault (IsToldOf (RefusedBy source.now pairs.now)) source.now
+    // The fault is the one that the source is refused for, and lies in the source.
+    ensures fault { SetsFault (IsRecordOf (RefusedBy source.now pairs.now)) source.now
         result fault.old fault.new }
 
-    // There is no other result, but out of memory.
+    // The only other result is out of memory.
     ensures others { IsOther result }
 {
     match answer::fill_in(alloc, source, pairs) {
@@ -94,8 +94,7 @@ pub extern "C" fn subst_bytes(
     }
 }
 
-/// Puts the text of `source` with its variables filled in from `pairs` at the front of the buffer. The source
-/// and all values have to be UTF-8, and so is what is put there.
+/// Does what `subst_bytes` does, if the source and all values are UTF-8. The output is UTF-8 too.
 #[unsafe(no_mangle)]
 pub extern "C" fn subst_text(
     alloc: Global,
@@ -105,13 +104,13 @@ pub extern "C" fn subst_text(
     needed: &mut usize,
     fault: &mut FaultRecord,
 ) -> u32
-    // As `subst_bytes`, and what is put into the buffer is UTF-8.
+    // As for `subst_bytes`, and the output is UTF-8.
     ensures buffer { FillsBuffer (TextGivenBy source.now pairs.now)
         result needed.old needed.new buffer.old buffer.new }
-    ensures fault { SetsFault (IsToldOf (RefusedBy source.now pairs.now)) source.now
+    ensures fault { SetsFault (IsRecordOf (RefusedBy source.now pairs.now)) source.now
         result fault.old fault.new }
 
-    // The source or a value is told not to be UTF-8 exactly where one isn't.
+    // The result is `NOT_UTF8` exactly if the source or a value isn't UTF-8.
     ensures text { result ≢ NOT_UTF8 → are_texts source.now pairs.now ≡ true }
     ensures not_text { result ≡ NOT_UTF8 → are_texts source.now pairs.now ≡ false }
     ensures others { result ≢ NOT_UTF8 → IsOther result }
@@ -123,10 +122,9 @@ pub extern "C" fn subst_text(
     subst_bytes(alloc, source, pairs, buffer, needed, fault)
 }
 
-/// Writes the bytes of `source` with its variables filled in from `pairs` straight into the buffer, from its
-/// front on. What the buffer has is unspecified unless the result is done. Memory is taken for the parse, and
-/// for an index, which it may be refused for: after the parse, out of memory says that the bytes are too many
-/// for a `usize`.
+/// Expands `source` with `pairs` straight into the front of the buffer. Unless the result is done, the buffer
+/// is unspecified. Allocates for the parse, and for an index of the pairs; without memory for the index, the
+/// pairs are searched. After the parse, out of memory means that the output's length overflows a `usize`.
 #[unsafe(no_mangle)]
 pub extern "C" fn subst_bytes_into(
     alloc: Global,
@@ -136,17 +134,17 @@ pub extern "C" fn subst_bytes_into(
     needed: &mut usize,
     fault: &mut FaultRecord,
 ) -> u32
-    // As `subst_bytes`.
+    // As for `subst_bytes`.
     ensures done { result ≡ DONE
         → IsPut (GivenBy source.now pairs.now) needed.new buffer.old buffer.new }
     ensures too_small { result ≡ ROOM_TOO_SMALL
         → IsTooLong (GivenBy source.now pairs.now) needed.new buffer.old }
     ensures needed_kept { result ≢ DONE → result ≢ ROOM_TOO_SMALL → needed.new ≡ needed.old }
-    ensures fault { SetsFault (IsToldOf (RefusedBy source.now pairs.now)) source.now
+    ensures fault { SetsFault (IsRecordOf (RefusedBy source.now pairs.now)) source.now
         result fault.old fault.new }
     ensures others { IsOther result }
 
-    // Only what a sentence gives is written to the buffer.
+    // The buffer changes only if the source is a sentence.
     ensures buffer_kept { ¬ (IsSentence source.now) → buffer.new ≡ buffer.old }
 {
     match ByteTemplate::from_slice(alloc, source) {
@@ -155,8 +153,7 @@ pub extern "C" fn subst_bytes_into(
     }
 }
 
-/// Does what `subst_bytes_into` does, where the source and all values are UTF-8. What is put into the buffer
-/// is then UTF-8 too.
+/// Does what `subst_bytes_into` does, if the source and all values are UTF-8. The output is UTF-8 too.
 #[unsafe(no_mangle)]
 pub extern "C" fn subst_text_into(
     alloc: Global,
@@ -166,21 +163,21 @@ pub extern "C" fn subst_text_into(
     needed: &mut usize,
     fault: &mut FaultRecord,
 ) -> u32
-    // As `subst_bytes_into`, and what is put into the buffer is UTF-8.
+    // As for `subst_bytes_into`, and the output is UTF-8.
     ensures done { result ≡ DONE
         → IsPut (TextGivenBy source.now pairs.now) needed.new buffer.old buffer.new }
     ensures too_small { result ≡ ROOM_TOO_SMALL
         → IsTooLong (GivenBy source.now pairs.now) needed.new buffer.old }
     ensures needed_kept { result ≢ DONE → result ≢ ROOM_TOO_SMALL → needed.new ≡ needed.old }
-    ensures fault { SetsFault (IsToldOf (RefusedBy source.now pairs.now)) source.now
+    ensures fault { SetsFault (IsRecordOf (RefusedBy source.now pairs.now)) source.now
         result fault.old fault.new }
 
-    // The source or a value is told not to be UTF-8 exactly where one isn't.
+    // The result is `NOT_UTF8` exactly if the source or a value isn't UTF-8.
     ensures text { result ≢ NOT_UTF8 → are_texts source.now pairs.now ≡ true }
     ensures not_text { result ≡ NOT_UTF8 → are_texts source.now pairs.now ≡ false }
     ensures others { result ≢ NOT_UTF8 → IsOther result }
 
-    // Only what a sentence gives is written to the buffer, and only where all is UTF-8.
+    // The buffer changes only if the source is a sentence, and the source and all values are UTF-8.
     ensures buffer_kept { ¬ (IsSentence source.now) → buffer.new ≡ buffer.old }
     ensures buffer_kept_of_no_text { result ≡ NOT_UTF8 → buffer.new ≡ buffer.old }
 {
@@ -191,8 +188,8 @@ pub extern "C" fn subst_text_into(
     subst_bytes_into(alloc, source, pairs, buffer, needed, fault)
 }
 
-/// Puts what `source` gives under each row of pairs at the front of the buffer, one output after the other,
-/// and where each ends at the front of `ends`. The source is parsed once.
+/// Expands `source` with each row of pairs, and writes the concatenated outputs to the front of the buffer.
+/// The end of each output is written to `ends`. The source is parsed once.
 #[unsafe(no_mangle)]
 pub extern "C" fn subst_bytes_each(
     alloc: Global,
@@ -209,11 +206,11 @@ pub extern "C" fn subst_bytes_each(
         × IsPut (λ x. AreOutputs source.now rows.now x outputs_end) needed.new buffer.old buffer.new
         × (ends.new ≡ outputs_end ++ drop (length outputs_end) ends.old) }
 
-    // The fault is that of the source, or of the first row under which it is refused; `row` says which.
-    ensures fault { SetsFault (IsToldOf (IsRefusedIn source.now rows.now row.new)) source.now
+    // The fault is that of the source, or of the first row with which it is refused, whose index is `row`.
+    ensures fault { SetsFault (IsRecordOf (IsRefusedIn source.now rows.now row.new)) source.now
         result fault.old fault.new }
 
-    // The outputs are longer than the buffer, or more than the ends that there is space for.
+    // The outputs are longer than the buffer, or there are fewer ends than outputs.
     ensures too_small { result ≡ ROOM_TOO_SMALL
         → (x : List ℕ) × (outputs_end : List ℕ) × AreOutputs source.now rows.now x outputs_end
         × (needed.new ≡ length x)
@@ -235,8 +232,8 @@ pub extern "C" fn subst_bytes_each(
     }
 }
 
-/// Puts the text of `source`, a JSON document, with its strings filled in from `pairs` at the front of the
-/// buffer. Each other byte of it stays. The source and all values have to be UTF-8.
+/// Fills in the strings of `source`, a JSON document, from `pairs`, and writes the output to the front of the
+/// buffer. All other bytes are unchanged. The source and all values have to be UTF-8.
 #[unsafe(no_mangle)]
 pub extern "C" fn subst_json(
     alloc: Global,
@@ -246,15 +243,15 @@ pub extern "C" fn subst_json(
     needed: &mut usize,
     fault: &mut FaultRecord,
 ) -> u32
-    // The buffer begins with the document with its strings filled in.
+    // The buffer begins with the document, with its strings filled in.
     ensures buffer { FillsBuffer (IsFilledIn Json (pair_value pairs.now) source.now)
         result needed.old needed.new buffer.old buffer.new }
 
-    // The source is no document, or the fault is that of its first string that is refused, and where.
+    // The source is no document, or the fault is that of the first refused string, with its span.
     ensures fault { SetsFault (IsReported Json (pair_value pairs.now) source.now) source.now
         result fault.old fault.new }
 
-    // The source or a value is told not to be UTF-8 exactly where one isn't.
+    // The result is `NOT_UTF8` exactly if the source or a value isn't UTF-8.
     ensures text { result ≢ NOT_UTF8 → are_texts source.now pairs.now ≡ true }
     ensures not_text { result ≡ NOT_UTF8 → are_texts source.now pairs.now ≡ false }
     ensures others { result ≢ NOT_UTF8 → result ≢ NOT_CONFIRMED → IsOther result }
@@ -267,8 +264,7 @@ pub extern "C" fn subst_json(
     }
 }
 
-/// Puts the text of `source`, a TOML document, with its strings filled in at the front of the buffer, as
-/// `subst_json`.
+/// Fills in the strings of `source`, a TOML document, like `subst_json`.
 #[unsafe(no_mangle)]
 pub extern "C" fn subst_toml(
     alloc: Global,
@@ -278,15 +274,15 @@ pub extern "C" fn subst_toml(
     needed: &mut usize,
     fault: &mut FaultRecord,
 ) -> u32
-    // The buffer begins with the document with its strings filled in.
+    // The buffer begins with the document, with its strings filled in.
     ensures buffer { FillsBuffer (IsFilledIn Toml (pair_value pairs.now) source.now)
         result needed.old needed.new buffer.old buffer.new }
 
-    // The source is no document, or the fault is that of its first string that is refused, and where.
+    // The source is no document, or the fault is that of the first refused string, with its span.
     ensures fault { SetsFault (IsReported Toml (pair_value pairs.now) source.now) source.now
         result fault.old fault.new }
 
-    // The source or a value is told not to be UTF-8 exactly where one isn't.
+    // The result is `NOT_UTF8` exactly if the source or a value isn't UTF-8.
     ensures text { result ≢ NOT_UTF8 → are_texts source.now pairs.now ≡ true }
     ensures not_text { result ≡ NOT_UTF8 → are_texts source.now pairs.now ≡ false }
     ensures others { result ≢ NOT_UTF8 → result ≢ NOT_CONFIRMED → IsOther result }
@@ -299,11 +295,42 @@ pub extern "C" fn subst_toml(
     }
 }
 
-/// Looks whether `source` is a sentence of the template language, without variables.
+/// Fills in the strings of `source`, a YAML document, like `subst_json`.
+#[unsafe(no_mangle)]
+pub extern "C" fn subst_yaml(
+    alloc: Global,
+    source: &[u8],
+    pairs: &[Pair],
+    buffer: &mut [u8],
+    needed: &mut usize,
+    fault: &mut FaultRecord,
+) -> u32
+    // The buffer begins with the document, with its strings filled in.
+    ensures buffer { FillsBuffer (IsFilledIn Yaml (pair_value pairs.now) source.now)
+        result needed.old needed.new buffer.old buffer.new }
+
+    // The source is no document, or the fault is that of the first refused string, with its span.
+    ensures fault { SetsFault (IsReported Yaml (pair_value pairs.now) source.now) source.now
+        result fault.old fault.new }
+
+    // The result is `NOT_UTF8` exactly if the source or a value isn't UTF-8.
+    ensures text { result ≢ NOT_UTF8 → are_texts source.now pairs.now ≡ true }
+    ensures not_text { result ≡ NOT_UTF8 → are_texts source.now pairs.now ≡ false }
+    ensures others { result ≢ NOT_UTF8 → result ≢ NOT_CONFIRMED → IsOther result }
+{
+    match answer::as_texts(alloc, source, pairs) {
+        Some((text, pairs)) => {
+            document::deliver(of_yaml::fill_in(alloc, text, &pairs), buffer, needed, fault)
+        }
+        None => NOT_UTF8,
+    }
+}
+
+/// Checks whether `source` is a sentence of the template language. Variables aren't looked up.
 #[unsafe(no_mangle)]
 pub extern "C" fn subst_check(alloc: Global, source: &[u8], fault: &mut FaultRecord) -> u32
     ensures done { result ≡ DONE → IsSentence source.now }
-    ensures fault { SetsFault (IsToldOf (HasFault 0 source.now)) source.now
+    ensures fault { SetsFault (IsRecordOf (HasFault 0 source.now)) source.now
         result fault.old fault.new }
     ensures others { result ≢ DONE → result ≢ REFUSED → result ≡ OUT_OF_MEMORY }
 {
@@ -313,9 +340,9 @@ pub extern "C" fn subst_check(alloc: Global, source: &[u8], fault: &mut FaultRec
     }
 }
 
-/// Puts a record for each variable of `source` at the front of the buffer: its kind, the byte offset of its
-/// name, and how many bytes that takes. They are in the order of the source, also those in defaults, and a
-/// name that is there twice has two. `needed` counts records.
+/// Writes to the front of the buffer a record for each variable of `source`: its kind, and the byte offset
+/// and length of its name. The records are in the order of the source, and include variables in defaults. A
+/// name that occurs twice has two records. `needed` is the number of records.
 #[unsafe(no_mangle)]
 pub extern "C" fn subst_variables(
     alloc: Global,
@@ -328,8 +355,8 @@ pub extern "C" fn subst_variables(
     ensures buffer { FillsBuffer (HasRecords source.now (variables_of 0))
         result needed.old needed.new buffer.old buffer.new }
 
-    // The source is no sentence, and the fault is that which it is refused for.
-    ensures fault { SetsFault (IsToldOf (HasFault 0 source.now)) source.now
+    // The source is no sentence, and the fault is the one that it is refused for.
+    ensures fault { SetsFault (IsRecordOf (HasFault 0 source.now)) source.now
         result fault.old fault.new }
     ensures others { IsOther result }
 {
@@ -342,9 +369,9 @@ pub extern "C" fn subst_variables(
     }
 }
 
-/// Puts a record for each variable that `source` needs and that no pair names at the front of the buffer, as
-/// `subst_variables`. Each has the kind `REQUIRED`, and the result is done also where there are some. The
-/// names in a default that isn't used aren't needed.
+/// Writes to the front of the buffer, like `subst_variables`, a record for each variable that `source` needs
+/// and that no pair has. Each record has the kind `REQUIRED`. The result is done even if variables are
+/// missing. Variables in a default that isn't used aren't needed.
 #[unsafe(no_mangle)]
 pub extern "C" fn subst_missing(
     alloc: Global,
@@ -354,15 +381,15 @@ pub extern "C" fn subst_missing(
     needed: &mut usize,
     fault: &mut FaultRecord,
 ) -> u32
-    // As `subst_variables`, of all that the source's tree is missing.
+    // As for `subst_variables`, for the missing variables of the source's tree.
     ensures buffer { FillsBuffer
         (HasRecords source.now (λ t. all_missing 0 t (pair_value pairs.now)))
         result needed.old needed.new buffer.old buffer.new }
 
-    // Nothing is missing exactly where the source gives bytes.
+    // No variable is missing exactly if the source has an output.
     ensures none { result ≡ DONE → (needed.new ≡ 0
         ↔ ((x : List ℕ) × Answers source.now (pair_value pairs.now) (Gives x))) }
-    ensures fault { SetsFault (IsToldOf (HasFault 0 source.now)) source.now
+    ensures fault { SetsFault (IsRecordOf (HasFault 0 source.now)) source.now
         result fault.old fault.new }
     ensures others { IsOther result }
 {
@@ -379,8 +406,8 @@ pub extern "C" fn subst_missing(
     }
 }
 
-/// Puts the text of the fault that `subst_bytes` finds, over the same source and pairs, at the front of the
-/// buffer. Where that finds none, the text is empty.
+/// Writes to the front of the buffer the text of the fault that `subst_bytes` reports for `source` and
+/// `pairs`. If there is no fault, the text is empty.
 #[unsafe(no_mangle)]
 pub extern "C" fn subst_fault_text(
     alloc: Global,
@@ -390,7 +417,7 @@ pub extern "C" fn subst_fault_text(
     needed: &mut usize,
 ) -> u32
     ensures buffer { FillsBuffer
-        (SaysOf (Answers source.now (pair_value pairs.now)) IsDisplayOfFault)
+        (IsFaultTextOf (Answers source.now (pair_value pairs.now)) IsDisplayOfFault)
         result needed.old needed.new buffer.old buffer.new }
     ensures others { result ≢ DONE → result ≢ ROOM_TOO_SMALL → result ≡ OUT_OF_MEMORY }
 {
@@ -400,9 +427,9 @@ pub extern "C" fn subst_fault_text(
     }
 }
 
-/// Puts the text of the fault that `subst_json` finds, over the same source and pairs, at the front of the
-/// buffer: the path of the string and its fault, or what the reader says. Where that finds none, the text is
-/// empty.
+/// Writes to the front of the buffer the text of the fault that `subst_json` reports for `source` and
+/// `pairs`: the path of the refused string and its fault, or the reader's message. If there is no fault, the
+/// text is empty.
 #[unsafe(no_mangle)]
 pub extern "C" fn subst_json_fault_text(
     alloc: Global,
@@ -411,7 +438,7 @@ pub extern "C" fn subst_json_fault_text(
     buffer: &mut [u8],
     needed: &mut usize,
 ) -> u32
-    ensures buffer { FillsBuffer (IsSaidOf Json (pair_value pairs.now) source.now)
+    ensures buffer { FillsBuffer (IsDocumentFaultText Json (pair_value pairs.now) source.now)
         result needed.old needed.new buffer.old buffer.new }
     ensures text { result ≢ NOT_UTF8 → are_texts source.now pairs.now ≡ true }
     ensures not_text { result ≡ NOT_UTF8 → are_texts source.now pairs.now ≡ false }
@@ -426,7 +453,7 @@ pub extern "C" fn subst_json_fault_text(
     }
 }
 
-/// Puts the text of the fault that `subst_toml` finds at the front of the buffer, as `subst_json_fault_text`.
+/// Writes the text of the fault of `subst_toml` to the front of the buffer, like `subst_json_fault_text`.
 #[unsafe(no_mangle)]
 pub extern "C" fn subst_toml_fault_text(
     alloc: Global,
@@ -435,7 +462,7 @@ pub extern "C" fn subst_toml_fault_text(
     buffer: &mut [u8],
     needed: &mut usize,
 ) -> u32
-    ensures buffer { FillsBuffer (IsSaidOf Toml (pair_value pairs.now) source.now)
+    ensures buffer { FillsBuffer (IsDocumentFaultText Toml (pair_value pairs.now) source.now)
         result needed.old needed.new buffer.old buffer.new }
     ensures text { result ≢ NOT_UTF8 → are_texts source.now pairs.now ≡ true }
     ensures not_text { result ≡ NOT_UTF8 → are_texts source.now pairs.now ≡ false }
@@ -450,9 +477,33 @@ pub extern "C" fn subst_toml_fault_text(
     }
 }
 
-/// Puts the line of the fault that `subst_bytes` finds, over the same source and pairs, with the fault
-/// underlined, at the front of the buffer. Where that finds none, or the line is wider than 60 columns, the
-/// text is empty.
+/// Writes the text of the fault of `subst_yaml` to the front of the buffer, like `subst_json_fault_text`.
+#[unsafe(no_mangle)]
+pub extern "C" fn subst_yaml_fault_text(
+    alloc: Global,
+    source: &[u8],
+    pairs: &[Pair],
+    buffer: &mut [u8],
+    needed: &mut usize,
+) -> u32
+    ensures buffer { FillsBuffer (IsDocumentFaultText Yaml (pair_value pairs.now) source.now)
+        result needed.old needed.new buffer.old buffer.new }
+    ensures text { result ≢ NOT_UTF8 → are_texts source.now pairs.now ≡ true }
+    ensures not_text { result ≡ NOT_UTF8 → are_texts source.now pairs.now ≡ false }
+    ensures others { result ≢ DONE → result ≢ ROOM_TOO_SMALL → result ≢ NOT_UTF8
+        → result ≢ NOT_CONFIRMED → result ≡ OUT_OF_MEMORY }
+{
+    match answer::as_texts(alloc, source, pairs) {
+        Some((text, pairs)) => {
+            document::deliver_text(of_yaml::fill_in(alloc, text, &pairs), buffer, needed)
+        }
+        None => NOT_UTF8,
+    }
+}
+
+/// Writes to the front of the buffer the line of the fault that `subst_bytes` reports for `source` and
+/// `pairs`, with the fault underlined. If there is no fault, or the line is wider than 60 columns, the text
+/// is empty.
 #[unsafe(no_mangle)]
 pub extern "C" fn subst_fault_highlighting(
     alloc: Global,
@@ -462,10 +513,10 @@ pub extern "C" fn subst_fault_highlighting(
     needed: &mut usize,
 ) -> u32
     ensures buffer { FillsBuffer
-        (SaysOf (Answers source.now (pair_value pairs.now)) (IsHighlighting source.now))
+        (IsFaultTextOf (Answers source.now (pair_value pairs.now)) (IsHighlighting source.now))
         result needed.old needed.new buffer.old buffer.new }
 
-    // The result is `NOT_UTF8` exactly where the source isn't UTF-8.
+    // The result is `NOT_UTF8` exactly if the source isn't UTF-8.
     ensures text { result ≢ NOT_UTF8 → IsUtf8 source.now }
     ensures not_text { result ≡ NOT_UTF8 → ¬ (IsUtf8 source.now) }
     ensures others { result ≢ DONE → result ≢ ROOM_TOO_SMALL → result ≢ NOT_UTF8
@@ -480,8 +531,8 @@ pub extern "C" fn subst_fault_highlighting(
     }
 }
 
-/// Writes the line and the column of the byte offset `position` in `source`, both from 1, as
-/// `line_and_column` counts them.
+/// Writes the line and column of the byte offset `position` in `source`, both from 1, as `line_and_column`
+/// counts them.
 #[unsafe(no_mangle)]
 pub extern "C" fn subst_place(
     source: &[u8],
@@ -492,11 +543,11 @@ pub extern "C" fn subst_place(
     ensures done { result ≡ DONE
         → (line.new, column.new) ≡ position_at position source.now }
 
-    // The result is `NOT_UTF8` exactly where the source isn't UTF-8.
+    // The result is `NOT_UTF8` exactly if the source isn't UTF-8.
     ensures text { result ≢ NOT_UTF8 → IsUtf8 source.now }
     ensures not_text { result ≡ NOT_UTF8 → ¬ (IsUtf8 source.now) }
 
-    // It is done only at a boundary, and `NOT_A_BOUNDARY` only where the position isn't one.
+    // The position is a character boundary if the result is `DONE`, and isn't if it is `NOT_A_BOUNDARY`.
     ensures boundary { result ≡ DONE → IsCharBoundary source.now position }
     ensures not_boundary { result ≡ NOT_A_BOUNDARY → ¬ (IsCharBoundary source.now position) }
     ensures others { result ≢ DONE → result ≢ NOT_UTF8 → result ≡ NOT_A_BOUNDARY }
@@ -512,8 +563,8 @@ pub extern "C" fn subst_place(
     DONE
 }
 
-/// Puts the bytes of `source`, a text of another tool, with its variables filled in from `pairs` at the front of
-/// the buffer. What is a variable, and how an unset one expands, the style says.
+/// Expands `source`, a text of another tool, with `pairs`, and writes the output to the front of the buffer.
+/// The style states which forms and names are variables, and how an unset variable expands.
 #[unsafe(no_mangle)]
 pub extern "C" fn subst_bytes_by_style(
     alloc: Global,
@@ -524,14 +575,14 @@ pub extern "C" fn subst_bytes_by_style(
     needed: &mut usize,
     fault: &mut StyleFault,
 ) -> u32
-    // The buffer begins with what the source gives, or is as it was.
+    // The buffer begins with the output, or is unchanged.
     ensures buffer { FillsBuffer (GivenByStyle style.now pairs.now source.now)
         result needed.old needed.new buffer.old buffer.new }
 
-    // The fault is the form that is refused first, or else the variable that is missing.
+    // The fault is that of the first refused form, or, if there is none, of the missing variable.
     ensures fault { SetsStyleFault style.now pairs.now source.now result fault.old fault.new }
 
-    // The result is `NO_SUCH_STYLE` exactly where one of the style's numbers is that of no choice.
+    // The result is `NO_SUCH_STYLE` exactly if the style has a number that no choice has.
     ensures style { result ≢ NO_SUCH_STYLE → (choices : Choices) × AreOf style.now choices }
     ensures no_style { result ≡ NO_SUCH_STYLE → (choices : Choices) → ¬ (AreOf style.now choices) }
     ensures others { result ≢ NO_SUCH_STYLE → IsOther result }
@@ -539,8 +590,7 @@ pub extern "C" fn subst_bytes_by_style(
     style::deliver(alloc, source, style, pairs, buffer, needed, fault)
 }
 
-/// Does what `subst_bytes_by_style` does, where the source and all values are UTF-8. What is put into the buffer
-/// is then UTF-8 too.
+/// Does what `subst_bytes_by_style` does, if the source and all values are UTF-8. The output is UTF-8 too.
 #[unsafe(no_mangle)]
 pub extern "C" fn subst_text_by_style(
     alloc: Global,
@@ -551,12 +601,12 @@ pub extern "C" fn subst_text_by_style(
     needed: &mut usize,
     fault: &mut StyleFault,
 ) -> u32
-    // As `subst_bytes_by_style`, and what is put into the buffer is UTF-8.
+    // As for `subst_bytes_by_style`, and the output is UTF-8.
     ensures buffer { FillsBuffer (TextGivenByStyle style.now pairs.now source.now)
         result needed.old needed.new buffer.old buffer.new }
     ensures fault { SetsStyleFault style.now pairs.now source.now result fault.old fault.new }
 
-    // The source or a value is told not to be UTF-8 exactly where one isn't.
+    // The result is `NOT_UTF8` exactly if the source or a value isn't UTF-8.
     ensures text { result ≢ NOT_UTF8 → are_texts source.now pairs.now ≡ true }
     ensures not_text { result ≡ NOT_UTF8 → are_texts source.now pairs.now ≡ false }
     ensures style { result ≢ NOT_UTF8 → result ≢ NO_SUCH_STYLE
@@ -570,9 +620,9 @@ pub extern "C" fn subst_text_by_style(
     style::deliver(alloc, source, style, pairs, buffer, needed, fault)
 }
 
-/// Puts a template for `source`, a text of `envsubst`, at the front of the buffer: each `$NAME` and `${NAME}`
-/// whose name doesn't begin with a digit is a variable, and all else is text. Unless `optional` is 0, a
-/// variable without a value gives nothing.
+/// Writes a template for `source`, a text of `envsubst`, to the front of the buffer. Each `$NAME` and
+/// `${NAME}` whose name doesn't begin with a digit is a variable, and all else is text. An unset variable
+/// expands to nothing, or to a fault if `optional` is 0.
 #[unsafe(no_mangle)]
 pub extern "C" fn subst_from_envsubst(
     alloc: Global,
@@ -597,8 +647,8 @@ pub extern "C" fn subst_from_envsubst(
     )
 }
 
-/// Puts a template for `source` at the front of the buffer, in which `$NAME` and `${NAME}` of the names of
-/// `pairs` are variables, and all else is text, as `subst_from_envsubst`. The values aren't read.
+/// Writes a template for `source` to the front of the buffer, like `subst_from_envsubst`. `$NAME` and
+/// `${NAME}` are variables if a pair has the name, and all else is text. The values aren't read.
 #[unsafe(no_mangle)]
 pub extern "C" fn subst_with_only(
     alloc: Global,
@@ -625,9 +675,9 @@ pub extern "C" fn subst_with_only(
     )
 }
 
-/// Puts a template for `source`, a text of a shell, at the front of the buffer, in the forms that shells and
-/// Docker Compose read alike. It is to be filled in from pairs without empty values. Where a form is refused,
-/// `form` is its number, and `position` the byte offset where it begins.
+/// Writes a template for `source`, a text of a shell, to the front of the buffer. Variables have the forms
+/// that shells and Docker Compose read alike. Expand the template with pairs without empty values. If a form
+/// is refused, `form` is its number, and `position` the byte offset where it begins.
 #[unsafe(no_mangle)]
 pub extern "C" fn subst_from_shell(
     alloc: Global,
@@ -660,8 +710,8 @@ pub extern "C" fn subst_from_shell(
     }
 }
 
-/// Puts the text of the form of this number, as `subst_from_shell` writes it, at the front of the buffer. Where
-/// no form has the number, the text is empty.
+/// Writes to the front of the buffer the text of the form with the number `form`, as `subst_from_shell`
+/// reports it. If no form has the number, the text is empty.
 #[unsafe(no_mangle)]
 pub extern "C" fn subst_shell_form_text(
     alloc: Global,

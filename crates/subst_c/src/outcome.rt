@@ -1,25 +1,25 @@
-//! The results of calls, by number. A number never changes.
+//! The results of calls, as numbers, which never change.
 
-/// Done.
+/// The call is done.
 pub const DONE: u32 = 0;
 
 /// The source is refused.
 pub const REFUSED: u32 = 1;
 
-/// Memory ran out.
+/// Out of memory.
 pub const OUT_OF_MEMORY: u32 = 4;
 
 /// The buffer is too small.
 pub const ROOM_TOO_SMALL: u32 = 5;
 
-/// What has to be a text isn't UTF-8.
+/// A source or a value that has to be a text isn't UTF-8.
 pub const NOT_UTF8: u32 = 6;
 
-/// A position is past the end of the source, or inside one of its characters.
+/// A position is past the end of the source, or inside a character.
 pub const NOT_A_BOUNDARY: u32 = 7;
 
-/// What was made of a document isn't confirmed.
+/// The output of a document isn't confirmed to be right.
 pub const NOT_CONFIRMED: u32 = 8;
 
-/// A number of a style is that of no choice.
+/// A style has a number that no choice has.
 pub const NO_SUCH_STYLE: u32 = 9;

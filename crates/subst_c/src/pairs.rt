@@ -1,4 +1,4 @@
-//! Pairs of names and values, as C passes them, as a map of variables.
+//! Pairs of names and values, as C passes them, and maps of variables from them.
 
 ghost use Rattle.std.specs.Prelude.{◌≡◌, ℕ, List, Some, None, true, if◌then◌else◌, OnOk, IfOk, IfSome};
 ghost use Rattle.std.proofs.Props.{props};
@@ -13,11 +13,10 @@ use std::alloc::{AllocError, Global};
 use std::collections::BTreeMap;
 use subst_language::{BytesMap, VariableMap};
 
-/// How many pairs, or placeholders, there are at most for which searching the pairs in turn takes no longer
-/// than an index.
+/// The highest number of pairs, or of placeholders, for which a search is no slower than an index.
 const FEW: usize = 16;
 
-/// A name and a value.
+/// A variable: a name and a value.
 #[repr(C)]
 #[derive(Clone, Copy)]
 pub struct Pair<'a> {
@@ -25,19 +24,19 @@ pub struct Pair<'a> {
     pub value: &'a [u8],
 }
 
-/// The pairs of one expansion of several.
+/// The pairs for one of several outputs of a source.
 #[repr(C)]
 #[derive(Clone, Copy)]
 pub struct Row<'a> {
     pub pairs: &'a [Pair<'a>],
 }
 
-/// The values of pairs under their names: that of the first pair with a name. It is sorted, so that no names that
-/// are chosen for it make it slow.
+/// The values of pairs by name; the first pair with a name wins. The map is sorted, so no choice of names
+/// makes it slow.
 pub type Index<'a> = BTreeMap<&'a [u8], &'a [u8]>;
 
-/// Pairs as a map: the first pair with a name counts. Where there is an index, a name is looked up in that,
-/// and else the pairs are searched in turn.
+/// Pairs as a map; the first pair with a name wins. A name is looked up in the index, or, if there is none,
+/// by searching the pairs in turn.
 #[derive(Drop)]
 pub struct Pairs<'a> {
     pub pairs: &'a [Pair<'a>],
@@ -63,7 +62,7 @@ impl<'a> VariableMap<'a> for Pairs<'_> {
     }
 }
 
-/// The bytes of the pairs' values.
+/// The values of the pairs are bytes.
 impl<'a> BytesMap<'a> for Pairs<'_> {
     ghost use Rattle.std.proofs.Common.{refl, sym};
     ghost use Rattle.std.proofs.lemmas.Iterator.Adapters.{option_map_id};
@@ -74,7 +73,7 @@ impl<'a> BytesMap<'a> for Pairs<'_> {
     ghost reads = { ((λ bytes. bytes), (λ v. refl), (λ self name. sym (option_map_id _))) };
 }
 
-/// Pairs whose values are texts, as a map of texts.
+/// Pairs whose values are UTF-8, as a map of texts.
 #[derive(Drop)]
 pub struct TextPairs<'a> {
     pub pairs: Pairs<'a>,
@@ -97,7 +96,7 @@ impl<'a> VariableMap<'a> for TextPairs<'_> {
     }
 }
 
-/// Returns the value of the first pair with the name, for which the pairs are searched in turn.
+/// Returns the value of the first pair with the name. Searches the pairs in turn.
 fn find<'a>(pairs: &[Pair<'a>], name: &str) -> Option<&'a [u8]>
     ensures { option_map (λ value. value.now) result ≡ pair_value pairs.now name.now }
 {
@@ -105,7 +104,7 @@ fn find<'a>(pairs: &[Pair<'a>], name: &str) -> Option<&'a [u8]>
     Some(pair.value)
 }
 
-/// Returns pairs as a map, with an index if they and the placeholders of a source are many.
+/// Returns pairs as a map, with an index if there are many pairs and the source has many placeholders.
 pub fn pairs_of<'a>(alloc: Global, source: &[u8], pairs: &'a [Pair<'a>]) -> Pairs<'a>
     ensures { result.pairs.now ≡ pairs.now }
 {
@@ -113,8 +112,8 @@ pub fn pairs_of<'a>(alloc: Global, source: &[u8], pairs: &'a [Pair<'a>]) -> Pair
     Pairs { pairs, index }
 }
 
-/// Returns the index of many pairs for a source with many placeholders, or nothing where there is no memory
-/// for it.
+/// Returns an index of the pairs, or `None` if the pairs or the source's placeholders are few, or if
+/// allocation fails.
 pub fn index_of<'a>(alloc: Global, source: &[u8], pairs: &'a [Pair<'a>]) -> Option<Index<'a>>
     ensures { IfSome result (λ index. (name : List ℕ)
         → indexed_value index name ≡ pair_value pairs.now name) }
@@ -125,16 +124,16 @@ pub fn index_of<'a>(alloc: Global, source: &[u8], pairs: &'a [Pair<'a>]) -> Opti
     index(alloc, pairs).ok()
 }
 
-/// Returns whether a source may have many placeholders. No more dollars are looked for than say so.
+/// Returns whether `source` has more than [`FEW`] dollars, so that it may have more placeholders than that.
 fn has_many_placeholders(source: &[u8]) -> bool {
     memchr_iter(b'$', source).nth(FEW).is_some()
 }
 
-/// Returns the values of pairs under their names.
+/// Returns the values of pairs by name.
 ///
 /// # Errors
 ///
-/// When allocation fails.
+/// If allocation fails.
 fn index<'a>(alloc: Global, pairs: &'a [Pair<'a>]) -> Result<Index<'a>, AllocError>
     ensures { IfOk result (λ index. (name : List ℕ)
         → indexed_value index name ≡ pair_value pairs.now name) }
@@ -146,7 +145,7 @@ fn index<'a>(alloc: Global, pairs: &'a [Pair<'a>]) -> Result<Index<'a>, AllocErr
     Ok(index)
 }
 
-/// Puts the value under its name, unless a value is there.
+/// Inserts the value under its name, unless the name already has a value.
 fn insert_if_new<'a>(
     index: &mut Index<'a>,
     name: &'a [u8],

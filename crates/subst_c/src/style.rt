@@ -1,4 +1,4 @@
-//! Filling in texts of other tools, by a style.
+//! Expanding texts of other tools, by a style.
 
 ghost use Rattle.std.specs.Prelude.{◌≡◌, ◌≢◌, ◌≤◌, ◌<◌, ◌^◌, ◌+◌, Some, IfErr, IfOk, IfSome, IsTrue, MatchOption, length, string_bytes, true};
 ghost use Rattle.std.specs.List.{slice_get};
@@ -33,10 +33,10 @@ use subst_foreign::{
 use subst_language::{NoEmpty, Variable, laws};
 use subst_template::ByteTemplate;
 
-/// A form of a text that is refused.
+/// A form of the text that is refused.
 pub const REFUSED_FORM: u32 = 7;
 
-/// A style by numbers: the forms, the names and the missing variables of a text, with the names of pairs.
+/// A style for texts, as the numbers of its choices. `only` has the names for the choice [`Choice::Only`].
 #[repr(C)]
 #[derive(Clone, Copy)]
 pub struct StyleRecord<'a> {
@@ -46,8 +46,8 @@ pub struct StyleRecord<'a> {
     pub only: &'a [Pair<'a>],
 }
 
-/// The diagnostic of a text that is filled in by a style, and where. The form is 0 unless one is refused, and
-/// the message is empty, at offset 0, unless the variable has one.
+/// The fault of a text that is expanded by a style, with the fault's span. `form` is 0 unless a form is
+/// refused. The message is empty, at offset 0, unless an unset variable has a message.
 #[repr(C)]
 #[derive(Clone, Copy)]
 pub struct StyleFault {
@@ -59,18 +59,18 @@ pub struct StyleFault {
     pub message_length: usize,
 }
 
-/// Which names are those of variables.
+/// A choice of the names that are variables.
 #[derive(Clone, Copy)]
 pub enum Choice {
     /// All names.
     All,
-    /// The names of a list.
+    /// The names of the style's pairs `only`.
     Only,
-    /// The names that have a value, and of variables with an operator all names.
+    /// The names that have a value, and all names in forms with an operator.
     Known,
 }
 
-/// The choices of a style.
+/// The decoded choices of a style: which forms and names are variables, and how an unset one expands.
 #[derive(Clone, Copy)]
 pub struct Choices {
     pub forms: Forms,
@@ -79,7 +79,7 @@ pub struct Choices {
 }
 
 impl StyleRecord<'_> {
-    /// Returns the choices that have these numbers, or `None` if one of the numbers is that of none.
+    /// Returns the choices that have the style's numbers, or `None` if a number is that of no choice.
     fn choices(&self) -> Option<Choices>
         ensures { MatchOption result ((choices : Choices) → ¬ (AreOf self.now choices))
             (AreOf self.now) }
@@ -110,7 +110,7 @@ impl StyleRecord<'_> {
     }
 }
 
-/// The names of a choice: of a list of pairs, or of those that are given.
+/// The names that are variables by `choice`: all, the names of `only`, or the names with a value in `given`.
 #[derive(Drop)]
 struct ChosenNames<'o, 'g> {
     choice: Choice,
@@ -138,29 +138,29 @@ impl Names for ChosenNames<'_, '_> {
     }
 }
 
-/// Why a text isn't filled in.
+/// A reason why a text isn't expanded.
 #[derive(Clone, Copy)]
-pub enum Unfilled<'t> {
+pub enum StyleError<'t> {
     /// A form is refused.
     Refused(FormAt),
-    /// A variable has no value.
+    /// A variable is unset.
     Unset(TextVariable<'t>),
     /// An allocation failed.
     OutOfMemory(AllocError),
 }
 
-/// Returns a text with its variables filled in from the pairs.
+/// Expands a text of another tool with the pairs, by the choices of a style.
 ///
 /// # Errors
 ///
-/// The first form that is refused, or else the first variable that needs a value and has none.
+/// If a form is refused; otherwise if a needed variable is unset. Also if allocation fails.
 pub fn fill_in<'t>(
     alloc: Global,
     text: &'t [u8],
     choices: Choices,
     only: &[Pair],
     pairs: &[Pair],
-) -> Result<Vec<u8>, Unfilled<'t>>
+) -> Result<Vec<u8>, StyleError<'t>>
     ensures given { IfOk result (λ output. IsGiven (grammar_of choices only.now pairs.now)
         choices.missing text.now (pair_value pairs.now) output.items) }
     ensures refused { IfErr result (IsRefusal (grammar_of choices only.now pairs.now)
@@ -182,17 +182,17 @@ pub fn fill_in<'t>(
     expand_text(alloc, text, style, &names.given)
 }
 
-/// Returns a text with its variables filled in from the pairs, through its template.
+/// Expands a text with the pairs, by way of a template made from the text.
 ///
 /// # Errors
 ///
-/// As of [`fill_in`].
+/// As for [`fill_in`].
 fn expand_text<'t, N: Names>(
     alloc: Global,
     text: &'t [u8],
     style: Style<'_, N>,
     given: &Pairs,
-) -> Result<Vec<u8>, Unfilled<'t>>
+) -> Result<Vec<u8>, StyleError<'t>>
     ensures given { let g = grammar style.entry.forms (N.all style.entry.names.now)
         (N.counts style.entry.names.now) in
         IfOk result (λ output. IsGiven g style.entry.missing text.now
@@ -209,32 +209,32 @@ fn expand_text<'t, N: Names>(
     one_listing(style);
     let source = match style.byte_template(alloc, text) {
         Ok(source) => source,
-        Err(TextError::Refused(first)) => return Err(Unfilled::Refused(first)),
-        Err(TextError::OutOfMemory(e)) => return Err(Unfilled::OutOfMemory(e)),
+        Err(TextError::Refused(first)) => return Err(StyleError::Refused(first)),
+        Err(TextError::OutOfMemory(e)) => return Err(StyleError::OutOfMemory(e)),
     };
     let template = match ByteTemplate::from_slice(alloc, &source) {
         Ok(template) => template,
-        // A template is a sentence, so only memory can have run out.
-        Err(_) => return Err(Unfilled::OutOfMemory(AllocError)),
+        // A template is a sentence, so the error is out of memory.
+        Err(_) => return Err(StyleError::OutOfMemory(AllocError)),
     };
     match expand(alloc, &template, style.forms, given) {
         Ok(output) => Ok(output),
-        Err(ExpandError::OutOfMemory(e)) => Err(Unfilled::OutOfMemory(e)),
+        Err(ExpandError::OutOfMemory(e)) => Err(StyleError::OutOfMemory(e)),
         Err(ExpandError::NoSuchVariable(missing)) => {
             match unset_variable(alloc, text, style, &template, &missing) {
-                Ok(Some(variable)) => Err(Unfilled::Unset(variable)),
-                Ok(None) => Err(Unfilled::OutOfMemory(AllocError)),
-                Err(e) => Err(Unfilled::OutOfMemory(e)),
+                Ok(Some(variable)) => Err(StyleError::Unset(variable)),
+                Ok(None) => Err(StyleError::OutOfMemory(AllocError)),
+                Err(e) => Err(StyleError::OutOfMemory(e)),
             }
         }
     }
 }
 
-/// Expands a template for a text of these forms from the pairs.
+/// Expands `template`, made from a text whose variables have the forms `forms`, with the pairs `given`.
 ///
 /// # Errors
 ///
-/// The first variable that needs a value and has none. `OutOfMemory` when allocation fails.
+/// If a needed variable is unset, or if allocation fails.
 fn expand(
     alloc: Global,
     template: &ByteTemplate,
@@ -251,11 +251,12 @@ fn expand(
     }
 }
 
-/// Returns the variable of a text that its template is missing: the variables of both are in one order.
+/// Returns the variable of `text` at the index that `missing` has among the variables of `template`, the
+/// template for `text`. Returns `None` if `missing` isn't found.
 ///
 /// # Errors
 ///
-/// When allocation fails.
+/// If allocation fails.
 fn unset_variable<'t, N: Names>(
     alloc: Global,
     text: &'t [u8],
@@ -279,7 +280,7 @@ fn unset_variable<'t, N: Names>(
     Ok(None)
 }
 
-/// Returns whether a variable is the one that is missing.
+/// Returns whether `variable` is `missing`: whether positions and names are equal.
 fn is_missing(variable: &Variable, missing: &NoSuchVariable) -> bool
     ensures { IsTrue result → (variable.now.position ≡ missing.now.position)
         × (variable.now.name.now ≡ string_bytes missing.now.name) }
@@ -288,7 +289,7 @@ fn is_missing(variable: &Variable, missing: &NoSuchVariable) -> bool
 }
 
 impl StyleFault {
-    /// Returns the fault of a form that is refused.
+    /// Returns the fault of a refused form.
     fn of_form(first: FormAt) -> Self
         ensures { result ≡ fault_of_form first }
     {
@@ -302,7 +303,7 @@ impl StyleFault {
         }
     }
 
-    /// Returns the fault of a variable that has no value.
+    /// Returns the fault of an unset variable.
     fn of_variable(variable: &TextVariable) -> Self
         requires { end_of (variable_of variable.now) < 2 ^ 64 }
         ensures { result ≡ fault_of_variable (variable_of variable.now) }
@@ -319,7 +320,7 @@ impl StyleFault {
     }
 }
 
-/// Returns the position of the message after an operator that begins at `end`, or 0 if it takes none.
+/// Returns the position of the message after an operator at `end`, or 0 if the operator takes no message.
 fn message_position(operator: Option<Operator>, end: usize) -> usize
     requires { end + length (written_operator operator) < 2 ^ 64 }
     ensures { result ≡ message_after operator end }
@@ -331,8 +332,8 @@ fn message_position(operator: Option<Operator>, end: usize) -> usize
     }
 }
 
-/// Reports why a text isn't filled in, unless memory ran out.
-pub fn refuse(text: &[u8], e: &Unfilled, fault: &mut StyleFault) -> u32
+/// Writes the fault of `e` to `fault`, and returns `REFUSED`. Returns `OUT_OF_MEMORY` if `e` has no fault.
+pub fn refuse(text: &[u8], e: &StyleError, fault: &mut StyleFault) -> u32
     requires { IsIn text.now e.now }
     ensures refused { result ≡ REFUSED → IsReported e.now fault.new }
     ensures within { result ≡ REFUSED → LiesIn text.now fault.new }
@@ -341,19 +342,19 @@ pub fn refuse(text: &[u8], e: &Unfilled, fault: &mut StyleFault) -> u32
 {
     let _length = text.len();
     match e {
-        Unfilled::Refused(first) => {
+        StyleError::Refused(first) => {
             *fault = StyleFault::of_form(*first);
             REFUSED
         }
-        Unfilled::Unset(variable) => {
+        StyleError::Unset(variable) => {
             *fault = StyleFault::of_variable(variable);
             REFUSED
         }
-        Unfilled::OutOfMemory(_) => OUT_OF_MEMORY,
+        StyleError::OutOfMemory(_) => OUT_OF_MEMORY,
     }
 }
 
-/// Puts a text with its variables filled in by a style at the front of the buffer, or reports why it is refused.
+/// Expands a text by a style. Writes the output to the front of the buffer, or the text's fault to `fault`.
 pub fn deliver(
     alloc: Global,
     text: &[u8],

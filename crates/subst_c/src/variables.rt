@@ -1,4 +1,4 @@
-//! What calls from C report of variables.
+//! The records that report variables to C.
 
 ghost use Rattle.std.specs.Prelude.{◌≡◌, ◌≢◌, length, map};
 ghost use Rattle.subst_language.specs.Calls.Variables.{kind_of};
@@ -11,17 +11,16 @@ use crate::outcome::{DONE, ROOM_TOO_SMALL};
 use subst_error::NoSuchVariable;
 use subst_language::{Variable, VariableKind};
 
-/// `$name` or `${name}`: it is a fault that the variable has no value.
+/// `$name` or `${name}`: a fault if the variable is unset.
 pub const REQUIRED: u32 = 0;
 
-/// `${name?}`: without a value there is nothing in its place.
+/// `${name?}`: expands to nothing if the variable is unset.
 pub const OPTIONAL: u32 = 1;
 
-/// `${name:default}`: without a value there is the default in its place.
+/// `${name:default}`: expands to the default if the variable is unset.
 pub const WITH_DEFAULT: u32 = 2;
 
-/// The number of a variable's kind, and where its name is: the byte offset of its first byte, and how many
-/// bytes it takes.
+/// The number of a variable's kind, and the byte offset of its name and the name's length in bytes.
 #[repr(C)]
 #[derive(Clone, Copy)]
 pub struct VariableRecord {
@@ -31,7 +30,7 @@ pub struct VariableRecord {
 }
 
 impl VariableRecord {
-    /// Returns the record of a name at a byte offset, and of the number of a kind.
+    /// Returns the record of a name at a byte offset, with the number of a kind.
     fn new(kind: u32, position: usize, name: &str) -> Self
         ensures { result ≡ record { kind = kind; position = position; length = length name.now } }
     {
@@ -43,7 +42,7 @@ impl VariableRecord {
     }
 }
 
-/// Returns the number of a kind.
+/// Returns the number of a kind of variable.
 fn number_of(kind: VariableKind) -> u32
     ensures { result ≡ kind_number (kind_of kind) }
 {
@@ -54,12 +53,12 @@ fn number_of(kind: VariableKind) -> u32
     }
 }
 
-/// What a record reports.
+/// A variable that is reported to C by a record.
 pub trait Recorded {
-    /// The record.
+    /// The record of this variable.
     ghost recorded: { Self → VariableRecord };
 
-    /// Returns the record.
+    /// Returns the record of this variable.
     fn record(&self) -> VariableRecord
         ensures { result ≡ recorded self.now };
 }
@@ -86,8 +85,8 @@ impl Recorded for NoSuchVariable {
     }
 }
 
-/// Writes the records of a list at the front of the buffer, and into `needed` how many they are. Where they
-/// are more than the buffer has, it stays as it is.
+/// Writes the records of the items of `list` to the front of the buffer, and their number to `needed`. If the
+/// buffer is too small, it is unchanged.
 pub fn deliver<T: Recorded>(list: &[T], buffer: &mut [VariableRecord], needed: &mut usize) -> u32
     ensures buffer { FillsBuffer (λ records. records ≡ map T.recorded list.now)
         result needed.old needed.new buffer.old buffer.new }

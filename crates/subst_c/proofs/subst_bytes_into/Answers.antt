@@ -1,15 +1,15 @@
--- What the template gives, and what it is refused for, is so of its source.
+-- The output and the fault of the template are those of its source.
 use Rattle.std.proofs.Common.{List, ℕ, subst}
 use Rattle.subst_language.specs.Language.Answer.{Answers, Gives}
 use Rattle.subst_c.specs.Buffer.{IsTooLong}
-use Rattle.subst_c.specs.Fault.{IsToldOf, SetsFault}
+use Rattle.subst_c.specs.Fault.{IsRecordOf, SetsFault}
 use Rattle.subst_c.specs.Pairs.{RefusedBy, pair_value}
 use Rattle.subst_c.proofs.subst_bytes_into.Goals as goal
 
 pub returns-in-Ok-clause-fault : goal.returns-in-Ok-clause-fault
 returns-in-Ok-clause-fault c =
     let pairs = c.args.pairs.now in
-    subst (λ (s : List ℕ). SetsFault (IsToldOf (RefusedBy s pairs)) s c.expand_into_buffer.result
+    subst (λ (s : List ℕ). SetsFault (IsRecordOf (RefusedBy s pairs)) s c.expand_into_buffer.result
     c.args.fault.now c.expand_into_buffer.new.fault)
     c.in-Ok.ensures.ok.1 c.expand_into_buffer.ensures.fault
 

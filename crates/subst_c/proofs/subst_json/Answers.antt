@@ -1,4 +1,4 @@
--- What is put into the buffer is the document filled in.
+-- The bytes written are the document, filled in.
 use Rattle.subst_c.specs.Documents.{Json}
 use Rattle.subst_c.specs.Pairs.{pair_value}
 use Rattle.subst_c.proofs.BufferLemmas.{fills_as}

@@ -1,4 +1,4 @@
--- The list of the library says what the source's tree is missing.
+-- The list of the library is that of the missing variables of the source's tree.
 use Rattle.std.proofs.Common.{refl}
 use Rattle.subst_language.specs.Calls.Variables.{missing_variable}
 use Rattle.subst_language.specs.Language.Variables.{all_missing}

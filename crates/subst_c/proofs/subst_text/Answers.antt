@@ -1,4 +1,4 @@
--- What is put is a text, since the source and the values are.
+-- The output is UTF-8, since the source and the values are.
 use Rattle.std.proofs.Common.{◌≡◌, true, rules}
 use Rattle.subst_c.specs.Text.{are_texts}
 use Rattle.subst_c.proofs.BufferLemmas.{fills_as}

@@ -1,4 +1,4 @@
--- The list of the library says what the variables of the source's tree are.
+-- The list of the library is that of the variables of the source's tree.
 use Rattle.subst_language.specs.Calls.Variables.{variable_of}
 use Rattle.subst_language.specs.Language.Variables.{variables_of}
 use Rattle.subst_c.proofs.BufferLemmas.{fills_with}

@@ -1,4 +1,4 @@
-//! Documents of JSON.
+//! Filling in JSON documents.
 
 ghost use Rattle.std.specs.Prelude.{IfOk};
 ghost use Rattle.subst_c.specs.Documents.{IfRefused, IsInvalid, IsRefusal, IsResultOf, Json};
@@ -9,11 +9,11 @@ use crate::pairs::TextPairs;
 use std::alloc::{AllocError, Global};
 use subst_json::{Error, place_in, reader_stop, refusals_in};
 
-/// Returns the text of a JSON document with its strings filled in from pairs.
+/// Fills in the strings of a JSON document from pairs, and returns its text.
 ///
 /// # Errors
 ///
-/// As `Unfilled` has them.
+/// If the source isn't JSON, if a string is refused, if the output isn't confirmed, or if allocation fails.
 pub fn fill_in(alloc: Global, source: &str, pairs: &TextPairs<'_>) -> Result<String, Unfilled>
     ensures { IsResultOf Json (pair_value pairs.now.pairs.pairs.now) source.now result }
 {
@@ -23,32 +23,32 @@ pub fn fill_in(alloc: Global, source: &str, pairs: &TextPairs<'_>) -> Result<Str
             None => Err(Unfilled::NotConfirmed),
         },
         Err(e) => match e {
-            Error::Json(e) => Err(no_document(alloc, source, &e)?),
+            Error::Json(e) => Err(text_refusal(alloc, source, &e)?),
             Error::Subst(_) => Err(first_refusal(alloc, source, pairs)?),
             Error::OutOfMemory(e) => Err(Unfilled::OutOfMemory(e)),
         },
     }
 }
 
-/// Returns that a text isn't JSON, as the reader says it.
+/// Returns the refusal of a text that isn't JSON, with the reader's message.
 ///
 /// # Errors
 ///
-/// When allocation fails, and for nothing else.
-fn no_document(alloc: Global, source: &str, e: &serde_json::Error) -> Result<Unfilled, AllocError>
-    ensures { IfOk result (λ unfilled. IfRefused unfilled (IsInvalid source.now)) }
+/// If allocation fails.
+fn text_refusal(alloc: Global, source: &str, e: &serde_json::Error) -> Result<Unfilled, AllocError>
+    ensures { IfOk result (λ refusal. IfRefused refusal (IsInvalid source.now)) }
 {
     let stop = reader_stop(alloc, source, e)?;
     Ok(invalid(source, stop.offset..stop.offset, stop.message))
 }
 
-/// Returns the refusal of the first string of a document that is refused.
+/// Returns the refusal of the first refused string, or `NotConfirmed` if that string isn't found.
 ///
 /// # Errors
 ///
-/// When allocation fails, and for nothing else.
+/// If allocation fails.
 fn first_refusal(alloc: Global, source: &str, pairs: &TextPairs<'_>) -> Result<Unfilled, AllocError>
-    ensures { IfOk result (λ unfilled. IfRefused unfilled
+    ensures { IfOk result (λ refusal. IfRefused refusal
         (IsRefusal Json (pair_value pairs.now.pairs.pairs.now) source.now)) }
 {
     let all = match refusals_in(alloc, source, pairs) {

@@ -1,4 +1,4 @@
-//! Documents of TOML.
+//! Filling in TOML documents.
 
 ghost use Rattle.std.specs.Prelude.{IfOk};
 ghost use Rattle.subst_c.specs.Documents.{IfRefused, IsInvalid, IsRefusal, IsResultOf, Toml};
@@ -9,11 +9,11 @@ use crate::pairs::TextPairs;
 use std::alloc::{AllocError, Global};
 use subst_toml::{Error, place_in, refusals_in};
 
-/// Returns the text of a TOML document with its strings filled in from pairs.
+/// Fills in the strings of a TOML document from pairs, and returns its text.
 ///
 /// # Errors
 ///
-/// As `Unfilled` has them.
+/// If the source isn't TOML, if a string is refused, if the output isn't confirmed, or if allocation fails.
 pub fn fill_in(alloc: Global, source: &str, pairs: &TextPairs<'_>) -> Result<String, Unfilled>
     ensures { IsResultOf Toml (pair_value pairs.now.pairs.pairs.now) source.now result }
 {
@@ -23,34 +23,34 @@ pub fn fill_in(alloc: Global, source: &str, pairs: &TextPairs<'_>) -> Result<Str
             None => Err(Unfilled::NotConfirmed),
         },
         Err(e) => match e {
-            Error::Toml(e) => Err(no_document(alloc, source, &e)?),
+            Error::Toml(e) => Err(text_refusal(alloc, source, &e)?),
             Error::Subst(_) => Err(first_refusal(alloc, source, pairs)?),
             Error::OutOfMemory(e) => Err(Unfilled::OutOfMemory(e)),
-            // A text is UTF-8.
+            // This never happens, since `source` is UTF-8.
             Error::InvalidUtf8(_) => Err(Unfilled::NotConfirmed),
         },
     }
 }
 
-/// Returns that a text isn't TOML, as the reader says it.
+/// Returns the refusal of a text that isn't TOML, with the reader's message.
 ///
 /// # Errors
 ///
-/// When allocation fails, and for nothing else.
-fn no_document(alloc: Global, source: &str, e: &toml::de::Error) -> Result<Unfilled, AllocError>
-    ensures { IfOk result (λ unfilled. IfRefused unfilled (IsInvalid source.now)) }
+/// If allocation fails.
+fn text_refusal(alloc: Global, source: &str, e: &toml::de::Error) -> Result<Unfilled, AllocError>
+    ensures { IfOk result (λ refusal. IfRefused refusal (IsInvalid source.now)) }
 {
     let message = String::from_str(alloc, e.message())?;
     Ok(invalid(source, e.span().unwrap_or(0..0), message))
 }
 
-/// Returns the refusal of the first string of a document that is refused.
+/// Returns the refusal of the first refused string, or `NotConfirmed` if that string isn't found.
 ///
 /// # Errors
 ///
-/// When allocation fails, and for nothing else.
+/// If allocation fails.
 fn first_refusal(alloc: Global, source: &str, pairs: &TextPairs<'_>) -> Result<Unfilled, AllocError>
-    ensures { IfOk result (λ unfilled. IfRefused unfilled
+    ensures { IfOk result (λ refusal. IfRefused refusal
         (IsRefusal Toml (pair_value pairs.now.pairs.pairs.now) source.now)) }
 {
     let all = match refusals_in(alloc, source, pairs) {

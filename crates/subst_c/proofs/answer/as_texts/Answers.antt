@@ -1,4 +1,4 @@
--- All are texts where the source and the values are.
+-- All are UTF-8 if the source and the values are.
 use Rattle.std.proofs.Common.{◌≡◌, true, false, ◌∙◌, refl, rules}
 use Rattle.subst_c.specs.Text.{have_texts}
 use Rattle.subst_c.proofs.TextLemmas.{texts_of_a_text, texts_of_no_text}

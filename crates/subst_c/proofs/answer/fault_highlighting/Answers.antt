@@ -1,4 +1,4 @@
--- The range of the fault is in the text, and the fault is the one that the source is refused for.
+-- The fault's range is in the text, and the fault is the one that the source is refused for.
 use Rattle.subst_language.proofs.CallingLemmas.{range_in_text}
 use Rattle.subst_language.specs.Language.Answer.{Answers, Gives}
 use Rattle.subst_c.specs.Pairs.{pair_value}

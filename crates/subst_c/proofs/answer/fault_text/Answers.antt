@@ -1,4 +1,4 @@
--- An error that isn't out of memory states the fault that the source is refused for.
+-- An error that isn't out of memory has the fault that the source is refused for.
 use Rattle.subst_language.specs.Language.Answer.{Answers, Gives}
 use Rattle.subst_c.specs.Pairs.{pair_value}
 use Rattle.subst_c.proofs.AnswerLemmas.{text_of_error}

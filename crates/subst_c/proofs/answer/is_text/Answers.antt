@@ -1,4 +1,4 @@
--- A text is read from UTF-8 alone.
+-- Bytes are a text exactly if they are UTF-8.
 use Rattle.std.proofs.Common.{◌∙◌}
 use Rattle.subst_c.proofs.TextLemmas.{tells_text}
 use Rattle.subst_c.proofs.answer.is_text.Goals as goal

@@ -1,4 +1,4 @@
--- What is written to an empty text is all of it.
+-- The text is the bytes that are appended to an empty text.
 use Rattle.std.proofs.Common.{◌∙◌, ap, rules, subst, sym, string_bytes, ◌++◌}
 use Rattle.std.proofs.lemmas.Fmt.{contents_after_writes}
 use Rattle.subst_error.specs.Display.{IsDisplayOfError}

@@ -11,7 +11,7 @@ pub returns : goal.returns
 returns c =
     let before = before_a_fault c.args.path.now (search rules) in
     let written : string_bytes c.push_str-2.new.self
-    ≡ before_fault c.args.path.now ++ string_bytes c.in_ok-said.said =
+    ≡ before_fault c.args.path.now ++ string_bytes c.in_ok-message.message =
     rw (
       c.in_ok-push_str-2.ensures.bytes,
       c.in_ok-push_str.ensures.bytes,
@@ -19,4 +19,4 @@ returns c =
       c.as_str.ensures.value,
       before,
     ) refl in
-    (string_bytes c.in_ok-said.said, written, c.in_ok-said.ensures)
+    (string_bytes c.in_ok-message.message, written, c.in_ok-message.ensures)

@@ -1,4 +1,4 @@
--- Each turn adds an output, or ends at the first row that is refused.
+-- Each turn appends an output, or ends at the first row that is refused.
 use Rattle.std.proofs.Common.{◌≡◌, length, rules}
 use Rattle.subst_c.proofs.EachLemmas.{one_more, row_refused}
 use Rattle.subst_c.proofs.each.fill_in_each.Goals as goal

@@ -1,4 +1,4 @@
--- What is delivered is the template.
+-- The bytes written are the template.
 use Rattle.subst_c.proofs.BufferLemmas.{fills_with}
 use Rattle.subst_c.proofs.foreign.deliver.Goals as goal
 

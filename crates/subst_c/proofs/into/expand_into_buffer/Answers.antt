@@ -6,7 +6,7 @@ use Rattle.subst_language.specs.Calls.VariableMap.{look_up_of}
 use Rattle.subst_language.specs.Language.LookUp.{LookUp}
 use Rattle.subst_language.specs.Language.Written.{written}
 use Rattle.subst_c.specs.Pairs.{pair_value}
-use Rattle.subst_c.proofs.AnswerLemmas.{told_of_refusal}
+use Rattle.subst_c.proofs.AnswerLemmas.{record_of_refusal}
 use Rattle.subst_c.proofs.EachLemmas.{gives_value}
 use Rattle.subst_c.proofs.into.expand_into_buffer.Goals as goal
 
@@ -38,7 +38,7 @@ returns-in-Err-clause-fault c = record {
   refused = λ is.
       let (t, spells) = c.in-Err.ensures.sentence in
       let missing = c.in-Err.ensures.missing (pair_value c.args.pairs.now) (λ name. refl) t spells in
-      let (f, of, told) = told_of_refusal (expand_into_fault c.in-Err.e) _ _ missing
+      let (f, of, told) = record_of_refusal (expand_into_fault c.in-Err.e) _ _ missing
       (c.refuse_missing.ensures.refused is) in
       (f, inr (t, spells, of), told);
   within = λ is. omega (arith, c.refuse_missing.ensures.end is, c.in-Err.ensures.range);

@@ -1,4 +1,4 @@
--- One more pair gives its value, unless one before it has the name.
+-- The next pair sets its name, unless an earlier one has.
 use Rattle.std.proofs.Common.{sym, ◌∙◌}
 use Rattle.subst_c.proofs.IndexLemmas.{pair_value-take}
 use Rattle.subst_c.proofs.pairs.index.Goals as goal

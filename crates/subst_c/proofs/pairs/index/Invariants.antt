@@ -1,4 +1,4 @@
--- The index has what the pairs so far give.
+-- The index has the variables of the pairs so far.
 use Rattle.std.proofs.Common.{◌≡◌, ℕ, List, take}
 use Rattle.subst_c.specs.Index.{indexed_value}
 use Rattle.subst_c.specs.Pairs.{pair_value}

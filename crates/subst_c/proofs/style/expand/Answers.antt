@@ -1,4 +1,4 @@
--- What a template sees of the pairs is the look-up of the map.
+-- The look-up of the pairs, as a template sees them, is that of the map.
 use Rattle.std.proofs.Common.{◌≡◌, ◌⊎◌, inl, inr, refl}
 use Rattle.subst_foreign.specs.Template.{seen_by}
 use Rattle.subst_foreign.specs.declared.forms.Forms.{Forms}
@@ -10,7 +10,7 @@ use Rattle.subst_foreign.specs.Question.{by_question}
 use Rattle.subst_c.specs.Pairs.{pair_value}
 use Rattle.subst_c.proofs.style.expand.Goals as goal
 
--- what a template of the forms that ask no questions sees
+-- a template of the forms without questions sees the look-up itself
 seen_plain : (forms : Forms) (look : LookUp) → (forms ≡ of.Own) ⊎ (forms ≡ of.Envsubst) → seen_by forms look ≡ look
 seen_plain forms look (inl own) = rw own refl
 seen_plain forms look (inr envsubst) = rw envsubst refl

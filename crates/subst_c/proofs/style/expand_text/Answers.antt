@@ -1,4 +1,4 @@
--- What the template gives or misses is so of the text.
+-- The output of the template, or its missing variable, is that of the text.
 use Rattle.subst_foreign.specs.Reading.{variable_of}
 use Rattle.std.proofs.Common.{string_bytes}
 use Rattle.subst_c.specs.Pairs.{pair_value}
@@ -18,7 +18,7 @@ returns-in-Ok-Some-clause-refused g c =
     let missing = c.in-Err-NoSuchVariable.missing in
     let says = rw (is.1, c.in-Err-NoSuchVariable.field-0-is) at c.in-Err-NoSuchVariable.ensures in
     unset_at _ c.args.style.missing c.args.text.now c.in-Ok.source.items (pair_value c.args.given.now.pairs.now)
-    c.one_listing.ensures.variables c.one_listing.ensures.told c.missing_lists_are_whole.ensures.names
+    c.one_listing.ensures.variables c.one_listing.ensures.named c.missing_lists_are_whole.ensures.names
     c.in-Ok.ensures.template missing.position (string_bytes missing.name) (variable_of c.in-Ok-Some.variable)
     (rw (is.1, c.in-Ok-Some.field-0-is) at c.in-Ok-Some.ensures) (λ t spells. says_missing _ _ _ (says t spells))
 

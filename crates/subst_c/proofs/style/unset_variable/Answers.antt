@@ -1,4 +1,4 @@
--- The variable of the text is at the index of the one that is missing.
+-- The variable of the text has the index of the missing one.
 use Rattle.std.proofs.Common.{refl, string_bytes}
 use Rattle.subst_c.proofs.StyleLemmas.{has_index}
 use Rattle.subst_c.proofs.style.unset_variable.Goals as goal

@@ -1,4 +1,4 @@
--- The buffer begins with the records so far, and the rest of it is as it was.
+-- The buffer begins with the records so far, and the rest of it is unchanged.
 use Rattle.std.proofs.Common.{◌≡◌, ◌++◌, drop, map, take}
 use Rattle.subst_c.proofs.variables.deliver.Given as goal
 

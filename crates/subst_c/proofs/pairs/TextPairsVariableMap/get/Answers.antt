@@ -1,4 +1,4 @@
--- A value is a text.
+-- The value is UTF-8.
 use Rattle.std.proofs.Common.{sym}
 use Rattle.subst_c.proofs.TextLemmas.{gives_texts}
 use Rattle.subst_c.proofs.pairs.TextPairsVariableMap.get.Goals as goal
