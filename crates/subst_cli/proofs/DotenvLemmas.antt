@@ -1,4 +1,4 @@
--- Lemmas on what .env files set, and on what values expand to.
+-- Lemmas on the settings of .env files and the expansion of values.
 use Rattle.std.proofs.Common.{◌≡◌, ◌==◌, ℕ, Bool, true, length, List, [], ◌∷◌, ◌++◌, Option, Some, None, Ok, Err, IfSome, Bor, reverse, inr, refl, sym, ap, subst, ◌∙◌, append_assoc, arith}
 use Rattle.std.proofs.Math.Path.{fun_ext}
 use Rattle.std.proofs.lemmas.Grind.{common_steps}
@@ -13,7 +13,7 @@ use Rattle.subst.specs.Language.LookUp.{LookUp}
 use Rattle.subst.specs.Language.Value.{Value, Bytes, Missing, value}
 use Rattle.subst.specs.Question.{by_question}
 use Rattle.subst.specs.Reading.{Listing, VariableAt}
-use Rattle.subst.specs.Template.{IsTemplate, told, without_question}
+use Rattle.subst.specs.Template.{IsTemplate, renamed, without_question}
 use Rattle.subst_cli.specs.DotenvLine.{Sets, line_in}
 use Rattle.subst_cli.specs.declared.fault.Cause.{Cause}
 use Rattle.subst_cli.specs.Dotenv.{Expands, Stops, after_setting, sets, FilesLeave, IsMissingOf, IsUnreadableAmong, IsValueOf, Leaves, NamesUnreadable, look_up_after, look_up_by, setting, shell, value_in}
@@ -28,7 +28,7 @@ abbrev pub IsAnswerOf : LookUp → (s : List ℕ) → Answer → Type 0
 IsAnswerOf look s (Gives x) = IsValueOf look s (Ok x)
 IsAnswerOf look s (Refuses f) = IsMissingOf look s f
 
--- the answer of a template, under the answers to questions, is that of the text
+-- the answer of a template, under the answers to its questions, is that of the text
 pub answered : (look : LookUp) (s source : List ℕ) (answer : Answer) → IsTemplate shell Nothing s source
     → Answers source (by_question look) answer → IsAnswerOf look s answer
 answered look s source answer is known = of (value 0 is.tree (by_question look)) refl
@@ -37,17 +37,17 @@ answered look s source answer is known = of (value 0 is.tree (by_question look))
     of (Bytes x) same =
         let one = answer_unique source (by_question look) answer (Gives x) known (is.tree, is.spells, same) in
         subst (IsAnswerOf look s) (sym one)
-        (is.items, is.read, is.spelled, sym (is.gives look) ∙ ap (λ v. told Shell (unplaced v)) same)
+        (is.items, is.read, is.spelled, sym (is.gives look) ∙ ap (λ v. renamed Shell (unplaced v)) same)
     of (Missing position name) same =
         let missing = NoSuchVariable position name in
         let one =
         answer_unique source (by_question look) answer (Refuses missing) known
         (inr (is.tree, is.spells, (position, name, same, refl))) in
-        let value = sym (is.gives look) ∙ ap (λ v. told Shell (unplaced v)) same in
+        let value = sym (is.gives look) ∙ ap (λ v. renamed Shell (unplaced v)) same in
         subst (IsAnswerOf look s) (sym one)
         (position, name, refl, (is.items, is.read, is.spelled, value))
 
--- an error that states the fault of the template states the variable that the text is missing
+-- an error with the fault of the template has the variable that is missing in the text
 pub missing_stated : (look : LookUp) (s source : List ℕ) (e : Error) → IsTemplate shell Nothing s source
     → IfSome (option_map Refuses (error_fault e)) (Answers source (by_question look))
     → IfSome (error_fault e) (IsMissingOf look s)
@@ -58,7 +58,7 @@ missing_stated look s source e is = of (error_fault e)
     of None known = tt
     of (Some f) known = answered look s source (Refuses f) is known
 
--- what code looks a value up in is what is above and the entries before
+-- the lookup in code is that of the entries above and the entries before
 pub same_look_up_after : (scope : Scope) (above before : List Entry) → AreVariablesOf scope.above.now above
     → ((name : List ℕ) → value_in scope.set.now name ≡ look_up_in (reverse before) name)
     → look_up_by scope ≡ look_up_after above before
@@ -66,7 +66,7 @@ same_look_up_after scope above before are have =
     fun_ext (λ name. ap (λ (look : LookUp). option_or (look name) (value_in scope.set.now name)) are.values
     ∙ ap (λ found. option_or (look_up_in above name) found) (have name))
 
--- one file more
+-- the entries after one more file
 pub files_more : (above start : List Entry) (files : List (List ℕ)) (s : List ℕ) (middle after : List Entry)
     → FilesLeave above start files middle → Leaves above middle (after_mark s) after
     → FilesLeave above start (files ++ s ∷ []) after
@@ -75,27 +75,27 @@ files_more above start [] s middle after same leaves =
 files_more above start (file ∷ files) s middle after (next, here, later) leaves =
     (next, here, files_more above next files s middle after later leaves)
 
--- one of the elements that were left is done
+-- the next element is moved from those left to those done
 pub one_more_done : {X : Type 0} (list done left rest : List X) (x : X) → list ≡ done ++ left → left ≡ x ∷ rest
     → list ≡ (done ++ x ∷ []) ++ rest
 one_more_done list done left rest x all steps =
     all ∙ ap (λ xs. done ++ xs) steps ∙ sym (append_assoc done (x ∷ []) rest)
 
--- lines that are left, after one that sets a name
+-- the entries after the later lines, from a line that sets a name
 pub after_setting_left : (above before more after : List Entry) (s name value later x : List ℕ)
     → Sets name value later ≡ line_in s → Expands above before value x → more ≡ before ++ setting name x ∷ []
     → Leaves above more later after → Leaves above before s after
 after_setting_left above before more after s name value later x is expands added leaves =
     sets name value later x (sym is) expands (subst (λ it. Leaves above it later after) added leaves)
 
--- a line that stops them, after one that sets a name
+-- the refusal of a later line, from a line that sets a name
 pub after_setting_stopped : (above before more : List Entry) (cause : Cause) (s name value later x : List ℕ)
     → Sets name value later ≡ line_in s → Expands above before value x → more ≡ before ++ setting name x ∷ []
     → Stops above more later cause → Stops above before s cause
 after_setting_stopped above before more cause s name value later x is expands added stops =
     after_setting name value later x (sym is) expands (subst (λ it. Stops above it later cause) added stops)
 
--- a variable among those of a text, whose value above is unreadable
+-- a variable of the text whose value above isn't UTF-8
 pub names_unreadable : (above : List Entry) (s t taken : List ℕ) (name : Bor (List ℕ)) (variables : List VariableAt)
     → Listing shell 0 0 t variables → t ≡ s → IsUnreadableAmong above variables name → taken ≡ name.now
     → NamesUnreadable above s taken
@@ -106,7 +106,7 @@ names_unreadable above s t taken name variables listed same (v, one, is, unreada
   subst (IsUnreadable above) (sym taken_is) unreadable,
 )
 
--- what a text gives by what code looks up, it gives by the entries
+-- the value of a text by the lookup in code is its value by the entries
 pub value_after : (scope : Scope) (above before : List Entry) → AreVariablesOf scope.above.now above
     → ((name : List ℕ) → value_in scope.set.now name ≡ look_up_in (reverse before) name)
     → (s t : List ℕ) (given : Given) → t ≡ s → IsValueOf (look_up_by scope) t given
@@ -115,13 +115,13 @@ value_after scope above before are have s t given same value =
     subst (λ look. IsValueOf look s given) (same_look_up_after scope above before are have)
     (subst (λ x. IsValueOf (look_up_by scope) x given) same value)
 
--- the variable that a fault of a template names is the one that its text is missing
+-- the missing variable in a template's fault is that of its text
 pub missing_named : (look : LookUp) (s : List ℕ) (position : ℕ) (n : List ℕ)
     → IsMissingOf look s (NoSuchVariable position n) → IsValueOf look s (Err (without_question n))
 missing_named look s position n (p, name, same, value) =
     let is : name ≡ n = cc in subst (λ m. IsValueOf look s (Err (without_question m))) is value
 
--- what a test of being empty says
+-- if a test for an empty list passes, the list is empty
 pub empty_if : {X : Type 0} (xs : List X) (test : Bool) → test ≡ (length xs == 0) → test ≡ true → xs ≡ []
 empty_if [] test is holds = refl
 empty_if (x ∷ xs) test is holds = grind (arith, common_steps, is, holds)

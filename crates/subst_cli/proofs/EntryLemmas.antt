@@ -1,4 +1,4 @@
--- Lemmas on what NAME=VALUE gives.
+-- Lemmas on entries of the form NAME=VALUE.
 use Rattle.std.proofs.Common.{◌≡◌, ◌<◌, ◌≤◌, ◌↔◌, ℕ, Bool, true, false, List, [], ◌∷◌, length, ltb, if◌then◌else◌, Option, Some, None, IsTrue, not, refl, sym, subst, ap, ◌∙◌, arith}
 use Rattle.std.proofs.lemmas.Bool.{ltb-false}
 use Rattle.std.proofs.lemmas.Bool.Decides.{same_from_decides}
@@ -8,12 +8,12 @@ use Rattle.std.specs.List.{position_or_len}
 use Rattle.std.proofs.lemmas.Str.{IsUtf8-from_is_utf8, is_utf8-from_IsUtf8}
 use Rattle.std.specs.Option.{unwrap_or}
 use Rattle.std.specs.Str.{IsUtf8, is_utf8}
-use Rattle.subst_filter_lib.proofs.WordLemmas.{is_some_if_passes}
-use Rattle.subst_filter_lib.specs.Words.{is_equals_sign, is_pair, name_in, value_in}
+use Rattle.subst_filter_lib.proofs.ArgumentLemmas.{is_some_if_passes}
+use Rattle.subst_filter_lib.specs.Arguments.{is_equals_sign, is_pair, name_in, value_in}
 use Rattle.subst_language.specs.Language.Name.{is_name_byte, IsName, IsNameByte}
 use Rattle.subst_cli.specs.Layers.{entry_in, is_spelled, text_in}
 
--- a template can spell just the names
+-- bytes are a variable name exactly if they are a name
 spelled_iff : (name : List ℕ) → IsTrue (is_spelled name) ↔ IsName name
 spelled_iff [] = (λ yes. absurd cc, λ is. absurd is)
 spelled_iff (b ∷ bytes) = (
@@ -21,30 +21,30 @@ spelled_iff (b ∷ bytes) = (
   λ each. list_all-from_AllPass is_name_byte (b ∷ bytes) (All-from_recursion IsNameByte (b ∷ bytes) each),
 )
 
--- a test of whether bytes are a name says whether a template can spell it
+-- a test for names is one for variable names
 pub spelled_by : (result : Bool) (name : List ℕ) → IsTrue result ↔ IsName name → is_spelled name ≡ result
 spelled_by result name test = same_from_decides (is_spelled name) result (spelled_iff name) test
 
--- without `=` bytes give nothing
+-- bytes without `=` have no entry
 pub no_pair : (bytes : List ℕ) → position_or_len is_equals_sign bytes ≡ length bytes → None ≡ entry_in bytes
 no_pair bytes none =
     let unpaired = is_some_if_passes {X = ℕ} (λ x. Unit {0}) (λ x. Unit {0}) is_equals_sign bytes None none in
     rw (sym unpaired) refl
 
--- with `=` bytes are a pair
+-- bytes with `=` are a pair
 paired : (bytes : List ℕ) → position_or_len is_equals_sign bytes < length bytes → is_pair bytes ≡ true
 paired bytes below =
     sym (is_some_if_passes {X = ℕ} (λ x. Unit {0}) (λ x. Unit {0}) is_equals_sign bytes (Some 0)
     (below, tt, tt))
 
--- a pair of a name that no template can spell gives nothing
+-- a pair whose name isn't a variable name has no entry
 pub misspelled : (bytes name : List ℕ) (test : Bool) → position_or_len is_equals_sign bytes < length bytes
     → name ≡ name_in bytes → IsTrue test ↔ IsName name → test ≡ false → None ≡ entry_in bytes
 misspelled bytes name test below same told is =
     let spelled = subst (λ other. is_spelled other ≡ false) same (spelled_by test name told ∙ is) in
     rw (paired bytes below, spelled) refl
 
--- a pair of a name that a template can spell gives an entry
+-- a pair whose name is a variable name has an entry
 pub spelled : (bytes name value taken : List ℕ) (given : Option (List ℕ)) (test : Bool)
     → position_or_len is_equals_sign bytes < length bytes → name ≡ name_in bytes → value ≡ value_in bytes
     → IsTrue test ↔ IsName name → test ≡ true → taken ≡ name → given ≡ text_in value
@@ -67,11 +67,11 @@ no_text bytes not_utf8 = of (is_utf8 bytes) refl
 pub is_text : (bytes text : List ℕ) → IsUtf8 bytes → text ≡ bytes → Some text ≡ text_in bytes
 is_text bytes text utf8 same = rw (is_utf8-from_IsUtf8 bytes utf8) (ap Some same)
 
--- the first place is no later than the end
+-- the first position is no later than the end
 pub place_within : (p : ℕ → Bool) (bytes : List ℕ) → position_or_len p bytes ≤ length bytes
 place_within p bytes = prefix_len-le-length (λ b. not (p b)) bytes
 
--- a search's result, or else the length, is the place of the first byte that passes
+-- the result of a search, or the length if there is none, is the position of the first byte that passes
 pub placed : (p : ℕ → Bool) (bytes : List ℕ) (found : Option ℕ)
     → found ≡ (if ltb (position_or_len p bytes) (length bytes) then Some (position_or_len p bytes) else None)
     → unwrap_or found (length bytes) ≡ position_or_len p bytes

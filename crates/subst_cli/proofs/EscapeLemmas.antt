@@ -1,4 +1,4 @@
--- Lemmas on values that are escaped.
+-- Lemmas on escaped values.
 use Rattle.std.proofs.Common.{◌≡◌, ◌≢◌, ◌<◌, ◌-◌, ◌∙◌, ℕ, suc, List, [], ◌∷◌, ◌++◌, length, get_or, take, drop, refl, sym, ap, subst, arith}
 use Rattle.std.proofs.Math.Seq.{take-append_seam}
 use Rattle.std.proofs.lemmas.Grind.{flat_map-append}
@@ -22,7 +22,7 @@ word_split before after free =
     flat_map-append word_byte before (39 ∷ after)
     ∙ ap (λ front. front ++ 39 ∷ 92 ∷ 39 ∷ 39 ∷ flat_map word_byte after) (word_whole before free)
 
--- what is between the first byte and the last
+-- the bytes between the first one and the last one
 pub inside : (quoted x : List ℕ) → quoted ≡ 34 ∷ x ++ 34 ∷ []
     → take (length quoted - 1 - 1) (drop 1 quoted) ≡ x
 inside quoted x is =

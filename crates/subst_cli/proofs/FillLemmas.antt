@@ -1,4 +1,4 @@
--- Faults that errors state, and answers; what texts give in which no variable begins.
+-- The faults of errors and the answers of sources; the outputs of texts without variables.
 use Rattle.std.proofs.Common.{◌≡◌, ◌∙◌, ◌++◌, ℕ, List, [], ◌∷◌, false, Ok, IfSome, refl, ap}
 use Rattle.std.specs.List.{All, AllByRecursion}
 use Rattle.std.specs.Option.{option_map}
@@ -18,7 +18,7 @@ use Rattle.subst_foreign.proofs.TemplateLemmas.{text_fits, text_means}
 use Rattle.subst_foreign.proofs.TokenLemmas.{plain_byte}
 use Rattle.subst_foreign.specs.Foreign.{unplaced}
 use Rattle.subst_foreign.specs.Grammar.{Grammar}
-use Rattle.subst_foreign.specs.Template.{told, tree_of, IsTemplate}
+use Rattle.subst_foreign.specs.Template.{renamed, tree_of, IsTemplate}
 use Rattle.subst_foreign.specs.Text.{Byte, Empty, Text, Then, spelling, text_value, IsText}
 use Rattle.subst_foreign.specs.declared.forms.Forms.{Forms}
 use Rattle.subst_foreign.specs.declared.forms.Missing.{Missing}
@@ -27,7 +27,7 @@ use Rattle.subst_cli.specs.Layers.{Entry}
 use Rattle.subst_cli.specs.declared.options.Chosen.{Chosen as ChosenForms}
 use Rattle.subst_cli.specs.declared.options.Placeholders.TheVariants.{Chosen}
 
--- an error that isn't out of memory states a fault, which is the answer
+-- an error that isn't out of memory has a fault, which is the answer
 pub refused : (e : Error) (IsAnswer : Answer → Type 0) → ((x : AllocError) → ¬ (e ≡ error.OutOfMemory x))
     → IfSome (option_map Refuses (error_fault e)) IsAnswer
     → IsSomeAnd (error_fault e) (λ f. IsAnswer (Refuses f))
@@ -48,20 +48,20 @@ bytes_read g [] each = tt
 bytes_read g (b ∷ s) (other, each) =
     (plain_byte g false b (spelling (bytes_text s) ++ []) other (λ within. absurd cc), bytes_read g s each)
 
--- bytes give themselves
-bytes_given : (forms : Forms) (unset : Missing) (s : List ℕ) (look : LookUp)
+-- the output of bytes as a text of another tool is the bytes
+bytes_output : (forms : Forms) (unset : Missing) (s : List ℕ) (look : LookUp)
     → text_value forms unset (bytes_text s) look ≡ Ok s
-bytes_given forms unset [] look = refl
-bytes_given forms unset (b ∷ s) look = rw (bytes_given forms unset s look) refl
+bytes_output forms unset [] look = refl
+bytes_output forms unset (b ∷ s) look = rw (bytes_output forms unset s look) refl
 
-given_bytes : (forms : Forms) (v : Value) (x : List ℕ) → told forms (unplaced v) ≡ Ok x → v ≡ Bytes x
-given_bytes forms (Bytes y) x same = cc
-given_bytes forms (Lacks position name) x same = absurd cc
+output_bytes : (forms : Forms) (v : Value) (x : List ℕ) → renamed forms (unplaced v) ≡ Ok x → v ≡ Bytes x
+output_bytes forms (Bytes y) x same = cc
+output_bytes forms (Lacks position name) x same = absurd cc
 
--- a text without a dollar gives itself, whatever is chosen
-pub text_given : (chosen : ChosenForms) (entries : List Entry) (s : List ℕ)
+-- the output of a text without a dollar is the text, whatever is chosen
+pub text_output : (chosen : ChosenForms) (entries : List Entry) (s : List ℕ)
     → All (λ b. ¬ (b ≡ dollar)) s → GivesFor (Chosen chosen) entries s s
-text_given chosen entries s each =
+text_output chosen entries s each =
     let none = recursion_from_All (λ b. ¬ (b ≡ dollar)) s each in
     let g = grammar_of chosen entries in
     let is : IsTemplate g chosen.missing s (text (tree_of chosen.forms chosen.missing (bytes_text s))) =
@@ -74,8 +74,8 @@ text_given chosen entries s each =
           well_formed = text_fits g chosen.missing false (bytes_text s) [] (bytes_read g s none);
           spelled = refl;
         },
-        given_bytes chosen.forms _ s
+        output_bytes chosen.forms _ s
             (text_means g chosen.missing false (bytes_text s) [] 0 look (bytes_read g s none)
-            ∙ bytes_given chosen.forms chosen.missing s look),
+            ∙ bytes_output chosen.forms chosen.missing s look),
       ),
     )

@@ -3,13 +3,14 @@ pub mod DotenvLemmas
 pub mod DotenvLineLemmas
 pub mod EntryLemmas
 pub mod EscapeLemmas
+pub mod ExpansionLemmas
 pub mod FaultLemmas
 pub mod FillLemmas
-pub mod FillingLemmas
 pub mod LayerLemmas
 pub mod ListLemmas
+pub mod MapBackLemmas
 pub mod MistakeLemmas
 pub mod PartLemmas
 pub mod SourceLemmas
-pub mod ToldLemmas
 pub mod ValuesFileLemmas
+pub mod YamlLemmas

@@ -1,5 +1,5 @@
--- Documents: where their strings stand, and what is said of one that gives nothing.
-use Rattle.std.specs.Prelude.{◌≡◌, ◌⊎◌, ◌≤◌, ⊤, ℕ, List, [], ◌∷◌, IfSome, Option, String, map, slice_range, string_bytes, zip}
+-- Documents: the spans and paths of their strings, and the faults of refused strings.
+use Rattle.std.specs.Prelude.{◌≡◌, ◌⊎◌, ◌≤◌, ⊤, ℕ, List, [], ◌∷◌, IfSome, Option, String, length, map, slice_range, string_bytes, zip}
 use Rattle.std.specs.Global.{Global}
 use Rattle.std.specs.List.{AllZip, Contains}
 use Rattle.std.specs.declared.ops.Range.{Range}
@@ -18,6 +18,11 @@ use Rattle.subst.specs.Toml.Outcome as toml
 use Rattle.subst.specs.Toml.Paths as toml_paths
 use Rattle.subst.specs.Toml.Pieces as toml_pieces
 use Rattle.subst.specs.Toml.Places.{IsPlaceIn}
+use Rattle.subst.specs.Yaml.Filled.{strings_in as yaml_strings}
+use Rattle.subst.specs.Yaml.Listed as yaml_listed
+use Rattle.subst.specs.Yaml.Outcome as yaml
+use Rattle.subst.specs.Yaml.Paths as yaml_paths
+use Rattle.subst.specs.Yaml.Places as yaml_places
 use Rattle.subst_language.specs.Language.Several.{RefusesFirst}
 use Rattle.subst_document.specs.Edits.{text_at}
 use Rattle.subst_document.specs.Paths.{PathStep}
@@ -30,7 +35,7 @@ use Rattle.subst_cli.specs.declared.document.filler.StringFiller.{StringFiller}
 use Rattle.subst_cli.specs.declared.document.format.Finder.{Finder}
 use Rattle.subst_cli.specs.declared.document.format.Finder.TheVariants as finders
 use Rattle.subst_cli.specs.declared.document.format.Format.{Format}
-use Rattle.subst_cli.specs.declared.document.format.Format.TheVariants.{Json, Toml}
+use Rattle.subst_cli.specs.declared.document.format.Format.TheVariants.{Json, Toml, Yaml}
 use Rattle.subst_cli.specs.declared.document.format.Unfilled.{Unfilled}
 use Rattle.subst_cli.specs.declared.document.format.Unfilled.TheVariants.{Unread, Refused}
 use Rattle.subst_cli.specs.declared.fault.Cause.{Cause}
@@ -38,110 +43,144 @@ use Rattle.subst_cli.specs.declared.fault.Cause.TheVariants.{Mistake, NotADocume
 use Rattle.subst_cli.specs.declared.fault.Fault.{Fault}
 use Rattle.subst_cli.specs.declared.options.Placeholders.{Placeholders}
 
--- the reader of the format reads no document from the text
+-- the text isn't a document of the format
 abbrev pub IsNoDocument : Format → List ℕ → Type 0
 IsNoDocument Json text = ¬ (json.ReadsAsTree text (λ _. ⊤))
 IsNoDocument Toml text = ¬ (toml.ReadsAsTree text (λ _. ⊤))
+IsNoDocument Yaml text = ¬ (yaml.ReadsAs text (λ _. ⊤))
 
--- it is that a text is no document, maybe by a mistake, and that is so, or that it isn't confirmed
+-- the cause is that a text isn't a document, which requires `IsNone`, or that the output isn't confirmed
 abbrev pub IsUnread : Type 0 → Cause → Type 0
 IsUnread IsNone (Mistake mistake) = IsNone
 IsUnread IsNone (NotADocument message) = IsNone
 IsUnread IsNone NotConfirmed = ⊤
 IsUnread IsNone _ = ⊥
 
--- so of why a document isn't filled in, or a string of it is refused, and that is so
+-- the reason why a text isn't filled in: the text isn't a document, which requires `IsNone`; the output isn't
+-- confirmed; or a string is refused, which requires `IsRefused`
 abbrev pub IsUnfilled : Type 0 → Type 0 → Unfilled → Type 0
 IsUnfilled IsNone IsRefused (Unread range cause) = IsUnread IsNone cause
 IsUnfilled IsNone IsRefused Refused = IsRefused
 
--- of the strings of the document one is the first that has a fault
+-- `text` is a document of the format, and `filler` refuses one of its strings
 abbrev pub RefusesString : Format → StringFiller → List ℕ → Type 0
 RefusesString Json filler text = (f : library.Fault)
     × json.ReadsAsTree text (λ _. RefusesFirst (AnswersBy filler) (strings_in (tokens text)) f)
 RefusesString Toml filler text =
     (f : library.Fault) × toml.ReadsAsTree text (λ d. RefusesFirst (AnswersBy filler) (strings d) f)
+RefusesString Yaml filler text = (f : library.Fault)
+    × yaml.ReadsAs text (λ es. RefusesFirst (AnswersBy filler) (yaml_strings text es) f)
 
--- the part of a text spells the string, as the format has it
+-- the first bytes are a token of the format, or a scalar of YAML, that spells the second bytes as a string
 abbrev pub IsToken : Format → List ℕ → List ℕ → Type 0
 IsToken Json = IsStringToken
 IsToken Toml = IsQuotedToken
+IsToken Yaml = yaml_listed.IsValueToken
+
+-- the span is within the text; in JSON and TOML it doesn't split a character
+abbrev pub IsSpanIn : Format → List ℕ → Range ℕ → Type 0
+IsSpanIn Json text span = IsRangeIn text span
+IsSpanIn Toml text span = IsRangeIn text span
+IsSpanIn Yaml text span = span.end ≤ length text
+
+-- the type of a path to a string; a path in YAML has the number of the document
+abbrev pub PathOf : Format → Type 0
+PathOf Json = List PathStep
+PathOf Toml = List PathStep
+PathOf Yaml = yaml_paths.Path
 
 -- the text of a path
-abbrev pub path_text : Format → List PathStep → List ℕ
-path_text Json = pointer_text
-path_text Toml = dotted_text
+abbrev pub path_text : (format : Format) → PathOf format → List ℕ
+path_text Json path = pointer_text path
+path_text Toml path = dotted_text path
+path_text Yaml path = yaml_paths.path_text path
 
--- the path leads to the string
-abbrev pub Leads : Format → List ℕ → List PathStep → List ℕ → Type 0
+-- the path leads to the string `s` in the document `text`
+abbrev pub Leads : (format : Format) → List ℕ → PathOf format → List ℕ → Type 0
 Leads Json text path s = Contains (located_in [] (tokens text)) (located path s)
 Leads Toml text path s = toml.ReadsAsTree text (λ d. toml_paths.Leads path d s)
+Leads Yaml text path s = yaml_listed.Leads text path s
 
--- The string stands in the text: its token is there, and a path that is written so leads to it.
-pub record StandsIn (format : Format) (text written : List ℕ) (it : StringAt) : Type 0 where
-  pub within : IsRangeIn text it.span
+-- The document `text` has the string `it`: the token at the string's span spells the string, and a path with
+-- the text `written` leads to the string.
+pub record IsStringIn (format : Format) (text written : List ℕ) (it : StringAt) : Type 0 where
+  pub within : IsSpanIn format text it.span
   pub forwards : it.span.start ≤ it.span.end
   pub token : IsToken format (slice_range text it.span.start it.span.end) (text_at it)
-  pub path : List PathStep
+  pub path : PathOf format
   pub leads : Leads format text path (text_at it)
   pub is_written : written ≡ path_text format path
 
--- where a refused string stands
-abbrev pub place_of : {Path : Type 0} → RefusalAt Path → StringAt
-place_of it = record { text = it.text; span = it.span }
+-- the text and the span of a refused string
+abbrev pub without_path : {Path : Type 0} → RefusalAt Path → StringAt
+without_path it = record { text = it.text; span = it.span }
 
--- a string that is refused is kept with the text of its path, as that displays
+-- the refusal `it` is kept as a pair: the text of its path by `display`, and its string with the span
 abbrev pub IsKept : {Path : Type 0} → (Path → Option (List ℕ)) → RefusalAt Path → String Global × StringAt
     → Type 0
 IsKept display it (path, kept) =
-    IfSome (display it.path) (λ text. string_bytes path ≡ text) × (kept ≡ place_of it)
+    IfSome (display it.path) (λ text. string_bytes path ≡ text) × (kept ≡ without_path it)
 
--- the places in the text of these ranges of the string of a token, as the library finds them
+-- `places` are the spans in `text` that spell `ranges` of a string, as the library finds them; `token` is the
+-- span of the string's token
 abbrev pub AreFound : Format → List ℕ → Range ℕ → List (Range ℕ) → List (Range ℕ) → Type 0
 AreFound Json text token ranges places = json_pieces.ArePlacesIn text token ranges places
 AreFound Toml text token ranges places = toml_pieces.ArePlacesIn text token ranges places
     ⊎ ((range : Range ℕ) × (place : Range ℕ) × (ranges ≡ range ∷ []) × (places ≡ place ∷ [])
     × IsPlaceIn text token range place)
+AreFound Yaml text token ranges places = yaml_places.ArePlacesIn text token ranges places
 
--- the same, or each is the token
+-- `places` are the spans in `text` that spell `ranges` of a string: the spans that the library finds, or for
+-- each range `token`, the span of the string's token
 abbrev pub ArePlaces : Format → List ℕ → Range ℕ → List (Range ℕ) → List (Range ℕ) → Type 0
 ArePlaces format text token ranges places =
     AreFound format text token ranges places ⊎ (places ≡ map (λ _. token) ranges)
 
--- the format of the documents in which places are found
+-- the format of the documents that the finder is for
 abbrev pub format_of : Finder → Format
 format_of (finders.Json finder) = Json
 format_of finders.Toml = Toml
+format_of (finders.Yaml finder) = Yaml
+
+-- the finder can be used for the document `text`; a finder of YAML was created for `text`
+abbrev pub FindsIn : List ℕ → Finder → Type 0
+FindsIn text (finders.Json finder) = ⊤
+FindsIn text finders.Toml = ⊤
+FindsIn text (finders.Yaml finder) = yaml_places.IsFinderOf finder text
 
 -- the ranges of faults
 abbrev pub ranges_of : List Fault → List (Range ℕ)
 ranges_of faults = map (λ it. it.range) faults
 
--- a fault of a string is told with its path, and at a place
-abbrev pub IsTold : List ℕ → Fault × Range ℕ → Fault → Type 0
-IsTold path (x, place) it = (string_bytes it.path ≡ path) × (it.range ≡ place) × (it.cause ≡ x.cause)
+-- `it` is the fault `x` of a string, with the string's path `path`, and with the fault's span `place` in the
+-- document
+abbrev pub IsReported : List ℕ → Fault × Range ℕ → Fault → Type 0
+IsReported path (x, place) it = (string_bytes it.path ≡ path) × (it.range ≡ place) × (it.cause ≡ x.cause)
 
--- these faults of the string of a token are told with its path, each at its place in the text
-abbrev pub AreTold : Format → (text : List ℕ) → (path : List ℕ) → Range ℕ → List Fault → List Fault → Type 0
-AreTold format text path token faults told = (places : List (Range ℕ))
-    × ArePlaces format text token (ranges_of faults) places × AllZip (IsTold path) (zip faults places) told
+-- `reported` are the `faults` of the string whose token is at `token`, each with the string's path and with
+-- the fault's span in `text`
+abbrev pub AreReported : Format → (text : List ℕ) → (path : List ℕ) → Range ℕ → List Fault → List Fault → Type 0
+AreReported format text path token faults reported = (places : List (Range ℕ))
+    × ArePlaces format text token (ranges_of faults) places × AllZip (IsReported path) (zip faults places) reported
 
--- it is a fault of the string, told with its path and at its place, which is that among those of some faults
+-- `it` is a fault of the string `one` of the document `text`, with the string's path; the fault's span in
+-- `text` is found together with the spans of other faults
 abbrev pub IsFaultAt : Format → Placeholders → List Entry → List ℕ → (path : List ℕ) → StringAt → Fault → Type 0
 IsFaultAt format placeholders entries text path one it =
     (x : Fault) × IsFaultOf placeholders entries (text_at one) x
     × (faults : List Fault) × (places : List (Range ℕ))
     × ArePlaces format text one.span (ranges_of faults) places
-    × Contains (zip faults places) (x, it.range) × IsTold path (x, it.range) it
+    × Contains (zip faults places) (x, it.range) × IsReported path (x, it.range) it
 
--- so of one of these strings with the texts of their paths
+-- `it` is a fault of one of `strings`, each of which is a pair of a path's text and the string at the path
 abbrev pub IsFaultOfOne : Format → Placeholders → List Entry → List ℕ → List (String Global × StringAt)
     → Fault → Type 0
 IsFaultOfOne format placeholders entries text strings it = (one : String Global × StringAt)
     × Contains strings one × IsFaultAt format placeholders entries text (string_bytes one.0) one.1 it
 
--- It is so of a document: the text is none, or isn't confirmed, or it is a fault of a string that stands in it.
+-- `it` is a fault of `text`: that `text` isn't a document, that the output isn't confirmed, or a fault of one
+-- of the document's strings
 abbrev pub IsDocumentFault : Format → Placeholders → List Entry → List ℕ → Fault → Type 0
 IsDocumentFault format placeholders entries text it = IsUnread (IsNoDocument format text) it.cause
-    ⊎ ((path : List ℕ) × (one : StringAt) × StandsIn format text path one
+    ⊎ ((path : List ℕ) × (one : StringAt) × IsStringIn format text path one
     × IsFaultAt format placeholders entries text path one it)

@@ -1,5 +1,5 @@
--- What .env files set: each line sets a name to what its value expands to, from the variables above .env files
--- and the lines before it.
+-- The settings of .env files: each line sets a name to a value. The value is expanded with the entries
+-- `above`, of higher precedence than .env files, and then with the entries `before`, of earlier lines.
 use denote.Ref.{Bor}
 use Rattle.std.specs.Global.{Global}
 use Rattle.std.specs.HashMap.{HashMap, get_by_text}
@@ -26,43 +26,47 @@ use Rattle.subst_cli.specs.declared.fault.Cause.{Cause}
 use Rattle.subst_cli.specs.declared.fault.Cause.TheVariants.{Form, NotUtf8, NoVariable, Unreadable, Unset}
 use Rattle.subst_cli.specs.declared.fault.Fault.{Fault}
 use Rattle.subst_cli.specs.declared.source.Refused.{Refused}
-use Rattle.subst_filter_lib.specs.Words.{value_under}
+use Rattle.subst_filter_lib.specs.Arguments.{value_under}
 use Rattle.subst_foreign.specs.declared.forms.Forms.TheVariants.{Shell}
 use Rattle.subst_foreign.specs.declared.forms.Missing.TheVariants as missing
 use Rattle.subst_foreign.specs.declared.refused.FormAt.{FormAt}
 use Rattle.subst_foreign.specs.declared.refused.TextError.TheVariants as errors
 
--- what is read as variables in a value: a shell's forms, of all names
+-- the grammar of values: a shell's forms, and all names
 abbrev pub shell : Grammar
 shell = grammar Shell true (λ operated name. Unit {0})
 
--- the text s is read as items that have this value, where a variable that is missing gives nothing
+-- `given` is the value of the shell-style text `s` under the look-up `look`, or the name of a required
+-- variable that is missing; other unset variables expand to nothing
 abbrev pub IsValueOf : LookUp → (s : List ℕ) → Given → Type 0
 IsValueOf look s given = (items : text.Text) × text.IsText shell false items [] × (s ≡ text.spelling items)
     × (text.text_value Shell missing.Nothing items look ≡ given)
 
--- what a value is looked up in: the entries above, and then those before it, of which the last one counts
+-- the value of `name` for the variables in a line: that of the first entry of this name in `above`, or else
+-- of the last one in `before`
 abbrev pub look_up_after : (above before : List Entry) → LookUp
 look_up_after above before name = option_or (look_up_in above name) (look_up_in (reverse before) name)
 
--- the text s expands to x: no value above that it names is unreadable, and x is its value
+-- the text `s` of a value expands to `x`, with the entries `above` and the entries `before` of earlier lines;
+-- no variable of `s` has a value in `above` that isn't UTF-8
 pub record Expands (above before : List Entry) (s x : List ℕ) : Type 0 where
   pub variables : List VariableAt
   pub listed : Listing shell 0 0 s variables
   pub readable : All (λ v. ¬ (IsUnreadable above v.name)) variables
   pub value : IsValueOf (look_up_after above before) s (Ok x)
 
--- one of these variables has the name, and its value above is unreadable
+-- one of `variables` has the name `name`, and the value of this name in the entries `above` isn't UTF-8
 abbrev pub IsUnreadableAmong : List Entry → List VariableAt → (name : Bor (List ℕ)) → Type 0
 IsUnreadableAmong above variables name =
     (v : VariableAt) × Contains variables v × (v.name ≡ name.now) × IsUnreadable above name.now
 
--- the text names a variable whose value above is unreadable
+-- the text `s` has a variable of this name, whose value in the entries `above` isn't UTF-8
 abbrev pub NamesUnreadable : List Entry → (s name : List ℕ) → Type 0
 NamesUnreadable above s name = (variables : List VariableAt) × Listing shell 0 0 s variables
     × ((v : VariableAt) × Contains variables v × (v.name ≡ name)) × IsUnreadable above name
 
--- why the text s doesn't expand: it isn't UTF-8, a value is unreadable, a form is refused, or a variable is missing
+-- the cause for which the text `s` of a value is refused, with the entries `above` and the entries `before`
+-- of earlier lines: `s` or a value isn't UTF-8, a form is refused, or a variable is missing
 abbrev pub IsRefusedFor : (above before : List Entry) → (s : List ℕ) → Cause → Type 0
 IsRefusedFor above before s NotUtf8 = ¬ (IsUtf8 s)
 IsRefusedFor above before s (Unreadable name) = NamesUnreadable above s (string_bytes name)
@@ -76,7 +80,8 @@ IsRefusedFor above before s _ = ⊥
 abbrev pub setting : (name x : List ℕ) → Entry
 setting name x = record { name = name; value = Some x }
 
--- The lines of a text, after these entries, leave those: each line that sets a name adds its entry.
+-- The lines of the text `s` turn the entries `before` of earlier lines into `after`: each line that sets a
+-- name appends an entry. Values are expanded with the entries `above` too.
 pub data Leaves (above : List Entry) : (before : List Entry) → (s : List ℕ) → (after : List Entry) → Type 0 where
   ended : {before : List Entry} → Leaves above before [] before
   nothing : {before after : List Entry} {s : List ℕ} (later : List ℕ) → line_in s ≡ Nothing later
@@ -85,7 +90,8 @@ pub data Leaves (above : List Entry) : (before : List Entry) → (s : List ℕ) 
       → line_in s ≡ Sets name value later → Expands above before value x
       → Leaves above (before ++ setting name x ∷ []) later after → Leaves above before s after
 
--- A line of a text, after these entries, is wrong or doesn't expand, for this.
+-- The first refused line of the text `s` is refused for this cause. The entries are `above`, of higher
+-- precedence, and `before`, of earlier lines.
 pub data Stops (above : List Entry) : (before : List Entry) → (s : List ℕ) → Cause → Type 0 where
   wrong : {before : List Entry} {s : List ℕ} (why : Bor (List ℕ)) → line_in s ≡ Wrong
       → Stops above before s (NoVariable why)
@@ -97,23 +103,27 @@ pub data Stops (above : List Entry) : (before : List Entry) → (s : List ℕ) �
       → line_in s ≡ Sets name value later → Expands above before value x
       → Stops above (before ++ setting name x ∷ []) later cause → Stops above before s cause
 
--- What the lines later leave, after these entries, or stop at, is so of a text, after the entries before.
+-- Each outcome of the text `later` after the entries `entries` is an outcome of the text `s` after the
+-- entries `before`. An outcome is the entries after all lines, or the cause of a refusal.
 pub record GoesOn (above before : List Entry) (s : List ℕ) (entries : List Entry) (later : Bor (List ℕ))
     : Type 0 where
   pub leaves : (after : List Entry) → Leaves above entries later.now after → Leaves above before s after
   pub stops : (cause : Cause) → Stops above entries later.now cause → Stops above before s cause
 
--- what several files leave, one after the other
+-- the files turn the entries `before` of earlier files into `after`, in order; values are expanded with the
+-- entries `above` too
 abbrev pub FilesLeave : (above before : List Entry) → List (List ℕ) → (after : List Entry) → Type 0
 FilesLeave above before [] after = before ≡ after
 FilesLeave above before (s ∷ files) after = (middle : List Entry) × Leaves above before (after_mark s) middle
     × FilesLeave above middle files after
 
--- the fault is so of a file: it isn't UTF-8, or a line stops it
+-- `it` is a fault of a file with the bytes `s`: the bytes aren't UTF-8, or a line is refused, with the
+-- entries `above` and the entries `before` of earlier files
 abbrev pub IsFaultOfFile : (above before : List Entry) → (s : List ℕ) → Fault → Type 0
 IsFaultOfFile above before s it = IsNoText s it ⊎ Stops above before (after_mark s) it.cause
 
--- the file is the first of several that is refused: those before it leave entries, after which it has a fault
+-- `it` is the first refused file of `files`: the files `done` precede that file and leave the entries
+-- `before`, and one of the faults in `it` is a fault of the file
 pub record IsFirstRefused (above : List Entry) (files : List (List ℕ)) (it : Refused) : Type 0 where
   pub done : List (List ℕ)
   pub later : List (List ℕ)
@@ -122,24 +132,27 @@ pub record IsFirstRefused (above : List Entry) (files : List (List ℕ)) (it : R
   pub leave : FilesLeave above [] done before
   pub faulty : Any (IsFaultOfFile above before it.source.bytes.items) it.faults.items
 
--- what a map of texts has under a name
+-- the value of a name in a map of texts
 abbrev pub value_in : {S : Type 0} → HashMap (String Global) (String Global) S → LookUp
 value_in values name = option_map string_bytes (get_by_text values name)
 
--- the map has the last value of each name
+-- the settings' map has the value of each name's last entry
 abbrev pub HasLast : Settings → Type 0
 HasLast set = (name : List ℕ) → value_in set.values name ≡ look_up_in (reverse (entries_of set.entries.items)) name
 
--- what code looks a value up in
+-- the value of `name` in a scope: from the variables of higher precedence, or else from those that earlier
+-- lines set
 abbrev pub look_up_by : Scope → LookUp
 look_up_by scope name = option_or (value_under scope.above.now.values name) (value_in scope.set.now name)
 
--- the fault names the variable for which the text s has no value: a digit before its name is a question
+-- the fault `f` is that the text `s` needs a variable that is missing under `look`; the template of `s` may
+-- look the variable up with a digit before the name
 abbrev pub IsMissingOf : LookUp → (s : List ℕ) → fault.Fault → Type 0
 IsMissingOf look s f = (position : ℕ) × (name : List ℕ) × (f ≡ fault.NoSuchVariable position name)
     × IsValueOf look s (Err (without_question name))
 
--- the error states the first form of the text s that is refused, or the variable that is missing
+-- the error is right for the text `s` under the look-up `look`: the first refused form of the text, or a
+-- required variable that is missing
 abbrev pub IsFaultOf : LookUp → (s : List ℕ) → Unexpanded → Type 0
 IsFaultOf look s (unexpanded.Text e) = IsRefusalOf shell s e
 IsFaultOf look s (unexpanded.Variable e) = IfSome (error_fault e) (IsMissingOf look s)

@@ -3,11 +3,13 @@ pub mod Dotenv
 pub mod DotenvLine
 pub mod Faults
 pub mod Fill
+pub mod FormatRule
 pub mod Layers
+pub mod MapBack
 pub mod Mark
 pub mod Mistakes
 pub mod Run
 pub mod Status
 pub mod Strings
-pub mod Told
+pub mod Templates
 pub mod ValuesFile

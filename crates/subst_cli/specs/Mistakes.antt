@@ -1,4 +1,4 @@
--- Mistakes that keep a text from being a document, by what is in it where its reader stopped.
+-- Common mistakes in JSON and TOML, by the bytes at which the reader stopped.
 use Rattle.std.specs.Prelude.{ℕ, zero, suc, ◌==◌, ◌+◌, ◌-◌, Bool, true, false, not, ◌&&◌, ◌||◌, List, [], ◌∷◌, codes, drop, get_or, length, take, Option, Some, None, is_some, option_map, if◌then◌else◌, string_bytes}
 use Rattle.std.specs.Char.{is_ascii_hexdigit, is_ascii_whitespace}
 use Rattle.std.specs.Int.{is_in_range}
@@ -7,8 +7,8 @@ use Rattle.json.specs.Json.{document}
 use Rattle.subst_json.specs.declared.stop.ReaderStop.{ReaderStop}
 use Rattle.subst_cli.specs.declared.document.format.Unfilled.{Unfilled}
 use Rattle.subst_cli.specs.declared.document.format.Unfilled.TheVariants.{Unread}
-use Rattle.subst_cli.specs.declared.document.mistake.Half.{Half}
-use Rattle.subst_cli.specs.declared.document.mistake.Half.TheVariants.{First, Second}
+use Rattle.subst_cli.specs.declared.document.mistake.SurrogateHalf.{SurrogateHalf}
+use Rattle.subst_cli.specs.declared.document.mistake.SurrogateHalf.TheVariants.{First, Second}
 use Rattle.subst_cli.specs.declared.document.mistake.Mistake.{Mistake}
 use Rattle.subst_cli.specs.declared.document.mistake.Mistake.TheVariants.{TrailingComma, Comment, Variable, SecondDocument, LoneSurrogate, TooDeep}
 use Rattle.subst_cli.specs.declared.document.mistake.Part.{Part}
@@ -16,25 +16,26 @@ use Rattle.subst_cli.specs.declared.document.mistake.Part.TheVariants.{Outside, 
 use Rattle.subst_cli.specs.declared.document.mistake.TheConstants.{LEVELS, TOML_LEVELS}
 use Rattle.subst_cli.specs.declared.fault.Cause.TheVariants as cause
 
--- where the byte after this one is, outside of strings or in one
+-- the part of JSON after the byte `b`, if `b` is in this part: outside of strings, or in a string
 abbrev pub part_after : Part → ℕ → Part
 part_after Outside b = if b == 34 then Inside else Outside
 part_after Inside b = if b == 34 then Outside else if b == 92 then Escaped else Inside
 part_after Escaped b = Inside
 
--- it opens a level of arrays and objects
+-- a byte in this part of JSON opens a level of arrays and objects
 abbrev pub does_open : Part → ℕ → Bool
 does_open Outside b = b == 91 || b == 123
 does_open Inside b = false
 does_open Escaped b = false
 
--- it closes one
+-- a byte in this part of JSON closes a level of arrays and objects
 abbrev pub does_close : Part → ℕ → Bool
 does_close Outside b = b == 93 || b == 125
 does_close Inside b = false
 does_close Escaped b = false
 
--- the index of the first bracket that opens one level too many, of bytes that begin at an index in so many
+-- the index of the first bracket that opens one level too many, in bytes that begin at index `at`, in `part`,
+-- inside `depth` levels
 abbrev pub bracket_past : ℕ → Part → ℕ → List ℕ → Option ℕ
 bracket_past at part depth [] = None
 bracket_past at part depth (b ∷ bs) =
@@ -42,59 +43,61 @@ bracket_past at part depth (b ∷ bs) =
     else if does_close part b then bracket_past (at + 1) part (depth - 1) bs
     else bracket_past (at + 1) (part_after part b) depth bs
 
--- the last byte that isn't white space
+-- the last byte that isn't white space, or `last` if there is none
 abbrev pub last_of : ℕ → List ℕ → ℕ
 last_of last [] = last
 last_of last (b ∷ bs) = last_of (if is_ascii_whitespace b then last else b) bs
 
--- the half of a surrogate pair whose second digit it is
-abbrev pub half_by : ℕ → Option Half
+-- the half of a surrogate pair whose escape has this second digit, if any
+abbrev pub half_by : ℕ → Option SurrogateHalf
 half_by b =
     if is_in_range 56 57 b || (is_in_range 97 98 b || is_in_range 65 66 b) then Some First
     else if is_in_range 99 102 b || is_in_range 67 70 b then Some Second
     else None
 
--- the bytes begin with an escape of a surrogate, or of the private characters before them
+-- the bytes begin with `\uD` or `\ud` and, after any byte, two hexadecimal digits
 abbrev pub is_surrogate_at : List ℕ → Bool
 is_surrogate_at bs = (get_or bs 0 0 == 92) && ((get_or bs 1 0 == 117)
     && ((get_or bs 2 0 == 100 || get_or bs 2 0 == 68)
     && (is_ascii_hexdigit (get_or bs 4 0) && is_ascii_hexdigit (get_or bs 5 0))))
 
--- the half of a surrogate pair whose escape they begin with
-abbrev pub half_at : List ℕ → Option Half
+-- the half of a surrogate pair whose escape the bytes begin with
+abbrev pub half_at : List ℕ → Option SurrogateHalf
 half_at bs = if is_surrogate_at bs then half_by (get_or bs 3 0) else None
 
--- it is the second half
-abbrev pub is_second : Option Half → Bool
+-- the half of a surrogate pair, if there is one, is the second half
+abbrev pub is_second : Option SurrogateHalf → Bool
 is_second None = false
 is_second (Some First) = false
 is_second (Some Second) = true
 
--- a half without the other, which may come after it
-abbrev pub is_without : Option Half → Option Half → Bool
+-- the half of a surrogate pair, if there is one, is without the other half; `next` is the half whose escape
+-- follows, if any
+abbrev pub is_without : Option SurrogateHalf → Option SurrogateHalf → Bool
 is_without None next = false
 is_without (Some First) next = not (is_second next)
 is_without (Some Second) next = true
 
--- they begin with such a half
+-- the bytes begin with the escape of half a surrogate pair without the escape of the other half
 abbrev pub is_lone_at : List ℕ → Bool
 is_lone_at bs = is_without (half_at bs) (half_at (drop 6 bs))
 
--- of a pair the bytes after the first one, else of an escape
-abbrev pub after_half : Option Half → ℕ
+-- the number of bytes to skip after the backslash of an escape: 11, up to the end of a surrogate pair, if the
+-- escape is that of a first half, or else 1
+abbrev pub after_half : Option SurrogateHalf → ℕ
 after_half None = 1
 after_half (Some First) = 11
 after_half (Some Second) = 1
 
--- the bytes after the first one of what they begin with
+-- the number of bytes to skip after the first one: those of the escape or pair that the bytes begin with
 abbrev pub after_first : List ℕ → ℕ
 after_first bs = if get_or bs 0 0 == 92 then after_half (half_at bs) else 0
 
--- the index of the first half of a surrogate pair without the other, of the bytes of a string that begin at an
--- index, of which so many are passed
+-- the index of the first lone surrogate, half a pair without the other half, in the bytes of a string from
+-- index `at` on; the first `to_skip` bytes are skipped
 abbrev pub lone_at : ℕ → ℕ → List ℕ → Option ℕ
-lone_at at passed [] = None
-lone_at at (suc passed) (b ∷ bs) = lone_at (at + 1) passed bs
+lone_at at to_skip [] = None
+lone_at at (suc to_skip) (b ∷ bs) = lone_at (at + 1) to_skip bs
 lone_at at zero (b ∷ bs) =
     if b == 34 then None
     else if is_lone_at (b ∷ bs) then Some at
@@ -104,8 +107,8 @@ lone_at at zero (b ∷ bs) =
 abbrev pub begins_comment : List ℕ → Bool
 begins_comment bs = (get_or bs 0 0 == 47) && (get_or bs 1 0 == 47 || get_or bs 1 0 == 42)
 
--- the mistake that begins where the reader of JSON stopped: a comment, a variable, a bracket after a comma,
--- anything after a document, or a string
+-- the mistake between `before` and `rest`, where the reader stopped, and its offset: a comment, a variable, a
+-- bracket after a comma, text after a document, or half a surrogate pair
 abbrev pub mistake_in : List ℕ → List ℕ → Bool → Option (Mistake × ℕ)
 mistake_in before rest is_document =
     let first = get_or rest 0 0 in
@@ -116,34 +119,35 @@ mistake_in before rest is_document =
     else if first == 34 then option_map (λ half. (LoneSurrogate, length before + half)) (lone_at 0 1 rest)
     else None
 
--- a bracket that opens one level too many, or that mistake
+-- nesting too deep at this bracket, if there is one, or else this mistake
 abbrev pub or_bracket : Option (Mistake × ℕ) → Option ℕ → Option (Mistake × ℕ)
 or_bracket mistake None = mistake
 or_bracket mistake (Some bracket) = Some (TooDeep LEVELS, bracket)
 
--- The mistake in a text that isn't JSON, and where it is, by what its reader read and the rest.
+-- The mistake in a text that isn't JSON, and its offset. The reader stopped between `before` and `rest`, and
+-- `is_document` is whether `before` is a document.
 abbrev pub mistake_at : List ℕ → List ℕ → Bool → Option (Mistake × ℕ)
 mistake_at before rest is_document =
     or_bracket (mistake_in before rest is_document) (bracket_past 0 Outside 0 before)
 
--- so, of a message of the reader that doesn't say why
+-- the mistake in the text and its offset, if one is known and the reader's message has no reason
 abbrev pub mistake_of : List ℕ → ReaderStop → Option (Mistake × ℕ)
 mistake_of text stop =
     let before = take stop.offset text in
     if bytes_eq (string_bytes stop.message) (codes "invalid JSON")
     then mistake_at before (drop stop.offset text) (is_some (document before)) else None
 
--- a text isn't read since it has that mistake, or else as the reader says
+-- the reason why a text isn't JSON: this mistake, or else the message of the reader's stop
 abbrev pub or_message : ReaderStop → Option (Mistake × ℕ) → Unfilled
 or_message stop (Some (mistake, offset)) = Unread (record { start = offset; end = offset }) (cause.Mistake mistake)
 or_message stop None =
     Unread (record { start = stop.offset; end = stop.offset }) (cause.NotADocument stop.message)
 
--- Why a text isn't read that isn't JSON, where its reader stopped so.
+-- The reason why a text isn't JSON, by its reader's stop.
 abbrev pub unread_at : List ℕ → ReaderStop → Unfilled
 unread_at text stop = or_message stop (mistake_of text stop)
 
--- The mistake that a message of the reader of TOML is about.
+-- The mistake that a message of the reader of TOML states, if it is known.
 abbrev pub mistake_of_toml : List ℕ → Option Mistake
 mistake_of_toml message = if bytes_eq message (codes "cannot recurse further; max recursion depth met")
     then Some (TooDeep TOML_LEVELS) else None

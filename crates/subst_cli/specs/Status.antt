@@ -1,17 +1,17 @@
--- The worst of what happened in a run, and the status that it ends with.
+-- The severity of a run, and its exit status.
 use Rattle.std.specs.Prelude.{ℕ, if◌then◌else◌, nat_lt}
-use Rattle.subst_filter_lib.specs.declared.status.TheConstants.{DONE, REFUSED, WRONG_WORDS, DEVICE_FAILED, OUT_OF_MEMORY}
+use Rattle.subst_filter_lib.specs.declared.status.TheConstants.{DONE, REFUSED, WRONG_ARGUMENTS, DEVICE_FAILED, OUT_OF_MEMORY}
 use Rattle.subst_cli.specs.declared.report.Severity.{Severity}
 use Rattle.subst_cli.specs.declared.report.Severity.TheVariants.{Nothing, Refusal, Misuse, Failure, Exhaustion}
 
--- its status
+-- the exit status of a run of this severity
 abbrev pub status_of : Severity → ℕ
 status_of Nothing = DONE
 status_of Refusal = REFUSED
-status_of Misuse = WRONG_WORDS
+status_of Misuse = WRONG_ARGUMENTS
 status_of Failure = DEVICE_FAILED
 status_of Exhaustion = OUT_OF_MEMORY
 
--- the worse of two, by their statuses
+-- the higher one of two severities, by their exit statuses
 abbrev pub worse : Severity → Severity → Severity
 worse a b = if nat_lt (status_of a) (status_of b) then b else a

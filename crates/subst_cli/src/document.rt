@@ -1,10 +1,10 @@
-//! Documents: texts whose strings are filled in where they are.
+//! Fills in the strings of documents, and returns their faults and variables.
 
 ghost use Rattle.std.specs.Prelude.{◌≡◌, ◌++◌, ℕ, List, IfErr, IfOk, OnOk, string_bytes};
 ghost use Rattle.std.specs.List.{All, Any};
 ghost use Rattle.subst_document.specs.Edits.{text_at};
 ghost use Rattle.subst_cli.specs.Documents as documents;
-ghost use Rattle.subst_cli.specs.Documents.{format_of, AreTold, IsDocumentFault, IsFaultOfOne};
+ghost use Rattle.subst_cli.specs.Documents.{format_of, AreReported, FindsIn, IsDocumentFault, IsFaultOfOne};
 ghost use Rattle.subst_cli.specs.Fill.{GivesFor, IsDocumentOutput};
 ghost use Rattle.subst_cli.specs.Layers.{Entry};
 ghost use Rattle.subst_cli.specs.Strings.{AreFaults, FillsFrom, GivesSome};
@@ -12,7 +12,7 @@ ghost use Rattle.subst_cli.specs.declared.fault.Cause.TheVariants as cause;
 ghost use Rattle.subst_cli.specs.declared.fault.Fault.{Fault as SpecFault};
 
 use crate::fault::{Cause, Fault, one_fault};
-use crate::part::{Occurrence, Outcome, uses_in_bytes};
+use crate::part::{Occurrence, OrFaults, uses_in_bytes};
 pub(crate) use filler::StringFiller;
 pub use format::Format;
 use format::{Finder, RefusedAt, Unfilled};
@@ -25,17 +25,17 @@ mod filler;
 mod format;
 mod mistake;
 
-/// Returns a text with its strings filled in, or its faults.
+/// Fills in the strings of a document, or returns its faults.
 ///
 /// # Errors
 ///
-/// When allocation fails.
+/// If allocation fails.
 pub(crate) fn fill(
     alloc: Global,
     format: Format,
     text: &str,
     filler: &StringFiller<'_, '_, '_>,
-) -> Result<Outcome<String>, AllocError>
+) -> Result<OrFaults<String>, AllocError>
     ensures gives { (entries : List Entry) → FillsFrom filler.now entries
         → IfOk result (λ outcome. IfOk outcome (λ output.
         IsDocumentOutput format (GivesFor filler.now.placeholders.now entries) text.now
@@ -51,23 +51,23 @@ pub(crate) fn fill(
     }
 }
 
-/// Returns the variables of a text, with their places in it, or its faults.
+/// Returns the uses of variables in a document's strings, with ranges in `text`, or the document's faults.
 ///
 /// # Errors
 ///
-/// When allocation fails.
+/// If allocation fails.
 pub(crate) fn uses(
     alloc: Global,
     format: Format,
     text: &str,
     filler: &StringFiller<'_, '_, '_>,
-) -> Result<Outcome<Vec<Occurrence>>, AllocError> {
+) -> Result<OrFaults<Vec<Occurrence>>, AllocError> {
     let strings = match format.strings(alloc, text)? {
         Ok(strings) => strings,
         Err(Unfilled::Unread(range, cause)) => return Ok(Err(one_fault(alloc, range, cause)?)),
         Err(Unfilled::Refused) => return Ok(Err(not_confirmed(alloc)?)),
     };
-    let mut finder = Finder::new(alloc, format);
+    let mut finder = Finder::new(alloc, format, text)?;
     let mut all = Vec::new(alloc);
     for StringAt { text: string, span } in strings {
         match uses_in_bytes(alloc, string.as_bytes(), filler.placeholders)? {
@@ -78,7 +78,7 @@ pub(crate) fn uses(
     Ok(Ok(all))
 }
 
-/// Adds the variables of a string, with their places in the text.
+/// Appends the uses of variables in a string, with their ranges mapped to the document `text`.
 fn add_uses(
     alloc: Global,
     finder: &mut Finder,
@@ -103,7 +103,7 @@ fn add_uses(
     Ok(())
 }
 
-/// Returns the faults of all strings of a document that is refused.
+/// Returns a document's faults: those of its strings, or one if the document can't be read or confirmed.
 fn faults_in(
     alloc: Global,
     format: Format,
@@ -127,14 +127,14 @@ fn faults_in(
     }
 }
 
-/// Returns the fault of a document that isn't confirmed.
+/// Returns the fault of a document whose output or positions can't be confirmed.
 fn not_confirmed(alloc: Global) -> Result<Vec<Fault>, AllocError>
     ensures { IfOk result (λ faults. Any (λ it. it.cause ≡ cause.NotConfirmed) faults.items) }
 {
     one_fault(alloc, 0..0, Cause::NotConfirmed)
 }
 
-/// Returns the faults of these strings, with their places in the text.
+/// Returns the faults of `strings`, the refused strings of the document `text`, with ranges in `text`.
 fn faults_of(
     alloc: Global,
     format: Format,
@@ -147,7 +147,7 @@ fn faults_of(
         (λ entries. IsFaultOfOne format filler.now.placeholders.now entries text.now strings.items)
         faults.items) }
 {
-    let mut finder = Finder::new(alloc, format);
+    let mut finder = Finder::new(alloc, format, text)?;
     let mut all = Vec::new(alloc);
     for (path, StringAt { text: string, span }) in strings {
         let faults = filler.faults(alloc, &string)?;
@@ -156,7 +156,7 @@ fn faults_of(
     Ok(all)
 }
 
-/// Adds the faults of a string, with the path that leads to it and their places in the text.
+/// Appends the faults of a string, with the string's path and with ranges mapped to the document `text`.
 fn add_faults(
     alloc: Global,
     finder: &mut Finder,
@@ -166,10 +166,11 @@ fn add_faults(
     faults: Vec<Fault>,
     all: &mut Vec<Fault>,
 ) -> Result<(), AllocError>
-    ensures told { OnOk result ((told : List SpecFault)
-        × (all.new.items ≡ all.old.items ++ told)
-        × AreTold (format_of finder.old) text.now path.now span faults.items told) }
+    ensures reported { FindsIn text.now finder.old → OnOk result ((reported : List SpecFault)
+        × (all.new.items ≡ all.old.items ++ reported)
+        × AreReported (format_of finder.old) text.now path.now span faults.items reported) }
     ensures format { OnOk result (format_of finder.new ≡ format_of finder.old) }
+    ensures finder { FindsIn text.now finder.old → OnOk result (FindsIn text.now finder.new) }
 {
     let ranges = ranges_of(alloc, &faults)?;
     let places = finder.places(alloc, text, span, &ranges)?;
@@ -183,7 +184,7 @@ fn add_faults(
     Ok(())
 }
 
-/// Returns the ranges of faults.
+/// Returns the ranges of the faults.
 fn ranges_of(alloc: Global, faults: &[Fault]) -> Result<Vec<Range<usize>>, AllocError>
     ensures { IfOk result (λ ranges. ranges.items ≡ documents.ranges_of faults.now) }
 {

@@ -1,4 +1,4 @@
-//! `.env` files: what their lines set, from the variables above and the lines before.
+//! Parses `.env` files. Values may use variables of higher precedence, and those that earlier lines set.
 
 ghost use Rattle.std.specs.Prelude.{◌≡◌, ◌<◌, ◌∷◌, ◌++◌, ℕ, [], None, Some, IfErr, IfOk, IfSome, List, OnOk, length, map, string_bytes, if◌then◌else◌};
 ghost use Rattle.std.specs.List.{Any};
@@ -12,8 +12,8 @@ use crate::entry::Entry;
 use crate::fault::{Cause, one_fault};
 use crate::hints::{UnsetHint, unset_hint};
 use crate::layers::Variables;
-use crate::part::Outcome;
-use crate::place::Places;
+use crate::part::OrFaults;
+use crate::position::Positions;
 use crate::source::{Refused, Source};
 use crate::text::{not_utf8, split_mark, text_of};
 use crate::values_file::after_blanks;
@@ -23,10 +23,10 @@ use std::collections::HashMap;
 use value::{Scope, expanded, unset_variables};
 
 mod line;
+mod shell_text;
 mod value;
-mod written;
 
-/// The settings of `.env` files.
+/// The settings of `.env` files so far.
 #[derive(Drop)]
 pub struct Settings {
     /// The names with their values, in the order of the lines.
@@ -35,21 +35,21 @@ pub struct Settings {
     pub values: HashMap<String, String>,
 }
 
-/// A line that is wrong or doesn't expand, which ends the reading of its file.
+/// The fault of a refused line of a `.env` file. Later lines aren't read.
 #[derive(Drop)]
 struct LineFault {
     /// The cause.
     pub cause: Cause,
-    /// Where its line begins, after its blanks: a byte offset in the file.
+    /// The byte offset of the line in the file, after the line's leading blanks.
     pub start: usize,
 }
 
-/// Reads `.env` files. Returns their settings in the order of files and lines, or the first file that is refused,
-/// and appends a hint at each unset variable that expands to nothing.
+/// Parses `.env` files; `above` are the variables of higher precedence. Returns the files' settings in order,
+/// or the first refused file. Appends a hint to `unset` for each unset variable that expands to nothing.
 ///
 /// # Errors
 ///
-/// When allocation fails.
+/// If allocation fails.
 pub fn settings_of(
     alloc: Global,
     files: Vec<Source>,
@@ -75,18 +75,18 @@ pub fn settings_of(
     Ok(Ok(set.entries))
 }
 
-/// Adds the settings of a file, or returns its faults.
+/// Appends the settings of a file to `set`, or returns the file's faults.
 ///
 /// # Errors
 ///
-/// When allocation fails.
+/// If allocation fails.
 fn add_file(
     alloc: Global,
     source: &Source,
     above: &Variables<'_>,
     set: &mut Settings,
     unset: &mut Vec<UnsetHint>,
-) -> Result<Outcome<()>, AllocError>
+) -> Result<OrFaults<()>, AllocError>
     requires { HasLast set.now }
     ensures last { IfOk result (λ outcome. IfOk outcome (λ _. HasLast set.new)) }
     ensures leaves { ForEntries above.now (λ above. IfOk result (λ outcome. IfOk outcome (λ _.
@@ -101,7 +101,7 @@ fn add_file(
     }
     let mut hints = Hints {
         file: &source.name,
-        places: Places::of(&source.bytes),
+        positions: Positions::of(&source.bytes),
         unset,
     };
     match add_lines(alloc, &source.bytes, above, set, &mut hints)? {
@@ -110,11 +110,11 @@ fn add_file(
     }
 }
 
-/// Adds the settings of a file's lines, up to the first one that is wrong or doesn't expand, which is returned.
+/// Appends the settings of a file's lines to `set`. Stops at the first refused line, and returns its fault.
 ///
 /// # Errors
 ///
-/// When allocation fails.
+/// If allocation fails.
 fn add_lines(
     alloc: Global,
     bytes: &[u8],
@@ -141,11 +141,11 @@ fn add_lines(
     Ok(None)
 }
 
-/// Adds the setting of a text's first line. Returns the text after it, or the cause if it is wrong.
+/// Appends the setting of a text's first line, if any. Returns the text after the line, or why it is refused.
 ///
 /// # Errors
 ///
-/// When allocation fails.
+/// If allocation fails.
 fn add_line<'t>(
     alloc: Global,
     text: &'t [u8],
@@ -184,23 +184,23 @@ fn add_line<'t>(
     }
 }
 
-/// Hints at unset variables of a file.
+/// A collector of hints at the unset variables of a file.
 #[derive(Drop)]
 struct Hints<'s, 'h> {
     /// The name of the file.
     file: &'s str,
-    /// The places in it.
-    places: Places<'s>,
+    /// The converter of offsets in the file into lines and columns.
+    positions: Positions<'s>,
     /// The hints so far.
     unset: &'h mut Vec<UnsetHint>,
 }
 
 impl Hints<'_, '_> {
-    /// Adds a hint at each unset variable of a value, whose line begins at an offset.
+    /// Appends a hint for each unset variable of a value whose line begins at the byte offset `start`.
     ///
     /// # Errors
     ///
-    /// When allocation fails.
+    /// If allocation fails.
     fn add(
         &mut self,
         alloc: Global,
@@ -209,20 +209,20 @@ impl Hints<'_, '_> {
         scope: &Scope<'_, '_>,
     ) -> Result<(), AllocError> {
         for variable in unset_variables(alloc, value, scope)? {
-            let place = self.places.at(alloc, start)?;
+            let position = self.positions.at(alloc, start)?;
             self.unset
-                .push(unset_hint(alloc, self.file, place, variable.name)?)?;
+                .push(unset_hint(alloc, self.file, position, variable.name)?)?;
         }
         Ok(())
     }
 }
 
 impl Settings {
-    /// Sets a name to a value.
+    /// Appends an entry for a name and a value, which becomes the name's last value.
     ///
     /// # Errors
     ///
-    /// When allocation fails.
+    /// If allocation fails.
     fn add(&mut self, alloc: Global, name: &str, value: String) -> Result<(), AllocError>
         requires { HasLast self.now }
         ensures last { OnOk result (HasLast self.new) }
@@ -237,11 +237,11 @@ impl Settings {
     }
 }
 
-/// Puts a copy of a value under a name.
+/// Inserts a copy of a value under a name.
 ///
 /// # Errors
 ///
-/// When allocation fails.
+/// If allocation fails.
 #[tactic(auto, using(std::proofs::lemmas::Map::Text::text_keys))]
 fn put(
     alloc: Global,

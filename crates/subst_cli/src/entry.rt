@@ -1,4 +1,4 @@
-//! Names with what is given to them.
+//! Variables as names with values.
 
 ghost use Rattle.std.specs.Prelude.{◌≡◌, ◌==◌, ◌<◌, IfOk, MatchOption, length, option_map, string_bytes};
 ghost use Rattle.std.specs.List.{after_first, before_first, position_or_len};
@@ -8,17 +8,17 @@ ghost use Rattle.subst_cli.specs.Layers.{entry_of};
 use std::alloc::{AllocError, Global};
 use subst::is_name;
 
-/// A name and what is given to it.
+/// A variable: a name and its value.
 #[derive(Drop)]
 pub struct Entry {
     /// The name.
     pub name: String,
-    /// The value, or nothing where its bytes aren't UTF-8.
+    /// The value, or `None` if it isn't UTF-8.
     pub value: Option<String>,
 }
 
 impl Entry {
-    /// Returns whether the value is there and empty.
+    /// Returns whether the value is empty, or `false` if it isn't UTF-8.
     pub(crate) fn is_empty(&self) -> bool
         ensures { result ≡ layers.is_empty (entry_of self.now) }
     {
@@ -29,8 +29,8 @@ impl Entry {
     }
 }
 
-/// Returns what `NAME=VALUE` gives, which is split at its first `=`, or nothing where there is no `=` or no
-/// template can spell the name.
+/// Parses `NAME=VALUE`, split at its first `=`. Returns `None` if there is no `=`, or if the name isn't a
+/// variable name.
 pub(crate) fn entry_in(alloc: Global, bytes: &[u8]) -> Result<Option<Entry>, AllocError>
     ensures { IfOk result (λ entry. option_map entry_of entry ≡ layers.entry_in bytes.now) }
 {
@@ -48,7 +48,7 @@ pub(crate) fn entry_in(alloc: Global, bytes: &[u8]) -> Result<Option<Entry>, All
     Ok(Some(Entry { name, value }))
 }
 
-/// Returns bytes as a text, or nothing where they aren't UTF-8.
+/// Returns bytes as a text, or `None` if they aren't UTF-8.
 fn text_in(alloc: Global, bytes: &[u8]) -> Result<Option<String>, AllocError>
     ensures { IfOk result (λ text. option_map string_bytes text ≡ layers.text_in bytes.now) }
 {
@@ -58,8 +58,7 @@ fn text_in(alloc: Global, bytes: &[u8]) -> Result<Option<String>, AllocError>
     Ok(Some(String::from_str(alloc, text)?))
 }
 
-/// Returns what is before the first byte that is a separator and what is after it, or nothing where there is
-/// none.
+/// Splits bytes at the first separator, or returns `None` if there is none.
 pub(crate) fn split_once(bytes: &[u8], separator: u8) -> Option<(&[u8], &[u8])>
     ensures { MatchOption result
         (position_or_len (λ b. b == separator) bytes.now ≡ length bytes.now)
@@ -67,7 +66,7 @@ pub(crate) fn split_once(bytes: &[u8], separator: u8) -> Option<(&[u8], &[u8])>
         × (parts.0.now ≡ before_first (λ b. b == separator) bytes.now)
         × (parts.1.now ≡ after_first (λ b. b == separator) bytes.now)) }
 {
-    let at = place_of(bytes, separator);
+    let at = index_of(bytes, separator);
     if at < bytes.len() {
         Some((&bytes[..at], &bytes[at + 1..]))
     } else {
@@ -75,8 +74,8 @@ pub(crate) fn split_once(bytes: &[u8], separator: u8) -> Option<(&[u8], &[u8])>
     }
 }
 
-/// Returns the index of the first byte that is this one, or how many bytes there are where none is.
-fn place_of(bytes: &[u8], byte: u8) -> usize
+/// Returns the index of the first `byte`, or `bytes.len()` if there is none.
+fn index_of(bytes: &[u8], byte: u8) -> usize
     ensures { result ≡ position_or_len (λ b. b == byte) bytes.now }
 {
     let found = bytes.iter().position(|b| *b == byte);

@@ -9,41 +9,41 @@ use crate::entry::{Entry, entry_in};
 use std::alloc::{AllocError, Global};
 use std::env::{Env, FillError};
 
-/// For how long an entry there is room at first.
-const FIRST_ROOM: usize = 4096;
+/// The initial size of the buffer for an entry, in bytes.
+const FIRST_CAPACITY: usize = 4096;
 
-/// Reads the environment: all its entries, `NAME=VALUE`, in their order.
+/// Reads all entries of the environment, `NAME=VALUE`, in order.
 pub(crate) fn read<E: Env>(alloc: Global, rt: &E) -> Result<Vec<Vec<u8>>, AllocError> {
     let mut entries = Vec::new(alloc);
-    let mut room = vec![in alloc; 0; FIRST_ROOM]?;
+    let mut buffer = vec![in alloc; 0; FIRST_CAPACITY]?;
     for index in 0..usize::MAX {
-        let Some(len) = entry_len(rt, index, &mut room)? else {
+        let Some(len) = entry_len(rt, index, &mut buffer)? else {
             break;
         };
-        entries.push(Vec::from_slice(alloc, room.get(..len).unwrap_or(&[]))?)?;
+        entries.push(Vec::from_slice(alloc, buffer.get(..len).unwrap_or(&[]))?)?;
     }
     Ok(entries)
 }
 
-/// Copies an entry of the environment to the start of a buffer, which is made longer where that is needed,
-/// and returns its length, or nothing where no entry has this index.
+/// Copies the entry of the environment at `index` to the start of `buffer`, which is extended if needed.
+/// Returns the entry's length, or `None` if there is no such entry.
 fn entry_len<E: Env>(
     rt: &E,
     index: usize,
-    room: &mut Vec<u8>,
+    buffer: &mut Vec<u8>,
 ) -> Result<Option<usize>, AllocError> {
     for _ in 0..usize::BITS {
-        match rt.var_at(index, room.as_mut_slice()) {
+        match rt.var_at(index, buffer.as_mut_slice()) {
             Ok(len) => return Ok(Some(len)),
             Err(FillError::NotPresent) => return Ok(None),
-            Err(FillError::TooLong) => room.resize(room.len().saturating_mul(2), 0)?,
+            Err(FillError::TooLong) => buffer.resize(buffer.len().saturating_mul(2), 0)?,
         }
     }
     Err(AllocError)
 }
 
-/// Returns what the entries of an environment give, in their order. One gives nothing that isn't
-/// `NAME=VALUE`, of a name that templates can spell.
+/// Returns the variables of an environment's entries, in order. Skips entries that aren't `NAME=VALUE` with a
+/// variable name.
 pub(crate) fn entries(alloc: Global, raw: &[Vec<u8>]) -> Result<Vec<Entry>, AllocError>
     ensures { IfOk result (λ entries. entries_of entries.items
         ≡ environment_of (map vec_items raw.now)) }
@@ -55,7 +55,7 @@ pub(crate) fn entries(alloc: Global, raw: &[Vec<u8>]) -> Result<Vec<Entry>, Allo
     Ok(entries)
 }
 
-/// Adds what an entry of an environment gives.
+/// Appends the variable of an entry `NAME=VALUE`. Skips an entry without `=` or without a variable name.
 fn add(alloc: Global, bytes: &[u8], entries: &mut Vec<Entry>) -> Result<(), AllocError>
     ensures { OnOk result (entries_of entries.new.items
         ≡ entries_of entries.old.items ++ option_to_list (layers.entry_in bytes.now)) }

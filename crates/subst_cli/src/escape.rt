@@ -1,4 +1,4 @@
-//! Values escaped for the place that they are put into.
+//! Values escaped for the output's language.
 
 ghost use Rattle.std.specs.Prelude.{◌≡◌, ◌++◌, ◌∷◌, [], ℕ, List, IfOk, string_bytes};
 ghost use Rattle.json.specs.Print.{escape};
@@ -8,22 +8,22 @@ use crate::options::Escape;
 use serde_json::Value;
 use std::alloc::{AllocError, Global};
 
-/// Returns a value as it is put into its place.
+/// Escapes a value for the language `kind`, or copies it for [`Escape::Nothing`].
 ///
 /// # Errors
 ///
-/// When allocation fails.
+/// If allocation fails.
 pub(crate) fn escaped(alloc: Global, value: &str, kind: Escape) -> Result<String, AllocError>
     ensures { IfOk result (λ text. string_bytes text ≡ escaped_by kind value.now) }
 {
     match kind {
         Escape::Nothing => String::from_str(alloc, value),
         Escape::Json => in_json(alloc, value),
-        Escape::Sh => word_of(alloc, value),
+        Escape::Sh => shell_word(alloc, value),
     }
 }
 
-/// Returns what stands for a text between the quotes of a JSON string.
+/// Returns a text escaped for a JSON string, without the quotes.
 fn in_json(alloc: Global, text: &str) -> Result<String, AllocError>
     ensures { IfOk result (λ inner. string_bytes inner ≡ escape text.now) }
 {
@@ -31,7 +31,7 @@ fn in_json(alloc: Global, text: &str) -> Result<String, AllocError>
     String::from_str(alloc, between_quotes(&quoted))
 }
 
-/// Returns what is between the quotes of a text.
+/// Returns a quoted text without its first and last byte, the quotes.
 fn between_quotes(quoted: &str) -> &str
     requires { (x : List ℕ) × (quoted.now ≡ 34 ∷ x ++ 34 ∷ []) }
     ensures { (x : List ℕ) → (quoted.now ≡ 34 ∷ x ++ 34 ∷ []) → (result.now ≡ x) }
@@ -41,8 +41,8 @@ fn between_quotes(quoted: &str) -> &str
     unsafe { str::from_utf8_unchecked(inner) }
 }
 
-/// Returns the word of a shell that is a text, in single quotes.
-fn word_of(alloc: Global, text: &str) -> Result<String, AllocError>
+/// Returns a text as one word of a shell, in single quotes.
+fn shell_word(alloc: Global, text: &str) -> Result<String, AllocError>
     ensures { IfOk result (λ it. string_bytes it ≡ word text.now) }
 {
     let mut word = String::from_str(alloc, "'")?;

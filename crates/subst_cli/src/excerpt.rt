@@ -1,25 +1,25 @@
-//! The line of a source that a fault is in, underlined, or what of a long line is around the fault.
+//! Excerpts: the line of a source with a fault, underlined. A long line is cut around the fault.
 
-use crate::shown::{are_printable, shown};
+use crate::terminal::{are_printable, printable};
 use std::alloc::{AllocError, Global};
 use std::ops::Range;
 use subst::error::Underlined;
 use unicode_width::{UnicodeWidthChar, UnicodeWidthStr};
 
-/// The columns of the widest line that is shown whole, and at most those of any line as it is shown.
+/// The widest excerpt, in columns. Longer lines are cut around the fault.
 const WIDEST: usize = 60;
 
-/// How many bytes of a line are looked at before a fault, and how many from it on.
+/// The most bytes of a line that are read before a fault, and from the fault on.
 const AROUND: usize = 512;
 
-/// How many are enough where each takes a column: more than the widest line.
+/// The most bytes read before a fault, and from the fault on, if each takes a column. It exceeds [`WIDEST`].
 const NEAR: usize = 64;
 
-/// What stands for the part of a line that isn't shown.
+/// The mark that replaces the part of a text that is cut off.
 pub(crate) const CUT: &str = "…";
 
-/// Returns the line that a range of a source begins in and, below the range, carets, both lines indented by
-/// two blanks. Of a line wider than 60 columns what is around the range's start is shown.
+/// Returns the line in which a range of a source begins, with carets below the range. Both lines are indented
+/// by two spaces. A line wider than 60 columns is cut around the range's start.
 pub(crate) fn excerpt(
     alloc: Global,
     source: &[u8],
@@ -28,23 +28,23 @@ pub(crate) fn excerpt(
     let line = around(source, range.start);
     let marked = part(source, range.start..range.end.min(line.end));
     let before = Piece {
-        text: shown(alloc, part(source, line.start..range.start))?,
+        text: printable(alloc, part(source, line.start..range.start))?,
         is_cut: !is_at_line_end(source, line.start.checked_sub(1)),
     };
     let after = Piece {
-        text: shown(alloc, part(source, range.start..line.end))?,
+        text: printable(alloc, part(source, range.start..line.end))?,
         is_cut: !is_at_line_end(source, Some(line.end)),
     };
-    let carets = columns(&shown(alloc, marked)?);
+    let carets = columns(&printable(alloc, marked)?);
     underlined(alloc, &before, &after, carets)
 }
 
-/// Returns the bytes in a range, or none where it isn't one of the source.
+/// Returns the bytes in a range, or none if the range isn't in the source.
 fn part(source: &[u8], range: Range<usize>) -> &[u8] {
     source.get(range).unwrap_or(&[])
 }
 
-/// Returns the range of the line around an offset, or of what of it is near the offset.
+/// Returns the range of the line around an offset, cut near the offset if the line is long.
 fn around(source: &[u8], offset: usize) -> Range<usize> {
     let near = within(source, offset, NEAR);
     if are_printable(part(source, near.start..near.end)) {
@@ -54,7 +54,7 @@ fn around(source: &[u8], offset: usize) -> Range<usize> {
     }
 }
 
-/// Returns the range of what of the line around an offset is at most so many bytes away.
+/// Returns the range of the line around an offset, cut to `most` bytes before and `most` after the offset.
 fn within(source: &[u8], offset: usize, most: usize) -> Range<usize> {
     let first = character_start(source, offset.saturating_sub(most));
     let last = character_start(source, offset.saturating_add(most).min(source.len()));
@@ -75,7 +75,7 @@ fn within(source: &[u8], offset: usize, most: usize) -> Range<usize> {
     start..end
 }
 
-/// Returns the offset at which the character around an offset begins, where the source is UTF-8 there.
+/// Returns the offset of the first byte of the character at an offset, if the source is UTF-8 there.
 fn character_start(source: &[u8], offset: usize) -> usize {
     let mut start = offset;
     for _ in 0..3 {
@@ -92,28 +92,28 @@ fn is_line_end(b: u8) -> bool {
     b == b'\n' || b == b'\r'
 }
 
-/// Returns whether a line ends at an offset, as all do before the start and at the end of the source.
+/// Returns whether the byte at an offset ends a line. Also `true` if there is no byte, or for `None`.
 fn is_at_line_end(source: &[u8], offset: Option<usize>) -> bool {
     let byte = offset.and_then(|at| source.get(at));
     byte.is_none_or(|b| is_line_end(*b))
 }
 
-/// A piece of a line, as it is shown.
+/// A piece of a line, with its control characters escaped.
 #[derive(Drop)]
 struct Piece {
     text: String,
-    /// Whether the line has more on its outer side.
+    /// Whether the line is cut at the piece's end that is away from the fault.
     is_cut: bool,
 }
 
 impl Piece {
-    /// Returns how many columns it takes whole.
+    /// Returns the width in columns, including the mark if the piece is cut.
     fn width(&self) -> usize {
         columns(&self.text).saturating_add(usize::from(self.is_cut))
     }
 
-    /// Returns how many columns its text has, where it takes at most so many, and whether it is cut.
-    fn room(&self, columns: usize) -> (usize, bool) {
+    /// Returns the text's width if the piece may have `columns` columns, and whether the piece is cut then.
+    fn fit(&self, columns: usize) -> (usize, bool) {
         if self.width() <= columns {
             (columns, self.is_cut)
         } else {
@@ -122,7 +122,7 @@ impl Piece {
     }
 }
 
-/// Returns the two lines, of a line that is before the fault and from it on these.
+/// Returns the excerpt of a line: the piece `before` the fault and the rest, `after`, with `carets` carets.
 fn underlined(
     alloc: Global,
     before: &Piece,
@@ -133,8 +133,8 @@ fn underlined(
         .saturating_sub(before.width())
         .max(WIDEST / 2)
         .min(after.width());
-    let (left, is_left_cut) = before.room(WIDEST.saturating_sub(right));
-    let (right, is_right_cut) = after.room(right);
+    let (left, is_left_cut) = before.fit(WIDEST.saturating_sub(right));
+    let (right, is_right_cut) = after.fit(right);
     let before = last_columns(&before.text, left);
     let after = first_columns(&after.text, right);
     let mut line = String::new(alloc);
@@ -150,12 +150,12 @@ fn underlined(
     format!(in alloc; "{underlined}")
 }
 
-/// Appends what stands for a part that isn't shown, if there is one.
+/// Appends the mark of a cut if `is_cut` is set.
 fn push_if(text: &mut String, is_cut: bool) -> Result<(), AllocError> {
     if is_cut { text.push_str(CUT) } else { Ok(()) }
 }
 
-/// Returns how many columns a text takes that is shown.
+/// Returns the width of an escaped text in columns.
 fn columns(text: &str) -> usize {
     if text.is_ascii() {
         text.len()
@@ -164,7 +164,7 @@ fn columns(text: &str) -> usize {
     }
 }
 
-/// Returns the end of a text that takes at most so many columns.
+/// Returns the longest end of a text that is at most `columns` wide.
 fn last_columns(text: &str, columns: usize) -> &str {
     if text.is_ascii() {
         return text.get(text.len().saturating_sub(columns)..).unwrap_or("");
@@ -180,7 +180,7 @@ fn last_columns(text: &str, columns: usize) -> &str {
     ""
 }
 
-/// Cuts a text that takes more than so many columns, and puts a sign at its end.
+/// Cuts a text to `columns` if it is wider, and then appends the mark of a cut.
 pub(crate) fn cut(alloc: Global, text: String, columns: usize) -> Result<String, AllocError> {
     let start = first_columns(&text, columns);
     if start.len() < text.len() {
@@ -190,7 +190,7 @@ pub(crate) fn cut(alloc: Global, text: String, columns: usize) -> Result<String,
     }
 }
 
-/// Returns the start of a text that takes at most so many columns.
+/// Returns the longest start of a text that is at most `columns` wide.
 fn first_columns(text: &str, columns: usize) -> &str {
     if text.is_ascii() {
         return text.get(..columns.min(text.len())).unwrap_or("");

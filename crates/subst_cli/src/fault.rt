@@ -1,4 +1,4 @@
-//! What is wrong with a source.
+//! Faults of a source: their causes, ranges and messages.
 
 ghost use Rattle.std.specs.Prelude.{◌≡◌, ◌∷◌, [], IfOk};
 ghost use Rattle.subst_cli.specs.declared.fault.Fault.{Fault as SpecFault};
@@ -10,51 +10,51 @@ use std::ops::Range;
 use subst::Error;
 use subst::foreign::ShellForm;
 
-/// What is wrong with a source, and where in it.
+/// A diagnostic: the cause of a fault, and its range in the source.
 #[derive(Drop)]
 pub struct Fault {
-    /// The path to the string of a document that it is in. It is empty elsewhere, and where the document is a
-    /// string.
+    /// The path of the document's string that has the fault. It is empty outside documents, and if the
+    /// document is a single string.
     pub path: String,
-    /// The range that it is about, in byte offsets.
+    /// The range of the fault, in byte offsets.
     pub range: Range<usize>,
-    /// What it is.
+    /// The cause.
     pub cause: Cause,
 }
 
-/// Why a source gives nothing.
+/// A cause for which a source is refused.
 #[derive(Drop)]
 pub enum Cause {
-    /// The library refuses it.
+    /// The library refuses the template with this error.
     Refused(Error),
-    /// A variable of another tool's text has no value.
+    /// A required variable of another tool's text is unset, or empty after `:?`.
     Unset(Unset),
-    /// It names this variable, whose value in the environment isn't UTF-8.
+    /// The environment's value of the variable with this name isn't UTF-8.
     Unreadable(String),
-    /// It isn't UTF-8.
+    /// The source isn't UTF-8.
     NotUtf8,
-    /// It is no document, of which the reader says this.
+    /// The source isn't a document of its format, with the reader's message.
     NotADocument(String),
-    /// It is no document, for this mistake.
+    /// The source isn't a document of its format because of this mistake.
     Mistake(Mistake),
-    /// It isn't confirmed where the strings of the document are, or what they become.
+    /// The document's output, or the positions of its strings, couldn't be confirmed to be right.
     NotConfirmed,
-    /// A line of a values file gives no variable, for this.
+    /// A line of a values file or a `.env` file is wrong, with the message.
     NoVariable(&'static str),
-    /// A form of another tool's text that is refused.
+    /// A form of another tool's text is refused.
     Form(ShellForm),
-    /// A default of another tool, of which this is said.
+    /// A default looks like one of another tool, with the message.
     Default(String),
 }
 
-/// A variable of another tool's text that has no value where one is required.
+/// A required variable of another tool's text that is unset, or empty after `:?`.
 #[derive(Drop)]
 pub struct Unset {
-    /// Its name.
+    /// The name.
     pub name: String,
-    /// Whether it is set, but empty.
+    /// Whether the variable is set, but empty.
     pub is_empty: bool,
-    /// Its message as it is shown, or nothing.
+    /// The variable's message with control characters escaped, or an empty text.
     pub message: String,
 }
 
@@ -89,7 +89,7 @@ impl fmt::Display for Cause {
             Cause::NotADocument(message) => f.write_str(message),
             Cause::Mistake(mistake) => write!(f, "{mistake}"),
             Cause::NotConfirmed => {
-                f.write_str("it isn't confirmed where the strings of this document are")
+                f.write_str("the result for this document can't be confirmed")
             }
             Cause::NoVariable(why) => f.write_str(why),
             Cause::Form(form) => f.write_str(instead_of(*form)),
@@ -98,11 +98,11 @@ impl fmt::Display for Cause {
     }
 }
 
-/// Returns a list of one fault of a source, which is in no string of a document.
+/// Returns a list of one fault, which isn't in a string of a document.
 ///
 /// # Errors
 ///
-/// When allocation fails.
+/// If allocation fails.
 pub(crate) fn one_fault(
     alloc: Global,
     range: Range<usize>,
@@ -120,7 +120,7 @@ pub(crate) fn one_fault(
     Ok(faults)
 }
 
-/// Returns the range of a name that begins at a position.
+/// Returns the byte range of a name that begins at a position.
 pub(crate) fn range_of_name(position: usize, name: &str) -> Range<usize>
     ensures { result.start ≡ position }
 {
@@ -130,24 +130,25 @@ pub(crate) fn range_of_name(position: usize, name: &str) -> Range<usize>
 /// Returns the message of a refused form, with what to write instead.
 fn instead_of(form: ShellForm) -> &'static str {
     match form {
-        ShellForm::NoName => "`${` without a name; for a dollar write `$$`",
+        ShellForm::NoName => "`${` without a name; write `$$` for a dollar",
         ShellForm::Equals | ShellForm::ColonEquals => {
-            "`=` assigns, which isn't done here; for a default write `${NAME:-default}`"
+            "`=` assigns, which isn't supported; write `${NAME:-default}` for a default"
         }
         ShellForm::Hash | ShellForm::Percent | ShellForm::Slash => {
-            "patterns aren't matched here; give a variable that has the result"
+            "patterns aren't supported; set a variable to the result"
         }
         ShellForm::Colon => {
-            "`:` takes a part of a value, which isn't done here; for a default write `${NAME:-default}`"
+            "`:` takes a substring, which isn't supported; write `${NAME:-default}` for a default"
         }
-        ShellForm::Brace => "an opening brace in a default; give a variable that has the text",
-        ShellForm::Unclosed => "a variable without its closing brace; write `}` after it",
-        ShellForm::Dollar => "a dollar that begins no variable; for a dollar write `$$`",
-        ShellForm::Message => "an opening brace in a message; leave it out",
+        ShellForm::Brace =>
+            "an opening brace in a default; use a chosen variable instead, as in `${NAME:$OTHER}`",
+        ShellForm::Unclosed => "a variable without a closing brace; write `}` after it",
+        ShellForm::Dollar => "a dollar that begins no variable; write `$$` for a dollar",
+        ShellForm::Message => "an opening brace in a message; remove it",
         ShellForm::Minus
         | ShellForm::Question
         | ShellForm::Plus
         | ShellForm::ColonPlus
-        | ShellForm::Other => "this operator isn't known; for a dollar write `$$`",
+        | ShellForm::Other => "an unknown operator; write `$$` for a dollar",
     }
 }

@@ -1,11 +1,11 @@
-//! Filling in one byte string, or telling what is wrong with it.
+//! The expansion of one byte string, or its refusal.
 
 ghost use Rattle.std.specs.Prelude.{◌≡◌, ◌<◌, ◌^◌, ℕ, List, IfOk, IfErr, IsSomeAnd};
 ghost use Rattle.subst.specs.ErrorFault.{error_fault};
 ghost use Rattle.subst.specs.Language.Answer.{Answers, Gives, Refuses};
 ghost use Rattle.subst.specs.Range.{range_of};
-ghost use Rattle.subst_cli.specs.Fill.{look_for, seen};
-ghost use Rattle.subst_filter_lib.specs.Words.{value_under};
+ghost use Rattle.subst_cli.specs.Fill.{look_for, look_up_of};
+ghost use Rattle.subst_filter_lib.specs.Arguments.{value_under};
 
 use std::alloc::{AllocError, Global};
 use subst::error::{NoSuchVariable, ParseError};
@@ -13,32 +13,32 @@ use subst::foreign::Forms;
 use subst::{ByteTemplate, Error, NoEmpty, OneOf, ShellMap, VariableMap, substitute_bytes};
 use subst_filter_lib::values::Values;
 
-/// Values as a template sees them.
+/// The map in which a template looks up its names.
 #[derive(Clone, Copy)]
-pub(crate) enum Seen<'m, 'v> {
-    /// The values under their names.
-    Named(&'m Values<'v>),
-    /// Values that aren't empty.
-    Filled(NoEmpty<'m, Values<'v>>),
-    /// Answers to questions about them, as templates of a shell's texts ask.
-    Asked(ShellMap<'m, Values<'v>>),
+pub(crate) enum LookUpValues<'m, 'v> {
+    /// The value of each name, even if it is empty.
+    ByName(&'m Values<'v>),
+    /// The value of each name, unless it is empty.
+    NonEmpty(NoEmpty<'m, Values<'v>>),
+    /// The answers for a shell-style text's template, whose names may begin with a digit: see [`ShellMap`].
+    ByQuestion(ShellMap<'m, Values<'v>>),
 }
 
-impl<'m, 'v> Seen<'m, 'v> {
-    /// Returns the values as a template sees them that was made for a text of these forms, or for none.
+impl<'m, 'v> LookUpValues<'m, 'v> {
+    /// Returns the map for a template. `forms` are those of the text that was converted into it, if any.
     pub fn of(values: &'m Values<'v>, forms: Option<Forms>) -> Self
-        ensures { seen result ≡ look_for forms (value_under values.now) }
+        ensures { look_up_of result ≡ look_for forms (value_under values.now) }
     {
         match forms {
-            Some(Forms::Shell) => Seen::Asked(ShellMap { map: values }),
-            Some(Forms::Common) => Seen::Filled(NoEmpty { map: values }),
-            Some(Forms::Own | Forms::Envsubst) | None => Seen::Named(values),
+            Some(Forms::Shell) => LookUpValues::ByQuestion(ShellMap { map: values }),
+            Some(Forms::Common) => LookUpValues::NonEmpty(NoEmpty { map: values }),
+            Some(Forms::Own | Forms::Envsubst) | None => LookUpValues::ByName(values),
         }
     }
 }
 
-impl<'m> VariableMap<'m> for Seen<'m, '_> {
-    ghost use Rattle.subst_cli.specs.Fill.{seen};
+impl<'m> VariableMap<'m> for LookUpValues<'m, '_> {
+    ghost use Rattle.subst_cli.specs.Fill.{look_up_of};
 
     type Value = &'m str;
 
@@ -46,13 +46,13 @@ impl<'m> VariableMap<'m> for Seen<'m, '_> {
 
     ghost see = { λ v. v.now };
 
-    ghost look_up = { seen };
+    ghost look_up = { look_up_of };
 
     fn get(&'m self, key: &str) -> Option<&'m str> {
         match self {
-            Seen::Named(values) => Some(*values.get(key)?),
-            Seen::Filled(filled) => Some(*filled.get(key)?),
-            Seen::Asked(shell) => match shell.get(key)? {
+            LookUpValues::ByName(values) => Some(*values.get(key)?),
+            LookUpValues::NonEmpty(filled) => Some(*filled.get(key)?),
+            LookUpValues::ByQuestion(shell) => match shell.get(key)? {
                 OneOf::First(value) => Some(*value),
                 OneOf::Second(value) => Some(value),
             },
@@ -60,34 +60,34 @@ impl<'m> VariableMap<'m> for Seen<'m, '_> {
     }
 }
 
-/// Why a source gives nothing.
+/// The refusal of a source.
 #[derive(Debug, Drop)]
 pub(crate) struct Refusal {
     /// The first fault.
     pub first: Error,
-    /// Where a variable is missing, all others that are missing too, in the order of the source.
+    /// The missing variables after `first`, in order. There are none unless `first` is a missing variable.
     pub others: Vec<NoSuchVariable>,
     pub ghost fits: { (range_of (error_fault first)).end < 2 ^ 64 },
 }
 
-/// What a source gives, or why it gives nothing.
+/// The output of a source, or its refusal.
 pub(crate) type Filled = Result<Vec<u8>, Refusal>;
 
-/// Returns bytes with their variables filled in, or why they are refused.
+/// Expands a source, or returns its refusal.
 ///
 /// # Errors
 ///
-/// When allocation fails.
+/// If allocation fails.
 pub(crate) fn bytes(
     alloc: Global,
     source: &[u8],
-    values: &Seen<'_, '_>,
+    values: &LookUpValues<'_, '_>,
 ) -> Result<Filled, AllocError>
     ensures gives { IfOk result (λ filled. IfOk filled
-        (λ output. Answers source.now (seen values.now) (Gives output.items))) }
+        (λ output. Answers source.now (look_up_of values.now) (Gives output.items))) }
     ensures refuses { IfOk result (λ filled. IfErr filled
         (λ refusal. IsSomeAnd (error_fault refusal.first)
-        (λ f. Answers source.now (seen values.now) (Refuses f)))) }
+        (λ f. Answers source.now (look_up_of values.now) (Refuses f)))) }
 {
     match substitute_bytes(alloc, source, values) {
         Ok(output) => Ok(Ok(output)),
@@ -101,15 +101,15 @@ pub(crate) fn bytes(
     }
 }
 
-/// Returns all variables that are missing in a source but for the first, in its order.
+/// Returns a source's missing variables except the first, in order, or none if the source isn't a template.
 ///
 /// # Errors
 ///
-/// When allocation fails.
+/// If allocation fails.
 fn others_missing(
     alloc: Global,
     source: &[u8],
-    values: &Seen<'_, '_>,
+    values: &LookUpValues<'_, '_>,
 ) -> Result<Vec<NoSuchVariable>, AllocError> {
     let missing = match ByteTemplate::from_slice(alloc, source) {
         Ok(template) => template.missing(alloc, values)?,

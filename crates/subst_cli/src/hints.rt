@@ -1,44 +1,44 @@
-//! Hints: what may have been meant, where a run does something else. They change no output and no status.
+//! Hints: likely mistakes, printed to standard error. They never change the output or the exit status.
 
+use crate::expansion::Expander;
 use crate::fault::{Cause, Fault};
-use crate::fill::Seen;
-use crate::filling::Filling;
+use crate::fill::LookUpValues;
+use crate::map_back::unset_in;
 use crate::options::{Format, InputFormat, Options, Placeholders};
-use crate::place::{Place, Places};
 use crate::placeholders::ChosenNames;
-use crate::shown::shown;
+use crate::position::{Position, Positions};
 use crate::source::Source;
+use crate::terminal::printable;
 use crate::text::split_source;
-use crate::told::unset_in;
 use memchr::memchr;
 use std::alloc::{AllocError, Global};
 use subst::foreign::{Forms, Missing, Names};
 use subst::{Error, is_name};
 
-/// How many bytes of a source are looked at, so that a hint costs nothing in a large one.
-const LOOKED_AT: usize = 1 << 20;
+/// The most bytes of a source that are searched for a hint, so that a hint is cheap in a large source.
+const SEARCHED_BYTES: usize = 1 << 20;
 
-/// What is said where nothing gives a variable.
-const NO_VARIABLES: &str = "subst: hint: no variables are given: see --set, --values and --env\n";
+/// The hint for unset variables if no option sets variables.
+const NO_VARIABLES: &str = "subst: hint: no option sets variables; use --set, --values or --env\n";
 
-/// What is said where a dollar or a backslash is a fault.
-const SPECIAL: &str = "subst: hint: of another tool's file see --only, --envsubst and --shell\n";
+/// The hint for a dollar or a backslash that is a fault.
+const SPECIAL: &str = "subst: hint: for another tool's file, use --only, --envsubst or --shell\n";
 
-/// The start of the TOML reader's message of a value that isn't one.
+/// The start of the TOML reader's message for an invalid value.
 const NO_VALUE: &str = "invalid value";
 
 /// The hint for a variable outside the strings of a TOML document.
 const UNQUOTED: &str = "put the variable in quotes";
 
-/// The hint for a shell's line in a values file.
-const EXPORT: &str = "lines are NAME=VALUE, as for docker run --env-file, without 'export'";
+/// The hint for a line of a values file that begins with `export`.
+const EXPORT: &str = "write NAME=VALUE without 'export', as for docker run --env-file";
 
 /// The hint for a quoted value in a values file.
-const QUOTES: &str = "the quotes are part of this value, as for docker run --env-file";
+const QUOTES: &str = "the quotes are part of this value; use --dotenv for quoted values";
 
-/// Returns what is said of a source with these faults, if there is something.
-pub(crate) fn about_faults(options: &Options<'_>, faults: &[Fault]) -> Option<&'static str> {
-    if options.gives_nothing() && faults.iter().any(is_missing) {
+/// Returns the hint for a source with these faults, or `None` if there is none.
+pub(crate) fn faults_hint(options: &Options<'_>, faults: &[Fault]) -> Option<&'static str> {
+    if options.sets_no_variables() && faults.iter().any(is_missing) {
         return Some(NO_VARIABLES);
     }
     match options.placeholders {
@@ -47,7 +47,7 @@ pub(crate) fn about_faults(options: &Options<'_>, faults: &[Fault]) -> Option<&'
     }
 }
 
-/// Returns whether a fault is that a variable has no value.
+/// Returns whether a fault is an unset variable, or a variable with `:?` that is empty.
 fn is_missing(fault: &Fault) -> bool {
     matches!(
         fault.cause,
@@ -55,7 +55,7 @@ fn is_missing(fault: &Fault) -> bool {
     )
 }
 
-/// Returns whether a fault is a dollar or a backslash that stands for itself in other languages.
+/// Returns whether a fault is a dollar without a name, or an invalid escape, as in texts of other tools.
 fn is_of_a_special_byte(fault: &Fault) -> bool {
     matches!(
         fault.cause,
@@ -63,16 +63,16 @@ fn is_of_a_special_byte(fault: &Fault) -> bool {
     )
 }
 
-/// Returns the hint at the first default of another tool in a source, or `None` if there is none.
-pub(crate) fn about_default(
+/// Returns the hint at a source's first default that looks like another tool's, or `None` if there is none.
+pub(crate) fn default_hint(
     alloc: Global,
     options: &Options<'_>,
     source: &Source,
 ) -> Result<Option<String>, AllocError> {
-    if let InputFormat::Document(_) = options.form {
+    if let InputFormat::Document(_) = options.formats.format_of(&source.path) {
         return Ok(None);
     }
-    let start = source.bytes.get(..LOOKED_AT).unwrap_or(&source.bytes);
+    let start = source.bytes.get(..SEARCHED_BYTES).unwrap_or(&source.bytes);
     let Some(found) = hinted_default(start, 0, &options.placeholders) else {
         return Ok(None);
     };
@@ -81,18 +81,18 @@ pub(crate) fn about_default(
     Ok(Some(hint))
 }
 
-/// Returns an error at each default of another tool in a source.
+/// Returns a fault for each of a source's defaults that look like another tool's, or none for a document.
 pub(crate) fn default_faults(
     alloc: Global,
     options: &Options<'_>,
     source: &Source,
 ) -> Result<Vec<Fault>, AllocError> {
     let mut faults = Vec::new(alloc);
-    if let InputFormat::Document(_) = options.form {
+    if let InputFormat::Document(_) = options.formats.format_of(&source.path) {
         return Ok(faults);
     }
     let mut start = 0;
-    // Each turn passes a colon.
+    // Each turn moves past a colon.
     for _ in 0..source.bytes.len() {
         let Some(found) = hinted_default(&source.bytes, start, &options.placeholders) else {
             break;
@@ -108,24 +108,26 @@ pub(crate) fn default_faults(
     Ok(faults)
 }
 
-/// Returns the message about a default of another tool.
+/// Returns the message for a default that looks like another tool's.
 fn text_of_default(
     alloc: Global,
     found: DefaultAt<'_>,
     placeholders: &Placeholders<'_>,
 ) -> Result<String, AllocError> {
     if !is_of_a_shell(found.first) {
-        return String::from_str(alloc, "this default is text here: see --only and --known");
+        return String::from_str(alloc, "this default is left as text; use --only or --known");
     }
-    let what = match placeholders {
-        Placeholders::Own => "this default",
-        Placeholders::Chosen(_) => "this text",
-    };
+    if let Placeholders::Chosen(_) = placeholders {
+        return String::from_str(
+            alloc,
+            "this variable is left as text; use --shell for shell-style defaults",
+        );
+    }
     let sign = char::from(found.first);
-    format!(in alloc; "{what} begins with '{sign}': for a shell's default see --shell")
+    format!(in alloc; "this default begins with '{sign}'; use --shell for shell-style defaults")
 }
 
-/// Returns a hint at an offset of a source of this name.
+/// Returns a hint to print: the file's name, the line and column of `offset` in `bytes`, and the text `what`.
 pub(crate) fn hint_at(
     alloc: Global,
     name: &str,
@@ -133,20 +135,19 @@ pub(crate) fn hint_at(
     offset: usize,
     what: &str,
 ) -> Result<String, AllocError> {
-    let Place { line, column } = Places::of(bytes).at(alloc, offset)?;
+    let Position { line, column } = Positions::of(bytes).at(alloc, offset)?;
     format!(in alloc; "{name}:{line}:{column}: hint: {what}\n")
 }
 
-/// Returns the hint for a TOML document of this name with these faults, if one is a value outside a string that
-/// begins with a dollar.
-pub(crate) fn about_document(
+/// Returns the hint at the first fault of a TOML document that is a variable outside of strings, or `None`.
+pub(crate) fn document_hint(
     alloc: Global,
-    options: &Options<'_>,
+    format: InputFormat,
     name: &str,
     bytes: &[u8],
     faults: &[Fault],
 ) -> Result<Option<String>, AllocError> {
-    if options.form != InputFormat::Document(Format::Toml) {
+    if format != InputFormat::Document(Format::Toml) {
         return Ok(None);
     }
     let Some(fault) = faults.iter().find(|it| is_unquoted(bytes, it)) else {
@@ -155,7 +156,7 @@ pub(crate) fn about_document(
     Ok(Some(hint_at(alloc, name, bytes, fault.range.start, UNQUOTED)?))
 }
 
-/// Returns whether a fault is a value of TOML outside a string that begins with a dollar.
+/// Returns whether a fault of a TOML document is an invalid value that begins with a dollar.
 fn is_unquoted(bytes: &[u8], fault: &Fault) -> bool {
     let Cause::NotADocument(message) = &fault.cause else {
         return false;
@@ -163,27 +164,27 @@ fn is_unquoted(bytes: &[u8], fault: &Fault) -> bool {
     message.starts_with(NO_VALUE) && bytes.get(fault.range.start) == Some(&b'$')
 }
 
-/// A default: the text after a name in braces and a colon.
+/// A default: the text after `${`, a name and a colon.
 #[derive(Clone, Copy)]
 struct DefaultAt<'s> {
-    /// The name.
+    /// The variable's name.
     name: &'s [u8],
-    /// The bytes before the dollar.
+    /// The bytes of the source before the dollar.
     front: &'s [u8],
-    /// The offset after the colon.
+    /// The byte offset after the colon.
     offset: usize,
-    /// The byte there.
+    /// The first byte of the default.
     first: u8,
 }
 
-/// Returns the first default of a source from an offset on that is hinted at, if there is one.
+/// Returns the first default with a hint whose colon is at `start` or later, or `None` if there is none.
 fn hinted_default<'s>(
     source: &'s [u8],
     start: usize,
     placeholders: &Placeholders<'_>,
 ) -> Option<DefaultAt<'s>> {
     let mut start = start;
-    // Each turn passes a colon.
+    // Each turn moves past a colon.
     for _ in 0..source.len() {
         let found = next_default(source, start)?;
         if is_hinted(found, placeholders) {
@@ -194,7 +195,7 @@ fn hinted_default<'s>(
     None
 }
 
-/// Returns whether a default is read otherwise than it may be meant.
+/// Returns whether a default has a hint, since it looks like another tool's.
 fn is_hinted(found: DefaultAt<'_>, placeholders: &Placeholders<'_>) -> bool {
     let Placeholders::Chosen(chosen) = placeholders else {
         return is_of_a_shell(found.first) && !ends_with_escape(found.front);
@@ -211,15 +212,15 @@ fn is_hinted(found: DefaultAt<'_>, placeholders: &Placeholders<'_>) -> bool {
     is_meant && is_name(found.name) && names.has(found.name, true)
 }
 
-/// Returns whether a default that begins so is a shell's.
+/// Returns whether a default with this first byte looks like a shell's.
 fn is_of_a_shell(first: u8) -> bool {
     matches!(first, b'-' | b'=' | b'?' | b'+')
 }
 
-/// Returns the first default after a name in braces and a colon from an offset on, or `None` if there is none.
+/// Returns the first default whose colon is at `start` or later, or `None` if there is none.
 fn next_default(source: &[u8], start: usize) -> Option<DefaultAt<'_>> {
     let mut start = start;
-    // Each turn passes a colon.
+    // Each turn moves past a colon.
     for _ in 0..source.len() {
         let colon = start.saturating_add(memchr(b':', source.get(start..)?)?);
         start = colon.saturating_add(1);
@@ -242,7 +243,7 @@ fn ends_with_escape(bytes: &[u8]) -> bool {
     backslashes % 2 == 1
 }
 
-/// Splits bytes that end in `${` and a name into those before and the name, or returns `None`.
+/// Splits bytes that end in `${` and a name into the bytes before `${` and the name, or returns `None`.
 fn name_before(bytes: &[u8]) -> Option<(&[u8], &[u8])> {
     let before = bytes
         .iter()
@@ -254,39 +255,40 @@ fn name_before(bytes: &[u8]) -> Option<(&[u8], &[u8])> {
     Some((front.strip_suffix(b"${")?, name))
 }
 
-/// A hint at an unset variable.
+/// A hint at an unset variable: its name, and the line to be printed.
 #[derive(Drop)]
 pub struct UnsetHint {
     pub name: String,
     pub line: String,
 }
 
-/// Returns a hint at each variable without an operator of a shell's text that expands to nothing since it is
-/// unset. A document, and a text with other forms, has none.
-pub(crate) fn about_unset(
+/// Returns a hint at each unset variable without an operator that expands to nothing. Only shell-style texts
+/// that aren't documents have such hints.
+pub(crate) fn unset_hints(
     alloc: Global,
-    filling: &Filling<'_, '_, '_>,
+    expander: &Expander<'_, '_, '_>,
     source: &Source,
 ) -> Result<Vec<UnsetHint>, AllocError> {
     let mut hints = Vec::new(alloc);
-    let Placeholders::Chosen(chosen) = filling.placeholders else {
+    let Placeholders::Chosen(chosen) = expander.placeholders else {
         return Ok(hints);
     };
-    let is_told = matches!(
+    let has_hints = matches!(
         (chosen.forms, chosen.missing),
         (Forms::Shell, Missing::Nothing)
     );
-    if !is_told || matches!(filling.form, InputFormat::Document(_)) {
+    let format = expander.formats.format_of(&source.path);
+    if !has_hints || matches!(format, InputFormat::Document(_)) {
         return Ok(hints);
     }
-    let (_, text) = split_source(filling.form, &source.bytes);
-    let mut places = Places::of(&source.bytes);
-    let variables = &filling.variables;
-    let values = Seen::of(&variables.values, Some(chosen.forms));
+    let (_, text) = split_source(format, &source.bytes);
+    let mut positions = Positions::of(&source.bytes);
+    let variables = &expander.variables;
+    let values = LookUpValues::of(&variables.values, Some(chosen.forms));
     for variable in unset_in(alloc, text, chosen, variables, &values)? {
         let before = source.bytes.len().saturating_sub(text.len());
-        let place = places.at(alloc, before.saturating_add(variable.position))?;
-        hints.push(unset_hint(alloc, &source.name, place, variable.name)?)?;
+        let position = positions.at(alloc, before.saturating_add(variable.position))?;
+        hints.push(unset_hint(alloc, &source.name, position, variable.name)?)?;
     }
     Ok(hints)
 }
@@ -295,18 +297,18 @@ pub(crate) fn about_unset(
 pub(crate) fn unset_hint(
     alloc: Global,
     file: &str,
-    place: Place,
+    position: Position,
     name: &[u8],
 ) -> Result<UnsetHint, AllocError> {
-    let Place { line, column } = place;
-    let name = shown(alloc, name)?;
+    let Position { line, column } = position;
+    let name = printable(alloc, name)?;
     let line = format!(in alloc; "{file}:{line}:{column}: hint: ${name} is not set\n")?;
     Ok(UnsetHint { name, line })
 }
 
-/// Returns the hint for a values file with a line as a shell's file has it, or `None` if it has none.
-pub(crate) fn about_values(alloc: Global, source: &Source) -> Result<Option<String>, AllocError> {
-    let start = source.bytes.get(..LOOKED_AT).unwrap_or(&source.bytes);
+/// Returns the hint for a values file with a line in a shell's syntax, or `None` without such a line.
+pub(crate) fn values_hint(alloc: Global, source: &Source) -> Result<Option<String>, AllocError> {
+    let start = source.bytes.get(..SEARCHED_BYTES).unwrap_or(&source.bytes);
     let Some((offset, what)) = shell_line(start) else {
         return Ok(None);
     };
@@ -314,7 +316,7 @@ pub(crate) fn about_values(alloc: Global, source: &Source) -> Result<Option<Stri
     Ok(Some(hint))
 }
 
-/// Returns the offset of the first `export` or value in quotes of a values file, and what is said of it.
+/// Returns the byte offset of the first `export` or quoted value in a values file, with its hint, or `None`.
 fn shell_line(bytes: &[u8]) -> Option<(usize, &'static str)> {
     let mut start = 0usize;
     for line in bytes.split(|b| *b == b'\n') {
@@ -326,7 +328,7 @@ fn shell_line(bytes: &[u8]) -> Option<(usize, &'static str)> {
     None
 }
 
-/// Returns the offset of `export` or of a quoted value in a line of a values file, with its hint.
+/// Returns the byte offset of `export` or of a quoted value in a values line, with its hint, or `None`.
 fn shell_part(line: &[u8]) -> Option<(usize, &'static str)> {
     let line = line.strip_suffix(b"\r").unwrap_or(line);
     let begun = line.trim_ascii_start();
@@ -345,25 +347,23 @@ fn shell_part(line: &[u8]) -> Option<(usize, &'static str)> {
 }
 
 /// Returns the hint for a run in which no file has the suffix of `--strip`.
-pub(crate) fn about_suffix(alloc: Global, suffix: &str) -> Result<String, AllocError> {
-    let suffix = shown(alloc, suffix.as_bytes())?;
-    format!(in alloc; "subst: hint: no file's name ends in '{suffix}', which --strip takes off\n")
+pub(crate) fn suffix_hint(alloc: Global, suffix: &str) -> Result<String, AllocError> {
+    let suffix = printable(alloc, suffix.as_bytes())?;
+    format!(in alloc; "subst: hint: no file name ends in '{suffix}' (--strip)\n")
 }
 
-/// Returns what is said of a file that isn't there, if its name looks like a variable.
-pub(crate) fn about_file(alloc: Global, file: &str) -> Result<Option<String>, AllocError> {
+/// Returns the hint for a missing file if its name looks like a variable, or `None` if it doesn't.
+pub(crate) fn file_hint(alloc: Global, file: &str) -> Result<Option<String>, AllocError> {
     if let Some((name, _)) = file.split_once('=')
         && is_name(name.as_bytes())
     {
-        let hint = format!(in alloc;
-            "subst: hint: variables are given by --set, as --set {name}=..\n"
-        )?;
+        let hint = format!(in alloc; "subst: hint: use --set {name}=VALUE to set a variable\n")?;
         return Ok(Some(hint));
     }
     if file.starts_with('$') {
         let hint = String::from_str(
             alloc,
-            "subst: hint: names are chosen by an option, as for envsubst by its argument\n",
+            "subst: hint: use --only NAMES to choose variables, as envsubst's argument does\n",
         )?;
         return Ok(Some(hint));
     }

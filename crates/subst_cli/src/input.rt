@@ -1,17 +1,17 @@
-//! Reading files.
+//! Reading files and directories.
 
 use crate::options::STANDARD_INPUT;
-use crate::shown::shown;
+use crate::terminal::printable;
 use std::alloc::{AllocError, Global};
 use std::io::Read;
 use std::path::Path;
 use std::{fs, io};
 
-/// Returns all bytes of a file, or of standard input.
+/// Reads a file to its end, or standard input if the path is `-`.
 ///
 /// # Errors
 ///
-/// What the system says, and that memory ran out.
+/// If reading fails, or if allocation fails.
 pub(crate) fn read(rt: &HostRuntime, file: &str) -> io::Result<Vec<u8>> {
     if file != STANDARD_INPUT {
         return fs::read(rt, file);
@@ -21,13 +21,13 @@ pub(crate) fn read(rt: &HostRuntime, file: &str) -> io::Result<Vec<u8>> {
     Ok(bytes)
 }
 
-/// Returns the names of what is in a folder, in the order of their bytes, or nothing where no folder is there.
+/// Returns the names in a directory, in byte order, or `None` if the path isn't that of a directory.
 ///
 /// # Errors
 ///
-/// What the system says of the folder, and that memory ran out.
+/// If the directory can't be read, or if allocation fails.
 pub(crate) fn names_in(rt: &HostRuntime, path: &str) -> io::Result<Option<Vec<String>>> {
-    if !is_folder(rt, path) {
+    if !is_directory(rt, path) {
         return Ok(None);
     }
     let mut names = Vec::new(rt.alloc());
@@ -39,26 +39,26 @@ pub(crate) fn names_in(rt: &HostRuntime, path: &str) -> io::Result<Option<Vec<St
     Ok(Some(names))
 }
 
-/// Returns whether a path leads to a folder.
-pub(crate) fn is_folder(rt: &HostRuntime, path: &str) -> bool {
+/// Returns whether a path is that of a directory.
+pub(crate) fn is_directory(rt: &HostRuntime, path: &str) -> bool {
     path != STANDARD_INPUT && fs::metadata(rt, path).is_ok_and(|found| found.is_dir())
 }
 
-/// Returns the path of what is in a folder under a name, which may be one of several parts. The empty path is
-/// that of the folder itself.
-pub(crate) fn path_in(alloc: Global, folder: &str, name: &str) -> Result<String, AllocError> {
+/// Joins a directory's path and a name, which may be a relative path of several parts. If the name is empty,
+/// returns the directory's path.
+pub(crate) fn path_in(alloc: Global, directory: &str, name: &str) -> Result<String, AllocError> {
     if name.is_empty() {
-        return String::from_str(alloc, folder);
+        return String::from_str(alloc, directory);
     }
-    let path = Path::new(folder).join(alloc, name)?;
+    let path = Path::new(directory).join(alloc, name)?;
     String::from_str(alloc, path.as_path().as_str())
 }
 
-/// Returns the name of a file as it is shown.
-pub(crate) fn shown_name(alloc: Global, file: &str) -> Result<String, AllocError> {
+/// Returns a file's name for messages: `<stdin>` for `-`, and otherwise the path, escaped for a terminal.
+pub(crate) fn display_name(alloc: Global, file: &str) -> Result<String, AllocError> {
     if file == STANDARD_INPUT {
         String::from_str(alloc, "<stdin>")
     } else {
-        shown(alloc, file.as_bytes())
+        printable(alloc, file.as_bytes())
     }
 }

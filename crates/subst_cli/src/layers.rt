@@ -1,11 +1,11 @@
-//! The variables of a run: the entries that give them, in the order in which they count.
+//! The variables of a run, in order of precedence.
 
 ghost use Rattle.std.specs.Prelude.{◌≡◌, ◌==◌, ◌||◌, ◌&&◌, ◌++◌, ℕ, IfOk, IsTrue, List, false, None, OnOk, Some, filter, if◌then◌else◌, is_none, is_some, map, not, option_map, string_bytes};
 ghost use Rattle.std.specs.Option.{option_or};
 ghost use Rattle.std.specs.Str.{bytes_eq};
 ghost use Rattle.subst_cli.specs.Layers as layers;
-ghost use Rattle.subst_cli.specs.Layers.{AreVariablesOf, entries_of, entry_of, escaped_by, given_by, has_unreadable, is_empty};
-ghost use Rattle.subst_filter_lib.specs.Words.{value_under};
+ghost use Rattle.subst_cli.specs.Layers.{AreVariablesOf, entries_of, entry_of, escaped_by, entries_of_pairs, has_unreadable, is_empty};
+ghost use Rattle.subst_filter_lib.specs.Arguments.{value_under};
 
 use crate::entry::Entry;
 use crate::escape::escaped;
@@ -14,34 +14,34 @@ use std::alloc::{AllocError, Global};
 use std::collections::HashMap;
 use subst_filter_lib::values::Values;
 
-/// What is read for the variables of a run, besides its options.
+/// The variables of a run from files and the environment, by kind.
 #[derive(Drop)]
 pub struct Layers {
-    /// What values files give, in the order of the files and of their lines.
+    /// The variables of values files, in the order of files and lines.
     pub lines: Vec<Entry>,
-    /// The entries of the environment, `NAME=VALUE`, in their order.
+    /// The entries of the environment, `NAME=VALUE`, in order.
     pub environment: Vec<Vec<u8>>,
     /// The settings of `.env` files, in the order of files and lines.
     pub dotenv: Vec<Entry>,
-    /// What defaults files give, in the order of the files and of their lines.
+    /// The variables of defaults files, in the order of files and lines.
     pub defaults: Vec<Entry>,
 }
 
-/// The variables of a run.
+/// The variables of a run, by name.
 #[derive(Drop)]
 pub struct Variables<'v> {
-    /// The values that are text.
+    /// The values that are UTF-8.
     pub values: Values<'v>,
-    /// The names whose values aren't, each under itself.
+    /// The names whose values aren't UTF-8. Each is mapped to itself.
     pub unreadable: Values<'v>,
 }
 
 impl<'v> Variables<'v> {
-    /// Returns the variables that entries give: of those of one name, the first one counts.
+    /// Returns the variables of entries; the first entry with a name wins.
     ///
     /// # Errors
     ///
-    /// When allocation fails.
+    /// If allocation fails.
     pub fn of(alloc: Global, entries: &'v [Entry]) -> Result<Variables<'v>, AllocError>
         ensures variables { IfOk result
             (λ variables. AreVariablesOf variables (entries_of entries.now)) }
@@ -58,7 +58,7 @@ impl<'v> Variables<'v> {
         Ok(variables)
     }
 
-    /// Adds what an entry gives, unless one of its name was added before.
+    /// Adds the variable of an entry, unless a variable of this name has been added.
     fn add(&mut self, entry: &'v Entry) -> Result<(), AllocError>
         ensures values { OnOk result ((name : List ℕ) → value_under self.new.values name
             ≡ option_or (value_under self.old.values name)
@@ -78,7 +78,7 @@ impl<'v> Variables<'v> {
         put(&mut self.values, name, value.as_str())
     }
 
-    /// Returns whether anything is given to this name.
+    /// Returns whether a name is set, even to a value that isn't UTF-8.
     pub fn has(&self, name: &str) -> bool
         ensures known { result ≡ (is_some (value_under self.now.values name.now)
             || has_unreadable self.now name.now) }
@@ -86,14 +86,14 @@ impl<'v> Variables<'v> {
         has(&self.values, name) || has(&self.unreadable, name)
     }
 
-    /// Returns whether all that is given is text.
+    /// Returns whether all values are UTF-8.
     pub fn are_readable(&self) -> bool
         ensures readable { IsTrue result → (name : List ℕ) → has_unreadable self.now name ≡ false }
     {
         self.unreadable.is_empty()
     }
 
-    /// Returns whether what is given to this name isn't text.
+    /// Returns whether the value of a name isn't UTF-8.
     pub fn is_unreadable(&self, name: &str) -> bool
         ensures unreadable { result ≡ has_unreadable self.now name.now }
     {
@@ -101,14 +101,14 @@ impl<'v> Variables<'v> {
     }
 }
 
-/// Returns whether there is a value under this name.
+/// Returns whether a map has a name.
 fn has(values: &Values<'_>, name: &str) -> bool
     ensures { result ≡ is_some (value_under values.now name.now) }
 {
     values.contains_key(name)
 }
 
-/// Puts a value under a name.
+/// Inserts a value under a name.
 #[tactic(auto, using(std::proofs::lemmas::Map::Text::text_keys))]
 fn put<'v>(values: &mut Values<'v>, name: &'v str, value: &'v str) -> Result<(), AllocError>
     ensures { OnOk result ((other : List ℕ) → value_under values.new other
@@ -118,9 +118,9 @@ fn put<'v>(values: &mut Values<'v>, name: &'v str, value: &'v str) -> Result<(),
     Ok(())
 }
 
-/// Returns what the pairs of the options give, in their order.
-pub(crate) fn given(alloc: Global, pairs: &[Pair]) -> Result<Vec<Entry>, AllocError>
-    ensures { IfOk result (λ entries. entries_of entries.items ≡ given_by pairs.now) }
+/// Converts names and values of options into entries, in the same order.
+pub(crate) fn from_pairs(alloc: Global, pairs: &[Pair]) -> Result<Vec<Entry>, AllocError>
+    ensures { IfOk result (λ entries. entries_of entries.items ≡ entries_of_pairs pairs.now) }
 {
     let mut entries = Vec::new(alloc);
     for (name, value) in pairs {
@@ -131,26 +131,26 @@ pub(crate) fn given(alloc: Global, pairs: &[Pair]) -> Result<Vec<Entry>, AllocEr
     Ok(entries)
 }
 
-/// Returns the entries above `.env` files, those first that count: those of the options from the last on, those
-/// of values files from the last on, and those of the environment.
+/// Returns the entries that take precedence over `.env` files, the highest first: those of options and then
+/// of values files, each from the last to the first, and then the environment's.
 pub(crate) fn above(
-    mut given: Vec<Entry>,
+    mut set: Vec<Entry>,
     lines: Vec<Entry>,
     mut environment: Vec<Entry>,
 ) -> Result<Vec<Entry>, AllocError>
     ensures { IfOk result (λ entries. entries_of entries.items
-        ≡ layers.above (entries_of given.items) (entries_of lines.items)
+        ≡ layers.above (entries_of set.items) (entries_of lines.items)
         (entries_of environment.items)) }
 {
     let mut entries = lines;
-    entries.append(&mut given)?;
+    entries.append(&mut set)?;
     entries.reverse();
     entries.append(&mut environment)?;
     Ok(entries)
 }
 
-/// Returns all entries, those first that count: those above, those of `.env` files from the last on, and the
-/// defaults from the last on.
+/// Returns all entries, the highest precedence first: `above`, those of `.env` files from the last to the
+/// first, and the defaults from the last to the first.
 pub(crate) fn in_order(
     above: Vec<Entry>,
     mut dotenv: Vec<Entry>,
@@ -168,7 +168,7 @@ pub(crate) fn in_order(
     Ok(entries)
 }
 
-/// Returns entries without those whose value is empty.
+/// Removes the entries with an empty value.
 pub(crate) fn without_empty(mut entries: Vec<Entry>) -> Vec<Entry>
     ensures { entries_of result.items
         ≡ filter (λ entry. not (is_empty entry)) (entries_of entries.items) }
@@ -181,11 +181,11 @@ pub(crate) fn without_empty(mut entries: Vec<Entry>) -> Vec<Entry>
     entries
 }
 
-/// Returns entries with their values escaped.
+/// Escapes the values of entries.
 ///
 /// # Errors
 ///
-/// When allocation fails.
+/// If allocation fails.
 pub(crate) fn with_escaped_values(
     alloc: Global,
     entries: Vec<Entry>,
@@ -208,7 +208,7 @@ pub(crate) fn with_escaped_values(
 ///
 /// # Errors
 ///
-/// When allocation fails.
+/// If allocation fails.
 pub(crate) fn copied(alloc: Global, entries: &[Entry]) -> Result<Vec<Entry>, AllocError>
     ensures { IfOk result (λ copies. entries_of copies.items ≡ entries_of entries.now) }
 {
@@ -219,7 +219,7 @@ pub(crate) fn copied(alloc: Global, entries: &[Entry]) -> Result<Vec<Entry>, All
     Ok(all)
 }
 
-/// Returns an entry with its value escaped.
+/// Returns a copy of an entry with its value escaped.
 fn escaped_entry(alloc: Global, entry: &Entry, escape: Escape) -> Result<Entry, AllocError>
     ensures { IfOk result (λ it. entry_of it ≡ layers.escaped escape (entry_of entry.now)) }
 {

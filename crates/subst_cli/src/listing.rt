@@ -1,42 +1,42 @@
-//! The names that sources use.
+//! The listing of the variables in sources.
 
 use crate::excerpt::{CUT, cut};
 use crate::options::Placeholders;
 use crate::part::Occurrence;
-use crate::place::Place;
-use crate::shown::shown;
+use crate::position::Position;
+use crate::terminal::printable;
 use std::alloc::{AllocError, Global};
 use std::collections::HashMap;
 use subst::VariableKind;
 use subst::foreign::Forms;
 
-/// How many bytes of a default are looked at, so that defaults in one another take no time of each other.
-const LOOKED_AT: usize = 1 << 10;
+/// The most bytes of a default that are read, so that nested defaults don't take quadratic time.
+const MOST_OF_DEFAULT: usize = 1 << 10;
 
-/// The columns of the widest default that is shown whole.
+/// The widest default in a listing, in columns. Longer ones are cut.
 const WIDEST_DEFAULT: usize = 240;
 
-/// A name that is used.
+/// A listed variable.
 #[derive(Drop)]
-struct Listed {
+struct ListedVariable {
     name: String,
-    /// Where it is first used, as it is shown.
-    place: String,
+    /// The file, line and column of the first use.
+    position: String,
     kind: VariableKind,
-    /// The default of that use, or nothing.
+    /// The default of the first use, or an empty text.
     default: String,
 }
 
-/// The names that are used, in the order of their first uses.
+/// The variables that are used, in the order of their first uses.
 #[derive(Drop)]
 pub(crate) struct Listing {
-    names: Vec<Listed>,
-    /// The index of each name.
+    names: Vec<ListedVariable>,
+    /// The index of each variable in `names`, by its name.
     indices: HashMap<String, usize>,
 }
 
 impl Listing {
-    /// Returns one without names.
+    /// Returns an empty listing.
     pub fn new(alloc: Global) -> Self {
         Listing {
             names: Vec::new(alloc),
@@ -44,17 +44,17 @@ impl Listing {
         }
     }
 
-    /// Adds a use of a name. It is required if any use is.
+    /// Adds a use of a variable. A variable is required if any of its uses is.
     ///
     /// # Errors
     ///
-    /// When allocation fails.
+    /// If allocation fails.
     pub fn add(
         &mut self,
         alloc: Global,
         it: Occurrence,
         file: &str,
-        place: Place,
+        position: Position,
     ) -> Result<(), AllocError> {
         let Occurrence {
             name,
@@ -70,29 +70,29 @@ impl Listing {
             }
             return Ok(());
         }
-        let Place { line, column } = place;
-        let place = format!(in alloc; "{file}:{line}:{column}")?;
+        let Position { line, column } = position;
+        let position = format!(in alloc; "{file}:{line}:{column}")?;
         self.indices
             .insert(String::from_str(alloc, &name)?, self.names.len())?;
-        self.names.push(Listed {
+        self.names.push(ListedVariable {
             name,
-            place,
+            position,
             kind,
             default,
         })?;
         Ok(())
     }
 
-    /// Returns the listing: of each name a line, with tabs between the name, the place, the kind and the default.
+    /// Returns the listing: a line for each variable, of tab-separated name, position, kind and default.
     ///
     /// # Errors
     ///
-    /// When allocation fails.
+    /// If allocation fails.
     pub fn text(&self, alloc: Global) -> Result<String, AllocError> {
         let mut text = String::new(alloc);
-        for Listed {
+        for ListedVariable {
             name,
-            place,
+            position,
             kind,
             default,
         } in &self.names {
@@ -101,20 +101,20 @@ impl Listing {
                 VariableKind::Optional => ("optional", "", ""),
                 VariableKind::WithDefault => ("default", "\t", default.as_str()),
             };
-            let line = format!(in alloc; "{name}\t{place}\t{kind}{tab}{default}\n")?;
+            let line = format!(in alloc; "{name}\t{position}\t{kind}{tab}{default}\n")?;
             text.push_str(&line)?;
         }
         Ok(text)
     }
 }
 
-/// Returns the default of a variable whose name ends at an offset, as it is written and shown. The end of one
-/// that is very long is cut.
+/// Returns the default of the variable whose name ends at the offset `end`, as written in `source` but
+/// escaped for a terminal. A very long default is cut.
 ///
 /// # Errors
 ///
-/// When allocation fails.
-pub(crate) fn shown_default(
+/// If allocation fails.
+pub(crate) fn printable_default(
     alloc: Global,
     source: &[u8],
     end: usize,
@@ -123,17 +123,17 @@ pub(crate) fn shown_default(
     let has_escapes = matches!(placeholders, Placeholders::Own);
     let rest = source.get(end..).unwrap_or(&[]);
     let text = after_operator(rest, placeholders);
-    let text = text.get(..LOOKED_AT).unwrap_or(text);
+    let text = text.get(..MOST_OF_DEFAULT).unwrap_or(text);
     let Some(end) = end_of_default(text, has_escapes) else {
-        let mut start = shown(alloc, text)?;
+        let mut start = printable(alloc, text)?;
         start.push_str(CUT)?;
         return cut(alloc, start, WIDEST_DEFAULT);
     };
     let default = text.get(..end).unwrap_or(text);
-    cut(alloc, shown(alloc, default)?, WIDEST_DEFAULT)
+    cut(alloc, printable(alloc, default)?, WIDEST_DEFAULT)
 }
 
-/// Returns the text after its operator.
+/// Removes the operator before a default: a colon, and for shell forms a minus.
 fn after_operator<'t>(text: &'t [u8], placeholders: &Placeholders<'_>) -> &'t [u8] {
     let rest = text.strip_prefix(b":").unwrap_or(text);
     match placeholders {
@@ -144,7 +144,7 @@ fn after_operator<'t>(text: &'t [u8], placeholders: &Placeholders<'_>) -> &'t [u
     }
 }
 
-/// Returns the length of the default that begins a text, up to the brace that closes its variable.
+/// Returns the length of a default, up to the brace that closes its variable, or `None` without that brace.
 fn end_of_default(text: &[u8], has_escapes: bool) -> Option<usize> {
     let mut depth = 0usize;
     let mut is_escaped = false;

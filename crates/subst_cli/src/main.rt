@@ -1,7 +1,7 @@
-//! The program `subst`: fills in the variables of files, or of its standard input.
+//! The program `subst`: expands the variables in files, or in standard input.
 //!
-//! `subst [OPTIONS] [FILE]..`: its words are those of [`options`], and its statuses those of the filter. The
-//! stored run beside it fills in a greeting; the tests in `tests/` run all else.
+//! `subst [OPTIONS] [FILE]..`: the module [`options`] parses the arguments, and `subst_filter_lib::status`
+//! has the exit statuses. The stored run expands a greeting; the tests in `tests/` cover all else.
 #![tactic(auto)]
 
 mod document;
@@ -10,26 +10,27 @@ pub mod entry;
 mod environment;
 mod escape;
 mod excerpt;
+pub mod expansion;
 pub mod fault;
 mod fill;
-pub mod filling;
+pub mod format_rule;
 mod hints;
 mod input;
 pub mod layers;
 mod listing;
+mod map_back;
 pub mod options;
 mod output;
 mod part;
-mod place;
 mod placeholders;
+mod position;
 pub mod process;
 mod report;
 mod run;
-mod shown;
 pub mod source;
 mod templates;
+mod terminal;
 mod text;
-mod told;
 pub mod values_file;
 
 use process::run;

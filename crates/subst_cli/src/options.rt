@@ -1,8 +1,9 @@
-//! What the words of the command line ask for.
+//! The options of a run, parsed from its arguments.
 
 ghost use Rattle.std.specs.Prelude.{IfOk, ◌<◌, length};
 
 pub use crate::document::Format;
+pub use crate::format_rule::FormatRule;
 use clap::error::ErrorKind;
 use clap::{Arg, ArgAction, ArgMatches, Command, Error};
 use std::alloc::{AllocError, Global};
@@ -12,38 +13,41 @@ use table::OPTIONS;
 
 mod table;
 
-/// The file that stands for standard input.
+/// The argument for standard input.
 pub const STANDARD_INPUT: &str = "-";
 
-/// Paths that lead to standard input too.
+/// Paths of standard input.
 const STANDARD_INPUT_PATHS: [&str; 3] = ["/dev/stdin", "/dev/fd/0", "/proc/self/fd/0"];
 
-/// The files of `--output` that stand for standard output.
+/// The values of `--output` for standard output.
 const STANDARD_OUTPUT: [&str; 2] = ["-", "/dev/stdout"];
 
-/// Options of other programs, with those that do their work here.
+/// Options of other programs, each with this program's option to use instead.
 const FOREIGN: [(&str, &str); 2] = [
     ("--env-file", "--values"),
     ("--output-dir", "--output-folder"),
 ];
 
-/// The options that expand nothing, or everything to nothing, unless others give variables.
+/// The options that choose a format. Each has the name of its format.
+const FORMATS: [&str; 5] = ["json", "toml", "yaml", "bytes", "auto"];
+
+/// The options that make sense only if another option sets variables.
 const NEEDY: [&str; 4] = ["shell", "compose", "known", "optional"];
 
 /// The end of the help.
 const AFTER_HELP: &str = "\
-A backslash escapes \\ $ { } and :, but not where --only, --envsubst, --known or
---shell chooses what a variable is: there it is text.
+A backslash escapes \\ $ { } and :. With --only, --envsubst, --known or --shell,
+a backslash is text.
 
-A name has the value of the first of these that has it: --set, --set-file, the
-values files, the environment, the .env files, --default, the defaults files.
-All names without a value are reported, but of a file with another fault that
-one alone, and of another tool's text all forms that are refused.
+Precedence of values, the first one wins: --set, --set-file, values files, the
+environment, .env files, --default, defaults files. All unset variables of a
+file are reported. If it has another error, only that one is; with --only,
+--envsubst, --known or --shell, all refused forms are.
 
-Status: 0 done, 1 a file or value is refused, 2 wrong arguments, 3 a file or
-device failed, 4 out of memory. The page subst(1) says more.";
+Exit status: 0 done, 1 a file or value is refused, 2 wrong arguments, 3 a file
+or device failed, 4 out of memory. See subst(1) for more.";
 
-/// What a source is read as.
+/// The format of a source.
 #[derive(Clone, Copy, PartialEq, Eq)]
 pub enum InputFormat {
     /// Text, in UTF-8.
@@ -54,184 +58,185 @@ pub enum InputFormat {
     Document(Format),
 }
 
-/// What in a source is a variable.
+/// The placeholders in a source: which parts of the source are variables.
 #[derive(Drop)]
 pub enum Placeholders<'w> {
-    /// What the template language says.
+    /// The placeholders of the template language.
     Own,
     /// Some forms of chosen names. All else is text.
     Chosen(Chosen<'w>),
 }
 
-/// Which forms of which names are variables.
+/// Chosen placeholders: some forms of some names.
 #[derive(Drop)]
 pub struct Chosen<'w> {
-    /// The forms.
+    /// The forms of variables.
     pub forms: Forms,
-    /// The names.
+    /// Which names are variables.
     pub names: Choice<'w>,
     /// How an unset variable without an operator expands.
     pub missing: Missing,
 }
 
-/// Which names are chosen.
+/// A choice of the names that are variables.
 #[derive(Drop)]
 pub enum Choice<'w> {
     /// All names.
     All,
-    /// The names of a list, and all that begin with one of these texts.
+    /// The names of a list, and all names that begin with one of these texts.
     Only(OnlyNames<'w>, Vec<&'w str>),
-    /// Those that something is given to.
+    /// The names that are set, and all names that an operator follows.
     Known,
 }
 
-/// What values are escaped for.
+/// The language that values are escaped for.
 #[derive(Clone, Copy, PartialEq, Eq)]
 pub enum Escape {
-    /// Nothing: they stay as they are.
+    /// None: values are unchanged.
     Nothing,
-    /// A string of JSON, whose quotes are there.
+    /// A JSON string, whose quotes are in the source.
     Json,
     /// A word of a shell.
     Sh,
 }
 
-/// How the line end at the end of a value's file is treated. The last option wins.
+/// The treatment of the last line end in a file that is a value.
 #[derive(Clone, Copy, PartialEq, Eq)]
 pub enum LineEnd {
-    /// The value ends before it.
+    /// The line end is removed.
     Removed,
-    /// It is part of the value.
+    /// The line end is part of the value.
     Kept,
 }
 
-/// What is done with the sources.
+/// The action of a run.
 #[derive(Clone, Copy, PartialEq, Eq)]
 pub enum Action<'w> {
-    /// What they give is printed.
+    /// Print the outputs.
     Print,
-    /// What they give is written to a file.
+    /// Write the outputs to a file.
     WriteTo(&'w str),
-    /// What each gives is written to a file of its name in a folder.
+    /// Write the output of each file, also of those in directories, into a directory.
     WriteInto(&'w str),
-    /// Each is replaced by what it gives.
+    /// Replace each file, also those in directories, by its output.
     Replace,
-    /// Their faults, and those of all files of each folder, are reported.
+    /// Report the faults of each file, also of those in directories.
     Check,
-    /// Their variables, and those of all files of each folder, are listed.
+    /// List the variables of each file, also of those in directories.
     ListNames,
 }
 
 /// A name and its value.
 pub type Pair = (String, String);
 
-/// A name, and the file that has its value.
+/// A name and the path of the file with its value.
 pub type NamedFile<'w> = (&'w str, &'w str);
 
-/// What the words ask for.
+/// The options of a run.
 #[derive(Drop)]
 pub struct Options<'w> {
-    /// The variables of `--set`, in the order of the words.
+    /// The variables of `--set`, in the order of the arguments.
     pub pairs: Vec<Pair>,
-    /// Those of `--set-file`.
+    /// The names and files of `--set-file`.
     pub named_files: Vec<NamedFile<'w>>,
-    /// The values files, and the folders of files that are values.
+    /// The values files, and the directories with a file per variable.
     pub values_files: Vec<&'w str>,
-    /// How the line end at the end of a value's file is treated.
+    /// The treatment of the last line end in a file that is a value.
     pub line_end: LineEnd,
-    /// Whether the environment gives variables.
+    /// Whether the environment's variables are used.
     pub environment: bool,
     /// The `.env` files.
     pub dotenv_files: Vec<&'w str>,
-    /// The variables of `--default`, in the order of the words.
+    /// The variables of `--default`, in the order of the arguments.
     pub defaults: Vec<Pair>,
-    /// The values files, and folders, below all that is named before.
+    /// The files and directories of `--defaults`, which have the lowest precedence.
     pub defaults_files: Vec<&'w str>,
-    /// Whether a variable whose value is empty is passed over.
+    /// Whether empty values are treated as unset.
     pub no_empty: bool,
-    /// What values are escaped for.
+    /// The language that values are escaped for.
     pub escape: Escape,
-    /// What the sources are read as.
-    pub form: InputFormat,
-    /// What in them is a variable.
+    /// The rule for the format of each source.
+    pub formats: FormatRule<'w>,
+    /// The placeholders in the sources.
     pub placeholders: Placeholders<'w>,
-    /// Whether a name of another tool's text that expands to nothing is told: by default that of a shell.
+    /// Whether hints are printed at unset variables of shell-style texts. `--optional` turns the hints off.
     pub hints_unset: bool,
-    /// Whether a default of another tool is a fault: by default it is hinted at.
+    /// Whether a default like another tool's is a fault, by `--check --strict`, or only causes a hint.
     pub refuses_defaults: bool,
-    /// What is done with them.
+    /// The action of the run.
     pub action: Action<'w>,
-    /// The suffix that the names of files of folders end in, which those of files that are written lose.
+    /// The suffix of templates in directories, which is removed from output names. It may be empty.
     pub suffix: &'w str,
-    /// The sources. There is at least one.
+    /// The files and directories to be expanded, of which there is at least one.
     pub files: Vec<&'w str>,
 }
 
 impl<'w> Options<'w> {
-    /// Returns what the words ask for, of which the first one is the program's name.
+    /// Parses arguments, the first of which is the program's name.
     ///
     /// # Errors
     ///
-    /// That of `clap` where the words are wrong, or ask for the help or the version.
-    pub fn of_words(alloc: Global, words: &'w [String]) -> Result<Options<'w>, Error>
+    /// If the arguments are wrong, if they are for the help or the version, or if allocation fails.
+    pub fn parse(alloc: Global, arguments: &'w [String]) -> Result<Options<'w>, Error>
         ensures files { IfOk result (λ options. 0 < length options.files.items) }
     {
-        let matches = match command(alloc)?.try_get_matches_from(words) {
+        let matches = match command(alloc)?.try_get_matches_from(arguments) {
             Ok(matches) => matches,
             Err(e) => return Err(with_tip(alloc, e)),
         };
         let files = list(alloc, &matches, "files")?;
-        let action = asked_action(&matches);
+        let action = action_of(&matches);
         check_named(alloc, action, &files)?;
+        let suffix = suffix_of(alloc, &matches, action)?;
         let options = Options {
-            pairs: asked_pairs(alloc, &matches, "set")?,
-            named_files: asked_named_files(alloc, &matches)?,
+            pairs: pairs_of(alloc, &matches, "set")?,
+            named_files: named_files_of(alloc, &matches)?,
             values_files: list(alloc, &matches, "values")?,
-            line_end: asked_line_end(&matches),
+            line_end: line_end_of(&matches),
             environment: matches.get_flag("env"),
             dotenv_files: list(alloc, &matches, "dotenv")?,
-            defaults: asked_pairs(alloc, &matches, "default")?,
+            defaults: pairs_of(alloc, &matches, "default")?,
             defaults_files: list(alloc, &matches, "defaults")?,
             no_empty: matches.get_flag("no-empty"),
-            escape: asked_escape(alloc, &matches)?,
-            form: asked_form(&matches),
-            placeholders: asked_placeholders(alloc, &matches)?,
+            escape: escape_of(alloc, &matches)?,
+            formats: format_rule_of(alloc, &matches, suffix)?,
+            placeholders: placeholders_of(alloc, &matches)?,
             hints_unset: !matches.get_flag("optional"),
             refuses_defaults: action == Action::Check && matches.get_flag("strict"),
             action,
-            suffix: asked_suffix(alloc, &matches, action)?,
+            suffix,
             files: or_standard_input(files)?,
         };
         options.check_read_once(alloc)?;
-        options.check_given(alloc, &matches)?;
+        options.check_variables(alloc, &matches)?;
         Ok(options)
     }
 
-    /// Returns whether nothing gives a variable.
-    pub(crate) fn gives_nothing(&self) -> bool {
-        let in_words = self.pairs.is_empty() && self.defaults.is_empty();
+    /// Returns whether no option sets variables.
+    pub(crate) fn sets_no_variables(&self) -> bool {
+        let in_arguments = self.pairs.is_empty() && self.defaults.is_empty();
         let in_files = self.named_files.is_empty()
             && self.values_files.is_empty()
             && self.dotenv_files.is_empty()
             && self.defaults_files.is_empty();
-        in_words && in_files && !self.environment
+        in_arguments && in_files && !self.environment
     }
 
-    /// Refuses options that fill in nothing, or everything with nothing, unless an option gives variables.
-    fn check_given(&self, alloc: Global, matches: &ArgMatches<'_>) -> Result<(), Error> {
-        let Some(option) = option_that_needs_variables(matches) else {
+    /// Refuses an option that needs variables if no option sets variables, unless `action` lists names.
+    fn check_variables(&self, alloc: Global, matches: &ArgMatches<'_>) -> Result<(), Error> {
+        let Some(option) = first_flag(matches, &NEEDY) else {
             return Ok(());
         };
-        if self.action == Action::ListNames || !self.gives_nothing() {
+        if self.action == Action::ListNames || !self.sets_no_variables() {
             return Ok(());
         }
         let message = format!(in alloc;
-            "--{option} needs variables; '-e' takes the environment's"
+            "--{option} needs variables; use -e for the environment's"
         )?;
         Err(wrong(alloc, &message))
     }
 
-    /// Refuses standard input where it is read twice.
+    /// Refuses standard input if values are read from it twice, or both values and a source.
     fn check_read_once(&self, alloc: Global) -> Result<(), Error> {
         let mut readers = count_standard_input(&self.values_files)
             .saturating_add(count_standard_input(&self.dotenv_files))
@@ -242,16 +247,16 @@ impl<'w> Options<'w> {
         if readers > 1 || readers == 1 && count_standard_input(&self.files) > 0 {
             return Err(wrong(
                 alloc,
-                "standard input is read once: '--values -' needs a FILE",
+                "standard input can be read only once; if values are read from it, name the files to fill in",
             ));
         }
         Ok(())
     }
 }
 
-/// Returns the first given option of those that need variables, or `None` if there is none.
-fn option_that_needs_variables(matches: &ArgMatches<'_>) -> Option<&'static str> {
-    for option in NEEDY {
+/// Returns the first of these options that is set, or `None` if none is.
+fn first_flag(matches: &ArgMatches<'_>, options: &[&'static str]) -> Option<&'static str> {
+    for option in options {
         if matches.get_flag(option) {
             return Some(option);
         }
@@ -259,16 +264,16 @@ fn option_that_needs_variables(matches: &ArgMatches<'_>) -> Option<&'static str>
     None
 }
 
-/// Returns the values that were given to an option, in their order.
+/// Returns the values of an option, in the order of the arguments.
 fn list<'w>(alloc: Global, matches: &ArgMatches<'w>, id: &str) -> Result<Vec<&'w str>, AllocError> {
     let mut values = Vec::new(alloc);
-    if let Some(given) = matches.get_strs(id) {
-        values.extend_from_slice(given)?;
+    if let Some(found) = matches.get_strs(id) {
+        values.extend_from_slice(found)?;
     }
     Ok(values)
 }
 
-/// Returns the files, or standard input where there are none.
+/// Returns the files, or standard input if there are none.
 fn or_standard_input(mut files: Vec<&str>) -> Result<Vec<&str>, AllocError>
     ensures { IfOk result (λ files. 0 < length files.items) }
 {
@@ -278,7 +283,7 @@ fn or_standard_input(mut files: Vec<&str>) -> Result<Vec<&str>, AllocError>
     Ok(files)
 }
 
-/// Refuses what can't be replaced, or has no name for a file of its own.
+/// Refuses standard input, and an empty list of files, if `action` writes a file for each source.
 fn check_named(alloc: Global, action: Action<'_>, files: &[&str]) -> Result<(), Error> {
     let option = match action {
         Action::Replace => "--in-place",
@@ -289,63 +294,63 @@ fn check_named(alloc: Global, action: Action<'_>, files: &[&str]) -> Result<(), 
         return Err(wrong(alloc, &format!(in alloc; "{option} needs a file")?));
     }
     if files.iter().any(|file| *file == STANDARD_INPUT) {
-        let message = format!(in alloc; "{option} can't be of standard input")?;
+        let message = format!(in alloc; "{option} can't be used with standard input")?;
         return Err(wrong(alloc, &message));
     }
     Ok(())
 }
 
-/// Returns how many of these files are standard input.
+/// Returns the number of these files that are standard input.
 fn count_standard_input(files: &[&str]) -> usize {
     files.iter().filter(|file| is_standard_input(file)).count()
 }
 
-/// Returns whether a file is standard input, under one of its names.
+/// Returns whether a file is standard input, by any of its names.
 fn is_standard_input(file: &str) -> bool {
     file == STANDARD_INPUT || STANDARD_INPUT_PATHS.contains(&file)
 }
 
-/// Returns the variables that an option gives.
-fn asked_pairs(alloc: Global, matches: &ArgMatches<'_>, id: &str) -> Result<Vec<Pair>, Error> {
+/// Returns the variables of an option, in the order of the arguments.
+fn pairs_of(alloc: Global, matches: &ArgMatches<'_>, id: &str) -> Result<Vec<Pair>, Error> {
     let mut pairs = Vec::new(alloc);
-    for word in list(alloc, matches, id)? {
-        let (name, value) = split_pair(alloc, word, pairs.len().saturating_add(1), id)?;
+    for argument in list(alloc, matches, id)? {
+        let (name, value) = split_pair(alloc, argument, pairs.len().saturating_add(1), id)?;
         pairs.push(owned(alloc, name, value)?)?;
     }
     Ok(pairs)
 }
 
 /// Returns the names and files of `--set-file`.
-fn asked_named_files<'w>(
+fn named_files_of<'w>(
     alloc: Global,
     matches: &ArgMatches<'w>,
 ) -> Result<Vec<NamedFile<'w>>, Error> {
     let mut files = Vec::new(alloc);
-    for word in list(alloc, matches, "set-file")? {
-        files.push(split_pair(alloc, word, files.len().saturating_add(1), "set-file")?)?;
+    for argument in list(alloc, matches, "set-file")? {
+        files.push(split_pair(alloc, argument, files.len().saturating_add(1), "set-file")?)?;
     }
     Ok(files)
 }
 
-/// Returns the name and what is after the first `=` of the argument of this number of an option.
+/// Splits `argument` at its first `=`. Fails if there is no `=`, or no variable name before the `=`.
 fn split_pair<'w>(
     alloc: Global,
-    word: &'w str,
+    argument: &'w str,
     number: usize,
     id: &str,
 ) -> Result<(&'w str, &'w str), Error> {
-    let Some((name, value)) = word.split_once('=') else {
+    let Some((name, value)) = argument.split_once('=') else {
         let message = format!(in alloc; "no '=' in argument {number} of --{id}")?;
         return Err(wrong(alloc, &message));
     };
     if !is_name(name.as_bytes()) {
-        let message = format!(in alloc; "no template can spell the name '{name}' of --{id}")?;
+        let message = format!(in alloc; "'{name}' of --{id} is not a variable name")?;
         return Err(wrong(alloc, &message));
     }
     Ok((name, value))
 }
 
-/// Returns a pair that owns its texts.
+/// Copies a name and a value into a pair.
 fn owned(alloc: Global, name: &str, value: &str) -> Result<Pair, AllocError> {
     Ok((
         String::from_str(alloc, name)?,
@@ -353,21 +358,35 @@ fn owned(alloc: Global, name: &str, value: &str) -> Result<Pair, AllocError> {
     ))
 }
 
-/// Returns what the sources are read as.
-fn asked_form(matches: &ArgMatches<'_>) -> InputFormat {
-    if matches.get_flag("bytes") {
-        InputFormat::Bytes
-    } else if matches.get_flag("json") {
-        InputFormat::Document(Format::Json)
-    } else if matches.get_flag("toml") {
-        InputFormat::Document(Format::Toml)
-    } else {
-        InputFormat::Text
-    }
+/// Returns the rule for the format of each source. If path endings decide, a `suffix` after them is ignored.
+fn format_rule_of<'w>(
+    alloc: Global,
+    matches: &ArgMatches<'w>,
+    suffix: &'w str,
+) -> Result<FormatRule<'w>, Error> {
+    let name = match matches.get_str("format") {
+        Some(name) => name,
+        None => first_flag(matches, &FORMATS).unwrap_or("text"),
+    };
+    let format = match name {
+        "json" => InputFormat::Document(Format::Json),
+        "toml" => InputFormat::Document(Format::Toml),
+        "yaml" => InputFormat::Document(Format::Yaml),
+        "text" => InputFormat::Text,
+        "bytes" => InputFormat::Bytes,
+        "auto" => return Ok(FormatRule::ByEnding(suffix)),
+        _ => {
+            return Err(wrong(
+                alloc,
+                "--format must be json, toml, yaml, text, bytes or auto",
+            ));
+        }
+    };
+    Ok(FormatRule::One(format))
 }
 
-/// Returns how the line end at the end of a value's file is treated.
-fn asked_line_end(matches: &ArgMatches<'_>) -> LineEnd {
+/// Returns the treatment of the last line end in a file that is a value.
+fn line_end_of(matches: &ArgMatches<'_>) -> LineEnd {
     if matches.get_flag("keep-line-end") {
         LineEnd::Kept
     } else {
@@ -375,18 +394,18 @@ fn asked_line_end(matches: &ArgMatches<'_>) -> LineEnd {
     }
 }
 
-/// Returns what values are escaped for.
-fn asked_escape(alloc: Global, matches: &ArgMatches<'_>) -> Result<Escape, Error> {
+/// Returns the language that values are escaped for.
+fn escape_of(alloc: Global, matches: &ArgMatches<'_>) -> Result<Escape, Error> {
     match matches.get_str("escape") {
         None => Ok(Escape::Nothing),
         Some("json") => Ok(Escape::Json),
         Some("sh") => Ok(Escape::Sh),
-        Some(_) => Err(wrong(alloc, "--escape is for json or sh")),
+        Some(_) => Err(wrong(alloc, "--escape must be json or sh")),
     }
 }
 
-/// Returns the suffix of the files of folders, or an empty one.
-fn asked_suffix<'w>(
+/// Returns the suffix of `--strip`, or an empty text if that option isn't set.
+fn suffix_of<'w>(
     alloc: Global,
     matches: &ArgMatches<'w>,
     action: Action<'_>,
@@ -394,25 +413,20 @@ fn asked_suffix<'w>(
     let Some(suffix) = matches.get_str("strip") else {
         return Ok("");
     };
-    match action {
-        Action::WriteInto(_) | Action::Check | Action::ListNames if !suffix.is_empty() => {
-            Ok(suffix)
-        }
-        _ => Err(wrong(
+    if suffix.is_empty() || matches!(action, Action::Print | Action::WriteTo(_)) {
+        return Err(wrong(
             alloc,
-            "--strip needs a suffix and --output-folder, --check or --names",
-        )),
+            "--strip needs a suffix and --output-folder, --in-place, --check or --names",
+        ));
     }
+    Ok(suffix)
 }
 
-/// Returns what in the sources is a variable.
-fn asked_placeholders<'w>(
-    alloc: Global,
-    matches: &ArgMatches<'w>,
-) -> Result<Placeholders<'w>, Error> {
-    let forms = asked_forms(matches);
-    let names = asked_choice(alloc, matches)?;
-    let missing = asked_missing(alloc, matches, forms)?;
+/// Returns the placeholders that the options choose, or an error if these options are wrong.
+fn placeholders_of<'w>(alloc: Global, matches: &ArgMatches<'w>) -> Result<Placeholders<'w>, Error> {
+    let forms = forms_of(matches);
+    let names = choice_of(alloc, matches)?;
+    let missing = missing_of(alloc, matches, forms)?;
     if matches!((forms, &names), (Forms::Own, Choice::All)) {
         if matches!(missing, Missing::Nothing) {
             return Err(wrong(
@@ -429,8 +443,8 @@ fn asked_placeholders<'w>(
     }))
 }
 
-/// Returns the forms of variables.
-fn asked_forms(matches: &ArgMatches<'_>) -> Forms {
+/// Returns the forms of variables that the options choose.
+fn forms_of(matches: &ArgMatches<'_>) -> Forms {
     if matches.get_flag("envsubst") {
         Forms::Envsubst
     } else if matches.get_flag("shell") || matches.get_flag("compose") {
@@ -440,10 +454,10 @@ fn asked_forms(matches: &ArgMatches<'_>) -> Forms {
     }
 }
 
-/// Returns the chosen names.
-fn asked_choice<'w>(alloc: Global, matches: &ArgMatches<'w>) -> Result<Choice<'w>, Error> {
+/// Returns the choice of names by `--only` or `--known`, or of all names.
+fn choice_of<'w>(alloc: Global, matches: &ArgMatches<'w>) -> Result<Choice<'w>, Error> {
     if matches.contains_id("only") {
-        asked_names(alloc, matches)
+        only_names(alloc, matches)
     } else if matches.get_flag("known") {
         Ok(Choice::Known)
     } else {
@@ -451,12 +465,12 @@ fn asked_choice<'w>(alloc: Global, matches: &ArgMatches<'w>) -> Result<Choice<'w
     }
 }
 
-/// Returns how an unset variable expands.
-fn asked_missing(alloc: Global, matches: &ArgMatches<'_>, forms: Forms) -> Result<Missing, Error> {
+/// Returns how an unset variable expands, which `--optional` or `--strict` decides, or else `forms`.
+fn missing_of(alloc: Global, matches: &ArgMatches<'_>, forms: Forms) -> Result<Missing, Error> {
     let is_strict = matches.get_flag("strict");
     let is_optional = matches.get_flag("optional");
     if is_strict && is_optional {
-        return Err(wrong(alloc, "--strict and --optional exclude each other"));
+        return Err(wrong(alloc, "--strict can't be used with --optional"));
     }
     let is_shell = matches!(forms, Forms::Shell);
     Ok(if is_optional || is_shell && !is_strict {
@@ -467,11 +481,11 @@ fn asked_missing(alloc: Global, matches: &ArgMatches<'_>, forms: Forms) -> Resul
 }
 
 /// Returns the names of `--only`.
-fn asked_names<'w>(alloc: Global, matches: &ArgMatches<'w>) -> Result<Choice<'w>, Error> {
+fn only_names<'w>(alloc: Global, matches: &ArgMatches<'w>) -> Result<Choice<'w>, Error> {
     let mut names = Vec::new(alloc);
     let mut starts = Vec::new(alloc);
-    for words in list(alloc, matches, "only")? {
-        add_names(alloc, &mut names, &mut starts, words)?;
+    for text in list(alloc, matches, "only")? {
+        add_names(alloc, &mut names, &mut starts, text)?;
     }
     if names.is_empty() && starts.is_empty() {
         return Err(wrong(alloc, "--only needs a name"));
@@ -479,50 +493,50 @@ fn asked_names<'w>(alloc: Global, matches: &ArgMatches<'w>) -> Result<Choice<'w>
     Ok(Choice::Only(OnlyNames::new(alloc, &names)?, starts))
 }
 
-/// Adds the names that stand apart by commas or blanks, each as it is or written as a variable. What ends in an
-/// asterisk is the beginning of names.
+/// Appends the names in `text`, written `NAME`, `$NAME` or `${NAME}`, to `names`, and the prefixes, written
+/// `APP_*`, to `starts`. Commas or blanks separate them.
 fn add_names<'w>(
     alloc: Global,
     names: &mut Vec<&'w str>,
     starts: &mut Vec<&'w str>,
-    words: &'w str,
+    text: &'w str,
 ) -> Result<(), Error> {
-    for word in words.split(|c: char| c == ',' || c.is_ascii_whitespace()) {
-        let name = without_dollar(word);
+    for item in text.split(|c: char| c == ',' || c.is_ascii_whitespace()) {
+        let name = without_dollar(item);
         let start = name.strip_suffix('*').unwrap_or("");
         if is_name(name.as_bytes()) {
             names.push(name)?;
         } else if is_name(start.as_bytes()) {
             starts.push(start)?;
-        } else if !word.is_empty() {
-            let message = format!(in alloc; "no template can spell the name '{word}' of --only")?;
+        } else if !item.is_empty() {
+            let message = format!(in alloc; "'{item}' of --only is not a variable name")?;
             return Err(wrong(alloc, &message));
         }
     }
     Ok(())
 }
 
-/// Returns the name of `$NAME` and of `${NAME}`, and any other word as it is.
-fn without_dollar(word: &str) -> &str {
-    let Some(name) = word.strip_prefix('$') else {
-        return word;
+/// Returns the name in `$NAME` or `${NAME}`, and any other text unchanged.
+fn without_dollar(text: &str) -> &str {
+    let Some(name) = text.strip_prefix('$') else {
+        return text;
     };
     let Some(open) = name.strip_prefix('{') else {
         return name;
     };
-    open.strip_suffix('}').unwrap_or(word)
+    open.strip_suffix('}').unwrap_or(text)
 }
 
-/// Returns what is done with the sources.
-fn asked_action<'w>(matches: &ArgMatches<'w>) -> Action<'w> {
+/// Returns the action that the options choose.
+fn action_of<'w>(matches: &ArgMatches<'w>) -> Action<'w> {
     if let Some(file) = matches.get_str("output") {
         if STANDARD_OUTPUT.contains(&file) {
             Action::Print
         } else {
             Action::WriteTo(file)
         }
-    } else if let Some(folder) = matches.get_str("output-folder") {
-        Action::WriteInto(folder)
+    } else if let Some(directory) = matches.get_str("output-folder") {
+        Action::WriteInto(directory)
     } else if matches.get_flag("in-place") {
         Action::Replace
     } else if matches.get_flag("check") {
@@ -534,7 +548,7 @@ fn asked_action<'w>(matches: &ArgMatches<'w>) -> Action<'w> {
     }
 }
 
-/// Returns an error of `clap`, or that of an option of another program which names the one that does its work.
+/// Replaces an error about another program's option by an error that names the option to use instead.
 fn with_tip(alloc: Global, e: Error) -> Error {
     match tip(alloc, &e) {
         Ok(None) => e,
@@ -543,7 +557,7 @@ fn with_tip(alloc: Global, e: Error) -> Error {
     }
 }
 
-/// Returns the message about an option of another program, if an error is about one.
+/// Returns the message for another program's option, or `None` if the error is about something else.
 fn tip(alloc: Global, e: &Error) -> Result<Option<String>, AllocError> {
     if e.kind() != ErrorKind::UnknownArgument {
         return Ok(None);
@@ -561,7 +575,7 @@ fn tip(alloc: Global, e: &Error) -> Result<Option<String>, AllocError> {
     Ok(None)
 }
 
-/// Returns the error of wrong words, with the usage.
+/// Returns the error for wrong arguments, with the usage, or the error of a failed allocation.
 fn wrong(alloc: Global, message: &str) -> Error {
     match error(alloc, message) {
         Ok(e) => e,
@@ -569,16 +583,16 @@ fn wrong(alloc: Global, message: &str) -> Error {
     }
 }
 
-/// Returns the error of wrong words, or that memory ran out for it.
+/// Returns the error for wrong arguments, with the usage, or `AllocError` if allocation fails.
 fn error(alloc: Global, message: &str) -> Result<Error, AllocError> {
     command(alloc)?.error(ErrorKind::InvalidValue, message)
 }
 
-/// Returns the words that there are.
+/// Returns the command of `clap` with all options.
 fn command<'a>(alloc: Global) -> Result<Command<'a>, AllocError> {
     let mut command = Command::new(alloc, "subst")
         .version(subst_version::TEXT)
-        .about("Fills in $name, ${name}, ${name:default} and ${name?} in files.")
+        .about("Fill in $name, ${name}, ${name:default} and ${name?} in files.")
         .after_help(AFTER_HELP);
     for row in &OPTIONS {
         command = command.arg(row.to_arg(alloc)?)?;
@@ -586,7 +600,7 @@ fn command<'a>(alloc: Global) -> Result<Command<'a>, AllocError> {
     command.arg(
         Arg::new(alloc, "files")
             .value_name("FILE")
-            .help("The files to fill in; standard input if there are none, and for '-'")
+            .help("Files to fill in; standard input if there are none, or for '-'")
             .action(ArgAction::Append),
     )
 }

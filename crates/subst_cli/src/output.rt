@@ -1,4 +1,4 @@
-//! Writing files whole or not at all.
+//! Writing output: to a stream, or to a file, which is replaced whole or not at all.
 
 use std::alloc::{AllocError, Global};
 use std::fs::{File, Metadata, OpenOptions, Permissions};
@@ -7,48 +7,48 @@ use std::os::unix::fs::{MetadataExt, OpenOptionsExt, PermissionsExt, fchown};
 use std::path::{Path, PathBuf};
 use std::{fs, io};
 
-/// The mode of a new file that no template has one for, of which the system takes its mask.
+/// The mode of a new file without a template, before the umask applies.
 pub(crate) const NEW_MODE: u32 = 0o666;
 
-/// The mode of a file that isn't finished, and is to have another's.
+/// The mode of a new file until it gets the mode of the file that it replaces.
 const PRIVATE_MODE: u32 = 0o600;
 
 /// The bits of a mode that are permissions.
 const PERMISSIONS: u32 = 0o7777;
 
-/// The bits of a mode that are the owner's, the group's and the others', without those that lend an identity.
+/// The permission bits without the set-user-ID, set-group-ID and sticky bits.
 const COMMON_PERMISSIONS: u32 = 0o777;
 
-/// How many symbolic links are followed to a file that isn't there.
+/// The most symbolic links that are followed to a file that doesn't exist.
 const MOST_LINKS: usize = 40;
 
-/// How many characters of a file's name are in that of the new file beside it, which has no room for all.
+/// The most characters of a file's name in the name of the new file that replaces it. Systems limit names.
 const MOST_OF_NAME: usize = 50;
 
 /// Writes bytes to standard output.
 ///
 /// # Errors
 ///
-/// What the system says.
+/// If writing fails.
 pub(crate) fn print(rt: &HostRuntime, bytes: &[u8]) -> io::Result<()> {
     let mut output = rt.stdout();
     output.write_all(bytes)?;
     output.flush()
 }
 
-/// Returns the device of the regular file at a path, through symbolic links, and its number there; or nothing
-/// where something else is there.
+/// Returns the device and inode numbers of the regular file at a path, through symbolic links, or `None` if
+/// the file isn't regular.
 ///
 /// # Errors
 ///
-/// What the system says.
+/// If the file's metadata can't be read.
 pub(crate) fn regular_file(rt: &HostRuntime, path: &str) -> io::Result<Option<(u64, u64)>> {
     let found = fs::metadata(rt, path)?;
     Ok(found.is_file().then_some((found.dev(), found.ino())))
 }
 
-/// Returns the mode of a new file that is made from a template: the template's, so that it can be read by no one
-/// else, or the usual one if that isn't a regular file. The system takes its mask of it.
+/// Returns the mode of a new file for a template's output, before the umask applies: the template's, so that
+/// no more users can read the output, or [`NEW_MODE`] if the template isn't a regular file.
 pub(crate) fn mode_of_new(rt: &HostRuntime, template: &str) -> u32 {
     match fs::metadata(rt, template) {
         Ok(found) if found.is_file() => found.permissions().mode() & COMMON_PERMISSIONS,
@@ -56,11 +56,11 @@ pub(crate) fn mode_of_new(rt: &HostRuntime, template: &str) -> u32 {
     }
 }
 
-/// Writes bytes to a file as [`replace`] does, or to the open stream that a path leads to.
+/// Writes bytes to the open stream that a path leads to, or else to a file, like [`replace`].
 ///
 /// # Errors
 ///
-/// What the system says.
+/// If writing fails.
 pub(crate) fn write(rt: &HostRuntime, path: &str, mode: u32, bytes: &[u8]) -> io::Result<()> {
     if is_same_file(rt, path, "/proc/self/fd/1") {
         print(rt, bytes)
@@ -73,7 +73,7 @@ pub(crate) fn write(rt: &HostRuntime, path: &str, mode: u32, bytes: &[u8]) -> io
     }
 }
 
-/// Returns whether two paths lead to one file that is there.
+/// Returns whether two paths lead to the same existing file.
 fn is_same_file(rt: &HostRuntime, one: &str, other: &str) -> bool {
     match (fs::metadata(rt, one), fs::metadata(rt, other)) {
         (Ok(one), Ok(other)) => one.dev() == other.dev() && one.ino() == other.ino(),
@@ -81,12 +81,12 @@ fn is_same_file(rt: &HostRuntime, one: &str, other: &str) -> bool {
     }
 }
 
-/// Writes bytes to a file: all of them, or the file is as before. A file that wasn't there gets this mode. What
-/// isn't a regular file is written through.
+/// Replaces a file's contents by bytes, whole or not at all. A file that doesn't exist is created with this
+/// mode. If something else is at the path, such as a pipe, the bytes are written to it directly.
 ///
 /// # Errors
 ///
-/// What the system says.
+/// If writing fails.
 pub(crate) fn replace(rt: &HostRuntime, path: &str, mode: u32, bytes: &[u8]) -> io::Result<()> {
     match fs::metadata(rt, path) {
         Ok(old) if old.is_file() => {
@@ -102,7 +102,7 @@ pub(crate) fn replace(rt: &HostRuntime, path: &str, mode: u32, bytes: &[u8]) -> 
     }
 }
 
-/// Writes bytes to a file as it is, at its end or not.
+/// Writes bytes to an existing file, from its start on, or after its end if `at_end` is set.
 fn write_through(rt: &HostRuntime, path: &str, at_end: bool, bytes: &[u8]) -> io::Result<()> {
     let mut options = OpenOptions::new();
     options.write(true).append(at_end);
@@ -110,26 +110,26 @@ fn write_through(rt: &HostRuntime, path: &str, at_end: bool, bytes: &[u8]) -> io
     file.write_all(bytes)
 }
 
-/// Returns the path of the first new file that is tried where one is to take a file's place.
+/// Returns the path of the new file that is tried first to replace a file.
 ///
 /// # Errors
 ///
-/// What the system says.
+/// If the path can't be resolved, or if allocation fails.
 pub(crate) fn path_of_new(rt: &HostRuntime, path: &str) -> io::Result<PathBuf> {
     let target = fs::canonicalize(rt, path)?;
     Ok(path_beside(rt.alloc(), target.as_path(), 0)?)
 }
 
-/// Returns the path of a new file beside one, `.NAME.subst-N`.
+/// Returns a path `.NAME.subst-N` for a new file, in the directory of the file at `path`.
 fn path_beside(alloc: Global, path: Path<'_>, number: u32) -> Result<PathBuf, AllocError> {
     let name = path.file_name().unwrap_or("");
     let start: String = name.chars().take(MOST_OF_NAME).collect(alloc)?;
     let name = format!(in alloc; ".{start}.subst-{number}")?;
-    let folder = path.parent().unwrap_or(Path::new(""));
-    folder.join(alloc, name.as_str())
+    let directory = path.parent().unwrap_or(Path::new(""));
+    directory.join(alloc, name.as_str())
 }
 
-/// Returns the path that the symbolic links from a path on lead to, where no file is.
+/// Follows the symbolic links from a path that leads to no file. Returns the path for a new file.
 fn end_of_links(rt: &HostRuntime, path: &str) -> io::Result<PathBuf> {
     let mut end = PathBuf::from_str(rt.alloc(), path)?;
     for _ in 0..MOST_LINKS {
@@ -137,23 +137,23 @@ fn end_of_links(rt: &HostRuntime, path: &str) -> io::Result<PathBuf> {
             return Ok(end);
         };
         end = match end.as_path().parent() {
-            Some(folder) => folder.join(rt.alloc(), link.as_path())?,
+            Some(directory) => directory.join(rt.alloc(), link.as_path())?,
             None => link,
         };
     }
     Ok(end)
 }
 
-/// The old file at the path of a new one, or none.
+/// The file to be replaced, if there is one.
 enum Target<'m> {
-    /// A file, whose owner and permissions the new one gets.
+    /// An existing file, whose owner and permissions the new one gets.
     There(&'m Metadata),
-    /// Nothing. The new one has this mode, of which the system takes its mask.
+    /// No file. The new one gets this mode, before the umask applies.
     Missing(u32),
 }
 
-/// Writes bytes to a new file in a path's folder and gives it the path's name. Where that fails the new file
-/// is removed.
+/// Writes bytes to a new file in the directory of `path`, and renames the new file to `path`. If either
+/// fails, the new file is removed.
 fn replace_by_new(
     rt: &HostRuntime,
     path: Path<'_>,
@@ -167,13 +167,13 @@ fn replace_by_new(
     let (new, file) = create_beside(rt, path, mode)?;
     let outcome = finish(file, old, bytes).and_then(|()| fs::rename(rt, new.as_path(), path));
     if outcome.is_err() {
-        // Why it failed is told, and not that this failed too.
+        // The first failure is reported, and not this one.
         let _ = fs::remove_file(rt, new.as_path());
     }
     outcome
 }
 
-/// Creates a file in the folder of a path, under a name that none has.
+/// Creates a file in the directory of `path`, with this mode, under a name that no file has.
 fn create_beside(rt: &HostRuntime, path: Path<'_>, mode: u32) -> io::Result<(PathBuf, File)> {
     for number in 0..u32::MAX {
         let new = path_beside(rt.alloc(), path, number)?;
@@ -188,20 +188,19 @@ fn create_beside(rt: &HostRuntime, path: Path<'_>, mode: u32) -> io::Result<(Pat
     Err(io::Error::from(io::ErrorKind::AlreadyExists))
 }
 
-/// Writes bytes to a new file, gives it the owner and the permissions of the old one, and has all of it on
-/// the disk.
+/// Writes bytes to a new file, copies owner and permissions from `old`, and syncs the file to the disk.
 fn finish(mut file: File, old: Option<&Metadata>, bytes: &[u8]) -> io::Result<()> {
     file.write_all(bytes)?;
     if let Some(old) = old {
-        file.set_permissions(Permissions::from_mode(give_owner(&file, old)))?;
+        file.set_permissions(Permissions::from_mode(set_owner(&file, old)))?;
     }
     file.sync_all()
 }
 
-/// Gives a new file the owner and the group of the old one, as far as that is allowed, and returns the mode
-/// that it may have. Who may not give a file away becomes its owner, and lends no identity by it; a group
-/// that isn't the old one may do what others may.
-fn give_owner(file: &File, old: &Metadata) -> u32 {
+/// Sets the owner and group of a new file to those of the old one, as far as permitted, and returns the mode
+/// to set. If the owner can't be set, the set-ID and sticky bits are removed. If the group can't be set
+/// either, the group gets the permissions of others.
+fn set_owner(file: &File, old: &Metadata) -> u32 {
     let mode = old.permissions().mode();
     if fchown(file, Some(old.uid()), Some(old.gid())).is_ok() {
         mode & PERMISSIONS

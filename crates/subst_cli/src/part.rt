@@ -1,4 +1,4 @@
-//! A text or byte string of a source: a source itself, or a string of a document.
+//! Expands the parts of a source: the whole source, or each string of a document.
 
 ghost use Rattle.std.specs.Prelude.{◌≡◌, ◌≢◌, ◌⊎◌, [], ℕ, List, None, IfErr, IfOk, map};
 ghost use Rattle.std.specs.List.{All, Any, Contains};
@@ -6,39 +6,39 @@ ghost use Rattle.subst.specs.Calls.Variables.{variable_of};
 ghost use Rattle.subst.specs.ErrorFault.{parse_fault};
 ghost use Rattle.subst.specs.Template.{IsTemplate};
 ghost use Rattle.subst_cli.specs.Faults.{lacks_unreadable, IsFaultBy, IsFaultOf, IsForm, IsFormIn, IsFirstOf, IsUnreadableAmong, IsUnreadableAt, IsUnreadableIn};
-ghost use Rattle.subst_cli.specs.Fill.{asked_about as about, grammar_in, AreReadable, GivesBy, GivesFor};
+ghost use Rattle.subst_cli.specs.Fill.{looked_up_name as looked_up, grammar_in, AreReadable, GivesBy, GivesFor};
 ghost use Rattle.subst_cli.specs.Layers.{ForEntries, IsUnreadable};
 ghost use Rattle.subst_cli.specs.declared.fault.Cause.TheVariants as causes;
 ghost use Rattle.subst_cli.specs.declared.options.Placeholders.TheVariants as kinds;
 
 use crate::fault::{Cause, Fault, one_fault, range_of_name};
 use crate::fill;
-use crate::fill::{Refusal, Seen};
+use crate::fill::{LookUpValues, Refusal};
 use crate::layers::Variables;
-use crate::listing::shown_default;
+use crate::listing::printable_default;
+use crate::map_back::{counterparts, looked_up_name, map_all_back};
 use crate::options::{Chosen, Placeholders};
 use crate::placeholders::{ChosenNames, style_of};
-use crate::told::{asked_about, counterparts, in_text};
 use std::alloc::{AllocError, Global};
 use std::ops::Range;
 use subst::error::ParseError;
 use subst::foreign::{FormAt, Forms, Missing, Operator, TextError, TextVariable};
 use subst::{ByteTemplate, Error, Variable, VariableKind};
 
-/// What a part gives, or its faults in the order of their places.
-pub(crate) type Outcome<T> = Result<T, Vec<Fault>>;
+/// A result for a text or byte string, or its faults in the order of their positions.
+pub(crate) type OrFaults<T> = Result<T, Vec<Fault>>;
 
-/// Returns bytes with their variables filled in, or their faults.
+/// Expands a text, a byte string or a string of a document, or returns its faults.
 ///
 /// # Errors
 ///
-/// When allocation fails.
+/// If allocation fails.
 pub(crate) fn fill_bytes(
     alloc: Global,
     source: &[u8],
     placeholders: &Placeholders<'_>,
     variables: &Variables<'_>,
-) -> Result<Outcome<Vec<u8>>, AllocError>
+) -> Result<OrFaults<Vec<u8>>, AllocError>
     ensures gives { ForEntries variables.now (λ entries. IfOk result (λ outcome. IfOk outcome
         (λ output. GivesFor placeholders.now entries source.now output.items))) }
     ensures refused { ForEntries variables.now (λ entries. IfOk result (λ outcome. IfErr outcome
@@ -50,43 +50,43 @@ pub(crate) fn fill_bytes(
     }
 }
 
-/// Returns bytes of another tool with their chosen variables filled in, or their faults: the forms that are
-/// refused, or else the variables without a value.
+/// Expands the chosen variables of another tool's text, or returns its faults. The faults are refused forms,
+/// or else variables whose values are missing or aren't UTF-8.
 fn fill_chosen(
     alloc: Global,
     source: &[u8],
     chosen: &Chosen<'_>,
     variables: &Variables<'_>,
-) -> Result<Outcome<Vec<u8>>, AllocError>
+) -> Result<OrFaults<Vec<u8>>, AllocError>
     ensures gives { ForEntries variables.now (λ entries. IfOk result (λ outcome. IfOk outcome
         (λ output. GivesFor (kinds.Chosen chosen.now) entries source.now output.items))) }
     ensures refused { ForEntries variables.now (λ entries. IfOk result (λ outcome. IfErr outcome
         (λ faults. Any (IsFaultOf (kinds.Chosen chosen.now) entries source.now) faults.items))) }
 {
-    let made = match chosen_template(alloc, source, chosen, Some(variables))? {
+    let template = match chosen_template(alloc, source, chosen, Some(variables))? {
         Ok(template) => template,
         Err(faults) => return Ok(Err(faults)),
     };
-    match fill_template(alloc, &made, Some(chosen.forms), variables)? {
+    match fill_template(alloc, &template, Some(chosen.forms), variables)? {
         Ok(output) => Ok(Ok(output)),
         Err(faults) => {
-            let places = counterparts(alloc, source, &made, chosen, variables)?;
-            Ok(Err(in_text(alloc, &places, chosen, variables, faults)?))
+            let counterparts = counterparts(alloc, source, &template, chosen, variables)?;
+            Ok(Err(map_all_back(alloc, &counterparts, chosen, variables, faults)?))
         }
     }
 }
 
-/// Returns a template for bytes of another tool, or the forms that are refused.
+/// Converts another tool's text into a template, or returns a fault for each refused form of the text.
 ///
 /// # Errors
 ///
-/// When allocation fails.
+/// If allocation fails.
 fn chosen_template(
     alloc: Global,
     source: &[u8],
     chosen: &Chosen<'_>,
     variables: Option<&Variables<'_>>,
-) -> Result<Outcome<Vec<u8>>, AllocError>
+) -> Result<OrFaults<Vec<u8>>, AllocError>
     ensures template { let g = grammar_in chosen.now variables.entry in IfOk result (λ outcome.
         IfOk outcome (λ template. IsTemplate g chosen.now.missing source.now template.items)) }
     ensures refused { IfOk result (λ outcome. IfErr outcome (λ faults.
@@ -107,11 +107,11 @@ fn chosen_template(
     }
 }
 
-/// Returns the faults of a text with forms that are refused, of which this one is the first.
+/// Returns a fault for each refused form of a text: for `first`, and for each form in `all` but the first.
 ///
 /// # Errors
 ///
-/// When allocation fails.
+/// If allocation fails.
 fn refused_forms(alloc: Global, first: FormAt, all: Vec<FormAt>) -> Result<Vec<Fault>, AllocError>
     ensures { IfOk result (λ faults. Any (IsForm first) faults.items) }
 {
@@ -123,7 +123,7 @@ fn refused_forms(alloc: Global, first: FormAt, all: Vec<FormAt>) -> Result<Vec<F
     Ok(faults)
 }
 
-/// Returns the fault of a form that is refused.
+/// Returns the fault of a refused form.
 fn refused_form(alloc: Global, at: FormAt) -> Fault
     ensures { IsForm at result }
 {
@@ -134,20 +134,20 @@ fn refused_form(alloc: Global, at: FormAt) -> Fault
     }
 }
 
-/// Returns a template with its variables filled in, or its faults. It is one of the language, or it was made for
-/// a text of these forms.
+/// Expands a template, or returns its faults. `forms` are the forms of the text that was converted into the
+/// template, or `None` if the source is a template itself.
 fn fill_template(
     alloc: Global,
     template: &[u8],
     forms: Option<Forms>,
     variables: &Variables<'_>,
-) -> Result<Outcome<Vec<u8>>, AllocError>
+) -> Result<OrFaults<Vec<u8>>, AllocError>
     ensures gives { ForEntries variables.now (λ entries. IfOk result (λ outcome. IfOk outcome
         (λ output. GivesBy forms entries template.now output.items))) }
     ensures refused { ForEntries variables.now (λ entries. IfOk result (λ outcome. IfErr outcome
         (λ faults. Any (IsFaultBy forms entries template.now) faults.items))) }
 {
-    let filled = fill::bytes(alloc, template, &Seen::of(&variables.values, forms))?;
+    let filled = fill::bytes(alloc, template, &LookUpValues::of(&variables.values, forms))?;
     let unreadable = unreadable_in(alloc, template, forms, variables)?;
     match filled {
         Ok(output) if unreadable.is_empty() => Ok(Ok(output)),
@@ -156,12 +156,12 @@ fn fill_template(
     }
 }
 
-/// Returns a fault for each variable of a template whose value isn't UTF-8, in its order. A source that is no
-/// template has none.
+/// Returns a fault for each variable of a template whose value isn't UTF-8, in order, or no faults if the
+/// bytes aren't a template.
 ///
 /// # Errors
 ///
-/// When allocation fails.
+/// If allocation fails.
 fn unreadable_in(
     alloc: Global,
     template: &[u8],
@@ -178,17 +178,17 @@ fn unreadable_in(
     }
     let template = match ByteTemplate::from_slice(alloc, template) {
         Ok(template) => template,
-        Err(e) => return none_for(alloc, e),
+        Err(e) => return no_faults(alloc, e),
     };
     unreadable_of(alloc, template.variables(alloc)?, forms, variables)
 }
 
-/// Returns no faults, for a source that is no template.
+/// Returns an empty list of faults, for bytes that aren't a template because of `e`.
 ///
 /// # Errors
 ///
-/// When it is none because allocation failed.
-pub(crate) fn none_for(alloc: Global, e: ParseError) -> Result<Vec<Fault>, AllocError>
+/// If `e` is out of memory.
+pub(crate) fn no_faults(alloc: Global, e: ParseError) -> Result<Vec<Fault>, AllocError>
     ensures none { IfOk result (λ faults. faults.items ≡ []) }
     ensures wrong { IfOk result (λ faults. parse_fault e ≢ None) }
 {
@@ -198,11 +198,11 @@ pub(crate) fn none_for(alloc: Global, e: ParseError) -> Result<Vec<Fault>, Alloc
     Ok(Vec::new(alloc))
 }
 
-/// Returns a fault for each of these variables whose value isn't UTF-8, in their order.
+/// Returns a fault for each of these variables whose value isn't UTF-8, in order.
 ///
 /// # Errors
 ///
-/// When allocation fails.
+/// If allocation fails.
 fn unreadable_of(
     alloc: Global,
     list: Vec<Variable<'_>>,
@@ -210,13 +210,13 @@ fn unreadable_of(
     variables: &Variables<'_>,
 ) -> Result<Vec<Fault>, AllocError>
     ensures all { ForEntries variables.now (λ entries. IfOk result (λ faults. faults.items ≡ []
-        → All (λ it. ¬ (IsUnreadable entries (about forms it.name.now))) list.entry.items)) }
+        → All (λ it. ¬ (IsUnreadable entries (looked_up forms it.name.now))) list.entry.items)) }
     ensures each { ForEntries variables.now (λ entries. IfOk result (λ faults.
         All (IsUnreadableAmong forms entries (map variable_of list.entry.items)) faults.items)) }
 {
     let mut faults = Vec::new(alloc);
     for variable in list {
-        let name = asked_about(variable.name, forms);
+        let name = looked_up_name(variable.name, forms);
         if variables.is_unreadable(name) {
             faults.push(unreadable(alloc, variable.position, name)?)?;
         }
@@ -235,12 +235,12 @@ fn unreadable(alloc: Global, position: usize, name: &str) -> Result<Fault, Alloc
     })
 }
 
-/// Returns the faults of a text that is refused, and those of unreadable names that it has besides, all in the
-/// order of their places. A variable that is missing since its value isn't UTF-8 is told once.
+/// Returns the faults of `refusal` and `besides`, the faults of variables whose values aren't UTF-8, in the
+/// order of their positions. A variable that is missing because its value isn't UTF-8 has one fault.
 ///
 /// # Errors
 ///
-/// When allocation fails.
+/// If allocation fails.
 fn all_faults(
     alloc: Global,
     refusal: Refusal,
@@ -258,7 +258,7 @@ fn all_faults(
         faults.push(refused(alloc, range, first))?;
     }
     for e in others {
-        if !variables.is_unreadable(asked_about(&e.name, forms)) {
+        if !variables.is_unreadable(looked_up_name(&e.name, forms)) {
             let range = range_of_name(e.position, &e.name);
             faults.push(refused(alloc, range, Error::NoSuchVariable(e)))?;
         }
@@ -267,17 +267,17 @@ fn all_faults(
     Ok(faults)
 }
 
-/// Returns whether an error is that a variable is missing, whose value isn't UTF-8.
+/// Returns whether an error is a missing variable whose value isn't UTF-8.
 fn is_unreadable(e: &Error, forms: Option<Forms>, variables: &Variables<'_>) -> bool
     ensures { result ≡ lacks_unreadable forms variables.now e.now }
 {
     let Error::NoSuchVariable(missing) = e else {
         return false;
     };
-    variables.is_unreadable(asked_about(&missing.name, forms))
+    variables.is_unreadable(looked_up_name(&missing.name, forms))
 }
 
-/// Returns the fault that a template is refused with this error, which is about this range.
+/// Returns the fault for an error of the library, at a range.
 fn refused(alloc: Global, range: Range<usize>, e: Error) -> Fault
     ensures cause { result.cause ≡ causes.Refused e }
     ensures range { result.range ≡ range }
@@ -289,29 +289,29 @@ fn refused(alloc: Global, range: Range<usize>, e: Error) -> Fault
     }
 }
 
-/// A variable as a listing tells it.
+/// A use of a variable, for the listing.
 #[derive(Drop)]
 pub(crate) struct Occurrence {
-    /// The name.
+    /// The variable's name.
     pub name: String,
-    /// Where in the part it is.
+    /// The byte range of the name in the text that was searched for uses.
     pub range: Range<usize>,
-    /// What there is in its place where it has no value.
+    /// The expansion of the variable if it is unset.
     pub kind: VariableKind,
-    /// Its default, as it is written and shown, or nothing.
+    /// The default, escaped for a terminal, or an empty text.
     pub default: String,
 }
 
-/// Returns the variables of bytes, or their fault.
+/// Returns the uses of variables in a text or byte string, or its faults.
 ///
 /// # Errors
 ///
-/// When allocation fails.
+/// If allocation fails.
 pub(crate) fn uses_in_bytes(
     alloc: Global,
     source: &[u8],
     placeholders: &Placeholders<'_>,
-) -> Result<Outcome<Vec<Occurrence>>, AllocError> {
+) -> Result<OrFaults<Vec<Occurrence>>, AllocError> {
     let found = match placeholders {
         Placeholders::Own => uses_in(alloc, source)?,
         Placeholders::Chosen(chosen) => uses_in_chosen(alloc, source, chosen)?,
@@ -322,18 +322,18 @@ pub(crate) fn uses_in_bytes(
     };
     for it in uses.iter_mut() {
         if it.kind == VariableKind::WithDefault {
-            it.default = shown_default(alloc, source, it.range.end, placeholders)?;
+            it.default = printable_default(alloc, source, it.range.end, placeholders)?;
         }
     }
     Ok(Ok(uses))
 }
 
-/// Returns the chosen variables of bytes of another tool, or the forms that are refused.
+/// Returns the uses of chosen variables in another tool's text, or its refused forms.
 fn uses_in_chosen(
     alloc: Global,
     source: &[u8],
     chosen: &Chosen<'_>,
-) -> Result<Outcome<Vec<Occurrence>>, AllocError> {
+) -> Result<OrFaults<Vec<Occurrence>>, AllocError> {
     if let Err(faults) = chosen_template(alloc, source, chosen, None)? {
         return Ok(Err(faults));
     }
@@ -364,7 +364,7 @@ fn uses_in_chosen(
     Ok(Ok(uses))
 }
 
-/// Returns how an unset variable of another tool expands.
+/// Returns how a variable of another tool's text expands if it is unset: by its operator, if it has one.
 fn kind_of(operator: Option<Operator>, missing: Missing, is_optional: bool) -> VariableKind {
     match operator {
         Some(Operator::Question | Operator::ColonQuestion) => VariableKind::Required,
@@ -375,15 +375,15 @@ fn kind_of(operator: Option<Operator>, missing: Missing, is_optional: bool) -> V
     }
 }
 
-/// Returns whether a variable without an operator is `${NAME?}`, whose name begins at a position.
+/// Returns whether a variable without an operator is `${NAME?}`. Its `name` is at `position` of `source`.
 fn is_optional(source: &[u8], position: usize, name: &str) -> bool {
     let before = source.get(position.saturating_sub(1));
     let after = source.get(position.saturating_add(name.len()));
     before == Some(&b'{') && after == Some(&b'?')
 }
 
-/// Returns the variables of a template, or its fault.
-fn uses_in(alloc: Global, template: &[u8]) -> Result<Outcome<Vec<Occurrence>>, AllocError> {
+/// Returns the uses of variables in a template, or the fault of bytes that aren't a template.
+fn uses_in(alloc: Global, template: &[u8]) -> Result<OrFaults<Vec<Occurrence>>, AllocError> {
     match ByteTemplate::from_slice(alloc, template) {
         Ok(template) => {
             let variables = template.variables(alloc)?;
@@ -398,7 +398,7 @@ fn uses_in(alloc: Global, template: &[u8]) -> Result<Outcome<Vec<Occurrence>>, A
     }
 }
 
-/// Returns variables as a listing tells them.
+/// Converts the variables of a template into uses for the listing, without defaults.
 fn uses(alloc: Global, variables: Vec<Variable<'_>>) -> Result<Vec<Occurrence>, AllocError> {
     let mut uses = Vec::with_capacity(alloc, variables.len())?;
     for Variable {

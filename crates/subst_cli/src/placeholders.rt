@@ -1,4 +1,4 @@
-//! The names that are chosen in texts of other tools.
+//! The choice of names that are variables in texts of other tools.
 
 ghost use Rattle.std.specs.Prelude.{◌≡◌, ◌↔◌, ◌++◌, ℕ, IsTrue, List};
 ghost use Rattle.std.specs.List.{All};
@@ -12,11 +12,11 @@ use crate::options::{Choice, Chosen};
 use memchr::memchr;
 use subst::foreign::{Names, Style};
 
-/// The names of a choice.
+/// A choice of names, and the variables on which `Choice::Known` depends.
 #[derive(Clone, Copy)]
 pub(crate) struct ChosenNames<'r, 'w, 'v> {
     pub choice: &'r Choice<'w>,
-    /// The variables, or none where they aren't known.
+    /// The variables that are set, or `None` if no name is treated as set.
     pub variables: Option<&'r Variables<'v>>,
 }
 
@@ -41,7 +41,7 @@ impl Names for ChosenNames<'_, '_, '_> {
     }
 }
 
-/// Returns whether a name begins with one of these.
+/// Returns whether a name begins with one of these starts.
 fn begins_with_one(name: &[u8], starts: &[&str]) -> bool
     ensures { IsTrue result ↔ BeginsWithOne starts.now name.now }
 {
@@ -53,7 +53,7 @@ fn begins_with_one(name: &[u8], starts: &[&str]) -> bool
     false
 }
 
-/// Returns whether a name begins so.
+/// Returns whether a name begins with a start.
 fn begins_with(name: &[u8], start: &str) -> bool
     ensures { IsTrue result ↔ ((rest : List ℕ) × (name.now ≡ start.now ++ rest)) }
 {
@@ -63,7 +63,7 @@ fn begins_with(name: &[u8], start: &str) -> bool
     }
 }
 
-/// Returns whether something is given to a name.
+/// Returns whether a name is set in `variables`, or `false` if there are none.
 fn is_known(variables: Option<&Variables<'_>>, name: &[u8]) -> bool
     requires { IsName name.now }
     ensures { IsTrue result ↔ IsKnownBy variables.entry name.now }
@@ -77,7 +77,7 @@ fn is_known(variables: Option<&Variables<'_>>, name: &[u8]) -> bool
     variables.has(name)
 }
 
-/// Returns how a text is read in which these forms of these names are variables.
+/// Returns the style with the chosen forms and expansion of unset variables, and with these names.
 pub(crate) fn style_of<'n, 'r, 'w, 'v>(
     chosen: &Chosen<'w>,
     names: &'n ChosenNames<'r, 'w, 'v>,
@@ -93,7 +93,7 @@ pub(crate) fn style_of<'n, 'r, 'w, 'v>(
     }
 }
 
-/// Returns whether a text has no dollar, so that no variable begins in it.
+/// Returns whether a text has no dollar, and so no variable.
 pub(crate) fn has_no_dollar(text: &[u8]) -> bool
     ensures { IsTrue result → All (λ b. ¬ (b ≡ dollar)) text.now }
 {

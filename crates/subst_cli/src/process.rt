@@ -1,4 +1,4 @@
-//! The program in its process.
+//! Runs the program with the arguments, the environment and the standard streams of its process.
 
 ghost use Rattle.std.specs.Prelude.{◌≤◌};
 ghost use Rattle.std.specs.Process.{exit_status};
@@ -7,7 +7,7 @@ use crate::options::Options;
 use crate::output;
 use crate::report::Report;
 use crate::run::run_options;
-use crate::shown::shown_lines;
+use crate::terminal::printable_lines;
 use clap::Error;
 use clap::error::ErrorKind;
 use std::alloc::AllocError;
@@ -15,51 +15,50 @@ use std::process::ExitCode;
 use std::{env, io};
 use subst_filter_lib::status::OUT_OF_MEMORY;
 
-/// Runs the program over the words of its command line, its environment, its standard streams and the files
-/// that the words name, and returns the status to end with, one of the filter's: the highest of what
-/// happened.
+/// Runs the program with its arguments, its environment, its standard streams and the files that the
+/// arguments name. Returns the exit status: the highest of all events that were reported, or `DONE`.
 pub fn run(rt: &HostRuntime) -> ExitCode
     ensures statuses { exit_status result ≤ OUT_OF_MEMORY }
 {
     let mut report = Report::new(rt);
-    if run_words(rt, &mut report).is_err() {
+    if run_arguments(rt, &mut report).is_err() {
         report.out_of_memory("subst");
     }
     ExitCode::from(report.status())
 }
 
-/// Does what the words of the command line ask for.
-fn run_words(rt: &HostRuntime, report: &mut Report<'_>) -> Result<(), AllocError> {
-    let words = match words(rt) {
-        Ok(words) => words,
+/// Parses the arguments and runs the program with them, or prints the message of `clap` or of an error.
+fn run_arguments(rt: &HostRuntime, report: &mut Report<'_>) -> Result<(), AllocError> {
+    let arguments = match arguments(rt) {
+        Ok(arguments) => arguments,
         Err(e) if e.kind() == io::ErrorKind::OutOfMemory => return Err(AllocError),
         Err(_) => {
-            report.wrong_words("subst: error: a word of the command line isn't UTF-8\n");
+            report.wrong_arguments("subst: error: an argument isn't UTF-8\n");
             return Ok(());
         }
     };
-    match Options::of_words(rt.alloc(), &words) {
+    match Options::parse(rt.alloc(), &arguments) {
         Ok(options) => run_options(rt, &options, report),
-        Err(e) => answer(rt, &e, report),
+        Err(e) => print_message(rt, &e, report),
     }
 }
 
-/// Returns the words of the command line, of which the first one is the program's name.
-fn words(rt: &HostRuntime) -> io::Result<Vec<String>> {
-    let words = env::args(rt)?.collect(rt.alloc())?;
-    Ok(words)
+/// Returns the arguments, the first of which is the program's name.
+fn arguments(rt: &HostRuntime) -> io::Result<Vec<String>> {
+    let arguments = env::args(rt)?.collect(rt.alloc())?;
+    Ok(arguments)
 }
 
-/// Prints what `clap` says: the help and the version on standard output, and what is wrong on standard error.
-fn answer(rt: &HostRuntime, e: &Error, report: &mut Report<'_>) -> Result<(), AllocError> {
+/// Prints the message of `clap`: help and version to standard output, errors to standard error.
+fn print_message(rt: &HostRuntime, e: &Error, report: &mut Report<'_>) -> Result<(), AllocError> {
     let alloc = rt.alloc();
     if e.kind() == ErrorKind::OutOfMemory {
         return Err(AllocError);
     }
     let text = format!(in alloc; "{e}")?;
     if e.use_stderr() {
-        let said = shown_lines(alloc, text.strip_prefix("error: ").unwrap_or(&text))?;
-        report.wrong_words(&format!(in alloc; "subst: error: {said}")?);
+        let message = printable_lines(alloc, text.strip_prefix("error: ").unwrap_or(&text))?;
+        report.wrong_arguments(&format!(in alloc; "subst: error: {message}")?);
         return Ok(());
     }
     match output::print(rt, text.as_bytes()) {

@@ -1,33 +1,33 @@
-//! What a run says on standard error, and the status that it ends with.
+//! The diagnostics of a run, on standard error, and its exit status.
 
 ghost use Rattle.std.specs.Prelude.{◌≡◌, ◌≤◌, OnOk};
 ghost use Rattle.subst_cli.specs.Status.{status_of, worse};
 
 use crate::hints::UnsetHint;
-use crate::shown::shown;
+use crate::terminal::printable;
 use std::alloc::AllocError;
 use std::collections::HashSet;
 use std::io;
 use std::io::Write;
-use subst_filter_lib::status::{DEVICE_FAILED, DONE, OUT_OF_MEMORY, REFUSED, WRONG_WORDS};
+use subst_filter_lib::status::{DEVICE_FAILED, DONE, OUT_OF_MEMORY, REFUSED, WRONG_ARGUMENTS};
 
-/// The worst of what happened.
+/// The severity of an event, which decides the exit status.
 #[derive(Clone, Copy, PartialEq, Eq)]
 pub(crate) enum Severity {
-    /// Nothing bad.
+    /// No error.
     Nothing,
     /// A source is refused.
     Refusal,
-    /// The words of the command line are wrong.
+    /// The arguments are wrong.
     Misuse,
-    /// A file or a device failed.
+    /// Reading or writing failed.
     Failure,
-    /// Memory ran out.
+    /// Out of memory.
     Exhaustion,
 }
 
 impl Severity {
-    /// Returns its status.
+    /// Returns the exit status of a run with this severity.
     fn status(self) -> u8
         ensures value { result ≡ status_of self }
         ensures known { result ≤ OUT_OF_MEMORY }
@@ -35,26 +35,26 @@ impl Severity {
         match self {
             Severity::Nothing => DONE,
             Severity::Refusal => REFUSED,
-            Severity::Misuse => WRONG_WORDS,
+            Severity::Misuse => WRONG_ARGUMENTS,
             Severity::Failure => DEVICE_FAILED,
             Severity::Exhaustion => OUT_OF_MEMORY,
         }
     }
 }
 
-/// The messages of a run so far.
+/// The report of a run: its diagnostics and hints, and the highest severity so far.
 #[derive(Drop)]
 pub(crate) struct Report<'r> {
     rt: &'r HostRuntime,
     worst: Severity,
-    /// Whether a hint was given.
+    /// Whether a hint has been printed.
     is_hinted: bool,
-    /// The unset names that were hinted at.
+    /// The names of unset variables for which a hint has been printed.
     unset: HashSet<String>,
 }
 
 impl<'r> Report<'r> {
-    /// Returns one that says nothing yet.
+    /// Returns an empty report.
     pub fn new(rt: &'r HostRuntime) -> Self {
         Report {
             rt,
@@ -64,12 +64,12 @@ impl<'r> Report<'r> {
         }
     }
 
-    /// Returns whether it says nothing.
+    /// Returns whether no error has been reported.
     pub fn is_empty(&self) -> bool {
         self.worst == Severity::Nothing
     }
 
-    /// Returns the status of the run: the highest of what was said.
+    /// Returns the exit status of the run: the highest of all reported events.
     pub fn status(&self) -> u8
         ensures value { result ≡ status_of self.now.worst }
         ensures known { result ≤ OUT_OF_MEMORY }
@@ -77,25 +77,25 @@ impl<'r> Report<'r> {
         self.worst.status()
     }
 
-    /// Says why a source is refused.
+    /// Reports the refusal of a source, with these messages for its faults.
     pub fn refused(&mut self, messages: &str)
         ensures { self.new.worst ≡ worse self.old.worst Severity.Refusal }
     {
-        self.say(Severity::Refusal, messages);
+        self.print(Severity::Refusal, messages);
     }
 
-    /// Says what is wrong with the words of the command line.
-    pub fn wrong_words(&mut self, message: &str)
+    /// Reports wrong arguments.
+    pub fn wrong_arguments(&mut self, message: &str)
         ensures { self.new.worst ≡ worse self.old.worst Severity.Misuse }
     {
-        self.say(Severity::Misuse, message);
+        self.print(Severity::Misuse, message);
     }
 
-    /// Says that a file or a device failed, and what the system says of it; or that memory ran out.
+    /// Reports a failed file or device with the system's message, or out of memory.
     ///
     /// # Errors
     ///
-    /// When allocation fails.
+    /// If allocation fails.
     pub fn failed(&mut self, name: &str, e: &io::Error) -> Result<(), AllocError>
         ensures { OnOk result (DEVICE_FAILED ≤ status_of self.new.worst) }
     {
@@ -105,26 +105,26 @@ impl<'r> Report<'r> {
         }
         let alloc = self.rt.alloc();
         let text = format!(in alloc; "{e}")?;
-        let said = shown(alloc, without_code(&text).as_bytes())?;
-        let message = format!(in alloc; "{name}: error: {said}\n")?;
-        self.say(Severity::Failure, &message);
+        let cause = printable(alloc, without_code(&text).as_bytes())?;
+        let message = format!(in alloc; "{name}: error: {cause}\n")?;
+        self.print(Severity::Failure, &message);
         Ok(())
     }
 
-    /// Says why a file can't be what is asked for.
+    /// Reports a file that can't be used, with the reason.
     ///
     /// # Errors
     ///
-    /// When allocation fails.
+    /// If allocation fails.
     pub fn failed_since(&mut self, name: &str, why: &str) -> Result<(), AllocError>
         ensures { OnOk result (self.new.worst ≡ worse self.old.worst Severity.Failure) }
     {
         let message = format!(in self.rt.alloc(); "{name}: error: {why}\n")?;
-        self.say(Severity::Failure, &message);
+        self.print(Severity::Failure, &message);
         Ok(())
     }
 
-    /// Says what may have been meant, if there is something, once in a run. It changes no status.
+    /// Prints a hint, if there is one, and at most one in a run. The exit status is unchanged.
     pub fn hint(&mut self, hint: Option<&str>)
         ensures { self.new.worst ≡ self.old.worst }
     {
@@ -136,11 +136,11 @@ impl<'r> Report<'r> {
         }
     }
 
-    /// Hints at unset variables, at each name once in a run. It changes no status.
+    /// Prints hints at unset variables, at most one for each name in a run. The exit status is unchanged.
     ///
     /// # Errors
     ///
-    /// When allocation fails.
+    /// If allocation fails.
     pub fn hint_unset(&mut self, hints: Vec<UnsetHint>) -> Result<(), AllocError>
         ensures { self.new.worst ≡ self.old.worst }
     {
@@ -153,16 +153,16 @@ impl<'r> Report<'r> {
         Ok(())
     }
 
-    /// Says that memory ran out. That takes none.
+    /// Reports out of memory for a file or the program of this name, without allocating.
     pub fn out_of_memory(&mut self, name: &str)
         ensures { self.new.worst ≡ Severity.Exhaustion }
     {
-        self.say(Severity::Exhaustion, name);
-        self.say(Severity::Exhaustion, ": error: out of memory\n");
+        self.print(Severity::Exhaustion, name);
+        self.print(Severity::Exhaustion, ": error: out of memory\n");
     }
 
-    /// Writes a text, and ignores a failure: there is nowhere else to say it.
-    fn say(&mut self, worst: Severity, text: &str)
+    /// Writes a text to standard error, and raises the severity of the report. A failed write is ignored.
+    fn print(&mut self, worst: Severity, text: &str)
         ensures { self.new.worst ≡ worse self.old.worst worst }
     {
         let _ = self.rt.stderr().write_all(text.as_bytes());
@@ -172,10 +172,10 @@ impl<'r> Report<'r> {
     }
 }
 
-/// Returns what the system says of an error without its number.
+/// Returns the system's message of an error, without the error's number.
 fn without_code(text: &str) -> &str {
     match text.split_once(" (os error ") {
-        Some((said, _)) => said,
+        Some((message, _)) => message,
         None => text,
     }
 }

@@ -1,14 +1,14 @@
-//! A run over files: what is read is filled in, and then written.
+//! A run over files: reads variables and sources, expands the sources, and writes the outputs.
 
 use crate::entry::Entry;
-use crate::filling::{Filling, Outputs, all_entries, dotenv_entries, fill_in, uses};
-use crate::input::{is_folder, names_in, path_in, read, shown_name};
+use crate::expansion::{Expander, Outputs, all_entries, dotenv_entries, fill_in, uses};
+use crate::input::{display_name, is_directory, names_in, path_in, read};
 use crate::layers::{Layers, Variables};
 use crate::listing::Listing;
 use crate::options::{Action, Options, STANDARD_INPUT};
-use crate::place::Places;
+use crate::position::Positions;
 use crate::report::Report;
-use crate::source::{Refused, Shows, Source, messages};
+use crate::source::{Excerpts, Refused, Source, messages};
 use crate::templates::{Template, templates};
 use crate::text::split_source;
 use crate::values_file::{ValuesSource, lines_of};
@@ -20,7 +20,7 @@ use std::path::Path;
 use std::{fs, io};
 use subst::is_name;
 
-/// Reads the values files and the environment, and does what the options ask for.
+/// Reads the variables, and performs the action of the options unless an error has been reported.
 pub(crate) fn run_options(
     rt: &HostRuntime,
     options: &Options<'_>,
@@ -46,18 +46,19 @@ pub(crate) fn run_options(
             let run = Run {
                 rt,
                 options,
-                filling: Filling::of(options, variables),
+                expander: Expander::of(options, variables),
             };
             match options.action {
                 Action::Check => run.check_each(report),
-                Action::WriteInto(folder) => run.write_each(folder, report),
+                Action::WriteInto(_) => run.write_each(report),
                 _ => run.replace_each(report),
             }
         }
     }
 }
 
-/// Returns what values files, defaults files and the environment give, and says what is wrong with files.
+/// Reads the variables of values files, defaults files, `.env` files and the environment. Reports files that
+/// can't be read or are refused.
 fn layers(
     rt: &HostRuntime,
     options: &Options<'_>,
@@ -95,7 +96,7 @@ fn layers(
     Ok(read)
 }
 
-/// Reads `.env` files. Reports the first that is refused, and hints at unset variables.
+/// Parses `.env` files. Prints hints at unset variables. Reports a refused file, and then returns no entries.
 fn dotenv(
     alloc: Global,
     options: &Options<'_>,
@@ -117,19 +118,19 @@ fn dotenv(
     }
 }
 
-/// Reports the faults of a file of values, without its lines.
+/// Reports the faults of a values file or `.env` file, without the file's lines, which may have secrets.
 fn report_values(
     alloc: Global,
     refused: &Refused,
     report: &mut Report<'_>,
 ) -> Result<(), AllocError> {
     let Refused { source, faults } = refused;
-    report.refused(&messages(alloc, &source.name, &source.bytes, faults, Shows::Nothing)?);
+    report.refused(&messages(alloc, &source.name, &source.bytes, faults, Excerpts::None)?);
     Ok(())
 }
 
-/// Returns what values files have, and the files of folders under names that templates can spell; and says
-/// which can't be read.
+/// Reads values files. Of a directory, reads each file whose name is a variable name. Reports files that
+/// can't be read.
 fn values_sources(
     rt: &HostRuntime,
     options: &Options<'_>,
@@ -141,36 +142,36 @@ fn values_sources(
         match names_in(rt, file) {
             Ok(None) => {
                 if let Some(source) = source(rt, file, report)? {
-                    report.hint(hints::about_values(rt.alloc(), &source)?.as_deref());
+                    report.hint(hints::values_hint(rt.alloc(), &source)?.as_deref());
                     sources.push(ValuesSource::Lines(source))?;
                 }
             }
-            Ok(Some(names)) => add_folder(rt, options, file, names, &mut sources, report)?,
-            Err(e) => report.failed(&shown_name(rt.alloc(), file)?, &e)?,
+            Ok(Some(names)) => add_directory(rt, options, file, names, &mut sources, report)?,
+            Err(e) => report.failed(&display_name(rt.alloc(), file)?, &e)?,
         }
     }
     Ok(sources)
 }
 
-/// Adds the files of a folder, each as the value of its name, if a template can spell that.
-fn add_folder(
+/// Reads the files in `directory` that have variable names into `sources`, as the values of these variables.
+fn add_directory(
     rt: &HostRuntime,
     options: &Options<'_>,
-    folder: &str,
+    directory: &str,
     names: Vec<String>,
     sources: &mut Vec<ValuesSource>,
     report: &mut Report<'_>,
 ) -> Result<(), AllocError> {
     for name in names {
-        let file = path_in(rt.alloc(), folder, &name)?;
-        if is_name(name.as_bytes()) && !is_folder(rt, &file) {
+        let file = path_in(rt.alloc(), directory, &name)?;
+        if is_name(name.as_bytes()) && !is_directory(rt, &file) {
             add_value(rt, options, name, &file, sources, report)?;
         }
     }
     Ok(())
 }
 
-/// Adds a file as the value of a name.
+/// Reads `file` and appends it to `sources` as the value of `name`, or reports why `file` can't be read.
 fn add_value(
     rt: &HostRuntime,
     options: &Options<'_>,
@@ -185,7 +186,7 @@ fn add_value(
     Ok(())
 }
 
-/// Returns the variables of values files, in their order, and says what is wrong with the files.
+/// Returns the variables of values files in order, or no variables if files are refused, which it reports.
 fn entries(
     alloc: Global,
     files: Vec<ValuesSource>,
@@ -202,7 +203,7 @@ fn entries(
     }
 }
 
-/// Returns what is in the files to fill in, and says which can't be read.
+/// Reads the files to be expanded, and reports those that can't be read.
 fn sources(
     rt: &HostRuntime,
     options: &Options<'_>,
@@ -210,15 +211,15 @@ fn sources(
 ) -> Result<Vec<Source>, AllocError> {
     let mut sources = Vec::new(rt.alloc());
     for file in &options.files {
-        if let Some(source) = asked_source(rt, options, file, report)? {
+        if let Some(source) = checked_source(rt, options, file, report)? {
             sources.push(source)?;
         }
     }
     Ok(sources)
 }
 
-/// Writes what sources give where it is asked for, or says why they give nothing. Where something was said
-/// before, nothing is written.
+/// Writes the outputs to a file or to standard output, or reports all refusals. Writes nothing if an error
+/// has been reported.
 fn write(
     rt: &HostRuntime,
     options: &Options<'_>,
@@ -243,7 +244,7 @@ fn write(
                 [template] if *template != STANDARD_INPUT => output::mode_of_new(rt, template),
                 _ => output::NEW_MODE,
             };
-            written(rt, file, output::write(rt, file, mode, &all), report)
+            report_write(rt, file, output::write(rt, file, mode, &all), report)
         }
         _ => match output::print(rt, &all) {
             Ok(()) => Ok(()),
@@ -252,7 +253,7 @@ fn write(
     }
 }
 
-/// Says why a source gives nothing.
+/// Reports the faults of a refused source, and prints a hint if one applies.
 fn report_refused(
     alloc: Global,
     options: &Options<'_>,
@@ -260,16 +261,17 @@ fn report_refused(
     report: &mut Report<'_>,
 ) -> Result<(), AllocError> {
     let Refused { source, faults } = refused;
-    let (_, bytes) = split_source(options.form, &source.bytes);
-    report.refused(&messages(alloc, &source.name, bytes, faults, Shows::Lines)?);
-    report.hint(hints::about_faults(options, faults));
-    let hint = hints::about_document(alloc, options, &source.name, bytes, faults)?;
+    let format = options.formats.format_of(&source.path);
+    let (_, bytes) = split_source(format, &source.bytes);
+    report.refused(&messages(alloc, &source.name, bytes, faults, Excerpts::All)?);
+    report.hint(hints::faults_hint(options, faults));
+    let hint = hints::document_hint(alloc, format, &source.name, bytes, faults)?;
     report.hint(hint.as_deref());
     Ok(())
 }
 
-/// Returns a file to fill in, or says why it can't be read; and gives hints.
-fn asked_source(
+/// Reads a file to be expanded, or reports a failure. Also reports defaults that look like another tool's.
+fn checked_source(
     rt: &HostRuntime,
     options: &Options<'_>,
     file: &str,
@@ -278,13 +280,13 @@ fn asked_source(
     let found = source(rt, file, report)?;
     match &found {
         Some(source) => report_defaults(rt.alloc(), options, source, report)?,
-        None => report.hint(hints::about_file(rt.alloc(), file)?.as_deref()),
+        None => report.hint(hints::file_hint(rt.alloc(), file)?.as_deref()),
     }
     Ok(found)
 }
 
-/// Reports the defaults of another tool in a source: each is an error if the options refuse it, else the first is
-/// hinted at.
+/// Reports the defaults in a source that look like another tool's. Each is an error if the options refuse
+/// such defaults; otherwise a hint is printed at the first one.
 fn report_defaults(
     alloc: Global,
     options: &Options<'_>,
@@ -292,26 +294,28 @@ fn report_defaults(
     report: &mut Report<'_>,
 ) -> Result<(), AllocError> {
     if !options.refuses_defaults {
-        report.hint(hints::about_default(alloc, options, source)?.as_deref());
+        report.hint(hints::default_hint(alloc, options, source)?.as_deref());
         return Ok(());
     }
     let faults = hints::default_faults(alloc, options, source)?;
     if !faults.is_empty() {
-        let Source { name, bytes } = source;
-        report.refused(&messages(alloc, name, bytes, &faults, Shows::Lines)?);
+        report.refused(&messages(alloc, &source.name, &source.bytes, &faults, Excerpts::All)?);
     }
     Ok(())
 }
 
-/// Returns a source, or says why it can't be read.
+/// Reads a file, or reports why it can't be read and returns `None`.
 fn source(
     rt: &HostRuntime,
     file: &str,
     report: &mut Report<'_>,
 ) -> Result<Option<Source>, AllocError> {
-    let name = shown_name(rt.alloc(), file)?;
+    let name = display_name(rt.alloc(), file)?;
     match read(rt, file) {
-        Ok(bytes) => Ok(Some(Source { name, bytes })),
+        Ok(bytes) => {
+            let path = String::from_str(rt.alloc(), file)?;
+            Ok(Some(Source { path, name, bytes }))
+        }
         Err(e) => {
             report.failed(&name, &e)?;
             Ok(None)
@@ -319,70 +323,73 @@ fn source(
     }
 }
 
-/// A run whose sources each stand for themselves.
+/// A run that processes its sources one at a time.
 #[derive(Drop)]
 struct Run<'r, 'w, 'v> {
     rt: &'r HostRuntime,
     options: &'r Options<'w>,
-    filling: Filling<'r, 'w, 'v>,
+    expander: Expander<'r, 'w, 'v>,
 }
 
 impl Run<'_, '_, '_> {
-    /// Says what is wrong with each source. What they give isn't kept.
+    /// Reports the faults of each source. The outputs are discarded.
     fn check_each(&self, report: &mut Report<'_>) -> Result<(), AllocError> {
         for Template { file, .. } in all_templates(self.rt, self.options, report)? {
-            if let Some(source) = asked_source(self.rt, self.options, &file, report)? {
+            if let Some(source) = checked_source(self.rt, self.options, &file, report)? {
                 let _ = self.output_of(source, report)?;
             }
         }
         Ok(())
     }
 
-    /// Writes what each source gives into a folder, each by itself.
-    fn write_each(&self, folder: &str, report: &mut Report<'_>) -> Result<(), AllocError> {
+    /// Writes the output of each source into the output directory, or reports the source's faults.
+    fn write_each(&self, report: &mut Report<'_>) -> Result<(), AllocError> {
         let mut done = HashSet::new(self.rt.alloc());
         for template in all_templates(self.rt, self.options, report)? {
-            self.write_into(folder, template, &mut done, report)?;
+            self.write_new(&template, &mut done, report)?;
         }
         Ok(())
     }
 
-    /// Writes what a source gives to its place in a folder, unless another one has that place.
-    fn write_into(
+    /// Writes a source's output into the output directory, or reports an earlier output at the same path.
+    fn write_new(
         &self,
-        folder: &str,
-        template: Template,
+        template: &Template,
         done: &mut HashSet<String>,
         report: &mut Report<'_>,
     ) -> Result<(), AllocError> {
-        let Template { file, name } = template;
-        let path = path_in(self.rt.alloc(), folder, &name)?;
+        let Template { file, .. } = template;
+        let path = template.target(self.rt.alloc(), self.options.action)?;
         if done.contains(&path) {
-            let file = shown_name(self.rt.alloc(), &file)?;
-            return report.failed_since(&file, "another file has its place in the folder");
+            let file = display_name(self.rt.alloc(), file)?;
+            return report.failed_since(
+                &file,
+                "not written: an earlier file has the same output path",
+            );
         }
-        if let Some(source) = asked_source(self.rt, self.options, &file, report)?
+        if let Some(source) = checked_source(self.rt, self.options, file, report)?
             && let Some(Output { bytes, .. }) = self.output_of(source, report)?
         {
-            let mode = output::mode_of_new(self.rt, &file);
+            let mode = output::mode_of_new(self.rt, file);
             write_below(self.rt, &path, mode, &bytes, report)?;
         }
         done.insert(path)?;
         Ok(())
     }
 
-    /// Replaces each source by what it gives, unless it gives itself. One that is named again, which is then
-    /// a file that is done, stays.
+    /// Replaces each file by its output, unless they are equal. A file that is named twice is replaced once.
+    /// All directories are listed before any file is written, so no new file is listed.
     fn replace_each(&self, report: &mut Report<'_>) -> Result<(), AllocError> {
         let mut done = HashSet::new(self.rt.alloc());
-        for file in &self.options.files {
+        for template in all_templates(self.rt, self.options, report)? {
+            let Template { file, .. } = &template;
             match output::regular_file(self.rt, file) {
                 Ok(Some(found)) if done.contains(&found) => {}
                 Ok(None) => {
-                    let name = shown_name(self.rt.alloc(), file)?;
+                    let name = display_name(self.rt.alloc(), file)?;
                     report.failed_since(&name, "not a regular file")?;
                 }
-                _ => self.replace(file, report)?,
+                _ => self.replace(&template, report)?,
             }
             if let Ok(Some(found)) = output::regular_file(self.rt, file) {
                 done.insert(found)?;
@@ -391,9 +398,9 @@ impl Run<'_, '_, '_> {
         Ok(())
     }
 
-    /// Replaces a source by what it gives, unless it gives itself.
-    fn replace(&self, file: &str, report: &mut Report<'_>) -> Result<(), AllocError> {
-        if let Some(source) = asked_source(self.rt, self.options, file, report)?
+    /// Replaces a file by its output, unless they are equal.
+    fn replace(&self, template: &Template, report: &mut Report<'_>) -> Result<(), AllocError> {
+        if let Some(source) = checked_source(self.rt, self.options, &template.file, report)?
             && let Some(
                 Output {
                     bytes,
@@ -401,29 +408,30 @@ impl Run<'_, '_, '_> {
                 },
             ) = self.output_of(source, report)?
         {
-            let outcome = output::replace(self.rt, file, output::NEW_MODE, &bytes);
-            written(self.rt, file, outcome, report)?;
+            let path = template.target(self.rt.alloc(), self.options.action)?;
+            let outcome = output::replace(self.rt, &path, output::NEW_MODE, &bytes);
+            report_write(self.rt, &path, outcome, report)?;
         }
         Ok(())
     }
 
-    /// Returns what a source gives, or says why it gives nothing.
+    /// Returns the output of a source, or reports why there is none and returns `None`.
     fn output_of(
         &self,
         source: Source,
         report: &mut Report<'_>,
     ) -> Result<Option<Output>, AllocError> {
         let alloc = self.rt.alloc();
-        if self.filling.is_its_own_output(&source.bytes) {
+        if self.expander.is_its_own_output(&source) {
             return Ok(Some(Output {
                 bytes: source.bytes,
                 is_source: true,
             }));
         }
         if self.options.hints_unset {
-            report.hint_unset(hints::about_unset(alloc, &self.filling, &source)?)?;
+            report.hint_unset(hints::unset_hints(alloc, &self.expander, &source)?)?;
         }
-        match self.filling.fill(alloc, &source.bytes) {
+        match self.expander.fill(alloc, &source) {
             Ok(Ok(bytes)) => {
                 let is_source = bytes == source.bytes;
                 Ok(Some(Output { bytes, is_source }))
@@ -440,16 +448,16 @@ impl Run<'_, '_, '_> {
     }
 }
 
-/// What a source gives.
+/// The output of a source.
 #[derive(Drop)]
 struct Output {
     bytes: Vec<u8>,
-    /// Whether these are those of the source.
+    /// Whether the bytes are those of the source.
     is_source: bool,
 }
 
-/// Returns the templates of all files and folders, in their order, and says which folders can't be read; and
-/// gives a hint if none has the suffix.
+/// Returns the templates of all files and directories, in order. Reports directories that can't be read, and
+/// prints a hint if no file has the suffix.
 fn all_templates(
     rt: &HostRuntime,
     options: &Options<'_>,
@@ -460,18 +468,18 @@ fn all_templates(
     for path in &options.files {
         match templates(rt, path, options.suffix) {
             Ok(mut found) => all.append(&mut found)?,
-            Err(e) => report.failed(&shown_name(alloc, path)?, &e)?,
+            Err(e) => report.failed(&display_name(alloc, path)?, &e)?,
         }
     }
     let suffix = options.suffix;
     if !suffix.is_empty() && !all.iter().any(|it| it.file.ends_with(suffix)) {
-        report.hint(Some(&hints::about_suffix(alloc, suffix)?));
+        report.hint(Some(&hints::suffix_hint(alloc, suffix)?));
     }
     Ok(all)
 }
 
-/// Writes bytes to a file, in whose path folders are made that aren't there, or says why not: of a folder that
-/// can't be written into, and else of the file.
+/// Writes bytes to a file, and creates its missing directories. A failure is reported for the directory if no
+/// file can be created in it, and otherwise for the file.
 fn write_below(
     rt: &HostRuntime,
     path: &str,
@@ -479,18 +487,18 @@ fn write_below(
     bytes: &[u8],
     report: &mut Report<'_>,
 ) -> Result<(), AllocError> {
-    let folder = Path::new(path).parent().unwrap_or(Path::new(""));
-    let name = shown_name(rt.alloc(), folder.as_str())?;
-    if let Err(e) = fs::create_dir_all(rt, folder) {
+    let directory = Path::new(path).parent().unwrap_or(Path::new(""));
+    let name = display_name(rt.alloc(), directory.as_str())?;
+    if let Err(e) = fs::create_dir_all(rt, directory) {
         return report.failed(&name, &e);
     }
     match output::replace(rt, path, mode, bytes) {
         Err(e) if is_denied(&e) && fs::metadata(rt, path).is_err() => report.failed(&name, &e),
-        outcome => written(rt, path, outcome, report),
+        outcome => report_write(rt, path, outcome, report),
     }
 }
 
-/// Returns whether no new file can be made in a folder.
+/// Returns whether an error is a denied permission or a read-only file system.
 fn is_denied(e: &io::Error) -> bool {
     matches!(
         e.kind(),
@@ -498,8 +506,8 @@ fn is_denied(e: &io::Error) -> bool {
     )
 }
 
-/// Says why a file isn't written, if it isn't.
-fn written(
+/// Reports the failure to write `file`, if `outcome` is one. Also reports if no new file can replace `file`.
+fn report_write(
     rt: &HostRuntime,
     file: &str,
     outcome: io::Result<()>,
@@ -509,21 +517,21 @@ fn written(
         return Ok(());
     };
     let alloc = rt.alloc();
-    let name = shown_name(alloc, file)?;
+    let name = display_name(alloc, file)?;
     report.failed(&name, &e)?;
     if let ErrorKind::PermissionDenied
     | ErrorKind::ResourceBusy
     | ErrorKind::ReadOnlyFilesystem = e.kind()
         && let Ok(new) = output::path_of_new(rt, file)
     {
-        let new = shown_name(alloc, new.as_path().as_str())?;
-        let why = format!(in alloc; "{new} can't take its place; '> FILE' writes through")?;
+        let new = display_name(alloc, new.as_path().as_str())?;
+        let why = format!(in alloc; "{new} can't replace it; use '> FILE' to write into it")?;
         report.failed_since(&name, &why)?;
     }
     Ok(())
 }
 
-/// Prints the names that the sources use.
+/// Prints a listing of the variables in all files. Reports files that can't be read or are refused.
 fn list(
     rt: &HostRuntime,
     options: &Options<'_>,
@@ -543,7 +551,7 @@ fn list(
     Ok(())
 }
 
-/// Adds the names of a source to a listing, or says why it has none.
+/// Adds the variables of a source to a listing, or reports the source's faults.
 fn list_source(
     alloc: Global,
     options: &Options<'_>,
@@ -551,13 +559,14 @@ fn list_source(
     listing: &mut Listing,
     report: &mut Report<'_>,
 ) -> Result<(), AllocError> {
-    match uses(alloc, &source.bytes, options)? {
+    match uses(alloc, &source, options)? {
         Ok(uses) => {
-            let (_, filled) = split_source(options.form, &source.bytes);
-            let mut places = Places::of(filled);
+            let format = options.formats.format_of(&source.path);
+            let (_, filled) = split_source(format, &source.bytes);
+            let mut positions = Positions::of(filled);
             for it in uses {
-                let place = places.at(alloc, it.range.start)?;
-                listing.add(alloc, it, &source.name, place)?;
+                let position = positions.at(alloc, it.range.start)?;
+                listing.add(alloc, it, &source.name, position)?;
             }
             Ok(())
         }

@@ -1,60 +1,62 @@
-//! Sources, and messages about them.
+//! Sources, and the messages for their faults.
 
 use crate::excerpt::{cut, excerpt};
 use crate::fault::Fault;
-use crate::place::{Place, Places};
-use crate::shown::shown;
+use crate::position::{Position, Positions};
+use crate::terminal::printable;
 use std::alloc::{AllocError, Global};
 use std::fmt;
 
-/// The columns of the widest text of a fault that is shown whole.
+/// The widest message of a fault, in columns. Longer ones are cut.
 const WIDEST_FAULT: usize = 240;
 
-/// The columns of the widest path that is shown whole.
+/// The widest path of a string, in columns. Longer ones are cut.
 const WIDEST_PATH: usize = 120;
 
-/// What is filled in.
+/// A source: the path and the bytes of a file, or of standard input.
 #[derive(Drop)]
 pub struct Source {
-    /// Its name, as it is shown.
+    /// The path: an argument, or a path below a directory that is an argument.
+    pub path: String,
+    /// The name for diagnostics.
     pub name: String,
-    /// All its bytes.
+    /// All bytes of the file.
     pub bytes: Vec<u8>,
 }
 
-/// A source that gives nothing.
+/// A refused source, with its faults.
 #[derive(Drop)]
 pub struct Refused {
     /// The source.
     pub source: Source,
-    /// What is wrong with it, in the order of its places.
+    /// The faults, in the order of their positions.
     pub faults: Vec<Fault>,
 }
 
-/// What messages show of a source.
+/// The choice between messages with and without excerpts.
 #[derive(Clone, Copy, PartialEq, Eq)]
-pub(crate) enum Shows {
-    /// The line of each fault.
-    Lines,
-    /// No line: those of values files have secrets.
-    Nothing,
+pub(crate) enum Excerpts {
+    /// Messages with an excerpt for each fault.
+    All,
+    /// Messages without excerpts, for values files, whose lines may be secret.
+    None,
 }
 
-/// Returns messages about faults of a source, of which these are its name and what its offsets count.
+/// Returns a message for each fault, with the line and column of the fault in `bytes`.
 pub(crate) fn messages(
     alloc: Global,
     name: &str,
     bytes: &[u8],
     faults: &[Fault],
-    shows: Shows,
+    excerpts: Excerpts,
 ) -> Result<String, AllocError> {
-    let mut places = Places::of(bytes);
+    let mut positions = Positions::of(bytes);
     let mut text = String::new(alloc);
     for fault in faults {
-        let Place { line, column } = places.at(alloc, fault.range.start)?;
-        let what = shown_fault(alloc, fault)?;
-        text.push_str(&format!(in alloc; "{name}:{line}:{column}: error: {what}\n")?)?;
-        if shows == Shows::Lines {
+        let Position { line, column } = positions.at(alloc, fault.range.start)?;
+        let message = fault_message(alloc, fault)?;
+        text.push_str(&format!(in alloc; "{name}:{line}:{column}: error: {message}\n")?)?;
+        if excerpts == Excerpts::All {
             let range = fault.range.start..fault.range.end;
             text.push_str(&excerpt(alloc, bytes, range)?)?;
         }
@@ -62,22 +64,22 @@ pub(crate) fn messages(
     Ok(text)
 }
 
-/// Returns a fault as it is shown, after the path of its string. The end of what is very long is cut.
-fn shown_fault(alloc: Global, fault: &Fault) -> Result<String, AllocError> {
-    let cause = shown_part(alloc, &fault.cause, WIDEST_FAULT)?;
+/// Returns a fault's path, if not empty, and message. Both are escaped for a terminal, and cut if too wide.
+fn fault_message(alloc: Global, fault: &Fault) -> Result<String, AllocError> {
+    let cause = format_within(alloc, &fault.cause, WIDEST_FAULT)?;
     if fault.path.is_empty() {
         return Ok(cause);
     }
-    let path = shown_part(alloc, &fault.path, WIDEST_PATH)?;
+    let path = format_within(alloc, &fault.path, WIDEST_PATH)?;
     format!(in alloc; "{path}: {cause}")
 }
 
-/// Returns the text of something as it is shown, without what takes more than so many columns.
-fn shown_part<D: fmt::Display>(
+/// Formats a value, escaped for a terminal, and cut to `columns` if it is wider.
+fn format_within<D: fmt::Display>(
     alloc: Global,
-    what: &D,
+    value: &D,
     columns: usize,
 ) -> Result<String, AllocError> {
-    let text = format!(in alloc; "{what}")?;
-    cut(alloc, shown(alloc, text.as_bytes())?, columns)
+    let text = format!(in alloc; "{value}")?;
+    cut(alloc, printable(alloc, text.as_bytes())?, columns)
 }

@@ -1,74 +1,105 @@
-//! The files of folders that are filled in, checked or listed.
+//! The templates of a path: a file, or files of a directory and its subdirectories.
 
-use crate::input::{is_folder, names_in, path_in};
-use std::alloc::Global;
+ghost use Rattle.std.specs.Prelude.{◌≡◌, IfOk, OnOk, string_bytes};
+ghost use Rattle.std.specs.List.{All};
+ghost use Rattle.subst_cli.specs.Templates.{IsTemplateOf};
+
+use crate::input::{is_directory, names_in, path_in};
+use crate::options::Action;
+use std::alloc::{AllocError, Global};
 use std::io;
 use std::path::Path;
 
-/// A file, and where below a folder its output is written.
+/// A file to be expanded, checked or listed.
 #[derive(Drop)]
 pub(crate) struct Template {
     /// The path of the file.
     pub file: String,
-    /// The name of what is written, or its path below the folder.
+    /// The path of the output, relative to the output directory.
     pub name: String,
 }
 
-/// Returns the templates that a path stands for: its file, or all files of its folder, and of folders in that,
-/// whose names end in the suffix, which they lose. They are in the order of their names.
+impl Template {
+    /// Returns the path of the output: in the output directory if the action has one, else the file's own.
+    ///
+    /// # Errors
+    ///
+    /// If allocation fails.
+    pub fn target(&self, alloc: Global, action: Action<'_>) -> Result<String, AllocError>
+        ensures in_place { action.entry ≡ Action.Replace
+            → IfOk result (λ path. string_bytes path ≡ string_bytes self.now.file) }
+    {
+        match action {
+            Action::WriteInto(directory) => path_in(alloc, directory, &self.name),
+            _ => String::from_str(alloc, &self.file),
+        }
+    }
+}
+
+/// Returns the templates of a path, sorted by name: of a directory, all files in it and its subdirectories
+/// whose paths end in `suffix`, or else the path itself. Names are without the suffix.
 ///
 /// # Errors
 ///
-/// What the system says of a folder, and that memory ran out.
-pub(crate) fn templates(rt: &HostRuntime, path: &str, suffix: &str) -> io::Result<Vec<Template>> {
+/// If a directory can't be read, or if allocation fails.
+pub(crate) fn templates(rt: &HostRuntime, path: &str, suffix: &str) -> io::Result<Vec<Template>>
+    ensures { IfOk result (λ found. All (IsTemplateOf path.now suffix.now) found.items) }
+{
     let alloc = rt.alloc();
     let mut found = Vec::new(alloc);
-    if !is_folder(rt, path) {
+    if !is_directory(rt, path) {
         let name = Path::new(path).file_name().unwrap_or(path);
-        found.push(template_of(alloc, path, name, suffix)?)?;
+        let template = template_of(alloc, path, name, suffix)?;
+        found.push(template)?;
         return Ok(found);
     }
-    let mut folders = Vec::new(alloc);
-    folders.push(String::new(alloc))?;
-    // Folders are as many as the system has.
+    let mut directories = Vec::new(alloc);
+    directories.push(String::new(alloc))?;
+    // The number of directories is limited by the system alone.
     for _ in 0..usize::MAX {
-        let Some(inner) = folders.pop() else {
+        let Some(inner) = directories.pop() else {
             break;
         };
-        add_folder(rt, path, &inner, suffix, &mut found, &mut folders)?;
+        add_directory(rt, path, &inner, suffix, &mut found, &mut directories)?;
     }
     found.sort_unstable_by(|one, other| one.name.as_str().cmp(other.name.as_str()));
     Ok(found)
 }
 
-/// Adds the templates of a folder inside another one, and the folders in it.
-fn add_folder(
+/// Adds the templates in the directory `inner` of `path` to `found`, and its subdirectories to `directories`.
+fn add_directory(
     rt: &HostRuntime,
     path: &str,
     inner: &str,
     suffix: &str,
     found: &mut Vec<Template>,
-    folders: &mut Vec<String>,
-) -> io::Result<()> {
+    directories: &mut Vec<String>,
+) -> io::Result<()>
+    ensures { OnOk result (All (IsTemplateOf path.now suffix.now) found.old.items
+        → All (IsTemplateOf path.now suffix.now) found.new.items) }
+{
     let alloc = rt.alloc();
-    let folder = path_in(alloc, path, inner)?;
-    let Some(names) = names_in(rt, &folder)? else {
+    let directory = path_in(alloc, path, inner)?;
+    let Some(names) = names_in(rt, &directory)? else {
         return Ok(());
     };
     for name in names {
         let name = path_in(alloc, inner, &name)?;
         let file = path_in(alloc, path, &name)?;
-        if is_folder(rt, &file) {
-            folders.push(name)?;
-        } else if name.ends_with(suffix) {
-            found.push(template_of(alloc, &file, &name, suffix)?)?;
+        if is_directory(rt, &file) {
+            directories.push(name)?;
+        } else if file.as_bytes().ends_with(suffix.as_bytes()) {
+            let template = template_of(alloc, &file, &name, suffix)?;
+            found.push(template)?;
         }
     }
     Ok(())
 }
 
-/// Returns the template of a file, under a name without the suffix.
-fn template_of(alloc: Global, file: &str, name: &str, suffix: &str) -> io::Result<Template> {
+/// Returns the template of a file, with the suffix removed from its name.
+fn template_of(alloc: Global, file: &str, name: &str, suffix: &str) -> io::Result<Template>
+    ensures { IfOk result (λ template. string_bytes template.file ≡ file.now) }
+{
     let bare = name.strip_suffix(suffix).unwrap_or(name);
     Ok(Template {
         file: String::from_str(alloc, file)?,

@@ -1,4 +1,4 @@
-//! What of the bytes of a source is text.
+//! Sources as text: UTF-8 and byte order marks.
 
 ghost use Rattle.std.specs.Prelude.{◌≡◌, IfOk, IsTrue, IsUtf8, MatchOption};
 ghost use Rattle.std.specs.List.{Any};
@@ -9,10 +9,10 @@ use crate::fault::{Cause, Fault, one_fault};
 use crate::options::{Format, InputFormat};
 use std::alloc::{AllocError, Global};
 
-/// What a text may begin with, in UTF-8.
+/// The byte order mark in UTF-8.
 const BYTE_ORDER_MARK: &[u8] = b"\xEF\xBB\xBF";
 
-/// Returns the byte order mark that bytes begin with, which may be empty, and what is after it.
+/// Splits bytes into the byte order mark that they begin with, or no bytes, and the rest.
 pub(crate) fn split_mark(bytes: &[u8]) -> (&[u8], &[u8])
     ensures mark { result.0.now ≡ mark_in bytes.now }
     ensures rest { result.1.now ≡ after_mark bytes.now }
@@ -23,21 +23,21 @@ pub(crate) fn split_mark(bytes: &[u8]) -> (&[u8], &[u8])
     (BYTE_ORDER_MARK, rest)
 }
 
-/// Returns what comes before the bytes of a source that are filled in, and these, in which places are
-/// counted. A byte order mark comes before a JSON text, whose reader doesn't pass over it.
+/// Splits a source into bytes to copy and bytes to fill in. Offsets of faults are relative to the latter.
+/// Only a byte order mark of JSON or YAML is copied, since the readers of these formats don't skip the mark.
 pub(crate) fn split_source(form: InputFormat, source: &[u8]) -> (&[u8], &[u8])
     ensures kept { result.0.now ≡ kept_of form source.now }
     ensures filled { result.1.now ≡ filled_of form source.now }
 {
     match form {
-        InputFormat::Document(Format::Json) => split_mark(source),
+        InputFormat::Document(Format::Json | Format::Yaml) => split_mark(source),
         InputFormat::Document(Format::Toml) | InputFormat::Text | InputFormat::Bytes => {
             (&[], source)
         }
     }
 }
 
-/// Returns the text that these bytes are, if they are UTF-8.
+/// Returns bytes as a text, or `None` if they aren't UTF-8.
 pub(crate) fn text_of(bytes: &[u8]) -> Option<&str>
     ensures { MatchOption result (¬ (IsUtf8 bytes.now))
         (λ text. (text.now ≡ bytes.now) × IsUtf8 bytes.now) }
@@ -45,18 +45,18 @@ pub(crate) fn text_of(bytes: &[u8]) -> Option<&str>
     simdutf8::basic::from_utf8(bytes).ok()
 }
 
-/// Returns whether these bytes are UTF-8.
+/// Returns whether bytes are UTF-8.
 pub(crate) fn is_text(bytes: &[u8]) -> bool
     ensures { IsTrue result → IsUtf8 bytes.now }
 {
     simdutf8::basic::from_utf8(bytes).is_ok()
 }
 
-/// Returns the fault of bytes that aren't UTF-8, from where on they aren't.
+/// Returns the fault of bytes that aren't UTF-8, at the first invalid byte.
 ///
 /// # Errors
 ///
-/// When allocation fails.
+/// If allocation fails.
 pub(crate) fn not_utf8(alloc: Global, bytes: &[u8]) -> Result<Vec<Fault>, AllocError>
     ensures { ¬ (IsUtf8 bytes.now)
         → IfOk result (λ faults. Any (IsNoText bytes.now) faults.items) }

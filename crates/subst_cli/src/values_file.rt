@@ -1,48 +1,48 @@
-//! Values files: `NAME=VALUE` lines, and files that are a value.
+//! Values files, with `NAME=VALUE` lines or a single value.
 
 ghost use Rattle.std.specs.Prelude.{◌≡◌, ◌<◌, [], IfErr, IfOk, List, MatchResult, None, Option, Some, if◌then◌else◌, length, string_bytes};
 ghost use Rattle.std.specs.List.{after_first, before_first, All, Any};
 ghost use Rattle.subst_cli.specs.Layers.{Entry as SpecEntry, entries_of};
 ghost use Rattle.subst_cli.specs.ValuesFile as file;
-ghost use Rattle.subst_cli.specs.ValuesFile.{before, is_line_feed, said, value_of, values_in, values_of, values_of_files, with_line};
+ghost use Rattle.subst_cli.specs.ValuesFile.{before, is_line_feed, parsed, value_of, values_in, values_of, values_of_files, with_line};
 ghost use Rattle.subst_cli.specs.Faults.{IsNoText};
 ghost use Rattle.subst_cli.specs.Run.{IsFaultOfFile, IsFaultOfLines, IsRefusedFile};
 
 use crate::entry::{Entry, entry_in, split_once};
 use crate::fault::{Cause, one_fault};
 use crate::options::LineEnd;
-use crate::part::Outcome;
+use crate::part::OrFaults;
 use crate::source::{Refused, Source};
 use crate::text::{not_utf8, split_mark, text_of};
 use std::alloc::{AllocError, Global};
 
-/// What gives variables.
+/// A file that sets variables.
 #[derive(Drop)]
 pub enum ValuesSource {
-    /// A values file.
+    /// A file of `NAME=VALUE` lines.
     Lines(Source),
-    /// A file that is the value of this name, with its line end or without.
+    /// A file whose contents are the value of this name, with or without the last line end.
     Value(String, LineEnd, Source),
 }
 
-/// What is wrong with a line of a values file.
+/// The fault of a line in a values file.
 #[derive(Clone, Copy, Debug, PartialEq, Eq)]
 struct LineFault {
-    /// What it is.
+    /// The message.
     pub message: &'static str,
-    /// Where its line begins, after its blanks: a byte offset in the file.
+    /// The byte offset of the line in the file, after the line's leading blanks.
     pub start: usize,
 }
 
-/// What a values file gives, or what is wrong with its first line that gives nothing.
+/// The variables of a values file, or the fault of its first wrong line.
 type Lines = Result<Vec<Entry>, LineFault>;
 
-/// Returns the variables of values files, in the order of the files and of their lines, or those files that
-/// aren't UTF-8, or of which a line gives none.
+/// Returns the variables of values files, in the order of files and lines, or the files that are refused. A
+/// file is refused if it isn't UTF-8, or if a line is wrong.
 ///
 /// # Errors
 ///
-/// When allocation fails.
+/// If allocation fails.
 pub fn lines_of(
     alloc: Global,
     files: Vec<ValuesSource>,
@@ -67,7 +67,7 @@ pub fn lines_of(
     }
 }
 
-/// Returns the entries of a file, or the file with its faults.
+/// Returns the variables of a file, or the refused file with its faults.
 fn entries_in(alloc: Global, file: ValuesSource) -> Result<Result<Vec<Entry>, Refused>, AllocError>
     ensures gives { IfOk result (λ outcome. IfOk outcome
         (λ entries. values_in file ≡ Some (entries_of entries.items))) }
@@ -87,7 +87,7 @@ fn entries_in(alloc: Global, file: ValuesSource) -> Result<Result<Vec<Entry>, Re
     }
 }
 
-/// Returns the bytes of a file that are a value.
+/// Returns the bytes of a file as a value: with or without the last line end.
 fn value_bytes(bytes: &[u8], line_end: LineEnd) -> &[u8]
     ensures { result.now ≡ file.value_bytes line_end bytes.now }
 {
@@ -97,7 +97,7 @@ fn value_bytes(bytes: &[u8], line_end: LineEnd) -> &[u8]
     }
 }
 
-/// Returns bytes without one line end at their end: a line feed, or a carriage return and a line feed.
+/// Returns bytes without their last line end: a line feed, or a carriage return and a line feed.
 fn without_line_end(bytes: &[u8]) -> &[u8]
     ensures { result.now ≡ file.without_line_end bytes.now }
 {
@@ -107,12 +107,12 @@ fn without_line_end(bytes: &[u8]) -> &[u8]
     without_return(line)
 }
 
-/// Returns the entry of a name whose value is these bytes, or their fault.
+/// Returns the variable `name` with `bytes` as its value, or a fault if `bytes` aren't UTF-8.
 fn value_or_faults(
     alloc: Global,
     name: String,
     bytes: &[u8],
-) -> Result<Outcome<Vec<Entry>>, AllocError>
+) -> Result<OrFaults<Vec<Entry>>, AllocError>
     ensures gives { IfOk result (λ outcome. IfOk outcome (λ entries.
         value_of (string_bytes name) bytes.now ≡ Some (entries_of entries.items))) }
     ensures refused { IfOk result (λ outcome. IfErr outcome
@@ -127,8 +127,8 @@ fn value_or_faults(
     Ok(Ok(entries))
 }
 
-/// Returns the entries of a values file, or its faults.
-fn entries_or_faults(alloc: Global, bytes: &[u8]) -> Result<Outcome<Vec<Entry>>, AllocError>
+/// Returns the variables of a values file, or its faults.
+fn entries_or_faults(alloc: Global, bytes: &[u8]) -> Result<OrFaults<Vec<Entry>>, AllocError>
     ensures gives { IfOk result (λ outcome. IfOk outcome
         (λ entries. values_of bytes.now ≡ Some (entries_of entries.items))) }
     ensures refused { IfOk result (λ outcome. IfErr outcome
@@ -146,8 +146,8 @@ fn entries_or_faults(alloc: Global, bytes: &[u8]) -> Result<Outcome<Vec<Entry>>,
     }
 }
 
-/// Returns the entries of a values file, in the order of its lines. Blanks before a line are passed over, and
-/// then empty lines and those that begin with `#`. What is after the first `=` is the value, as it is.
+/// Parses the variables of a values file, in the order of its lines. Skips blanks before a line, empty lines,
+/// and lines that begin with `#`. A value is all of its line after the first `=`, unchanged.
 fn entries(alloc: Global, text: &[u8]) -> Result<Lines, AllocError>
     ensures { IfOk result (λ lines. MatchResult lines
         (λ entries. values_of text.now ≡ Some (entries_of entries.items))
@@ -165,14 +165,14 @@ fn entries(alloc: Global, text: &[u8]) -> Result<Lines, AllocError>
     Ok(Ok(entries))
 }
 
-/// Adds the entry of a line, if it gives one, and returns whether the line is right.
+/// Appends the variable of a line, if it sets one. Returns `false` if the line is wrong.
 fn add_line(alloc: Global, line: &[u8], entries: &mut Vec<Entry>) -> Result<bool, AllocError>
     ensures { IfOk result (λ is_right. (later : Option (List SpecEntry))
-        → before (entries_of entries.old.items) (with_line (said line.now) later)
+        → before (entries_of entries.old.items) (with_line (parsed line.now) later)
         ≡ (if is_right then before (entries_of entries.new.items) later else None)) }
 {
     let line = after_blanks(without_return(line));
-    if says_nothing(line) {
+    if is_ignored(line) {
         return Ok(true);
     }
     let Some(entry) = entry_in(alloc, line)? else {
@@ -182,12 +182,12 @@ fn add_line(alloc: Global, line: &[u8], entries: &mut Vec<Entry>) -> Result<bool
     Ok(true)
 }
 
-/// Returns what is wrong with a line that gives nothing and begins at an offset.
+/// Returns the fault of a wrong line that begins at an offset.
 fn fault(line: &[u8], offset: usize) -> LineFault {
     let line = without_return(line);
     let begun = after_blanks(line);
     let message = if begun.contains(&b'=') {
-        "no template can spell this name"
+        "not a variable name"
     } else {
         "missing '='"
     };
@@ -199,7 +199,7 @@ fn fault(line: &[u8], offset: usize) -> LineFault {
     }
 }
 
-/// Returns the first line and what is after its end.
+/// Splits bytes into the first line, without its line feed, and the bytes after the line feed.
 pub(crate) fn first_line(bytes: &[u8]) -> (&[u8], &[u8])
     ensures line { result.0.now ≡ before_first is_line_feed bytes.now }
     ensures rest { result.1.now ≡ after_first is_line_feed bytes.now }
@@ -221,7 +221,7 @@ pub(crate) fn without_return(line: &[u8]) -> &[u8]
     bare
 }
 
-/// Returns a line after the blanks and tabs at its start.
+/// Returns a line without its leading blanks and tabs.
 pub(crate) fn after_blanks(line: &[u8]) -> &[u8]
     ensures { result.now ≡ file.after_blanks line.now }
 {
@@ -245,8 +245,8 @@ pub(crate) fn is_blank(byte: u8) -> bool
 }
 
 /// Returns whether a line is empty, or begins with `#`.
-pub(crate) fn says_nothing(line: &[u8]) -> bool
-    ensures { result ≡ file.says_nothing line.now }
+pub(crate) fn is_ignored(line: &[u8]) -> bool
+    ensures { result ≡ file.is_ignored line.now }
 {
     let Some((first, _)) = line.split_first() else {
         return true;

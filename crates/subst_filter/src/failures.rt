@@ -1,4 +1,4 @@
-//! Runs over `Hello $name!` whose reader or writer fails, at each of their calls in turn.
+//! Runs over `Hello $name!` whose reader or writer fails, at each call in turn.
 
 use crate::runs::{CALLS, Call, Run};
 use std::alloc::{AllocError, Global};
@@ -6,22 +6,22 @@ use std::io::ErrorKind;
 use std::test::Fail;
 use subst_testing::fakes::Fault;
 
-/// What a run over `Hello $name!` gives.
-const GIVEN: &str = "Hello world!";
+/// The output of `Hello $name!` if `name` is `world`.
+const OUTPUT: &str = "Hello world!";
 
 fn run(call: Call) -> Run<'static> {
     Run::new(call, b"Hello $name!", "name=world")
 }
 
-/// How a run ends whose writer fails after so many bytes.
-fn written(alloc: Global, count: usize) -> Result<String, AllocError> {
-    match GIVEN.get(..count) {
+/// Returns the expected end of a run whose writer fails after `count` bytes.
+fn end_after(alloc: Global, count: usize) -> Result<String, AllocError> {
+    match OUTPUT.get(..count) {
         None | Some("") => String::from_str(alloc, "write failed"),
         Some(taken) => format!(in alloc; "write failed after {taken}"),
     }
 }
 
-/// Each of the 12 reads of a byte fails, and the read of the end.
+/// Expects a run to fail if any of its 13 reads fails: one for each of the 12 bytes, and one at the end.
 fn expect_failed_reads(alloc: Global, call: Call, kind: ErrorKind) -> Result<(), Fail> {
     for number in 0..13 {
         let read = Fault { call: number, kind };
@@ -31,24 +31,24 @@ fn expect_failed_reads(alloc: Global, call: Call, kind: ErrorKind) -> Result<(),
     Run { read, ..run(call) }.expect(alloc, "gives Hello world!")
 }
 
-/// Each of the 12 writes of a byte fails, and the flush.
+/// Expects a run to fail if any write of one of the 12 bytes fails, or the flush.
 fn expect_failed_writes(alloc: Global, call: Call, kind: ErrorKind) -> Result<(), Fail> {
     for number in 0..13 {
         let write = Fault { call: number, kind };
-        Run { write, ..run(call) }.expect(alloc, written(alloc, number)?.as_str())?;
+        Run { write, ..run(call) }.expect(alloc, end_after(alloc, number)?.as_str())?;
     }
     let write = Fault { call: 13, kind };
     Run { write, ..run(call) }.expect(alloc, "gives Hello world!")
 }
 
-/// The writer takes no more than some of the 12 bytes.
+/// Expects a run to fail if its writer accepts fewer bytes than the 12 of its output.
 fn expect_full_writer(alloc: Global, call: Call) -> Result<(), Fail> {
     for capacity in 0..12 {
         Run {
             capacity,
             ..run(call)
         }
-        .expect(alloc, written(alloc, capacity)?.as_str())?;
+        .expect(alloc, end_after(alloc, capacity)?.as_str())?;
     }
     let capacity = 12;
     Run {

@@ -1,9 +1,9 @@
-//! Fills in shell-like variables from standard input to standard output. All of it is in `subst_filter_lib`.
+//! Expands shell-like variables from standard input to standard output. The code is in `subst_filter_lib`.
 //!
-//! The stored run beside it is of the argument `bytes`; `tests/test_filter.py` runs the other two. The tests
-//! are of runs and of the program over fake readers and writers. Their expected values were worked out by
-//! hand. How a run ends is one text, which a row has to match. Each call under test is in a function without
-//! a contract, so that a test knows little and its proof is short.
+//! The tests are of runs and of the program, over fake readers and writers, with expected values worked out
+//! by hand. The stored run of this crate has the argument `bytes`; `tests/test_filter.py` covers `text` and
+//! `env`. A test compares the end of a run, its result and output, as one text. Each call under test is in a
+//! function without a contract, so that a test knows little and its proof is short.
 #![tactic(auto)]
 
 #[cfg(test)]

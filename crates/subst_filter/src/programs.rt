@@ -1,4 +1,4 @@
-//! The program over its arguments, its pairs and its streams.
+//! Tests of the whole program: its exit status, output and standard error, over fake streams.
 
 use std::alloc::{AllocError, Global};
 use std::io::ErrorKind;
@@ -11,15 +11,15 @@ use subst_filter_lib::program::run_program;
 use subst_testing::fakes::{Drip, Fault, Trickle};
 use subst_testing::variables::owned_pairs;
 
-fn words(alloc: Global, texts: &[&str]) -> Result<Vec<String>, AllocError> {
-    let mut words = Vec::new(alloc);
+fn arguments(alloc: Global, texts: &[&str]) -> Result<Vec<String>, AllocError> {
+    let mut arguments = Vec::new(alloc);
     for text in texts {
-        words.push(String::from_str(alloc, text)?)?;
+        arguments.push(String::from_str(alloc, text)?)?;
     }
-    Ok(words)
+    Ok(arguments)
 }
 
-/// The arguments of a command line, over a source, and when a read and a write fail.
+/// The arguments of a command line, a source, and the failing calls of the reader and the writer.
 #[derive(Clone, Copy)]
 struct Program<'a> {
     line: &'a [&'a str],
@@ -29,7 +29,7 @@ struct Program<'a> {
 }
 
 impl<'a> Program<'a> {
-    /// A program in which nothing fails.
+    /// Creates a program in which nothing fails.
     fn new(line: &'a [&'a str], source: &'a [u8]) -> Self {
         Program {
             line,
@@ -39,22 +39,22 @@ impl<'a> Program<'a> {
         }
     }
 
-    /// It ends with this status, output and standard error, which are shown with bars in between.
-    fn expect(&self, alloc: Global, wanted: &str) -> Result<(), Fail> {
-        let came = self.told(alloc)?;
-        if came.as_str() == wanted {
+    /// Runs the program, and expects this end: status, output and standard error, separated by bars.
+    fn expect(&self, alloc: Global, expected: &str) -> Result<(), Fail> {
+        let actual = self.end(alloc)?;
+        if actual.as_str() == expected {
             return Ok(());
         }
         let (line, source) = (self.line, String::from_utf8_lossy(alloc, self.source)?);
-        let end = came.as_str();
-        Err(Fail::new(format_args!("{line:?} over {source}: wanted: {wanted}; came: {end}")))
+        let end = actual.as_str();
+        Err(Fail::new(format_args!("{line:?} over {source}: expected: {expected}; actual: {end}")))
     }
 
-    fn told(&self, alloc: Global) -> Result<String, AllocError> {
+    fn end(&self, alloc: Global) -> Result<String, AllocError> {
         let mut output = Drip::new(alloc, usize::MAX, self.write)?;
         let mut errors = Vec::new(alloc);
         let status = self.run(alloc, &mut output, &mut errors)?;
-        told(alloc, status, output.taken.as_slice(), errors.as_slice())
+        end_text(alloc, status, output.taken.as_slice(), errors.as_slice())
     }
 
     fn run(
@@ -63,32 +63,32 @@ impl<'a> Program<'a> {
         output: &mut Drip,
         errors: &mut Vec<u8>,
     ) -> Result<u8, AllocError> {
-        let words = words(alloc, self.line)?;
+        let line = arguments(alloc, self.line)?;
         let pairs = owned_pairs(alloc, &[("A", "1"), ("A", "2"), ("B", "")])?;
         let (left, fault) = (self.source, self.read);
         let mut input = FromReader::new(Trickle { left, fault });
         let mut output = ToWriter::new(output);
         let mut errors = ToWriter::new(errors);
-        Ok(run_program(alloc, &words, pairs, &mut input, &mut output, &mut errors))
+        Ok(run_program(alloc, &line, pairs, &mut input, &mut output, &mut errors))
     }
 }
 
-fn told(alloc: Global, status: u8, output: &[u8], errors: &[u8]) -> Result<String, AllocError> {
+fn end_text(alloc: Global, status: u8, output: &[u8], errors: &[u8]) -> Result<String, AllocError> {
     let output = String::from_utf8_lossy(alloc, output)?;
     let errors = String::from_utf8_lossy(alloc, errors)?;
     format!(in alloc; "{status}|{output}|{errors}")
 }
 
-/// Programs with these arguments over these sources end so.
+/// Runs the program with the arguments and over the source of each row, and expects the end in the row.
 fn expect_ends(alloc: Global, rows: &[(&[&str], &[u8], &str)]) -> Result<(), Fail> {
-    for &(line, source, wanted) in rows {
-        Program::new(line, source).expect(alloc, wanted)?;
+    for &(line, source, expected) in rows {
+        Program::new(line, source).expect(alloc, expected)?;
     }
     Ok(())
 }
 
 #[test]
-fn wrong_words_print_the_usage_line(rt: HostRuntime) -> Result<(), Fail> {
+fn wrong_arguments_print_the_usage_line(rt: HostRuntime) -> Result<(), Fail> {
     let lines: &[&[&str]] = &[
         &[],
         &[""],
@@ -100,9 +100,9 @@ fn wrong_words_print_the_usage_line(rt: HostRuntime) -> Result<(), Fail> {
         &["env", "env"],
         &["bytes", "name"],
     ];
-    let wanted = "2||usage: subst_filter bytes|text|env [NAME=VALUE]...\n";
+    let expected = "2||usage: subst_filter bytes|text|env [NAME=VALUE]...\n";
     for line in lines {
-        Program::new(line, b"a").expect(rt.alloc(), wanted)?;
+        Program::new(line, b"a").expect(rt.alloc(), expected)?;
     }
     Ok(())
 }
@@ -128,16 +128,16 @@ fn variables_are_filled_in_where_the_task_takes_the_source(rt: HostRuntime) -> R
     expect_ends(rt.alloc(), rows)
 }
 
-/// A program with these arguments over this source prints this fault, and then what is shown of it.
+/// Expects a program with these arguments, over this source, to print this fault and its highlighting.
 fn expect_refusal<'a>(
     alloc: Global,
     line: &'a [&'a str],
     source: &'a [u8],
     fault: Error,
-    shown: &str,
+    lines: &str,
 ) -> Result<(), Fail> {
-    let wanted = format!(in alloc; "1||subst: {fault}\n{shown}")?;
-    Program::new(line, source).expect(alloc, wanted.as_str())
+    let expected = format!(in alloc; "1||subst: {fault}\n{lines}")?;
+    Program::new(line, source).expect(alloc, expected.as_str())
 }
 
 fn absent(alloc: Global, position: usize, name: &str) -> Result<Error, AllocError> {
@@ -157,8 +157,8 @@ fn fault_of_a_source_is_printed(rt: HostRuntime) -> Result<(), Fail> {
         character,
         expected: ExpectedCharacter::new("a closing brace ('}')"),
     };
-    let shown = "  ${x?y}\n      ^\n";
-    expect_refusal(alloc, &["text"], b"${x?y}", Error::from(unexpected), shown)
+    let lines = "  ${x?y}\n      ^\n";
+    expect_refusal(alloc, &["text"], b"${x?y}", Error::from(unexpected), lines)
 }
 
 #[test]
@@ -169,20 +169,20 @@ fn missing_variable_of_a_source_is_printed(rt: HostRuntime) -> Result<(), Fail> 
         (&["text"], b"$A", "A", "  $A\n   ^\n"),
         (&["env"], b"${A}\n$C", "C", "  $C\n   ^\n"),
     ];
-    for &(line, source, name, shown) in rows {
-        expect_refusal(alloc, line, source, absent(alloc, 1, name)?, shown)?;
+    for &(line, source, name, lines) in rows {
+        expect_refusal(alloc, line, source, absent(alloc, 1, name)?, lines)?;
     }
     Ok(())
 }
 
-/// Programs that give `a1`, but whose read or write fails so, end as this text says.
-fn expect_failure(alloc: Global, read: Fault, write: Fault, wanted: &str) -> Result<(), Fail> {
+/// Expects each task, with the output `a1`, to have this end if these calls of its reader and writer fail.
+fn expect_failure(alloc: Global, read: Fault, write: Fault, expected: &str) -> Result<(), Fail> {
     let lines: [&[&str]; 3] = [&["bytes", "A=1"], &["text", "A=1"], &["env"]];
     for line in lines {
         let mut program = Program::new(line, b"a$A");
         program.read = read;
         program.write = write;
-        program.expect(alloc, wanted)?;
+        program.expect(alloc, expected)?;
     }
     Ok(())
 }
@@ -202,8 +202,8 @@ fn failed_read_or_write_is_printed(rt: HostRuntime) -> Result<(), Fail> {
         (2, "3|a1|subst: write failed\n"),
         (3, "0|a1|"),
     ];
-    for (call, wanted) in rows {
-        expect_failure(alloc, never, Fault { call, kind }, wanted)?;
+    for (call, expected) in rows {
+        expect_failure(alloc, never, Fault { call, kind }, expected)?;
     }
     Ok(())
 }

@@ -1,17 +1,17 @@
-//! Runs over a source that is read one byte per call, and how they end.
+//! Runs over a source that is read one byte per call, and their ends.
 
 use std::alloc::{AllocError, Global};
 use std::test::Fail;
 use subst_filter_lib::device::standard::{FromReader, ToWriter};
 use subst_filter_lib::engine::{run_bytes, run_text};
 use subst_filter_lib::run_error::RunError;
-use subst_testing::answers::told_fault;
+use subst_testing::answers::fault_text;
 use subst_testing::fakes::{Drip, Fault, Trickle};
 use subst_testing::variables::{ByteValues, Texts, byte_values, texts};
 
 type Ended = Result<(), RunError>;
 
-/// The calls under test.
+/// The function under test.
 #[derive(Clone, Copy)]
 pub enum Call {
     RunBytes,
@@ -20,7 +20,7 @@ pub enum Call {
 
 pub const CALLS: [Call; 2] = [Call::RunBytes, Call::RunText];
 
-/// A run, with the pairs of its variables, and when its reader and its writer fail.
+/// A run, with its variables as pairs `a=1,b=2`, and the failing calls of its reader and writer.
 #[derive(Clone, Copy)]
 pub struct Run<'a> {
     pub call: Call,
@@ -32,7 +32,7 @@ pub struct Run<'a> {
 }
 
 impl<'a> Run<'a> {
-    /// A run in which nothing fails.
+    /// Creates a run in which nothing fails.
     pub fn new(call: Call, source: &'a [u8], pairs: &'a str) -> Self {
         Run {
             call,
@@ -44,24 +44,24 @@ impl<'a> Run<'a> {
         }
     }
 
-    /// The run ends as this text says.
-    pub fn expect(&self, alloc: Global, wanted: &str) -> Result<(), Fail> {
-        let came = self.told(alloc)?;
-        if came.as_str() == wanted {
+    /// Runs the function under test, and expects its end to be described as `expected`.
+    pub fn expect(&self, alloc: Global, expected: &str) -> Result<(), Fail> {
+        let actual = self.end(alloc)?;
+        if actual.as_str() == expected {
             return Ok(());
         }
         let source = String::from_utf8_lossy(alloc, self.source)?;
-        let end = came.as_str();
-        Err(Fail::new(format_args!("{source}: wanted: {wanted}; came: {end}")))
+        let end = actual.as_str();
+        Err(Fail::new(format_args!("{source}: expected: {expected}; actual: {end}")))
     }
 
-    fn told(&self, alloc: Global) -> Result<String, AllocError> {
+    fn end(&self, alloc: Global) -> Result<String, AllocError> {
         let mut drip = Drip::new(alloc, self.capacity, self.write)?;
         let ended = match self.call {
             Call::RunBytes => self.over_bytes(alloc, &mut drip, &byte_values(alloc, self.pairs)?),
             Call::RunText => self.over_text(alloc, &mut drip, &texts(alloc, self.pairs)?),
         };
-        told(alloc, &ended, &drip)
+        end_text(alloc, &ended, &drip)
     }
 
     fn over_bytes(&self, alloc: Global, drip: &mut Drip, variables: &ByteValues<'_>) -> Ended {
@@ -82,9 +82,10 @@ impl<'a> Run<'a> {
     }
 }
 
-/// How a run ended: `gives Hello world!`, `read failed`, `write failed after Hello`, or a fault and, in the
-/// lines after it, what is shown of it. All that is given was flushed, and nothing else.
-fn told(alloc: Global, ended: &Ended, drip: &Drip) -> Result<String, AllocError> {
+/// Describes the end of a run: `gives Hello world!`, `read failed`, `write failed after Hello`, or a fault
+/// with its highlighting below. If the output wasn't flushed whole, or was flushed after an error, describes
+/// how many bytes were flushed.
+fn end_text(alloc: Global, ended: &Ended, drip: &Drip) -> Result<String, AllocError> {
     let written = String::from_utf8_lossy(alloc, drip.taken.as_slice())?;
     let written = written.as_str();
     let to_flush = if ended.is_ok() { drip.taken.len() } else { 0 };
@@ -94,26 +95,26 @@ fn told(alloc: Global, ended: &Ended, drip: &Drip) -> Result<String, AllocError>
     match ended {
         Ok(()) => format!(in alloc; "gives {written}"),
         Err(e) if !written.is_empty() => format!(in alloc; "{e} after {written}"),
-        Err(RunError::Subst(e, shown)) => {
-            let fault = told_fault(alloc, e)?;
-            format!(in alloc; "{}\n{}", fault.as_str(), shown.as_str())
+        Err(RunError::Subst(e, highlighting)) => {
+            let fault = fault_text(alloc, e)?;
+            format!(in alloc; "{}\n{}", fault.as_str(), highlighting.as_str())
         }
         Err(e) => format!(in alloc; "{e}"),
     }
 }
 
-/// Runs over these sources, with the pairs of their variables, end as the texts beside them say.
+/// Runs `call` over the source of each row with the variables of the row, and expects the row's end.
 pub fn expect_runs(alloc: Global, call: Call, rows: &[(&str, &str, &str)]) -> Result<(), Fail> {
-    for &(source, pairs, wanted) in rows {
-        Run::new(call, source.as_bytes(), pairs).expect(alloc, wanted)?;
+    for &(source, pairs, expected) in rows {
+        Run::new(call, source.as_bytes(), pairs).expect(alloc, expected)?;
     }
     Ok(())
 }
 
-/// Runs over these texts, without variables, end as the texts beside them say.
+/// Runs over the text of each row without variables, and expects the row's end.
 pub fn expect_texts(alloc: Global, rows: &[(&str, &str)]) -> Result<(), Fail> {
-    for &(source, wanted) in rows {
-        Run::new(Call::RunText, source.as_bytes(), "").expect(alloc, wanted)?;
+    for &(source, expected) in rows {
+        Run::new(Call::RunText, source.as_bytes(), "").expect(alloc, expected)?;
     }
     Ok(())
 }

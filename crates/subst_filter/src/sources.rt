@@ -1,4 +1,4 @@
-//! Sources, with what they give or what is shown of their fault.
+//! Tests of sources: their outputs, or their faults with highlighting.
 
 use crate::runs::{Call, Run, expect_runs, expect_texts};
 use std::alloc::{AllocError, Global};
@@ -30,7 +30,7 @@ fn characters_past_ascii_are_filled_in_or_refused(rt: HostRuntime) -> Result<(),
 
 #[test]
 fn bytes_that_are_no_text_are_refused(rt: HostRuntime) -> Result<(), Fail> {
-    // A byte that UTF-8 never has, a character cut short after a variable, and one before a fault.
+    // A byte that UTF-8 never has, a truncated character after a variable, and one before a fault.
     let sources: [&[u8]; 3] = [b"\xFF", b"$b\xC3", b"\xC3$"];
     for source in sources {
         Run::new(Call::RunText, source, "b=❤").expect(rt.alloc(), "input is not UTF-8")?;
@@ -67,43 +67,43 @@ fn faults_are_shown_in_their_line(rt: HostRuntime) -> Result<(), Fail> {
     expect_texts(rt.alloc(), &rows)
 }
 
-/// What is shown of a dollar after so many letters, with its line.
-fn told_with_line(alloc: Global, count: usize) -> Result<String, AllocError> {
+/// Describes the fault of a dollar after `count` letters, with its line highlighted.
+fn fault_with_line(alloc: Global, count: usize) -> Result<String, AllocError> {
     let (line, spaces) = ("x".repeat(alloc, count)?, " ".repeat(alloc, count)?);
     let end = count.saturating_add(1);
     format!(in alloc; "{count}..{end}: MissingVariableName\n  {line}$\n  {spaces}^\n")
 }
 
-/// This is shown of a dollar after so many letters.
-fn expect_after(alloc: Global, count: usize, told: &str) -> Result<(), Fail> {
+/// Expects a run over `count` letters and a dollar to have this fault.
+fn expect_after(alloc: Global, count: usize, expected: &str) -> Result<(), Fail> {
     let letters = "x".repeat(alloc, count)?;
     let source = format!(in alloc; "{letters}$")?;
-    expect_texts(alloc, &[(source.as_str(), told)])
+    expect_texts(alloc, &[(source.as_str(), expected)])
 }
 
 #[test]
-fn widest_line_that_is_shown_has_60_columns(rt: HostRuntime) -> Result<(), Fail> {
-    let widest = told_with_line(rt.alloc(), 59)?;
+fn widest_highlighted_line_has_60_columns(rt: HostRuntime) -> Result<(), Fail> {
+    let widest = fault_with_line(rt.alloc(), 59)?;
     expect_after(rt.alloc(), 59, widest.as_str())?;
     expect_after(rt.alloc(), 60, "60..61: MissingVariableName\n")
 }
 
-/// A name of so many letters is shown whole.
+/// Expects a fault to have the whole name of an unset variable, of `len` letters.
 fn expect_name(alloc: Global, len: usize) -> Result<(), Fail> {
     let name = "n".repeat(alloc, len)?;
     let source = format!(in alloc; "${name}")?;
     let end = len.saturating_add(1);
-    let told = format!(in alloc; "1..{end}: NoSuchVariable {name}\n")?;
-    expect_texts(alloc, &[(source.as_str(), told.as_str())])
+    let expected = format!(in alloc; "1..{end}: NoSuchVariable {name}\n")?;
+    expect_texts(alloc, &[(source.as_str(), expected.as_str())])
 }
 
 #[test]
-fn long_names_are_told_whole(rt: HostRuntime) -> Result<(), Fail> {
+fn long_names_are_printed_whole(rt: HostRuntime) -> Result<(), Fail> {
     expect_name(rt.alloc(), 300)?;
     expect_name(rt.alloc(), 100_000)
 }
 
-/// As many as 100,000 defaults in each other, of which so many are closed.
+/// Returns a source of 100,000 nested defaults, of which `closed` have a closing brace.
 fn defaults(alloc: Global, closed: usize) -> Result<String, AllocError> {
     let mut source = "${a:".repeat(alloc, 100_000)?;
     source.push_str("}".repeat(alloc, closed)?.as_str())?;
@@ -112,9 +112,9 @@ fn defaults(alloc: Global, closed: usize) -> Result<String, AllocError> {
 
 #[test]
 fn many_defaults_in_each_other_give_nothing_or_are_not_closed(rt: HostRuntime) -> Result<(), Fail> {
-    for (closed, wanted) in [(100_000, "gives "), (99_999, "1..2: MissingClosingBrace\n")] {
+    for (closed, expected) in [(100_000, "gives "), (99_999, "1..2: MissingClosingBrace\n")] {
         let source = defaults(rt.alloc(), closed)?;
-        expect_texts(rt.alloc(), &[(source.as_str(), wanted)])?;
+        expect_texts(rt.alloc(), &[(source.as_str(), expected)])?;
     }
     Ok(())
 }

@@ -1,4 +1,4 @@
+pub mod ArgumentLemmas
 pub mod DeviceLemmas
 pub mod FilterRunLemmas
 pub mod StatusLemmas
-pub mod WordLemmas

@@ -1,4 +1,5 @@
--- How what a run writes is the answer of what it reads.
+-- The result of a run of the filter and the bytes that it writes, by the answer for its source: an output or
+-- a fault.
 use Rattle.std.specs.Prelude.{ℕ, ⊤, ◌⊎◌, List, Option, IsSomeAnd, Result, Ok, Err}
 use Rattle.std.specs.Io.KnownBytes.{Appends}
 use Rattle.std.specs.Str.{IsUtf8}
@@ -13,67 +14,70 @@ use Rattle.subst_filter_lib.specs.declared.run_error.RunError.{RunError}
 use Rattle.subst_filter_lib.specs.declared.task.Task.{Task}
 use Rattle.subst_filter_lib.specs.declared.run_error.RunError.TheVariants.{Read, Write, NotUtf8, Subst, OutOfMemory}
 
--- the bytes that the source gives were written, and nothing else
+-- the output of `source` under the look-up `look` was written, and nothing else: all written bytes are `old`
+-- before the run, and `new` after it
 pub record WritesAnswer (source : List ℕ) (look : LookUp) (old new : Option (List ℕ)) : Type 0 where
   pub bytes : List ℕ
   pub given : Answers source look (Gives bytes)
   pub written : Appends old new bytes
 
--- a prefix of the bytes that the source gives was written, and nothing else
+-- a prefix of the output of `source` under the look-up `look` was written, and nothing else: all written
+-- bytes are `old` before the run, and `new` after it
 pub record WritesPrefix (source : List ℕ) (look : LookUp) (old new : Option (List ℕ)) : Type 0 where
   pub bytes : List ℕ
   pub given : Answers source look (Gives bytes)
   pub written : AppendsPrefix old new bytes
 
--- the source is refused for some fault
+-- `source` is refused under the look-up `look`, for some fault
 abbrev pub IsRefused : List ℕ → LookUp → Type 0
 IsRefused source look = (f : Fault) × Answers source look (Refuses f)
 
--- the source is refused for the fault that the error states
+-- `source` is refused under the look-up `look`, for the fault that the error `e` states
 abbrev pub IsRefusedWith : List ℕ → LookUp → Error → Type 0
 IsRefusedWith source look e = IsSomeAnd (error_fault e) (λ f. Answers source look (Refuses f))
 
--- the task doesn't take the source, or takes it and it is refused for some fault
+-- `task` doesn't accept `source`, or `source` is refused under the look-up `look`, for some fault
 abbrev pub IsRefusedBy : Task → List ℕ → LookUp → Type 0
 IsRefusedBy task source look = ¬ (Accepts task source) ⊎ (Accepts task source × IsRefused source look)
 
--- How the result of a run goes with the answer of its source. Done: the answer's bytes were written. Writing
--- failed: a prefix of them was. Refused: the error states the fault.
+-- The result of a run is right for `source` and the look-up `look`; all written bytes are `old` before the
+-- run, and `new` after it. Done: the output was written. Writing failed: a prefix of the output was written.
+-- Refused: the error states the fault. Nothing is required of other results.
 abbrev pub RunAnswers : List ℕ → LookUp → Result (Unit {0}) RunError → (old new : Option (List ℕ)) → Type 0
 RunAnswers source look (Ok done) old new = WritesAnswer source look old new
 RunAnswers source look (Err Write) old new = WritesPrefix source look old new
-RunAnswers source look (Err (Subst e shown)) old new = IsRefusedWith source look e
+RunAnswers source look (Err (Subst e highlighting)) old new = IsRefusedWith source look e
 RunAnswers source look (Err _) old new = ⊤
 
--- A run reports whether P holds of its source: it says NotUtf8 where P doesn't hold, and only there, unless
--- reading failed or memory ran out.
-abbrev pub Tells : Type 0 → Result (Unit {0}) RunError → Type 0
-Tells P (Err Read) = ⊤
-Tells P (Err OutOfMemory) = ⊤
-Tells P (Err NotUtf8) = ¬ P
-Tells P _ = P
+-- A run reports whether P holds for its source: the error is NotUtf8 if P doesn't hold, and only then. If
+-- reading failed or memory ran out, nothing is required.
+abbrev pub Reports : Type 0 → Result (Unit {0}) RunError → Type 0
+Reports P (Err Read) = ⊤
+Reports P (Err OutOfMemory) = ⊤
+Reports P (Err NotUtf8) = ¬ P
+Reports P _ = P
 
--- a run over text distinguishes a text from other bytes
-abbrev pub TellsText : Result (Unit {0}) RunError → List ℕ → Type 0
-TellsText result source = Tells (IsUtf8 source) result
+-- a run over text, with this result, reports whether `source` is UTF-8
+abbrev pub ReportsText : Result (Unit {0}) RunError → List ℕ → Type 0
+ReportsText result source = Reports (IsUtf8 source) result
 
--- P holds of a run that must have read its source to the end: any, unless reading failed or memory ran out
+-- P holds if the run has read its source to the end, which is any run unless reading failed or memory ran out
 abbrev pub OnceRead : Result (Unit {0}) RunError → Type 0 → Type 0
 OnceRead (Err Read) P = ⊤
 OnceRead (Err OutOfMemory) P = ⊤
 OnceRead _ P = P
 
--- P holds of a run, or of a part of it, unless reading failed
+-- P holds for a run, or for a part of it, unless reading failed
 abbrev pub UnlessReadFails : {X : Type 0} → Result X RunError → Type 0 → Type 0
 UnlessReadFails (Err Read) P = ⊤
 UnlessReadFails _ P = P
 
--- P holds of a run, or of a part of it, unless writing failed
+-- P holds for a run, or for a part of it, unless writing failed
 abbrev pub UnlessWriteFails : {X : Type 0} → Result X RunError → Type 0 → Type 0
 UnlessWriteFails (Err Write) P = ⊤
 UnlessWriteFails _ P = P
 
--- P holds of a run that must have written nothing: any, unless it is done or writing failed
+-- P holds if the run can't have written anything, which is any run unless it is done or writing failed
 abbrev pub UnlessWriting : Result (Unit {0}) RunError → Type 0 → Type 0
 UnlessWriting (Ok done) P = ⊤
 UnlessWriting (Err Write) P = ⊤

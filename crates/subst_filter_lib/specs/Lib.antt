@@ -1,5 +1,5 @@
+pub mod Arguments
 pub mod Device
 pub mod FilterRun
 pub mod RunError
 pub mod Task
-pub mod Words

@@ -1,4 +1,4 @@
--- What the errors of a run say, and the statuses that the program ends with.
+-- The errors of a run, their texts, and the exit statuses of the program.
 use Rattle.std.specs.Global.{Global}
 use Rattle.std.specs.Prelude.{◌≡◌, ◌⊎◌, ℕ, Bool, true, ⊤, List, [], codes, String, string_bytes, Option, Some, IsSome}
 use Rattle.subst.specs.Display.{display_of_error, IsDisplayOfError}
@@ -9,55 +9,57 @@ use Rattle.subst_filter_lib.specs.declared.run_error.RunError.{RunError}
 use Rattle.subst_filter_lib.specs.declared.run_error.RunError.TheVariants.{Read, Write, NotUtf8, Subst, OutOfMemory}
 use Rattle.subst_filter_lib.specs.declared.status.TheConstants.{REFUSED, DEVICE_FAILED, OUT_OF_MEMORY}
 
--- reading failed, and so has the input, or memory ran out
+-- the error of a read is right: a failed read if the input has `failed`, or out of memory
 abbrev pub IsReadFault : Bool → RunError → Type 0
 IsReadFault failed Read = failed ≡ true
 IsReadFault failed OutOfMemory = ⊤
 IsReadFault failed _ = ⊥
 
--- writing failed, and so has the output
+-- the error of a write is right: a failed write, and the output has `failed`
 abbrev pub IsWriteFault : Bool → RunError → Type 0
 IsWriteFault failed Write = failed ≡ true
 IsWriteFault failed _ = ⊥
 
--- an error of a run over bytes: it is never NotUtf8, and a refusal states a fault and highlights none
+-- an error of a run over bytes: it is never NotUtf8, and a refusal states a fault without highlighting
 abbrev pub IsFaultOfBytes : RunError → Type 0
 IsFaultOfBytes NotUtf8 = ⊥
-IsFaultOfBytes (Subst e shown) = IsSome (error_fault e) × (string_bytes shown ≡ [])
+IsFaultOfBytes (Subst e highlighting) = IsSome (error_fault e) × (string_bytes highlighting ≡ [])
 IsFaultOfBytes _ = ⊤
 
 -- an error of a run over text: a refusal states a fault
 abbrev pub IsFaultOfText : RunError → Type 0
-IsFaultOfText (Subst e shown) = IsSome (error_fault e)
+IsFaultOfText (Subst e highlighting) = IsSome (error_fault e)
 IsFaultOfText _ = ⊤
 
--- the error of a run whose substitution returned this error: its refusal, with some text, or out of memory
+-- `fault` is the error of a run whose expansion failed with `e`: a refusal with `e` and some highlighting, or
+-- out of memory
 abbrev pub IsRefusalOf : Error → RunError → Type 0
 IsRefusalOf e fault =
-    (fault ≡ OutOfMemory) ⊎ (IsSome (error_fault e) × (shown : String Global) × (fault ≡ Subst e shown))
+    (fault ≡ OutOfMemory)
+    ⊎ (IsSome (error_fault e) × (highlighting : String Global) × (fault ≡ Subst e highlighting))
 
--- a refusal of the source has the highlighting of its fault over it
+-- if the error is a refusal of `source`, `highlighting` highlights the refusal's fault
 abbrev pub HighlightsFault : List ℕ → RunError → Type 0
-HighlightsFault source (Subst e shown) = string_bytes shown ≡ highlighting_of (error_fault e) source
+HighlightsFault source (Subst e highlighting) = string_bytes highlighting ≡ highlighting_of (error_fault e) source
 HighlightsFault source _ = ⊤
 
--- the status that the program ends with after this error
+-- the exit status of the program after this error
 abbrev pub error_status : RunError → ℕ
-error_status (Subst e shown) = REFUSED
+error_status (Subst e highlighting) = REFUSED
 error_status NotUtf8 = REFUSED
 error_status Read = DEVICE_FAILED
 error_status Write = DEVICE_FAILED
 error_status OutOfMemory = OUT_OF_MEMORY
 
--- the text of an error, if it is known; of a refusal it is the text of the library's error
+-- the message of an error, if it is known; for `Subst`, the message of the library's error that it holds
 abbrev pub display_of_run : RunError → Option (List ℕ)
 display_of_run Read = Some (codes "read failed")
 display_of_run Write = Some (codes "write failed")
 display_of_run NotUtf8 = Some (codes "input is not UTF-8")
-display_of_run (Subst e shown) = display_of_error (error_fault e)
+display_of_run (Subst e highlighting) = display_of_error (error_fault e)
 display_of_run OutOfMemory = Some (codes "out of memory")
 
--- the text is that of an error; of a refusal it is a text of the library's error
+-- `text` is a message of the error, or, for `Subst`, a message of the library's error that it holds
 abbrev pub IsDisplayOfRun : RunError → List ℕ → Type 0
-IsDisplayOfRun (Subst e shown) text = IsDisplayOfError (error_fault e) text
+IsDisplayOfRun (Subst e highlighting) text = IsDisplayOfError (error_fault e) text
 IsDisplayOfRun fault text = display_of_run fault ≡ Some text

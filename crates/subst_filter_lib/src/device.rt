@@ -1,45 +1,45 @@
-//! Inputs that bytes are read from, and outputs that they are written to.
+//! Traits of devices: one to read bytes from, and one to write bytes to.
 
 ghost use Rattle.std.specs.Prelude.{◌≡◌, ◌≤◌, ◌<◌, ℕ, List, Option, Bool, true, false, length, IfOk, OnOk, OnErr};
 ghost use Rattle.std.specs.Io.KnownBytes.{ReadConsumes, WriteAppends, Keeps};
 
 pub mod standard;
 
-/// The error of a call that a device failed. It doesn't keep the cause.
+/// The error of a call whose device failed, without the cause.
 #[derive(Clone, Copy, Debug, PartialEq, Eq)]
 pub struct Failed;
 
-/// A device that bytes are read from.
+/// A device to read bytes from.
 pub trait ByteInput {
-    // The bytes that are left to read, or `None` if they aren't known.
+    // The bytes still to be read, or `None` if they aren't known.
     ghost left: { Self → Option (List ℕ) };
 
-    // Whether a call has returned `Failed`.
+    // Whether an earlier call of this input has returned `Failed`.
     ghost has_failed: { Self → Bool };
 
-    /// Reads the next bytes into the start of `buf`, and returns how many: any number from 1 to the length of
-    /// `buf`, or 0 at the end of the input or where `buf` is empty.
+    /// Reads the next bytes into the start of `buf`, and returns their number. The number is 0 exactly at the
+    /// end of the input, or if `buf` is empty.
     ///
     /// # Errors
     ///
-    /// [`Failed`] if the device fails. Then no byte counts as read.
+    /// [`Failed`] if the device fails. The bytes still to be read are then unchanged.
     fn read(&mut self, buf: &mut [u8]) -> Result<usize, Failed>
         ensures bound { IfOk result (λ n. n ≤ length buf.new) }
         ensures bytes { ReadConsumes (left self.old) (left self.new) result buf.new }
         ensures ok { OnOk result (has_failed self.new ≡ has_failed self.old) }
         ensures err { OnErr result (has_failed self.new ≡ true) };
 
-    /// Returns whether a call has returned [`Failed`].
+    /// Returns whether an earlier call of this input has returned [`Failed`].
     fn failed(&self) -> bool
         ensures failed { result ≡ has_failed self.now };
 }
 
-/// A device that bytes are written to.
+/// A device to write bytes to.
 pub trait ByteOutput {
-    // The bytes that were written so far, or `None` if they aren't known.
+    // The bytes written so far, or `None` if they aren't known.
     ghost written: { Self → Option (List ℕ) };
 
-    // Whether a call has returned `Failed`.
+    // Whether an earlier call of this output has returned `Failed`.
     ghost has_failed: { Self → Bool };
 
     // Whether a flush has succeeded since the last call of `write`.
@@ -49,7 +49,7 @@ pub trait ByteOutput {
     ///
     /// # Errors
     ///
-    /// [`Failed`] if the device fails. Then nothing was written.
+    /// [`Failed`] if the device fails. No byte was then written.
     fn write(&mut self, bytes: &[u8]) -> Result<usize, Failed>
         ensures bound { IfOk result (λ n. n ≤ length bytes.now) }
         ensures some { IfOk result (λ n. 0 < length bytes.now → 0 < n) }
@@ -58,7 +58,7 @@ pub trait ByteOutput {
         ensures ok { OnOk result (has_failed self.new ≡ has_failed self.old) }
         ensures err { OnErr result (has_failed self.new ≡ true) };
 
-    /// Passes on all bytes that were written, and writes none itself.
+    /// Flushes all bytes written so far.
     ///
     /// # Errors
     ///
@@ -70,7 +70,7 @@ pub trait ByteOutput {
         ensures ok { OnOk result (has_failed self.new ≡ has_failed self.old) }
         ensures err { OnErr result (has_failed self.new ≡ true) };
 
-    /// Returns whether a call has returned [`Failed`].
+    /// Returns whether an earlier call of this output has returned [`Failed`].
     fn failed(&self) -> bool
         ensures failed { result ≡ has_failed self.now };
 }

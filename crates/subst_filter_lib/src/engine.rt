@@ -1,7 +1,7 @@
-//! Runs of the filter over any input and output.
+//! Runs of the filter over any input and output device.
 //!
-//! A run reads its source to the end, fills the variables in, and only then writes. The runs are in the child
-//! modules; what they share is here.
+//! A run reads its source to the end, expands it, and only then writes. The runs are in the child modules,
+//! and the functions that both use are here.
 
 ghost use Rattle.std.specs.Prelude.{◌≡◌, true, IfOk, IfErr, OnOk, OnErr, MatchOption};
 ghost use Rattle.std.specs.Io.KnownBytes.{Appends};
@@ -20,13 +20,13 @@ pub use text::run_text;
 mod bytes;
 mod text;
 
-/// How many bytes a read asks for at first: more than most sources have, and few to clear.
+/// The length in bytes of the first read's buffer: more than most sources have, and cheap to clear.
 const FIRST_CHUNK: usize = 4096;
 
-/// How many bytes a read asks for once a read has got all that it asked for: as many as a pipe holds.
+/// The length in bytes of the buffer once a read has filled the first one: the capacity of a pipe.
 const CHUNK: usize = 65536;
 
-/// Reads all that is left of the input.
+/// Reads the input to its end, and returns the bytes that were left.
 ///
 /// # Errors
 ///
@@ -53,23 +53,23 @@ fn read_all<I: ByteInput>(alloc: Global, input: &mut I) -> Result<Vec<u8>, RunEr
     }
 }
 
-/// Returns the error of a run whose substitution returned `e`. `shown` is the highlighting of the fault, if
-/// it is shown.
-fn refusal(e: Error, shown: String) -> RunError
+/// Converts the error `e` of an expansion into the error of a run: out of memory, or else a refused source.
+/// `highlighting` is that of the fault, or empty.
+fn refusal(e: Error, highlighting: String) -> RunError
     ensures { MatchOption (error_fault e) (result ≡ RunError.OutOfMemory)
-        (λ _. result ≡ RunError.Subst e shown) }
+        (λ _. result ≡ RunError.Subst e highlighting) }
 {
     match e {
         Error::OutOfMemory(_) => RunError::OutOfMemory,
-        refused => RunError::Subst(refused, shown),
+        refused => RunError::Subst(refused, highlighting),
     }
 }
 
-/// Writes all the bytes and flushes.
+/// Writes all bytes to the output, and flushes it.
 ///
 /// # Errors
 ///
-/// [`RunError::Write`] if the output fails. Then a prefix of the bytes was written.
+/// [`RunError::Write`] if the output fails. A prefix of the bytes, possibly empty or whole, was then written.
 fn deliver<O: ByteOutput>(output: &mut O, bytes: &[u8]) -> Result<(), RunError>
     ensures ok { OnOk result (Appends (O.written output.old) (O.written output.new) bytes.now) }
     ensures prefix { AppendsPrefix (O.written output.old) (O.written output.new) bytes.now }
@@ -84,11 +84,11 @@ fn deliver<O: ByteOutput>(output: &mut O, bytes: &[u8]) -> Result<(), RunError>
     }
 }
 
-/// Writes all the bytes, and doesn't flush.
+/// Writes all bytes to the output, without flushing it.
 ///
 /// # Errors
 ///
-/// [`Failed`] if the output fails. Then a prefix of the bytes was written.
+/// [`Failed`] if the output fails. A prefix of the bytes was then written, possibly none.
 #[tactic(auto, using(crate::proofs::DeviceLemmas::longer_prefix))]
 pub fn write_all<O: ByteOutput>(output: &mut O, bytes: &[u8]) -> Result<(), Failed>
     ensures ok { OnOk result (Appends (O.written output.old) (O.written output.new) bytes.now) }

@@ -1,10 +1,10 @@
 //! The filter `subst_filter` as a library: all of the program but its `main`, which calls [`process::run`].
 //!
 //! `subst_filter bytes NAME=VALUE ..` copies its input, with each variable replaced by its value.
-//! `subst_filter text NAME=VALUE ..` does the same and refuses an input that isn't UTF-8. `subst_filter env`
-//! does so with the variables of its environment.
+//! `subst_filter text NAME=VALUE ..` also refuses an input that isn't UTF-8. `subst_filter env` refuses such
+//! an input too, and uses the variables of the environment.
 //!
-//! The statuses are those of the module [`status`].
+//! The exit statuses are in the module [`status`].
 #![tactic(auto)]
 
 pub mod device;

@@ -1,4 +1,4 @@
-//! The program in its process: its arguments, its environment and its three standard streams.
+//! Runs the program with the arguments, the environment and the standard streams of its process.
 
 ghost use Rattle.std.specs.Prelude.{◌≡◌, ◌≢◌, ◌≤◌, Some, [], IsOkAnd};
 ghost use Rattle.std.specs.IoError.{error_kind};
@@ -16,19 +16,19 @@ use std::io::ErrorKind;
 use std::process::ExitCode;
 use std::{env, io};
 
-/// Runs the program over the arguments of its command line, its environment, which is read for the argument
-/// `env` alone, and its standard streams, and returns the status to end with. It is one of the module
-/// [`crate::status`], as `run_program` has it; also if the arguments or the environment can't be read.
+/// Runs the program with the arguments of its command line, its environment and its standard streams. Returns
+/// the exit status: as [`run_program`], or [`RunError::status`] of the error if arguments or environment
+/// can't be read. The environment is read only if the sole argument is `env`.
 pub fn run(rt: &HostRuntime) -> ExitCode
     ensures statuses { exit_status result ≤ OUT_OF_MEMORY }
 {
     let mut input = FromReader::new(rt.stdin());
     let mut output = ToWriter::new(rt.stdout());
     let mut errors = ToWriter::new(rt.stderr());
-    let status = match words_and_pairs(rt) {
-        Ok((words, pairs)) => run_program(
+    let status = match arguments_and_pairs(rt) {
+        Ok((arguments, pairs)) => run_program(
             rt.alloc(),
-            &words,
+            &arguments,
             pairs,
             &mut input,
             &mut output,
@@ -39,38 +39,38 @@ pub fn run(rt: &HostRuntime) -> ExitCode
     ExitCode::from(status)
 }
 
-/// Returns the arguments after the program's name, and the pairs that they ask for.
+/// Returns the arguments after the program's name, and the environment's pairs if the sole argument is `env`.
 ///
 /// # Errors
 ///
 /// [`RunError::OutOfMemory`] if memory runs out, and [`RunError::Read`] if an argument or a pair isn't UTF-8.
-fn words_and_pairs(rt: &HostRuntime) -> Result<(Vec<String>, Vec<(String, String)>), RunError> {
-    let words = words(rt).map_err(|e| fault_of_words(&e))?;
-    let pairs = pairs(rt, &words).map_err(|e| fault_of_pairs(&e))?;
-    Ok((words, pairs))
+fn arguments_and_pairs(rt: &HostRuntime) -> Result<(Vec<String>, Vec<(String, String)>), RunError> {
+    let arguments = arguments(rt).map_err(|e| error_of_arguments(&e))?;
+    let pairs = pairs(rt, &arguments).map_err(|e| error_of_pairs(&e))?;
+    Ok((arguments, pairs))
 }
 
 /// Returns the arguments after the program's name.
-fn words(rt: &HostRuntime) -> io::Result<Vec<String>> {
-    let words = env::args(rt)?.skip(1).collect(rt.alloc())?;
-    Ok(words)
+fn arguments(rt: &HostRuntime) -> io::Result<Vec<String>> {
+    let arguments = env::args(rt)?.skip(1).collect(rt.alloc())?;
+    Ok(arguments)
 }
 
-/// Returns the pairs of the environment if the arguments ask for them; otherwise the environment isn't read,
-/// and there are none.
-fn pairs(rt: &HostRuntime, words: &[String]) -> Result<Vec<(String, String)>, VarError>
-    ensures unread { task_of words.now ≢ Some Task.Environment
+/// Returns the names and values of the environment if the sole argument is `env`. Otherwise returns no pairs,
+/// without reading the environment.
+fn pairs(rt: &HostRuntime, arguments: &[String]) -> Result<Vec<(String, String)>, VarError>
+    ensures unread { task_of arguments.now ≢ Some Task.Environment
         → IsOkAnd result (λ pairs. pairs.items ≡ []) }
 {
-    if Task::of_words(words) != Some(Task::Environment) {
+    if Task::of_arguments(arguments) != Some(Task::Environment) {
         return Ok(Vec::new(rt.alloc()));
     }
     let pairs = env::vars(rt)?.collect(rt.alloc())?;
     Ok(pairs)
 }
 
-/// Returns the error that the program ends with if it can't read its arguments.
-fn fault_of_words(e: &io::Error) -> RunError
+/// Returns the program's error if reading its arguments failed with `e`: out of memory, or a failed read.
+fn error_of_arguments(e: &io::Error) -> RunError
     ensures memory { error_kind e.now ≡ ErrorKind.OutOfMemory → result ≡ RunError.OutOfMemory }
     ensures other { error_kind e.now ≢ ErrorKind.OutOfMemory → result ≡ RunError.Read }
 {
@@ -80,8 +80,8 @@ fn fault_of_words(e: &io::Error) -> RunError
     }
 }
 
-/// Returns the error that the program ends with if it can't read its environment.
-fn fault_of_pairs(e: &VarError) -> RunError
+/// Returns the program's error if reading the environment failed with `e`: out of memory, or a failed read.
+fn error_of_pairs(e: &VarError) -> RunError
     ensures memory { e.now ≡ VarError.OutOfMemory → result ≡ RunError.OutOfMemory }
     ensures other { e.now ≢ VarError.OutOfMemory → result ≡ RunError.Read }
 {

@@ -1,4 +1,4 @@
-//! Why a run of the filter fails, what is printed of it, and the status that the program then ends with.
+//! The error of a run of the filter, its text, and the exit status of the program.
 
 ghost use Rattle.std.specs.Prelude.{◌≡◌};
 
@@ -7,7 +7,7 @@ use std::alloc::AllocError;
 use std::fmt;
 use subst::Error;
 
-/// Why a run failed.
+/// An error that ends a run of the filter.
 #[derive(Drop)]
 pub enum RunError {
     /// The input failed.
@@ -16,9 +16,8 @@ pub enum RunError {
     Write,
     /// The source isn't UTF-8, in a run over text.
     NotUtf8,
-    /// The source is refused with this error. The text is the highlighting of the fault over the source: the
-    /// line that it is in and carets below, or nothing where that line is too wide. In a run over bytes it
-    /// is empty.
+    /// The source is refused with this error. The text is the highlighting of the fault: the line of the
+    /// source, and carets below it. It is empty if the line is too wide, and in a run over bytes.
     Subst(Error, String),
     /// Memory ran out.
     OutOfMemory,
@@ -27,7 +26,7 @@ pub enum RunError {
 impl RunError {
     ghost use Rattle.subst_filter_lib.specs.RunError.{error_status};
 
-    /// Returns the status that the program ends with: [`REFUSED`] if the source is refused or isn't UTF-8,
+    /// Returns the exit status of the program: [`REFUSED`] if the source is refused or isn't UTF-8,
     /// [`DEVICE_FAILED`] if the input or the output failed, and [`OUT_OF_MEMORY`] if memory ran out.
     pub fn status(&self) -> u8
         ensures status { result ≡ error_status self.now }
@@ -40,7 +39,8 @@ impl RunError {
     }
 }
 
-/// One line without its end. Of a refused source it is the text of the error, without the highlighting.
+/// Writes the message, one line without a line end. For a refused source, the message is that of the
+/// library's error, without the highlighting.
 impl fmt::Display for RunError {
     ghost use Rattle.std.specs.Fmt.{DisplaysOnOk};
     ghost use Rattle.subst.specs.Writing.{WritesSome};

@@ -1,13 +1,13 @@
-//! The statuses that the program ends with.
+//! The exit statuses of the program.
 
-/// The source was read to its end, and its answer was written.
+/// The source was read to its end, and its expansion was written.
 pub const DONE: u8 = 0;
 
 /// The source is refused.
 pub const REFUSED: u8 = 1;
 
-/// The arguments of the command line don't say what to do.
-pub const WRONG_WORDS: u8 = 2;
+/// The arguments of the command line are wrong.
+pub const WRONG_ARGUMENTS: u8 = 2;
 
 /// The input or the output failed.
 pub const DEVICE_FAILED: u8 = 3;

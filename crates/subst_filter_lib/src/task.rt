@@ -1,29 +1,29 @@
-//! What the arguments of the command line say to do.
+//! The task that the arguments of the command line state.
 
 ghost use Rattle.std.specs.Prelude.{◌≡◌};
-ghost use Rattle.subst_filter_lib.specs.Words.{are_pairs};
+ghost use Rattle.subst_filter_lib.specs.Arguments.{are_pairs};
 
-/// What the program is to do.
+/// A task of the program: the kind of its source, and where its variables come from.
 #[derive(Clone, Copy, Debug, PartialEq, Eq)]
 pub enum Task {
-    /// To fill in bytes from the arguments after the first one.
+    /// Expand bytes with the variables of the arguments after the first one.
     Bytes,
-    /// To fill in a text from the arguments after the first one.
+    /// Expand a text with the variables of the arguments after the first one.
     Text,
-    /// To fill in a text from the pairs of the environment.
+    /// Expand a text with the variables of the environment.
     Environment,
 }
 
 impl Task {
     ghost use Rattle.subst_filter_lib.specs.Task.{task_of};
 
-    /// Returns what the arguments after the program's name say to do, or `None` if they are wrong. They are
-    /// right in two cases: the first one is `bytes` or `text`, and each other has the form NAME=VALUE; or
-    /// `env` is the only one.
-    pub fn of_words(words: &[String]) -> Option<Task>
-        ensures task { result ≡ task_of words.now }
+    /// Returns the task that the arguments after the program's name state, or `None` if they are wrong. They
+    /// are right if the first one is `bytes` or `text` and all others have the form NAME=VALUE, or if the
+    /// only one is `env`.
+    pub fn of_arguments(arguments: &[String]) -> Option<Task>
+        ensures task { result ≡ task_of arguments.now }
     {
-        let [first, rest @ ..] = words else {
+        let [first, rest @ ..] = arguments else {
             return None;
         };
         match first.as_str() {
@@ -35,9 +35,9 @@ impl Task {
     }
 }
 
-/// Returns whether each argument has the form NAME=VALUE.
-fn are_pairs(words: &[String]) -> bool
-    ensures { result ≡ are_pairs words.now }
+/// Returns whether all arguments have the form NAME=VALUE.
+fn are_pairs(arguments: &[String]) -> bool
+    ensures { result ≡ are_pairs arguments.now }
 {
-    words.iter().all(|word| word.as_bytes().contains(&b'='))
+    arguments.iter().all(|it| it.as_bytes().contains(&b'='))
 }

@@ -1,43 +1,42 @@
-//! The variables that arguments of the command line and pairs of the environment give.
+//! Maps of variables from the arguments of the command line and from the pairs of the environment.
 
 ghost use Rattle.std.specs.Prelude.{◌≡◌, ℕ, List, Some, None, if◌then◌else◌, OnOk, IfOk, IfSome, is_some};
 ghost use Rattle.std.specs.Option.{option_or};
 ghost use Rattle.std.specs.Str.{bytes_eq};
 ghost use Rattle.subst.specs.Calls.Maps.{first_value};
-ghost use Rattle.subst_filter_lib.specs.Words.{is_pair, gives_value_to, name_in, value_in, last_value, value_under};
+ghost use Rattle.subst_filter_lib.specs.Arguments.{is_pair, sets_name, name_in, value_in, last_value, value_under};
 
 use std::alloc::{AllocError, Global};
 use std::collections::HashMap;
 
-/// Values under their names. The map is made once, so that each look-up takes no longer where there are more
-/// names.
+/// A map of values by name. It is built once, so that lookups don't slow down with the number of names.
 ///
-/// A name may be any text, also one that no placeholder can have.
+/// A name may be any text, even one that no placeholder can have.
 pub type Values<'w> = HashMap<&'w str, &'w str>;
 
-/// Returns the values of arguments of the form NAME=VALUE under their names. Where several have the same
-/// name, the last one gives its value. Other arguments give none.
+/// Returns the values of arguments of the form NAME=VALUE, by name. If several have the same name, the last
+/// one wins. Other arguments are ignored.
 ///
 /// # Errors
 ///
-/// When allocation fails.
-pub fn values_of_words(alloc: Global, words: &[String]) -> Result<Values<'_>, AllocError>
-    ensures values { IfOk result (λ values. value_under values ≡ last_value words.now) }
+/// If allocation fails.
+pub fn values_of_arguments(alloc: Global, arguments: &[String]) -> Result<Values<'_>, AllocError>
+    ensures values { IfOk result (λ values. value_under values ≡ last_value arguments.now) }
 {
     let mut values = HashMap::new(alloc);
-    values.reserve(words.len())?;
-    for word in words {
-        insert_word(&mut values, word.as_str())?;
+    values.reserve(arguments.len())?;
+    for argument in arguments {
+        insert_argument(&mut values, argument.as_str())?;
     }
     Ok(values)
 }
 
-/// Returns the values of pairs under their names, as `Env` of these pairs has them: where pairs have the same
-/// name, the first one gives its value.
+/// Returns the values of pairs of a name and a value, by name. If several have the same name, the first one
+/// wins, as in an `Env` of these pairs.
 ///
 /// # Errors
 ///
-/// When allocation fails.
+/// If allocation fails.
 pub fn values_of_pairs(alloc: Global, pairs: &[(String, String)]) -> Result<Values<'_>, AllocError>
     ensures values { IfOk result (λ values. value_under values ≡ first_value pairs.now) }
 {
@@ -49,21 +48,21 @@ pub fn values_of_pairs(alloc: Global, pairs: &[(String, String)]) -> Result<Valu
     Ok(values)
 }
 
-/// Puts the value of an argument of the form NAME=VALUE under its name, in place of one that is there.
-/// Another argument changes nothing.
+/// Inserts the value of an argument of the form NAME=VALUE, and replaces an earlier value of the same name.
+/// Any other argument is ignored.
 #[tactic(auto, using(std::proofs::lemmas::Map::Text::text_keys))]
-fn insert_word<'w>(values: &mut Values<'w>, word: &'w str) -> Result<(), AllocError>
+fn insert_argument<'w>(values: &mut Values<'w>, argument: &'w str) -> Result<(), AllocError>
     ensures { OnOk result ((name : List ℕ) → value_under values.new name
-        ≡ (if gives_value_to name word.now then Some (value_in word.now)
+        ≡ (if sets_name name argument.now then Some (value_in argument.now)
         else value_under values.old name)) }
 {
-    if let Some((name, value)) = pair(word) {
+    if let Some((name, value)) = pair(argument) {
         values.insert(name, value)?;
     }
     Ok(())
 }
 
-/// Puts the value under its name, unless a value is there.
+/// Inserts a value under a name, unless the map has a value of this name already.
 #[tactic(auto, using(std::proofs::lemmas::Map::Text::text_keys))]
 fn insert_if_new<'w>(
     values: &mut Values<'w>,
@@ -78,12 +77,11 @@ fn insert_if_new<'w>(
     Ok(())
 }
 
-/// Returns the name and the value of an argument of the form NAME=VALUE, which is split at its first `=`, or
-/// `None` if it has none.
-fn pair(word: &str) -> Option<(&str, &str)>
-    ensures form { is_some result ≡ is_pair word.now }
-    ensures parts { IfSome result (λ p. (p.0.now ≡ name_in word.now)
-        × (p.1.now ≡ value_in word.now)) }
+/// Splits an argument of the form NAME=VALUE at its first `=`, or returns `None` if it has no `=`.
+fn pair(argument: &str) -> Option<(&str, &str)>
+    ensures form { is_some result ≡ is_pair argument.now }
+    ensures parts { IfSome result (λ p. (p.0.now ≡ name_in argument.now)
+        × (p.1.now ≡ value_in argument.now)) }
 {
-    word.split_once('=')
+    argument.split_once('=')
 }

@@ -1,4 +1,4 @@
-//! How the strings of a document are filled in.
+//! The filler of a document's strings.
 
 ghost use Rattle.std.specs.Prelude.{◌≡◌, IfOk, Some, string_bytes};
 ghost use Rattle.subst.specs.ErrorFault.{error_fault};
@@ -16,21 +16,21 @@ use subst::error::MissingVariableName;
 use subst::escape::is_plain;
 use subst::{Error, Fill};
 
-/// Fills in strings of documents, each as a source that is text.
+/// A filler that expands each string of a document as a text of its own.
 #[derive(Clone, Copy)]
 pub(crate) struct StringFiller<'r, 'w, 'v> {
-    /// What in a string is a variable.
+    /// The forms and names that are variables in the strings.
     pub placeholders: &'r Placeholders<'w>,
-    /// The variables; or none where strings are only looked at, and those refused that are no templates.
+    /// The variables, or `None` to only check strings. Then a string without faults is its own output.
     pub variables: Option<&'r Variables<'v>>,
 }
 
 impl StringFiller<'_, '_, '_> {
-    /// Returns the faults of a string, in the order of their places.
+    /// Returns the faults of a string, in the order of their positions.
     ///
     /// # Errors
     ///
-    /// When allocation fails.
+    /// If allocation fails.
     pub fn faults(&self, alloc: Global, text: &str) -> Result<Vec<Fault>, AllocError>
         ensures { IfOk result (λ faults. AreFaults self.now (GivesSome self.now text.now)
             (λ entries. IsFaultOf self.now.placeholders.now entries text.now) faults.items) }
@@ -46,7 +46,7 @@ impl StringFiller<'_, '_, '_> {
     }
 }
 
-/// Returns an error that says nothing but that a string is refused: [`StringFiller::faults`] says why.
+/// Returns an error that only marks a string as refused; [`StringFiller::faults`] has the reasons.
 fn refused() -> Error
     ensures { error_fault result ≡ Some (faults.MissingVariableName 0 0) }
 {
@@ -56,7 +56,7 @@ fn refused() -> Error
     })
 }
 
-/// Returns the output of a text. It is a text too, by `laws::texts_give_texts`, so no test of it fails.
+/// Converts the output of a string into text. By `laws::texts_give_texts` the output is always UTF-8.
 fn string_of(output: Vec<u8>) -> Result<String, AllocError>
     ensures { IfOk result (λ text. string_bytes text ≡ output.items) }
 {
@@ -68,14 +68,14 @@ impl Fill for StringFiller<'_, '_, '_> {
 
     ghost answers = { AnswersBy };
 
-    fn gives_itself(&self, text: &str) -> bool {
+    fn needs_no_filling(&self, text: &str) -> bool {
         match self.placeholders {
             Placeholders::Own => is_plain(text.as_bytes()),
             Placeholders::Chosen(..) => has_no_dollar(text.as_bytes()),
         }
     }
 
-    // A walk calls it at each level, so its frame is kept out of the walk's.
+    // Each level of a walk makes this call, so its frame is kept out of the walk's.
     #[inline(never)]
     fn fill(&self, alloc: Global, source: &str) -> Result<String, Error> {
         let Some(variables) = self.variables else {

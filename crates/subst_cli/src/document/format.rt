@@ -7,7 +7,9 @@ ghost use Rattle.subst.specs.Json.Outcome.{OnJson};
 ghost use Rattle.subst.specs.Json.error as json_errors;
 ghost use Rattle.subst.specs.Toml.Outcome.{OnToml};
 ghost use Rattle.subst.specs.Toml.error as toml_errors;
-ghost use Rattle.subst_cli.specs.Documents.{format_of, AreFound, ArePlaces, IsKept, IsNoDocument, IsUnfilled, RefusesString, StandsIn};
+ghost use Rattle.subst.specs.Yaml.error as yaml_errors;
+ghost use Rattle.subst_yaml.specs.declared.error.Fault.{Fault as YamlFault};
+ghost use Rattle.subst_cli.specs.Documents.{format_of, AreFound, ArePlaces, FindsIn, IsKept, IsNoDocument, IsUnfilled, RefusesString, IsStringIn};
 ghost use Rattle.subst_cli.specs.Fill.{GivesFor, IsDocumentOutput};
 ghost use Rattle.subst_cli.specs.Layers.{Entry};
 ghost use Rattle.subst_cli.specs.Strings.{FillsFrom};
@@ -19,8 +21,7 @@ use crate::fault::Cause;
 use std::alloc::{AllocError, Global};
 use std::fmt;
 use std::ops::Range;
-use subst::json::RangeFinder;
-use subst::{RefusalAt, StringAt, json, toml};
+use subst::{RefusalAt, StringAt, json, toml, yaml};
 
 /// A format of documents.
 #[derive(Clone, Copy, PartialEq, Eq)]
@@ -29,32 +30,34 @@ pub enum Format {
     Json,
     /// TOML.
     Toml,
+    /// YAML, with one or several documents.
+    Yaml,
 }
 
-/// Why a document isn't filled in.
+/// The reason why a document isn't filled in.
 #[derive(Drop)]
 pub(crate) enum Unfilled {
-    /// It is none, or isn't confirmed: where, and which.
+    /// The text isn't a document, or the output isn't confirmed. The fault has this range and cause.
     Unread(Range<usize>, Cause),
-    /// A string of it is refused.
+    /// A string is refused.
     Refused,
 }
 
-/// What is read of a document, or why it isn't filled in.
+/// A result for a document, or the reason why the document isn't filled in.
 type Read<T> = Result<Result<T, Unfilled>, AllocError>;
 
-/// A string of a document that is refused, with the path that leads to it.
+/// A refused string of a document, with its path.
 pub(crate) type RefusedAt = (String, StringAt);
 
 impl Format {
-    /// Returns a text with its strings filled in.
+    /// Fills in the strings of a document, or returns the reason why the document isn't filled in.
     pub(crate) fn fill_in(
         self,
         alloc: Global,
         text: &str,
         filler: &StringFiller<'_, '_, '_>,
     ) -> Read<String>
-        ensures given { (entries : List Entry) → FillsFrom filler.now entries
+        ensures output { (entries : List Entry) → FillsFrom filler.now entries
             → IfOk result (λ filled. IfOk filled (λ output. IsDocumentOutput self
             (GivesFor filler.now.placeholders.now entries) text.now (string_bytes output))) }
         ensures unfilled { IfOk result (λ filled. IfErr filled (IsUnfilled
@@ -63,19 +66,24 @@ impl Format {
         match self {
             Format::Json => of_json(alloc, text, json::fill_in_by(alloc, text, filler)),
             Format::Toml => of_toml(alloc, toml::fill_in_by(alloc, text, filler)),
+            Format::Yaml => match of_yaml(alloc, yaml::fill_in_by(alloc, text, filler))? {
+                Ok(Some(output)) => Ok(Ok(output)),
+                Ok(None) => Ok(Err(Unfilled::Unread(0..0, Cause::NotConfirmed))),
+                Err(why) => Ok(Err(why)),
+            },
         }
     }
 
-    /// Returns the strings that are refused, in the order of the text, each with the path that leads to it.
-    /// That is empty where the document is a string.
+    /// Returns the refused strings with their paths, in the order of the text. The path is empty if the
+    /// document is a single string.
     pub(crate) fn refused(
         self,
         alloc: Global,
         text: &str,
         filler: &StringFiller<'_, '_, '_>,
     ) -> Read<Vec<RefusedAt>>
-        ensures stand { IfOk result (λ refused. IfOk refused (λ refused.
-            All (λ it. StandsIn self text.now (string_bytes it.0) it.1) refused.items)) }
+        ensures strings { IfOk result (λ refused. IfOk refused (λ refused.
+            All (λ it. IsStringIn self text.now (string_bytes it.0) it.1) refused.items)) }
         ensures unfilled { IfOk result
             (λ refused. IfErr refused (IsUnfilled (IsNoDocument self text.now) ⊥)) }
     {
@@ -88,19 +96,24 @@ impl Format {
                 let found = of_toml(alloc, toml::refusals_by(alloc, text, filler))?;
                 with_paths(alloc, found)
             }
+            Format::Yaml => {
+                let found = of_yaml(alloc, yaml::refusals_by(alloc, text, filler))?;
+                with_paths(alloc, found)
+            }
         }
     }
 
-    /// Returns the strings, in the order of the text.
+    /// Returns the strings of a document with their spans, in the order of the text.
     pub(crate) fn strings(self, alloc: Global, text: &str) -> Read<Vec<StringAt>> {
         match self {
             Format::Json => of_json(alloc, text, json::strings(alloc, text)),
             Format::Toml => of_toml(alloc, toml::strings(alloc, text)),
+            Format::Yaml => of_yaml(alloc, yaml::strings(alloc, text)),
         }
     }
 }
 
-/// Returns what the library returns of a JSON text, or why it returns nothing.
+/// Converts the library's result for JSON. `None` and errors, except out of memory, become [`Unfilled`].
 fn of_json<T: Drop>(alloc: Global, text: &str, returned: Result<Option<T>, json::Error>) -> Read<T>
     ensures it { IfOk result (λ outcome. IfOk outcome (λ it. returned ≡ Ok (Some it))) }
     ensures unfilled { IfOk result (λ outcome. IfErr outcome (IsUnfilled (¬ (OnJson returned ⊥))
@@ -118,7 +131,7 @@ fn of_json<T: Drop>(alloc: Global, text: &str, returned: Result<Option<T>, json:
     }
 }
 
-/// Returns what the library returns of a TOML text, or why it returns nothing.
+/// Converts the library's result for TOML. `None` and errors, except out of memory, become [`Unfilled`].
 fn of_toml<T: Drop>(alloc: Global, returned: Result<Option<T>, toml::Error>) -> Read<T>
     ensures it { IfOk result (λ outcome. IfOk outcome (λ it. returned ≡ Ok (Some it))) }
     ensures unfilled { IfOk result (λ outcome. IfErr outcome (IsUnfilled (¬ (OnToml returned ⊥))
@@ -141,7 +154,25 @@ fn of_toml<T: Drop>(alloc: Global, returned: Result<Option<T>, toml::Error>) -> 
     }
 }
 
-/// Returns refused strings, if any were returned, each with the text of the path that leads to it.
+/// Converts the library's result for YAML. Errors, except out of memory, become [`Unfilled`].
+fn of_yaml<T: Drop>(alloc: Global, returned: Result<T, yaml::Error>) -> Read<T>
+    ensures it { IfOk result (λ outcome. IfOk outcome (λ it. returned ≡ Ok it)) }
+    ensures unfilled { IfOk result (λ outcome. IfErr outcome (IsUnfilled
+        ((fault : YamlFault) × (returned ≡ Err (yaml_errors.Yaml fault)))
+        ((e : SubstError) × (returned ≡ Err (yaml_errors.Subst e))))) }
+{
+    match returned {
+        Ok(it) => Ok(Ok(it)),
+        Err(yaml::Error::Yaml(yaml::Fault { reason, span, .. })) => {
+            let cause = Cause::NotADocument(format!(in alloc; "invalid YAML: {reason}")?);
+            Ok(Err(Unfilled::Unread(span.start..span.end, cause)))
+        }
+        Err(yaml::Error::Subst(_)) => Ok(Err(Unfilled::Refused)),
+        Err(yaml::Error::OutOfMemory(e)) => Err(e),
+    }
+}
+
+/// Converts the paths of refused strings into texts.
 fn with_paths<P: fmt::Display + Drop>(
     alloc: Global,
     found: Result<Vec<RefusalAt<P>>, Unfilled>,
@@ -166,30 +197,37 @@ fn with_paths<P: fmt::Display + Drop>(
     Ok(Ok(strings))
 }
 
-/// What finds places, which is kept from one string to the next.
+/// A finder, which maps ranges of a document's strings to ranges of the document. All strings share a finder.
 #[derive(Drop)]
 pub(crate) enum Finder {
-    Json(RangeFinder),
+    Json(json::RangeFinder),
     Toml,
+    Yaml(yaml::RangeFinder),
 }
 
 impl Finder {
-    /// Returns one for documents of a format.
-    pub fn new(alloc: Global, format: Format) -> Self
-        ensures { format_of result ≡ format }
-    {
-        match format {
-            Format::Json => Finder::Json(RangeFinder::new(alloc)),
-            Format::Toml => Finder::Toml,
-        }
-    }
-
-    /// Returns where these ranges of a string, which go up, are in the text. Where they aren't found, each is
-    /// at the string's token.
+    /// Creates a finder for the strings of a document.
     ///
     /// # Errors
     ///
-    /// When allocation fails.
+    /// If allocation fails.
+    pub fn new(alloc: Global, format: Format, text: &str) -> Result<Self, AllocError>
+        ensures format { IfOk result (λ finder. format_of finder ≡ format) }
+        ensures finder { IfOk result (FindsIn text.now) }
+    {
+        match format {
+            Format::Json => Ok(Finder::Json(json::RangeFinder::new(alloc))),
+            Format::Toml => Ok(Finder::Toml),
+            Format::Yaml => Ok(Finder::Yaml(yaml::RangeFinder::new(alloc, text)?)),
+        }
+    }
+
+    /// Maps ascending ranges of a string to ranges of `text`, the document that the finder was created for.
+    /// If the library finds none, maps each range to `token`, the range of the string's token.
+    ///
+    /// # Errors
+    ///
+    /// If allocation fails.
     pub fn places(
         &mut self,
         alloc: Global,
@@ -197,14 +235,16 @@ impl Finder {
         token: Range<usize>,
         ranges: &[Range<usize>],
     ) -> Result<Vec<Range<usize>>, AllocError>
-        ensures places { IfOk result
+        ensures places { FindsIn text.now self.old → IfOk result
             (λ places. ArePlaces (format_of self.old) text.now token ranges.now places.items) }
         ensures format { OnOk result (format_of self.new ≡ format_of self.old) }
+        ensures finder { FindsIn text.now self.old → OnOk result (FindsIn text.now self.new) }
     {
         let Range { start, end } = token;
         let found = match self {
             Finder::Json(finder) => finder.find(alloc, text, start..end, ranges)?,
             Finder::Toml => places_in_toml(alloc, text, start..end, ranges)?,
+            Finder::Yaml(finder) => finder.find(alloc, text, start..end, ranges)?,
         };
         match found {
             Some(places) => Ok(places),
@@ -213,8 +253,8 @@ impl Finder {
     }
 }
 
-/// Returns where these ranges of a string are in a TOML text. Where a single range ends within a newline,
-/// `place_in` alone has its place.
+/// Maps ranges of a string to ranges in a TOML text, or returns `None` if they aren't found. A single range
+/// may end between a carriage return and its line feed; only `toml::place_in` finds such a range.
 fn places_in_toml(
     alloc: Global,
     text: &str,

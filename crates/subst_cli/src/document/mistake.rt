@@ -1,4 +1,4 @@
-//! Mistakes that keep a text from being a document, found where its reader stopped.
+//! Common mistakes in JSON and TOML, recognized at the position where the reader stopped.
 
 ghost use Rattle.std.specs.Prelude.{◌≡◌, ◌<◌, ◌↔◌, IfOk, IfSome, IsSome, IsTrue, drop, length, slice_index};
 ghost use Rattle.std.specs.Str.{IsCharBoundary};
@@ -13,19 +13,19 @@ use std::alloc::{AllocError, Global};
 use std::fmt;
 use subst::json::ReaderStop;
 
-/// The levels of arrays and objects that the reader of JSON reads.
+/// The most levels of arrays and objects that the reader of JSON accepts.
 const LEVELS: u8 = 127;
 
-/// The levels of arrays and inline tables, and the parts of a key, that the reader of TOML reads.
+/// The most levels of arrays and inline tables, and parts of a key, that the reader of TOML accepts.
 const TOML_LEVELS: u8 = 80;
 
-/// The message of the reader of JSON that doesn't say why.
+/// The message of the reader of JSON if it states no reason.
 const INVALID: &str = "invalid JSON";
 
 /// The message of the reader of TOML at one level too many.
 const TOO_DEEP: &str = "cannot recurse further; max recursion depth met";
 
-/// A mistake that keeps a text from being a document.
+/// A mistake because of which a text isn't a document.
 #[derive(Clone, Copy, PartialEq, Eq)]
 pub enum Mistake {
     /// A comma before the bracket that closes an array or object.
@@ -34,32 +34,32 @@ pub enum Mistake {
     Comment,
     /// A variable outside a string.
     Variable,
-    /// Something after the document.
+    /// Text after the document.
     SecondDocument,
     /// One half of a surrogate pair without the other.
     LoneSurrogate,
-    /// More levels than so many.
+    /// More levels of nesting than this number.
     TooDeep(u8),
 }
 
 impl fmt::Display for Mistake {
     fn fmt<W: fmt::Write>(&self, f: &mut fmt::Formatter<W>) -> fmt::Result {
         match self {
-            Mistake::TrailingComma => f.write_str("a comma before the end"),
+            Mistake::TrailingComma => f.write_str("a trailing comma"),
             Mistake::Comment => f.write_str("a comment"),
             Mistake::Variable => f.write_str("a variable outside a string"),
             Mistake::SecondDocument => f.write_str("a second document"),
-            Mistake::LoneSurrogate => f.write_str("half of a surrogate pair"),
-            Mistake::TooDeep(levels) => write!(f, "nested deeper than {levels}"),
+            Mistake::LoneSurrogate => f.write_str("a lone surrogate"),
+            Mistake::TooDeep(levels) => write!(f, "nested deeper than {levels} levels"),
         }
     }
 }
 
-/// Returns why a text isn't JSON: the mistake at the place where the reader stopped, or the reader's message.
+/// Returns the reason why a text isn't JSON: a known mistake, or else the message of the reader's stop.
 ///
 /// # Errors
 ///
-/// When allocation fails.
+/// If allocation fails.
 pub(crate) fn unread(alloc: Global, text: &str, stop: ReaderStop) -> Result<Unfilled, AllocError>
     requires { IsCharBoundary text.now stop.offset }
     ensures { IfOk result (λ why. why ≡ unread_at text.now stop) }
@@ -82,8 +82,8 @@ fn is_document(alloc: Global, text: &str) -> Result<bool, AllocError>
     is_valid(text, &mut Scratch::new(alloc))
 }
 
-/// Returns the mistake between what the reader of JSON read, which may be a document, and the rest, with its
-/// byte offset in the text; or `None` if it isn't known.
+/// Returns the mistake for which the reader of JSON stopped between `before` and `rest`, and its byte offset.
+/// Returns `None` if no mistake is known. `is_document` is whether `before` is a JSON document.
 fn find(before: &[u8], rest: &[u8], is_document: bool) -> Option<(Mistake, usize)>
     ensures { result ≡ mistake_at before.now rest.now is_document }
 {
@@ -108,7 +108,7 @@ fn find(before: &[u8], rest: &[u8], is_document: bool) -> Option<(Mistake, usize
     }
 }
 
-/// Returns the mistake that a message of the reader of TOML is about; or `None` if it isn't known.
+/// Returns the mistake that a message of the reader of TOML states, or `None` if no mistake is known.
 pub(crate) fn of_toml(message: &str) -> Option<Mistake>
     ensures { result ≡ mistake_of_toml message.now }
 {
@@ -142,19 +142,19 @@ fn last_byte(bytes: &[u8]) -> u8
     last
 }
 
-/// Where a byte of JSON is.
+/// The part of JSON that a byte is in.
 #[derive(Clone, Copy, PartialEq, Eq)]
 enum Part {
-    /// Outside the strings.
+    /// Outside of strings.
     Outside,
     /// In a string.
     Inside,
-    /// In a string, after the backslash of an escape.
+    /// In a string, after the backslash that begins an escape.
     Escaped,
 }
 
 impl Part {
-    /// Returns the part that the byte after this one is in.
+    /// Returns the part that the byte after `byte` is in, if `byte` is in this part.
     fn after(self, byte: u8) -> Part
         ensures { result ≡ part_after self byte }
     {
@@ -167,14 +167,14 @@ impl Part {
         }
     }
 
-    /// Returns whether a byte opens a level.
+    /// Returns whether a byte in this part opens an array or object.
     fn opens(self, byte: u8) -> bool
         ensures { result ≡ does_open self byte }
     {
         matches!(self, Part::Outside) && (byte == b'[' || byte == b'{')
     }
 
-    /// Returns whether a byte closes a level.
+    /// Returns whether a byte in this part closes an array or object.
     fn closes(self, byte: u8) -> bool
         ensures { result ≡ does_close self byte }
     {
@@ -182,7 +182,7 @@ impl Part {
     }
 }
 
-/// Returns the index of the first bracket that opens one level too many, if there is one.
+/// Returns the index of the first bracket that opens more than [`LEVELS`] levels, or `None` if none does.
 fn past_levels(bytes: &[u8]) -> Option<usize>
     ensures { result ≡ bracket_past 0 parts.Outside 0 bytes.now }
 {
@@ -206,13 +206,13 @@ fn past_levels(bytes: &[u8]) -> Option<usize>
 
 /// A half of a surrogate pair.
 #[derive(Clone, Copy, PartialEq, Eq)]
-enum Half {
+enum SurrogateHalf {
     First,
     Second,
 }
 
-/// Returns the half of a surrogate pair whose escape these bytes begin with, if they do.
-fn half_of(bytes: &[u8]) -> Option<Half>
+/// Returns the half of a surrogate pair whose escape the bytes begin with, or `None` without such an escape.
+fn half_of(bytes: &[u8]) -> Option<SurrogateHalf>
     ensures { result ≡ half_at bytes.now }
 {
     if is_surrogate(bytes) {
@@ -222,7 +222,7 @@ fn half_of(bytes: &[u8]) -> Option<Half>
     }
 }
 
-/// Returns whether these bytes begin with an escape of four digits, the first of which is that of surrogates.
+/// Returns whether bytes begin with `\uD` or `\ud` and, after any byte, two hexadecimal digits.
 fn is_surrogate(bytes: &[u8]) -> bool
     ensures { result ≡ is_surrogate_at bytes.now }
 {
@@ -234,18 +234,18 @@ fn is_surrogate(bytes: &[u8]) -> bool
         && byte_at(bytes, 5).is_ascii_hexdigit()
 }
 
-/// Returns the half of a surrogate pair whose second digit this is, if it is one.
-fn half_of_digit(digit: u8) -> Option<Half>
+/// Returns the half of a surrogate pair whose escape has this second digit, or `None` if neither half has it.
+fn half_of_digit(digit: u8) -> Option<SurrogateHalf>
     ensures { result ≡ half_by digit }
 {
     match digit {
-        b'8' | b'9' | b'a' | b'b' | b'A' | b'B' => Some(Half::First),
-        b'c'..=b'f' | b'C'..=b'F' => Some(Half::Second),
+        b'8' | b'9' | b'a' | b'b' | b'A' | b'B' => Some(SurrogateHalf::First),
+        b'c'..=b'f' | b'C'..=b'F' => Some(SurrogateHalf::Second),
         _ => None,
     }
 }
 
-/// Returns the bytes after an escape of four digits.
+/// Returns the bytes after the first six, which an escape such as `\ud800` has, or none if there are fewer.
 fn after_escape(bytes: &[u8]) -> &[u8]
     ensures { result.now ≡ drop 6 bytes.now }
 {
@@ -255,47 +255,47 @@ fn after_escape(bytes: &[u8]) -> &[u8]
     }
 }
 
-/// Returns whether bytes begin with a half of a surrogate pair without the other half.
+/// Returns whether bytes begin with the escape of half a surrogate pair without the escape of the other.
 fn is_lone(bytes: &[u8]) -> bool
     ensures { result ≡ is_lone_at bytes.now }
 {
     match half_of(bytes) {
         None => false,
-        Some(Half::Second) => true,
-        Some(Half::First) => half_of(after_escape(bytes)) != Some(Half::Second),
+        Some(SurrogateHalf::Second) => true,
+        Some(SurrogateHalf::First) => half_of(after_escape(bytes)) != Some(SurrogateHalf::Second),
     }
 }
 
-/// Returns the bytes after the first one that the escape or the pair has which bytes begin with.
+/// Returns how many bytes to skip after the first: 11 for a surrogate pair, 1 for another escape, or else 0.
 fn bytes_after(bytes: &[u8]) -> u8
     ensures { result ≡ after_first bytes.now }
 {
     if byte_at(bytes, 0) != b'\\' {
         0
-    } else if half_of(bytes) == Some(Half::First) {
+    } else if half_of(bytes) == Some(SurrogateHalf::First) {
         11
     } else {
         1
     }
 }
 
-/// Returns the index of the first half of a surrogate pair without the other half in a string, which begins
-/// with its quote.
+/// Returns the index of the first lone surrogate, half a pair without the other half, or `None` if there is
+/// none. `string` begins with its opening quote.
 fn lone_surrogate(string: &[u8]) -> Option<usize>
     ensures value { result ≡ lone_at 0 1 string.now }
     ensures bound { IfSome result (λ at. at < length string.now) }
 {
-    let mut passed = 1u8;
+    let mut to_skip = 1u8;
     for at in 0..string.len() {
         let rest = &string[at..];
-        if passed > 0 {
-            passed -= 1;
+        if to_skip > 0 {
+            to_skip -= 1;
         } else if byte_at(rest, 0) == b'"' {
             return None;
         } else if is_lone(rest) {
             return Some(at);
         } else {
-            passed = bytes_after(rest);
+            to_skip = bytes_after(rest);
         }
     }
     None

@@ -4,42 +4,42 @@ ghost use Rattle.std.specs.Prelude.{◌≡◌, ◌≤◌, ◌<◌, ◌+◌, ◌�
 ghost use Rattle.subst_cli.specs.DotenvLine as dotenv;
 ghost use Rattle.subst_cli.specs.DotenvLine.{least_len, line_of};
 ghost use Rattle.subst_cli.specs.ValuesFile as file;
-ghost use Rattle.subst_cli.specs.declared.dotenv.written.Quote.TheVariants.{Bare};
+ghost use Rattle.subst_cli.specs.declared.dotenv.shell_text.Quote.TheVariants.{Bare};
 ghost use Rattle.subst_language.specs.Language.Name as name;
 
-use crate::dotenv::written::{Quote, Text, begins_with, text_in};
-use crate::values_file::{after_blanks, first_line, is_blank, says_nothing, without_return};
+use crate::dotenv::shell_text::{Quote, Text, begins_with, text_in};
+use crate::values_file::{after_blanks, first_line, is_blank, is_ignored, without_return};
 use std::alloc::{AllocError, Global};
 use subst::is_name;
 
 /// The message of a line without `=`.
 const NO_SIGN: &str = "missing '='";
 
-/// The message of a line whose name no template can spell.
-const MISSPELLED: &str = "no template can spell this name";
+/// The message of a line whose name isn't a variable name.
+const MISSPELLED: &str = "not a variable name";
 
 /// The message of a value whose quote never closes.
 const UNCLOSED: &str = "missing closing quote";
 
-/// The message of a line that goes on after a closing quote.
+/// The message of a line with text after a closing quote.
 const TEXT_AFTER: &str = "text after the closing quote";
 
-/// A line of a `.env` file, and the text after it.
+/// A parsed line of a `.env` file.
 #[derive(Drop)]
 pub(crate) enum Line<'t> {
-    /// It says nothing.
+    /// An empty line or a comment, and the text after it.
     Nothing(&'t [u8]),
-    /// It sets a name to a value, which is a shell-style text.
+    /// A line that sets a name to a value, which is a shell-style text, and the text after the line.
     Sets(&'t str, Vec<u8>, &'t [u8]),
-    /// It is wrong, for this.
+    /// A wrong line, with the message of its error.
     Wrong(&'static str),
 }
 
-/// Reads the first line of a text.
+/// Parses the first line of a text. A quoted value in it may span several lines.
 ///
 /// # Errors
 ///
-/// When allocation fails.
+/// If allocation fails.
 pub(crate) fn line_in(alloc: Global, text: &[u8]) -> Result<Line<'_>, AllocError>
     ensures line { IfOk result (λ line. line_of line ≡ dotenv.line_in text.now) }
     ensures shorter { 0 < length text.now
@@ -47,24 +47,24 @@ pub(crate) fn line_in(alloc: Global, text: &[u8]) -> Result<Line<'_>, AllocError
 {
     let begun = after_blanks(text);
     let (line, later) = first_line(begun);
-    if says_nothing(without_return(line)) {
+    if is_ignored(without_return(line)) {
         return Ok(Line::Nothing(later));
     }
     named_line(alloc, without_export(begun))
 }
 
-/// Reads a line that begins with a name.
+/// Parses the first line of a text, from the line's name on: blanks and `export` before it are removed.
 ///
 /// # Errors
 ///
-/// When allocation fails.
+/// If allocation fails.
 fn named_line(alloc: Global, text: &[u8]) -> Result<Line<'_>, AllocError>
     ensures line { IfOk result (λ line. line_of line ≡ dotenv.named_line text.now) }
     ensures shorter { IfOk result (λ line. least_len (line_of line) ≤ length text.now) }
 {
     let (name, after) = split_name(text);
     if !is_name(name) {
-        return Ok(Line::Wrong(what_is_wrong(text)));
+        return Ok(Line::Wrong(wrong_message(text)));
     }
     let Ok(name) = str::from_utf8(name) else {
         return Ok(Line::Wrong(MISSPELLED));
@@ -73,13 +73,13 @@ fn named_line(alloc: Global, text: &[u8]) -> Result<Line<'_>, AllocError>
         return Ok(Line::Wrong(NO_SIGN));
     };
     if *first != b'=' {
-        return Ok(Line::Wrong(what_is_wrong(text)));
+        return Ok(Line::Wrong(wrong_message(text)));
     }
     value_line(alloc, name, value)
 }
 
-/// Returns the message of a line that sets no name.
-fn what_is_wrong(text: &[u8]) -> &'static str {
+/// Returns the message of a line without a variable name or without `=`.
+fn wrong_message(text: &[u8]) -> &'static str {
     let (line, _) = first_line(text);
     if line.contains(&b'=') {
         MISSPELLED
@@ -88,11 +88,11 @@ fn what_is_wrong(text: &[u8]) -> &'static str {
     }
 }
 
-/// Reads the rest of a line from the value of its name on.
+/// Parses a line that sets `name`, from the text after the `=`.
 ///
 /// # Errors
 ///
-/// When allocation fails.
+/// If allocation fails.
 fn value_line<'t>(alloc: Global, name: &'t str, text: &'t [u8]) -> Result<Line<'t>, AllocError>
     ensures line { IfOk result (λ line. line_of line
         ≡ dotenv.value_line (dotenv.opening (file.after_blanks text.now)) name.now text.now) }
@@ -105,11 +105,11 @@ fn value_line<'t>(alloc: Global, name: &'t str, text: &'t [u8]) -> Result<Line<'
     }
 }
 
-/// Reads the rest of a line from the value of its name on, which isn't quoted.
+/// Parses a line that sets `name` to a value without quotes, from the text after the `=`.
 ///
 /// # Errors
 ///
-/// When allocation fails.
+/// If allocation fails.
 fn bare_line<'t>(alloc: Global, name: &'t str, text: &'t [u8]) -> Result<Line<'t>, AllocError>
     ensures line { IfOk result (λ line. line_of line
         ≡ dotenv.value_line Bare name.now text.now) }
@@ -123,11 +123,11 @@ fn bare_line<'t>(alloc: Global, name: &'t str, text: &'t [u8]) -> Result<Line<'t
     Ok(Line::Sets(name, value, later))
 }
 
-/// Reads the rest of a line after the quote with which the value of its name begins.
+/// Parses a line that sets `name` to a quoted value, from the text after the opening quote.
 ///
 /// # Errors
 ///
-/// When allocation fails.
+/// If allocation fails.
 fn quoted_line<'t>(
     alloc: Global,
     name: &'t str,
@@ -148,7 +148,7 @@ fn quoted_line<'t>(
     Ok(Line::Sets(name, text, later))
 }
 
-/// Returns the quote that a value begins with, and the text after it.
+/// Returns the quotes of the value that `bytes` begin with, and the bytes after the first byte.
 fn opening(bytes: &[u8]) -> (Quote, &[u8])
     ensures quote { result.0 ≡ dotenv.opening bytes.now }
     ensures rest { result.1.now ≡ drop 1 bytes.now }
@@ -159,7 +159,7 @@ fn opening(bytes: &[u8]) -> (Quote, &[u8])
     }
 }
 
-/// Returns how a value is quoted that begins with a byte.
+/// Returns the quotes of a value that begins with `byte`.
 fn quote_of(byte: u8) -> Quote
     ensures { result ≡ dotenv.opening (byte ∷ []) }
 {
@@ -170,7 +170,7 @@ fn quote_of(byte: u8) -> Quote
     }
 }
 
-/// Returns whether only blanks are in a line, and a comment after one of them.
+/// Returns whether the rest of a line has only blanks, or one or more blanks and then a comment.
 fn is_ended(line: &[u8]) -> bool
     ensures { result ≡ dotenv.is_ended line.now }
 {
@@ -189,7 +189,7 @@ fn is_ended(line: &[u8]) -> bool
     }
 }
 
-/// Returns bytes without the blanks at their end.
+/// Returns bytes without their trailing blanks.
 fn trimmed(bytes: &[u8]) -> &[u8]
     ensures { result.now ≡ dotenv.trimmed bytes.now }
 {
@@ -205,7 +205,7 @@ fn trimmed(bytes: &[u8]) -> &[u8]
     }
 }
 
-/// Splits a text after its leading name bytes.
+/// Splits a text into the ASCII letters, digits and underscores that it begins with, and the rest.
 fn split_name(text: &[u8]) -> (&[u8], &[u8])
     ensures name { result.0.now ≡ take (dotenv.name_len text.now) text.now }
     ensures rest { result.1.now ≡ drop (dotenv.name_len text.now) text.now }
@@ -213,7 +213,7 @@ fn split_name(text: &[u8]) -> (&[u8], &[u8])
     text.split_at(name_len(text))
 }
 
-/// Returns how many name bytes a text begins with.
+/// Returns the number of ASCII letters, digits and underscores that a text begins with.
 fn name_len(text: &[u8]) -> usize
     ensures len { result ≡ dotenv.name_len text.now }
     ensures within { result ≤ length text.now }
@@ -222,14 +222,14 @@ fn name_len(text: &[u8]) -> usize
     end.unwrap_or(text.len())
 }
 
-/// Returns whether a name may have a byte.
+/// Returns whether a byte can be in a variable name.
 fn is_name_byte(byte: u8) -> bool
     ensures { result ≡ name.is_name_byte byte }
 {
     byte.is_ascii_alphanumeric() || byte == b'_'
 }
 
-/// Returns a text without `export` and the blanks after it, of which there is one.
+/// Returns a text without `export` and the blanks after it. Without a blank, `export` is part of a name.
 fn without_export(text: &[u8]) -> &[u8]
     ensures text { result.now ≡ dotenv.without_export text.now }
     ensures shorter { length result.now ≤ length text.now }

@@ -6,22 +6,22 @@ ghost use Rattle.subst_cli.specs.Dotenv.{look_up_after, look_up_by, shell, value
 ghost use Rattle.subst_cli.specs.Layers.{Entry as SpecEntry, ForEntries, IsUnreadable, look_up_in};
 ghost use Rattle.subst_cli.specs.declared.dotenv.value.Unexpanded.TheVariants as unexpanded;
 ghost use Rattle.subst.specs.Reading.{variable_of, Listing};
-ghost use Rattle.subst.specs.Template.{without_question as asked};
+ghost use Rattle.subst.specs.Template.{without_question as looked_up};
 
 use crate::fault::{Cause, Unset};
 use crate::layers::Variables;
+use crate::map_back::{counterparts, unset_in};
 use crate::options::{Choice, Chosen};
 use crate::placeholders::{ChosenNames, has_no_dollar, style_of};
-use crate::shown::shown;
+use crate::terminal::printable;
 use crate::text::text_of;
-use crate::told::{counterparts, unset_in};
 use std::alloc::{AllocError, Global};
 use std::collections::HashMap;
 use subst::error::NoSuchVariable;
 use subst::foreign::{AllNames, Forms, Missing, Operator, Style, TextError, TextVariable};
 use subst::{BytesMap, Error, ShellMap, VariableMap, substitute};
 
-/// The lookup of a value's variables: the variables above, then the values of the lines before.
+/// The variables that a value may use: `above`, of higher precedence, and then `set`, of earlier lines.
 #[derive(Clone, Copy)]
 pub(crate) struct Scope<'m, 'v> {
     pub above: &'m Variables<'v>,
@@ -47,7 +47,7 @@ impl<'m> VariableMap<'m> for Scope<'m, '_> {
     }
 }
 
-/// The bytes of the values.
+/// Looks up the values of the implementation of [`VariableMap`], as bytes.
 impl<'m> BytesMap<'m> for Scope<'m, '_> {
     ghost use Rattle.std.proofs.Common.{refl, sym};
     ghost use Rattle.std.proofs.lemmas.Iterator.Adapters.{option_map_id};
@@ -58,12 +58,12 @@ impl<'m> BytesMap<'m> for Scope<'m, '_> {
     ghost reads = { ((λ bytes. bytes), (λ v. refl), (λ self name. sym (option_map_id _))) };
 }
 
-/// Why a shell-style text doesn't expand. Both say when memory ran out.
+/// The reason why a shell-style text doesn't expand. In both variants the error may be out of memory.
 #[derive(Debug, Drop)]
 pub(crate) enum Unexpanded {
-    /// A form of it is refused.
+    /// A form is refused.
     Text(TextError),
-    /// A variable that has to have a value is missing.
+    /// A required variable is unset, or empty after `:?`.
     Variable(Error),
 }
 
@@ -83,11 +83,11 @@ impl From<Error> for Unexpanded {
     }
 }
 
-/// Expands a shell-style text.
+/// Expands a shell-style text. An unset variable without an operator expands to nothing.
 ///
 /// # Errors
 ///
-/// The first form that is refused. Otherwise the first variable that is missing, of those with `?` or `:?`.
+/// If a form is refused, if a required variable is unset or, with `:?`, empty, or if allocation fails.
 fn filled_in(alloc: Global, text: &str, scope: &Scope<'_, '_>) -> Result<String, Unexpanded>
     ensures value { IfOk result
         (λ output. IsValueOf (look_up_by scope.now) text.now (Ok (string_bytes output))) }
@@ -103,11 +103,11 @@ fn filled_in(alloc: Global, text: &str, scope: &Scope<'_, '_>) -> Result<String,
     Ok(substitute(alloc, template.as_str(), &variables)?)
 }
 
-/// Expands the value of a line, or returns why it is refused.
+/// Expands the shell-style text of a value, or returns the cause of its refusal.
 ///
 /// # Errors
 ///
-/// When allocation fails.
+/// If allocation fails.
 pub(crate) fn expanded(
     alloc: Global,
     text: &[u8],
@@ -134,16 +134,16 @@ pub(crate) fn expanded(
         Err(Unexpanded::Variable(Error::NoSuchVariable(e))) => {
             Ok(Err(Cause::Unset(unset(alloc, text, scope, &e)?)))
         }
-        // The template of a text is a sentence, so only memory can have run out.
+        // The template of a text is a sentence, so the error is out of memory.
         Err(_) => Err(AllocError),
     }
 }
 
-/// Returns the variables of a shell-style text, in its order.
+/// Returns the variables of a shell-style text, in order.
 ///
 /// # Errors
 ///
-/// When allocation fails.
+/// If allocation fails.
 fn variables_in(alloc: Global, text: &str) -> Result<Vec<TextVariable<'_>>, AllocError>
     ensures { IfOk result
         (λ variables. Listing shell 0 0 text.now (map variable_of variables.items)) }
@@ -156,11 +156,11 @@ fn variables_in(alloc: Global, text: &str) -> Result<Vec<TextVariable<'_>>, Allo
     style.variables(alloc, text.as_bytes())
 }
 
-/// Returns the name of the first variable whose value above isn't UTF-8.
+/// Returns the name of the first variable whose value in `above` isn't UTF-8, or `None` if there is none.
 ///
 /// # Errors
 ///
-/// When allocation fails.
+/// If allocation fails.
 fn unreadable_in<'t>(
     variables: Vec<TextVariable<'t>>,
     above: &Variables<'_>,
@@ -172,7 +172,7 @@ fn unreadable_in<'t>(
 {
     for variable in variables {
         let Ok(name) = str::from_utf8(variable.name) else {
-            // A name is ASCII, so only memory can have run out.
+            // A name is ASCII, so this isn't reached.
             return Err(AllocError);
         };
         if above.is_unreadable(name) {
@@ -182,11 +182,11 @@ fn unreadable_in<'t>(
     Ok(None)
 }
 
-/// Returns the diagnostic of a variable of a text that is missing, with its message as it is written.
+/// Returns the unset variable of `text` for the error of its template. The variable's message isn't expanded.
 ///
 /// # Errors
 ///
-/// When allocation fails.
+/// If allocation fails.
 fn unset(
     alloc: Global,
     text: &str,
@@ -194,7 +194,7 @@ fn unset(
     missing: &NoSuchVariable,
 ) -> Result<Unset, AllocError>
     ensures { IfOk result (λ unset. string_bytes unset.name
-        ≡ asked (string_bytes missing.now.name)) }
+        ≡ looked_up (string_bytes missing.now.name)) }
 {
     let name = without_question(&missing.name)?;
     let found = variable_at(alloc, text.as_bytes(), missing.position, scope.above)?;
@@ -206,17 +206,17 @@ fn unset(
     Ok(Unset {
         name: String::from_str(alloc, name)?,
         is_empty: is_filled && scope.get(name).is_some(),
-        message: shown(alloc, message)?,
+        message: printable(alloc, message)?,
     })
 }
 
-/// Returns a name without the digit of a question.
+/// Removes the digit that a name in a template of a shell-style text may begin with (see `ShellMap`).
 ///
 /// # Errors
 ///
-/// When allocation fails.
+/// If allocation fails.
 fn without_question(name: &str) -> Result<&str, AllocError>
-    ensures { IfOk result (λ asked_about. asked_about.now ≡ asked name.now) }
+    ensures { IfOk result (λ bare. bare.now ≡ looked_up name.now) }
 {
     let Some((first, rest)) = name.as_bytes().split_first() else {
         return Ok(name);
@@ -226,16 +226,16 @@ fn without_question(name: &str) -> Result<&str, AllocError>
     }
     match str::from_utf8(rest) {
         Ok(rest) => Ok(rest),
-        // A name is ASCII, so only memory can have run out.
+        // A name is ASCII, so this isn't reached.
         Err(_) => Err(AllocError),
     }
 }
 
-/// Returns the variable of a text whose counterpart in the text's template is at a position.
+/// Returns the variable of `text` that is at `position` of the text's template, or `None` if there is none.
 ///
 /// # Errors
 ///
-/// When allocation fails.
+/// If allocation fails.
 fn variable_at<'t>(
     alloc: Global,
     text: &'t [u8],
@@ -252,11 +252,11 @@ fn variable_at<'t>(
         Err(TextError::OutOfMemory(e)) => return Err(e),
         Err(TextError::Refused(_)) => return Ok(None),
     };
-    let places = counterparts(alloc, text, &template, &chosen, above)?;
-    Ok(places.get(&position).copied())
+    let counterparts = counterparts(alloc, text, &template, &chosen, above)?;
+    Ok(counterparts.get(&position).copied())
 }
 
-/// Returns how values are read: as a shell's text, in which a variable that is unset expands to nothing.
+/// Returns the placeholders in values: a shell's forms of all names. Unset variables expand to nothing.
 fn forms() -> Chosen<'static> {
     Chosen {
         forms: Forms::Shell,
@@ -265,11 +265,11 @@ fn forms() -> Chosen<'static> {
     }
 }
 
-/// Returns the variables without an operator of a text that its value needs and that are unset.
+/// Returns the unset variables of a text that its expansion needs and that have no operator.
 ///
 /// # Errors
 ///
-/// When allocation fails.
+/// If allocation fails.
 pub(crate) fn unset_variables<'t>(
     alloc: Global,
     text: &'t [u8],

@@ -1,23 +1,23 @@
-//! The table of the options.
+//! The table of the command line's options.
 
 use clap::{Arg, ArgAction};
 use std::alloc::{AllocError, Global};
 
-/// An option.
+/// An option of the command line.
 pub(super) struct Row {
-    /// Its heading in the help.
+    /// The heading in the help.
     heading: &'static str,
     long: &'static str,
     short: Option<char>,
-    /// The name and the action of its value, if it has one.
+    /// The value's name in the help, and its action in `clap`, or `None` if the option takes no value.
     takes: Option<(&'static str, ArgAction)>,
     help: &'static str,
-    /// The options below that it can't stand with.
+    /// The options further down in the table that can't be used with this one.
     conflicts: &'static [&'static str],
 }
 
 impl Row {
-    /// Returns the option as `clap` has it.
+    /// Converts the option into an argument of `clap`.
     pub fn to_arg<'a>(&self, alloc: Global) -> Result<Arg<'a>, AllocError> {
         let arg = Arg::new(alloc, self.long)
             .long(self.long)
@@ -26,13 +26,13 @@ impl Row {
         let arg = with_short(arg, self.short).conflicts_with_all(self.conflicts)?;
         match self.takes {
             Some((name, action)) => Ok(arg.value_name(name).action(action)),
-            // A flag may be repeated: each use undoes those before it.
+            // A flag may be repeated: each use overrides those before it.
             None => arg.action(ArgAction::SetTrue).overrides_with(self.long),
         }
     }
 }
 
-/// Returns an option that has a letter too, if there is one.
+/// Adds the short form `short` to an option, if there is one.
 fn with_short<'a>(arg: Arg<'a>, short: Option<char>) -> Arg<'a> {
     match short {
         Some(short) => arg.short(short),
@@ -41,13 +41,13 @@ fn with_short<'a>(arg: Arg<'a>, short: Option<char>) -> Arg<'a> {
 }
 
 /// The options, in the order of the help.
-pub(super) static OPTIONS: [Row; 26] = [
+pub(super) static OPTIONS: [Row; 29] = [
     Row {
         heading: "Variables",
         long: "set",
         short: Some('s'),
         takes: Some(("NAME=VALUE", ArgAction::Append)),
-        help: "Gives a variable; of one given twice, the last counts",
+        help: "Set NAME to VALUE; the last one wins",
         conflicts: &[],
     },
     Row {
@@ -55,7 +55,7 @@ pub(super) static OPTIONS: [Row; 26] = [
         long: "set-file",
         short: None,
         takes: Some(("NAME=FILE", ArgAction::Append)),
-        help: "Gives a variable what is in a file, without its last line end",
+        help: "Set NAME to the contents of FILE, without its last line end",
         conflicts: &[],
     },
     Row {
@@ -63,7 +63,7 @@ pub(super) static OPTIONS: [Row; 26] = [
         long: "values",
         short: Some('f'),
         takes: Some(("FILE", ArgAction::Append)),
-        help: "Reads NAME=VALUE lines (docker run --env-file) or a folder (directory)",
+        help: "Read NAME=VALUE lines (as docker run --env-file), or a directory with a file per name",
         conflicts: &[],
     },
     Row {
@@ -71,7 +71,7 @@ pub(super) static OPTIONS: [Row; 26] = [
         long: "keep-line-end",
         short: None,
         takes: None,
-        help: "Keeps the last line end of a file that is a value",
+        help: "Keep the last line end of a file that is a value",
         conflicts: &[],
     },
     Row {
@@ -79,7 +79,7 @@ pub(super) static OPTIONS: [Row; 26] = [
         long: "env",
         short: Some('e'),
         takes: None,
-        help: "Takes variables from the environment",
+        help: "Use the environment's variables",
         conflicts: &[],
     },
     Row {
@@ -87,7 +87,7 @@ pub(super) static OPTIONS: [Row; 26] = [
         long: "dotenv",
         short: None,
         takes: Some(("FILE", ArgAction::Append)),
-        help: "Read a .env file: quotes, 'export', comments, and variables as with --shell",
+        help: "Read a .env file, with quotes, 'export', comments, and variables as with --shell",
         conflicts: &[],
     },
     Row {
@@ -95,7 +95,7 @@ pub(super) static OPTIONS: [Row; 26] = [
         long: "default",
         short: None,
         takes: Some(("NAME=VALUE", ArgAction::Append)),
-        help: "Gives a variable that nothing above gives",
+        help: "Set NAME to VALUE if no option above sets it",
         conflicts: &[],
     },
     Row {
@@ -103,7 +103,7 @@ pub(super) static OPTIONS: [Row; 26] = [
         long: "defaults",
         short: None,
         takes: Some(("FILE", ArgAction::Append)),
-        help: "Reads such variables, as --values does",
+        help: "Read values from FILE, as --values, for names that no option above sets",
         conflicts: &[],
     },
     Row {
@@ -111,7 +111,7 @@ pub(super) static OPTIONS: [Row; 26] = [
         long: "no-empty",
         short: None,
         takes: None,
-        help: "Passes over variables whose value is empty",
+        help: "Treat empty values as unset",
         conflicts: &[],
     },
     Row {
@@ -119,31 +119,55 @@ pub(super) static OPTIONS: [Row; 26] = [
         long: "escape",
         short: None,
         takes: Some(("json|sh", ArgAction::Set)),
-        help: "Escapes values for json (in YAML double-quoted strings alone) or sh",
+        help: "Escape values for json (in YAML only between double quotes; see --yaml) or sh",
         conflicts: &[],
     },
     Row {
-        heading: "Reading",
-        long: "bytes",
+        heading: "Formats",
+        long: "format",
         short: None,
-        takes: None,
-        help: "Takes any bytes, where otherwise text is in UTF-8",
-        conflicts: &["json", "toml"],
+        takes: Some(("json|toml|yaml|text|bytes|auto", ArgAction::Set)),
+        help: "Read files in this format; the options below are its short forms",
+        conflicts: &["json", "toml", "yaml", "bytes", "auto"],
     },
     Row {
-        heading: "Reading",
+        heading: "Formats",
         long: "json",
         short: None,
         takes: None,
-        help: "Fills in the strings of a JSON document",
-        conflicts: &["toml"],
+        help: "Fill in the strings of JSON documents",
+        conflicts: &["toml", "yaml", "bytes", "auto"],
     },
     Row {
-        heading: "Reading",
+        heading: "Formats",
         long: "toml",
         short: None,
         takes: None,
-        help: "Fills in the strings of a TOML document",
+        help: "Fill in the strings of TOML documents",
+        conflicts: &["yaml", "bytes", "auto"],
+    },
+    Row {
+        heading: "Formats",
+        long: "yaml",
+        short: None,
+        takes: None,
+        help: "Fill in the values of YAML documents, and quote those that need it",
+        conflicts: &["bytes", "auto"],
+    },
+    Row {
+        heading: "Formats",
+        long: "bytes",
+        short: None,
+        takes: None,
+        help: "Accept any bytes; by default input must be UTF-8",
+        conflicts: &["auto"],
+    },
+    Row {
+        heading: "Formats",
+        long: "auto",
+        short: None,
+        takes: None,
+        help: "Choose the format of each file by its ending: .json, .toml, .yaml or .yml; else text",
         conflicts: &[],
     },
     Row {
@@ -151,7 +175,7 @@ pub(super) static OPTIONS: [Row; 26] = [
         long: "only",
         short: None,
         takes: Some(("NAMES", ArgAction::Append)),
-        help: "Expand only these variables, as NAME or APP_*; leave all other text as it is",
+        help: "Expand only these variables (NAME or APP_*); leave all other text as it is",
         conflicts: &["known"],
     },
     Row {
@@ -159,7 +183,7 @@ pub(super) static OPTIONS: [Row; 26] = [
         long: "envsubst",
         short: None,
         takes: None,
-        help: "Expand $NAME and ${NAME}, as envsubst; leave all other text as it is",
+        help: "Expand only $NAME and ${NAME}, like envsubst; leave all other text as it is",
         conflicts: &["shell", "compose"],
     },
     Row {
@@ -175,7 +199,7 @@ pub(super) static OPTIONS: [Row; 26] = [
         long: "shell",
         short: None,
         takes: None,
-        help: "Expand ${NAME:-default} and the other forms that Docker Compose has",
+        help: "Expand ${NAME:-default} and the other forms of Docker Compose",
         conflicts: &[],
     },
     Row {
@@ -183,7 +207,7 @@ pub(super) static OPTIONS: [Row; 26] = [
         long: "compose",
         short: None,
         takes: None,
-        help: "The same as --shell",
+        help: "Same as --shell",
         conflicts: &[],
     },
     Row {
@@ -191,7 +215,7 @@ pub(super) static OPTIONS: [Row; 26] = [
         long: "strict",
         short: None,
         takes: None,
-        help: "With --shell, report unset variables as errors; with --check, other tools' defaults",
+        help: "With --shell, report unset variables; with --check, defaults in another option's form",
         conflicts: &[],
     },
     Row {
@@ -199,7 +223,7 @@ pub(super) static OPTIONS: [Row; 26] = [
         long: "optional",
         short: None,
         takes: None,
-        help: "Expand unset variables of --envsubst, --shell, --only and --known to nothing",
+        help: "Expand unset variables to nothing, with --envsubst, --shell, --only or --known",
         conflicts: &[],
     },
     Row {
@@ -207,7 +231,7 @@ pub(super) static OPTIONS: [Row; 26] = [
         long: "output",
         short: Some('o'),
         takes: Some(("FILE", ArgAction::Set)),
-        help: "Writes to a file, whole or not at all",
+        help: "Write the output to FILE, whole or not at all",
         conflicts: &["output-folder", "in-place", "check", "names"],
     },
     Row {
@@ -215,7 +239,7 @@ pub(super) static OPTIONS: [Row; 26] = [
         long: "output-folder",
         short: Some('O'),
         takes: Some(("FOLDER", ArgAction::Set)),
-        help: "Writes each file, and those of folders, into a folder (directory)",
+        help: "Write each file's output into FOLDER; directories are read recursively",
         conflicts: &["in-place", "check", "names"],
     },
     Row {
@@ -223,15 +247,15 @@ pub(super) static OPTIONS: [Row; 26] = [
         long: "strip",
         short: None,
         takes: Some(("SUFFIX", ArgAction::Set)),
-        help: "Takes of folders such files, and the suffix off their names",
-        conflicts: &["output", "in-place"],
+        help: "In directories, process only files whose names end in SUFFIX; -O removes it from output names",
+        conflicts: &["output"],
     },
     Row {
         heading: "Writing",
         long: "in-place",
         short: Some('i'),
         takes: None,
-        help: "Replaces each file by what it gives, whole or not at all",
+        help: "Replace each file by its output, whole or not at all; directories are read recursively",
         conflicts: &["check", "names"],
     },
     Row {
@@ -239,7 +263,7 @@ pub(super) static OPTIONS: [Row; 26] = [
         long: "check",
         short: None,
         takes: None,
-        help: "Reports the faults of files and of those of folders, and writes nothing",
+        help: "Report all errors and write nothing; directories are read recursively",
         conflicts: &["names"],
     },
     Row {
@@ -247,7 +271,7 @@ pub(super) static OPTIONS: [Row; 26] = [
         long: "names",
         short: None,
         takes: None,
-        help: "Prints each name, where it is first used, whether it is required, and its default",
+        help: "List the variables: name, first use, whether required, and default",
         conflicts: &[],
     },
 ];

@@ -1,11 +1,11 @@
-//! The readers and writers of the standard library as devices.
+//! Readers and writers of the standard library as devices.
 
 ghost use Rattle.std.specs.Prelude.{◌≡◌, false};
 
 use super::{ByteInput, ByteOutput, Failed};
 use std::io::{Read, Write};
 
-/// An input that reads from a reader of the standard library. A call reads from the reader once, so an
+/// An input device over a reader of the standard library. Each call reads from the reader once, so an
 /// interrupted read is a failure.
 #[derive(Drop)]
 pub struct FromReader<R> {
@@ -14,7 +14,7 @@ pub struct FromReader<R> {
 }
 
 impl<R: Read> FromReader<R> {
-    /// Returns an input over what is left of `reader`. It hasn't failed yet.
+    /// Creates an input over the rest of `reader`. The input hasn't failed.
     pub fn new(reader: R) -> Self
         ensures left { ⟦<FromReader<R> as ByteInput>⟧.left result ≡ R.remaining reader }
         ensures unfailed { ⟦<FromReader<R> as ByteInput>⟧.has_failed result ≡ false }
@@ -46,7 +46,7 @@ impl<R: Read> ByteInput for FromReader<R> {
     }
 }
 
-/// An output that writes to a writer of the standard library. A call writes to the writer once, so an
+/// An output device over a writer of the standard library. Each call writes to the writer once, so an
 /// interrupted write is a failure.
 #[derive(Drop)]
 pub struct ToWriter<W> {
@@ -56,7 +56,7 @@ pub struct ToWriter<W> {
 }
 
 impl<W: Write> ToWriter<W> {
-    /// Returns an output over `writer`. It hasn't failed yet.
+    /// Creates an output over `writer`. The output hasn't failed.
     pub fn new(writer: W) -> Self
         ensures written { ⟦<ToWriter<W> as ByteOutput>⟧.written result ≡ W.contents writer }
         ensures unfailed { ⟦<ToWriter<W> as ByteOutput>⟧.has_failed result ≡ false }
@@ -77,7 +77,7 @@ impl<W: Write> ByteOutput for ToWriter<W> {
 
     ghost is_flushed = { λ output. output.flushed };
 
-    /// A writer that takes none of the bytes, though there are some, counts as failed.
+    /// Writes a prefix of `bytes`. Fails if the writer fails, or accepts none of one or more bytes.
     fn write(&mut self, bytes: &[u8]) -> Result<usize, Failed> {
         self.flushed = false;
         match self.writer.write(bytes) {

@@ -1,4 +1,4 @@
-//! The run over a source of bytes.
+//! The run of the filter over a source of any bytes.
 
 ghost use Rattle.std.specs.Prelude.{◌≡◌, ℕ, List, true, OnOk, IfErr, IfSome, IsErrOf};
 ghost use Rattle.std.specs.Io.KnownBytes.{Keeps};
@@ -14,14 +14,14 @@ use std::alloc::Global;
 use std::convert::AsSlice;
 use subst::{VariableMap, substitute_bytes_owned};
 
-/// Reads the source from `input` to its end, fills its variables in from `variables`, writes the resulting
-/// bytes to `output` and flushes it. Nothing is written before the whole source is read and filled in.
+/// Reads the source from `input` to its end, and expands it with `variables`. Then writes the resulting bytes
+/// to `output`, and flushes `output`. Nothing is written if reading or expanding fails.
 ///
 /// # Errors
 ///
 /// - [`RunError::Read`] if the input fails.
-/// - [`RunError::Subst`], with an empty text, if the source is refused.
-/// - [`RunError::Write`] if the output fails. Then a prefix of the resulting bytes was written.
+/// - [`RunError::Subst`], with an empty highlighting, if the source is refused.
+/// - [`RunError::Write`] if the output fails. A prefix of the resulting bytes was then written.
 /// - [`RunError::OutOfMemory`] if memory runs out.
 #[tactic(auto, using(crate::proofs::FilterRunLemmas::delivered, crate::proofs::FilterRunLemmas::refused))]
 pub fn run_bytes<'a, I: ByteInput, O: ByteOutput, M: VariableMap<'a>>(
@@ -33,7 +33,7 @@ pub fn run_bytes<'a, I: ByteInput, O: ByteOutput, M: VariableMap<'a>>(
 where
     M::Value: AsSlice<u8> + Drop,
 
-    // What was written is the answer of what was read.
+    // The bytes that were written are the answer of the source.
     ensures answer { ByLookUp M.Value.items M.see (M.look_up variables.now)
         (λ look. IfSome (I.left input.old) (λ source. RunAnswers source look
         result (O.written output.old) (O.written output.new))) }

@@ -1,4 +1,4 @@
-//! The run over a source of text.
+//! The run of the filter over a source that has to be UTF-8.
 
 ghost use Rattle.std.specs.Prelude.{◌≡◌, ℕ, List, true, OnOk, IfErr, IfSome, IsErrOf};
 ghost use Rattle.std.specs.Io.KnownBytes.{Keeps};
@@ -6,7 +6,7 @@ ghost use Rattle.subst.specs.Calls.VariableMap.{ByLookUp};
 ghost use Rattle.subst.specs.ErrorFault.{error_fault};
 ghost use Rattle.subst.specs.Range.{IsRangeIn, range_of};
 ghost use Rattle.subst_filter_lib.specs.Device.{ReadsAll};
-ghost use Rattle.subst_filter_lib.specs.FilterRun.{RunAnswers, TellsText, OnceRead, UnlessReadFails, UnlessWriteFails, UnlessWriting};
+ghost use Rattle.subst_filter_lib.specs.FilterRun.{RunAnswers, ReportsText, OnceRead, UnlessReadFails, UnlessWriteFails, UnlessWriting};
 ghost use Rattle.subst_filter_lib.specs.RunError.{HighlightsFault, IsFaultOfText, IsRefusalOf};
 
 use super::{deliver, read_all, refusal};
@@ -17,17 +17,17 @@ use std::convert::AsStr;
 use subst::escape::is_plain;
 use subst::{Error, VariableMap, substitute};
 
-/// Reads the source from `input` to its end, fills its variables in from `variables`, whose values are texts,
-/// writes the resulting text to `output` and flushes it. Nothing is written before the whole source is read
-/// and filled in.
+/// Reads the source from `input` to its end, and expands it with `variables`, whose values are texts. Then
+/// writes the resulting text to `output`, and flushes `output`. Nothing is written if reading or expanding
+/// fails.
 ///
 /// # Errors
 ///
 /// - [`RunError::Read`] if the input fails.
 /// - [`RunError::NotUtf8`] if the source isn't UTF-8.
 /// - [`RunError::Subst`], with the highlighting of the fault over the source, if the source is refused.
-/// - [`RunError::Write`] if the output fails. Then a prefix of the resulting text's bytes was written.
-/// - [`RunError::OutOfMemory`] if memory runs out, also where there is none for the highlighting.
+/// - [`RunError::Write`] if the output fails. A prefix of the resulting text's bytes was then written.
+/// - [`RunError::OutOfMemory`] if memory runs out, even if only for the highlighting.
 #[tactic(auto, using(crate::proofs::FilterRunLemmas::delivered, crate::proofs::FilterRunLemmas::delivered_text, crate::proofs::FilterRunLemmas::delivered_unhighlighted, crate::proofs::FilterRunLemmas::refused_highlighted))]
 pub fn run_text<'a, I: ByteInput, O: ByteOutput, M: VariableMap<'a>>(
     alloc: Global,
@@ -38,13 +38,13 @@ pub fn run_text<'a, I: ByteInput, O: ByteOutput, M: VariableMap<'a>>(
 where
     M::Value: AsStr + Drop,
 
-    // What was written is the answer of what was read.
+    // The bytes that were written are the answer of the source.
     ensures answer { ByLookUp M.Value.text M.see (M.look_up variables.now)
         (λ look. IfSome (I.left input.old) (λ source. RunAnswers source look
         result (O.written output.old) (O.written output.new))) }
 
     // The source is UTF-8, or is reported not to be, unless reading failed or memory ran out.
-    ensures text { IfSome (I.left input.old) (TellsText result) }
+    ensures text { IfSome (I.left input.old) (ReportsText result) }
 
     // The source was read to its end, unless reading failed or memory ran out.
     ensures whole { OnceRead result (ReadsAll (I.left input.old) (I.left input.new)) }
@@ -83,15 +83,15 @@ where
     }
 }
 
-/// Returns the error of a run whose substitution over `source` returned `e`, with the highlighting of its
-/// fault. If there is no memory for that, it is [`RunError::OutOfMemory`].
+/// Converts the error `e` of an expansion of `source` into the error of a run, with the fault highlighted.
+/// Returns [`RunError::OutOfMemory`] if `e` is out of memory, or if memory runs out for the highlighting.
 fn highlighted_refusal(alloc: Global, e: Error, source: &str) -> RunError
     requires { IsRangeIn source.now (range_of (error_fault e)) }
     ensures refusal { IsRefusalOf e result }
     ensures highlighted { HighlightsFault source.now result }
 {
     match e.source_highlighting(alloc, source) {
-        Ok(shown) => refusal(e, shown),
+        Ok(highlighting) => refusal(e, highlighting),
         Err(_) => RunError::OutOfMemory,
     }
 }

@@ -1,6 +1,7 @@
--- The fault is that the text is no document or isn't confirmed, or is of a string that stands in it.
+-- The fault is that the text is no document or its output isn't confirmed, or it is one of a string in the
+-- text.
 use Rattle.std.proofs.Common.{◌≡◌, [], inl, inr, rules}
-use Rattle.subst_cli.proofs.DocumentLemmas.{standing, unconfirmed, unread_one}
+use Rattle.subst_cli.proofs.DocumentLemmas.{fault_in_document, unconfirmed, unread_one}
 use Rattle.subst_cli.proofs.document.faults_in.Goals as goal
 
 pub returns-in-Err-Unread : goal.returns-in-Err-Unread
@@ -24,6 +25,6 @@ returns-then-is_empty c = λ entries from.
 pub returns-else-is_empty : goal.returns-else-is_empty
 returns-else-is_empty c = λ entries from.
     let some : ¬ (c.in_ok-faults.faults.items ≡ []) = search rules in
-    standing c.args.format c.args.filler.now.placeholders.now entries c.args.text.now c.in-Ok.strings.items
-    c.in_ok-faults.faults.items (rw c.in-Ok.is at c.in_ok-strings.ensures.stand)
+    fault_in_document c.args.format c.args.filler.now.placeholders.now entries c.args.text.now c.in-Ok.strings.items
+    c.in_ok-faults.faults.items (rw c.in-Ok.is at c.in_ok-strings.ensures.strings)
     (elim c.in_ok-faults.ensures [ inl (none, _) ↦ absurd (some none) | inr one ↦ one entries from ])

@@ -1,4 +1,4 @@
--- The faults of each string are added, which is one of these.
+-- The faults of each string are appended, and the string is one of these.
 use Rattle.std.proofs.Common.{◌∙◌, ℕ, List, String, subst}
 use Rattle.std.specs.Global.{Global}
 use Rattle.subst_document.specs.declared.edits.StringAt.{StringAt}
@@ -15,11 +15,12 @@ loop-path-preserved c =
     let filler = c.args.filler.now in
     let one : String Global × StringAt = (c.in-Some.path, c.in-Some.field-0-1) in
     let faults = c.in_ok-faults.faults.items in
-    let (told, added, are) = c.in_ok-add_faults.ensures.told in
+    let (reported, added, are) = c.in_ok-add_faults.ensures.reported l.invariant.finder in
     record {
       format = c.in_ok-add_faults.ensures.format ∙ l.invariant.format;
+      finder = c.in_ok-add_faults.ensures.finder l.invariant.finder;
       faults = with_string filler c.args.format c.args.text.now c.args.strings.items l.yielded one l.all.items
-          c.add_faults.new.all.items faults told
+          c.add_faults.new.all.items faults reported
           (vec_gives c.args.strings c.into_iter-path-iterator.result l.path-iterator c.next.new.self l.yielded
           c.next.result gives.0 gives.1 l.yielded_by c.next.ensures.steps one c.in-Some.is)
           added (rw (l.invariant.format, c.deref-in-loop-path.ensures) at are) l.invariant.faults

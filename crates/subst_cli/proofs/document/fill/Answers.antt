@@ -1,9 +1,9 @@
--- What the format says of a text that it fills in, and the faults of one that it doesn't.
+-- The output is that of the format, and the faults are those of the refused text.
 use Rattle.subst_cli.proofs.DocumentLemmas.{unread_one}
 use Rattle.subst_cli.proofs.document.fill.Goals as goal
 
 pub returns-in-Ok-clause-gives : goal.returns-in-Ok-clause-gives
-returns-in-Ok-clause-gives c = λ entries from. rw c.in-Ok.is at (c.in_ok-output.ensures.given entries from)
+returns-in-Ok-clause-gives c = λ entries from. rw c.in-Ok.is at (c.in_ok-output.ensures.output entries from)
 
 pub returns-in_ok-one_fault-in-Err-Unread-clause-refused :
     goal.returns-in_ok-one_fault-in-Err-Unread-clause-refused

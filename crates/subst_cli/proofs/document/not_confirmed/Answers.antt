@@ -1,4 +1,4 @@
--- The one fault is that.
+-- The only fault is that the output isn't confirmed.
 use Rattle.std.proofs.Common.{◌≡◌}
 use Rattle.subst_cli.specs.declared.fault.Cause.TheVariants.{NotConfirmed}
 use Rattle.subst_cli.proofs.FaultLemmas.{any_of_one}

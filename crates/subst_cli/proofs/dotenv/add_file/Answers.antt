@@ -1,4 +1,4 @@
--- The file isn't UTF-8, or a line stops it.
+-- The file isn't UTF-8, or a line is refused.
 use Rattle.std.proofs.Common.{◌∙◌, inl, inr, rules, subst, sym}
 use Rattle.std.specs.Str.{IsUtf8}
 use Rattle.subst_cli.proofs.FaultLemmas.{any_of_one, any_weaker}

@@ -1,4 +1,4 @@
--- One line more is read.
+-- The next line is read.
 use Rattle.std.proofs.Common.{◌≡◌, rules, subst, sym, true}
 use Rattle.subst_cli.proofs.DotenvLemmas.{empty_if}
 use Rattle.subst_cli.proofs.dotenv.add_lines.Goals as goal

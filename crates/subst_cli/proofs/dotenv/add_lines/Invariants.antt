@@ -1,4 +1,4 @@
--- What the lines that are left leave or stop at is so of all lines.
+-- The entries after the lines that are left, or their refusal, are those of all lines.
 use Rattle.std.proofs.Common.{List, length}
 use Rattle.subst_cli.specs.Dotenv.{HasLast, Leaves, Stops}
 use Rattle.subst_cli.specs.Layers.{AreVariablesOf, Entry, entries_of}

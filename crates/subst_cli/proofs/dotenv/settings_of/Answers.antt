@@ -1,4 +1,4 @@
--- One file more is read, or is the first that is refused.
+-- The next file is read, or is the first one that is refused.
 use Rattle.std.proofs.Common.{◌∷◌, ◌++◌, ◌∙◌, [], ap, map}
 use Rattle.std.proofs.lemmas.List.{map-append}
 use Rattle.std.specs.Vec.Iter.{into_iter_items}

@@ -1,4 +1,4 @@
--- Where no byte is the separator, the place is the length.
+-- If no byte is the separator, the position is the length.
 use Rattle.std.proofs.Common.{◌==◌, arith}
 use Rattle.subst_cli.proofs.EntryLemmas.{place_within}
 use Rattle.subst_cli.proofs.entry.split_once.Goals as goal

@@ -1,4 +1,4 @@
--- The test for UTF-8 says whether the bytes are a text.
+-- Bytes are a text exactly if they pass the test for UTF-8.
 use Rattle.std.proofs.Common.{◌∙◌}
 use Rattle.subst_cli.proofs.EntryLemmas.{is_text, no_text}
 use Rattle.subst_cli.proofs.entry.text_in.Goals as goal

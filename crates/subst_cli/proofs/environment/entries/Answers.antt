@@ -1,4 +1,4 @@
--- One entry more gives what it says.
+-- The next entry adds its variable.
 use Rattle.std.proofs.Common.{sym, ◌∙◌}
 use Rattle.std.specs.Prelude.{vec_items}
 use Rattle.subst_cli.proofs.LayerLemmas.{environment_take}

@@ -1,4 +1,4 @@
--- What the entries so far give.
+-- The list has the variables of the entries so far.
 use Rattle.std.proofs.Common.{◌≡◌, take, map}
 use Rattle.std.specs.Prelude.{vec_items}
 use Rattle.subst_cli.specs.Layers.{entries_of, environment_of}

@@ -1,4 +1,4 @@
--- What is between ASCII bytes is UTF-8.
+-- The text between ASCII bytes is UTF-8.
 use Rattle.std.proofs.Common.{◌++◌, ◌∷◌, [], arith, subst}
 use Rattle.std.specs.Prelude.{IsUtf8}
 use Rattle.subst_language.proofs.Language.Utf8Lemmas.{after_ascii, cut_at}

@@ -1,4 +1,4 @@
--- The list has one fault, which was pushed.
+-- The list has only the fault that was appended.
 use Rattle.std.proofs.Common.{refl}
 use Rattle.subst_cli.specs.declared.fault.Fault.{Fault}
 use Rattle.subst_cli.proofs.fault.one_fault.Goals as goal

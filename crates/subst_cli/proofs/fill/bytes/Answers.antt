@@ -1,4 +1,4 @@
--- What the call says, under the look-up of the values.
+-- The result is that of the call, under the look-up of the values.
 use Rattle.std.proofs.Common.{refl}
 use Rattle.std.specs.Prelude.{Some}
 use Rattle.subst.proofs.Calling.{answer_as_read}

@@ -1,4 +1,4 @@
--- What the entries say goes along with their order.
+-- The order of the entries is that of the definition.
 use Rattle.std.proofs.Common.{◌≡◌, ◌++◌, reverse, map, ap, ◌∙◌}
 use Rattle.subst_cli.specs.Layers.{entry_of}
 use Rattle.subst_cli.proofs.LayerLemmas.{ordered_above}
@@ -6,9 +6,9 @@ use Rattle.subst_cli.proofs.layers.above.Goals as goal
 
 pub returns : goal.returns
 returns c =
-    let given = c.args.given.items in
+    let set = c.args.set.items in
     let lines = c.args.lines.items in
     let environment = c.args.environment.items in
-    let all : c.append-2.new.self.items ≡ reverse (lines ++ given) ++ environment =
+    let all : c.append-2.new.self.items ≡ reverse (lines ++ set) ++ environment =
     cc (c.in_ok-append.ensures.items, c.reverse.ensures.items, c.in_ok-append-2.ensures.items) in
-    ap (map entry_of) all ∙ ordered_above entry_of given lines environment
+    ap (map entry_of) all ∙ ordered_above entry_of set lines environment

@@ -1,4 +1,4 @@
--- Where nothing is escaped, the entries are as they are.
+-- If nothing is escaped, the entries are unchanged.
 use Rattle.std.proofs.Common.{◌∙◌}
 use Rattle.std.proofs.lemmas.List.{take_all}
 use Rattle.subst_cli.specs.Layers.{entries_of}

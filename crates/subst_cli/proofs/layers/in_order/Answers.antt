@@ -1,4 +1,4 @@
--- What the entries say goes along with their order.
+-- The order of the entries is that of the definition.
 use Rattle.std.proofs.Common.{◌≡◌, ◌++◌, reverse, map, ap, ◌∙◌}
 use Rattle.subst_cli.specs.Layers.{entry_of}
 use Rattle.subst_cli.proofs.LayerLemmas.{ordered}

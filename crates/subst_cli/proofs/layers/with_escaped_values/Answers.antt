@@ -1,4 +1,4 @@
--- Where nothing is escaped, the entries are as they are.
+-- If nothing is escaped, the entries are unchanged.
 use Rattle.std.proofs.Common.{sym}
 use Rattle.subst_cli.specs.Layers.{entries_of}
 use Rattle.subst_cli.proofs.LayerLemmas.{not_escaped}

@@ -1,4 +1,4 @@
--- What is kept passes the test.
+-- The entries that are kept pass the test.
 use Rattle.std.proofs.Common.{◌∙◌, ap, not, rules}
 use Rattle.std.proofs.lemmas.List.Elements.{filter_from_retain}
 use Rattle.subst_cli.specs.Layers.{entries_of, entry_of, is_empty}

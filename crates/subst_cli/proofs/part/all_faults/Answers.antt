@@ -1,4 +1,4 @@
--- The faults besides stay, and the first error is added where it isn't one of them.
+-- The other faults are kept, and the first error is added if it isn't one of them.
 use Rattle.std.proofs.Common.{◌⊎◌, ◌∙◌, ℕ, Contains, sym, ap, inl, inr}
 use Rattle.std.specs.declared.ops.Range.{Range}
 use Rattle.subst_cli.specs.Faults.{IsFirstOf}

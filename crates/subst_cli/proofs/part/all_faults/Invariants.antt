@@ -1,4 +1,4 @@
--- The first error is among the faults so far, or one of those besides.
+-- The first error is among the faults so far, or one of the others is.
 use Rattle.std.proofs.Common.{◌⊎◌, Any, Contains}
 use Rattle.subst_cli.specs.Faults.{IsFirstOf}
 use Rattle.subst_cli.proofs.part.all_faults.Given as goal

@@ -1,7 +1,7 @@
--- The source is its own template, or one is made for it.
+-- The source is a template itself, or is converted into one.
 use Rattle.std.proofs.Common.{inr, refl}
 use Rattle.subst_cli.proofs.FaultLemmas.{any_weaker}
-use Rattle.subst_cli.proofs.FillingLemmas.{weaker_faults, weaker_outcome}
+use Rattle.subst_cli.proofs.ExpansionLemmas.{weaker_faults, weaker_outcome}
 use Rattle.subst_cli.proofs.part.fill_bytes.Goals as goal
 
 pub returns-in-Own : goal.returns-in-Own

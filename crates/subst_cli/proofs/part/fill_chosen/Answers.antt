@@ -1,14 +1,14 @@
--- A template is made for the source, unless a form of it is refused.
+-- The source is converted into a template, unless it has a refused form.
 use Rattle.std.proofs.Common.{Some, inl, inr, subst}
 use Rattle.subst.specs.Template.{IsTemplate}
 use Rattle.subst_cli.specs.Faults.{IsFaultBy, IsFaultOf, IsFormIn}
 use Rattle.subst_cli.specs.Fill.{grammar_in}
-use Rattle.subst_cli.specs.Told.{place_at, IsToldAt, IsToldIn}
+use Rattle.subst_cli.specs.MapBack.{counterpart_at, IsMappedAt, IsMappedIn}
 use Rattle.subst_cli.specs.declared.options.Placeholders.TheVariants.{Chosen}
 use Rattle.subst_cli.proofs.FaultLemmas.{any_weaker}
 use Rattle.subst_cli.proofs.LayerLemmas.{same_grammar}
-use Rattle.subst_cli.proofs.PartLemmas.{any_told}
-use Rattle.subst_cli.proofs.ToldLemmas.{told_in}
+use Rattle.subst_cli.proofs.PartLemmas.{any_mapped}
+use Rattle.subst_cli.proofs.MapBackLemmas.{mapped_in}
 use Rattle.subst_cli.proofs.part.fill_chosen.Goals as goal
 
 pub returns-in-Err : goal.returns-in-Err
@@ -37,20 +37,20 @@ returns-clause-refused c = λ entries are.
     let chosen = c.args.chosen.now in
     let source = c.args.source.now in
     let template = c.in-Ok.template.items in
-    let places = c.in_ok-places-in-Err-2.places in
+    let counterparts = c.in_ok-counterparts-in-Err-2.counterparts in
     let same = same_grammar c.args.variables entries chosen are in
     let stands = subst (λ g. IsTemplate g chosen.missing source template) same
     (rw c.in-Ok.is at c.in_ok-template.ensures.template) in
-    let told = any_told (IsFaultBy (Some chosen.forms) entries template)
-    (λ x it. IsToldAt chosen.forms (place_at places x.range.start) x it) c.in-Err-2.faults.items _
-    c.in_ok-in_text-in-Err-2.ensures
+    let mapped = any_mapped (IsFaultBy (Some chosen.forms) entries template)
+    (λ x it. IsMappedAt chosen.forms (counterpart_at counterparts x.range.start) x it) c.in-Err-2.faults.items _
+    c.in_ok-map_all_back-in-Err-2.ensures
     (rw (c.in-Err-2.is, c.deref.ensures.value) at (c.in_ok-output.ensures.refused entries are)) in
-    let are_in = rw c.deref-in-Err-2.ensures.value at c.in_ok-places-in-Err-2.ensures in
+    let are_in = rw c.deref-in-Err-2.ensures.value at c.in_ok-counterparts-in-Err-2.ensures in
     any_weaker _ (IsFaultOf (Chosen chosen) entries source) (λ it (x, from, is). inr (
       template,
       stands,
       x,
       from,
-      subst (λ g. IsToldIn g source template x it) same
-          (told_in (grammar_in chosen (Some c.args.variables)) source template places x it are_in is),
-    )) _ told
+      subst (λ g. IsMappedIn g source template x it) same
+          (mapped_in (grammar_in chosen (Some c.args.variables)) source template counterparts x it are_in is),
+    )) _ mapped

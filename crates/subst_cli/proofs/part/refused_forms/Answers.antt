@@ -1,4 +1,4 @@
--- The first form is pushed first, and stays.
+-- The first form is appended first, and kept.
 use Rattle.subst_cli.specs.Faults.{IsForm}
 use Rattle.subst_cli.proofs.PartLemmas.{any_added, any_of_more}
 use Rattle.subst_cli.proofs.part.refused_forms.Goals as goal

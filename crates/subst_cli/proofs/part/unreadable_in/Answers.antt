@@ -1,4 +1,4 @@
--- The variables of a template have its names, and a source that is none has no name.
+-- The names of a template are those of its variables, and a source that is no template has none.
 use Rattle.subst.specs.ErrorFault.{parse_fault}
 use Rattle.subst_cli.proofs.PartLemmas.{readable_all, readable_names, readable_where_wrong, unreadable_variables}
 use Rattle.subst_cli.proofs.part.unreadable_in.Goals as goal
@@ -10,8 +10,8 @@ returns-then-are_readable-clause-all c = λ entries are none.
 
 pub returns-in-Err-clause-all : goal.returns-in-Err-clause-all
 returns-in-Err-clause-all c = λ entries are.
-    readable_where_wrong c.args.forms entries c.args.template.now (parse_fault c.in-Err.e) c.none_for.result
-    c.in-Err.ensures.err c.none_for.ensures.wrong
+    readable_where_wrong c.args.forms entries c.args.template.now (parse_fault c.in-Err.e) c.no_faults.result
+    c.in-Err.ensures.err c.no_faults.ensures.wrong
 
 pub returns-clause-all : goal.returns-clause-all
 returns-clause-all c = λ entries are.

@@ -1,4 +1,4 @@
--- A variable whose value can't be read gets a fault.
+-- A variable whose value isn't UTF-8 gets a fault.
 use Rattle.std.proofs.Common.{◌≡◌, [], ◌∷◌, ◌++◌, List, map, sym, ap, ◌∙◌, append_assoc}
 use Rattle.std.proofs.lemmas.List.{map-append}
 use Rattle.std.proofs.lemmas.List.Elements.{All-push, Contains-append_left, Contains-push}
@@ -7,18 +7,18 @@ use Rattle.std.specs.Vec.Iter.{into_iter_items}
 use Rattle.subst.specs.Calls.Variables.{variable_of}
 use Rattle.subst_language.specs.declared.variable.Variable.{Variable}
 use Rattle.subst_cli.specs.Faults.{IsUnreadableAmong}
-use Rattle.subst_cli.specs.Fill.{asked_about}
+use Rattle.subst_cli.specs.Fill.{looked_up_name}
 use Rattle.subst_cli.specs.Layers.{IsUnreadable}
-use Rattle.subst_cli.proofs.PartLemmas.{as_told, pushed, readable_name}
+use Rattle.subst_cli.proofs.PartLemmas.{unreadable_same, pushed, readable_name}
 use Rattle.subst_cli.proofs.part.unreadable_of.Goals as goal
 
--- one of the variables that were left is done
+-- the next variable is moved from those left to those done
 next_done : (list done left rest : List Variable) (v : Variable) → list ≡ done ++ left → left ≡ v ∷ rest
     → list ≡ (done ++ v ∷ []) ++ rest
 next_done list done left rest v all steps =
     all ∙ ap (λ vs. done ++ vs) steps ∙ sym (append_assoc done (v ∷ []) rest)
 
--- the last that is done is among all
+-- the last one that is done is among all
 contains_done : (list done rest : List Variable) (v : Variable)
     → list ≡ (done ++ v ∷ []) ++ rest → Contains (map variable_of list) (variable_of v)
 contains_done list done rest v all =
@@ -33,10 +33,10 @@ loop-variable-preserved c =
       all = next_done _ l.yielded (into_iter_items l.variable-iterator) (into_iter_items c.next.new.self) v
           l.invariant.all c.in-Some.ensures.steps.0;
       readable = λ entries are none.
-          All-push (λ it. ¬ (IsUnreadable entries (asked_about c.args.forms it.name.now))) l.yielded v
+          All-push (λ it. ¬ (IsUnreadable entries (looked_up_name c.args.forms it.name.now))) l.yielded v
           (l.invariant.readable entries are none)
-          (rw (← c.asked_about-name.ensures) (readable_name c.args.variables.now entries are
-          c.asked_about-name.result.now (sym c.is_unreadable.ensures.unreadable ∙ c.if-is_unreadable.false)));
+          (rw (← c.looked_up_name-name.ensures) (readable_name c.args.variables.now entries are
+          c.looked_up_name-name.result.now (sym c.is_unreadable.ensures.unreadable ∙ c.if-is_unreadable.false)));
       unreadable = l.invariant.unreadable;
     }
 
@@ -54,11 +54,12 @@ loop-variable-preserved-in_ok-push c =
       unreadable = λ entries are.
           let P = IsUnreadableAmong c.args.forms entries (map variable_of c.args.list.items) in
           let unreadable = c.is_unreadable.ensures.unreadable in
-          let told = as_told c.args.variables.now entries are c.asked_about-name.result.now _ unreadable in
+          let same =
+          unreadable_same c.args.variables.now entries are c.looked_up_name-name.result.now _ unreadable in
           rw more (All-push P l.faults.items fault (l.invariant.unreadable entries are) (
             variable_of v,
             contains_done _ l.yielded _ v all,
-            rw (← c.asked_about-name.ensures) (told ∙ c.if-is_unreadable.true),
-            rw (← c.asked_about-name.ensures) c.in_ok-unreadable.ensures,
+            rw (← c.looked_up_name-name.ensures) (same ∙ c.if-is_unreadable.true),
+            rw (← c.looked_up_name-name.ensures) c.in_ok-unreadable.ensures,
           ));
     }

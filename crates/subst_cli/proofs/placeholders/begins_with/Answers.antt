@@ -1,4 +1,4 @@
--- What is left after the prefix is the rest.
+-- The bytes after the prefix are the rest.
 use Rattle.std.proofs.Common.{◌++◌, ◌∙◌, length, take, drop, ap, refl, sym, true≢false}
 use Rattle.std.proofs.Math.Seq.{take-append_seam}
 use Rattle.std.proofs.lemmas.List.{take-append-drop}

@@ -1,4 +1,4 @@
--- The name begins with none of those so far.
+-- The name begins with none of the starts so far.
 use Rattle.std.proofs.Common.{◌≡◌, ◌++◌, ◌∙◌, ℕ, List, Bor, arith, sym, subst, true≢false}
 use Rattle.std.proofs.lemmas.List.{get_or_default, take_all, take_more}
 use Rattle.std.proofs.lemmas.List.Elements.{All-push}

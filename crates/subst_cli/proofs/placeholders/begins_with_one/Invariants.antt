@@ -1,4 +1,4 @@
--- The name begins with none of those so far.
+-- The name begins with none of the starts so far.
 use Rattle.std.proofs.Common.{◌≡◌, ◌++◌, ℕ, List, take}
 use Rattle.std.specs.List.{All}
 use Rattle.subst_cli.proofs.placeholders.begins_with_one.Given as goal

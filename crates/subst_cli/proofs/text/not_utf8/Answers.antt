@@ -1,4 +1,4 @@
--- The fault begins where the bytes stop to be UTF-8.
+-- The fault begins at the first byte that isn't UTF-8.
 use Rattle.std.specs.Str.{IsValidUpTo}
 use Rattle.subst_cli.proofs.FaultLemmas.{any_of_one}
 use Rattle.subst_cli.specs.Faults.{IsNoText}

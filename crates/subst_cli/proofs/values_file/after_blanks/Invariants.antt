@@ -1,4 +1,4 @@
--- The bytes passed over so far are blanks.
+-- The bytes skipped so far are blanks.
 use Rattle.std.proofs.Common.{◌≡◌, length}
 use Rattle.subst_cli.specs.ValuesFile.{after_blanks}
 use Rattle.subst_cli.proofs.values_file.after_blanks.Given as goal

@@ -1,4 +1,4 @@
--- A line more is taken.
+-- The next line is read.
 use Rattle.subst_cli.specs.Layers.{entries_of}
 use Rattle.subst_cli.specs.ValuesFile.{values_of}
 use Rattle.subst_cli.proofs.ValuesFileLemmas.{line_taken}

@@ -1,4 +1,4 @@
--- What the file gives is what the lines so far gave, and then what those that are left give.
+-- The entries of the file are those of the lines so far, and then those of the lines left.
 use Rattle.std.proofs.Common.{◌≡◌, length}
 use Rattle.std.specs.List.{slice_split}
 use Rattle.subst_cli.specs.Layers.{entries_of}

@@ -1,4 +1,4 @@
--- The file is refused for what its lines or its bytes are.
+-- The file is refused for its lines, or for its bytes.
 use Rattle.std.proofs.Common.{refl}
 use Rattle.subst_cli.proofs.values_file.entries_in.Goals as goal
 

@@ -1,4 +1,4 @@
--- The file isn't UTF-8, or a line of it is wrong.
+-- The file isn't UTF-8, or has a wrong line.
 use Rattle.std.proofs.Common.{inl, inr, rules}
 use Rattle.subst_cli.specs.Faults.{IsNoText}
 use Rattle.subst_cli.specs.Run.{IsFaultOfLines}

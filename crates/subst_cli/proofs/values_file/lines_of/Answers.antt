@@ -5,7 +5,7 @@ use Rattle.std.proofs.lemmas.List.Elements.{Contains-push}
 use Rattle.subst_cli.specs.Layers.{entries_of, entry_of}
 use Rattle.subst_cli.specs.Run.{IsRefusedFile}
 use Rattle.subst_cli.proofs.ListLemmas.{vec_yielded}
-use Rattle.subst_cli.proofs.SourceLemmas.{given_more, refused_more}
+use Rattle.subst_cli.proofs.SourceLemmas.{output_more, refused_more}
 use Rattle.subst_cli.proofs.ValuesFileLemmas.{refused_left, refused_right, values_more}
 use Rattle.subst_cli.proofs.values_file.lines_of.Goals as goal
 
@@ -16,7 +16,7 @@ loop-file-preserved-in-Ok c =
     let gives = rw c.in-Ok.is at c.in_ok-entries.ensures.gives in
     let all = ap entries_of c.in_ok-append-in-Ok.ensures.items
     ∙ map-append entry_of l.all.items c.in-Ok.entries.items in
-    rw all (given_more IsRefusedFile refused_left refused_right _ _ l.yielded file l.refused.items
+    rw all (output_more IsRefusedFile refused_left refused_right _ _ l.yielded file l.refused.items
     (λ so_far. values_more l.yielded file _ _ so_far gives) l.invariant)
 
 pub loop-file-preserved : goal.loop-file-preserved

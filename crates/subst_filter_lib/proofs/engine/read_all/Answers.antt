@@ -1,4 +1,4 @@
--- Nothing was read yet, and the chunk isn't empty.
+-- At first nothing is read, and the chunk isn't empty.
 use Rattle.std.proofs.Common.{arith, refl}
 use Rattle.std.proofs.KnownBytes.{Consumes-nil}
 use Rattle.subst_filter_lib.proofs.engine.read_all.Goals as goal

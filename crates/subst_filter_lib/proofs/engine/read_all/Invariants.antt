@@ -1,4 +1,5 @@
--- What was read so far is what the input no longer has, no read has failed, and the chunk isn't empty.
+-- The bytes read so far are those that the input no longer has, no read has failed, and the chunk isn't
+-- empty.
 use Rattle.std.proofs.Common.{◌≡◌, ◌<◌, ◌^◌, ◌-◌, vec_len}
 use Rattle.std.specs.Io.KnownBytes.{Consumes}
 use Rattle.subst_filter_lib.proofs.engine.read_all.Given as goal

@@ -1,10 +1,10 @@
--- What a run of the task says, at each status.
+-- The clauses of the task's run, at each status.
 use Rattle.std.proofs.Common.{List, Err, IfSome, String, inl, inr, ⊎_elim, subst, sym, ◌∙◌}
 use Rattle.std.specs.Global.{Global}
 use Rattle.subst_filter_lib.specs.FilterRun.{RunAnswers}
 use Rattle.subst_filter_lib.specs.Task.{look_up_of_task}
 use Rattle.subst_filter_lib.proofs.StatusLemmas.{refused_at_status, read_at_status, prefix_at_status}
-use Rattle.subst_filter_lib.proofs.WordLemmas.{holds_of_value}
+use Rattle.subst_filter_lib.proofs.ArgumentLemmas.{holds_of_value}
 use Rattle.subst_filter_lib.proofs.program.run_program.Goals as goal
 
 pub returns-clause-refused : goal.returns-clause-refused
@@ -14,7 +14,7 @@ returns-clause-refused g c is =
     let written = g.O.ByteOutput.written in
     let Ended = λ (pairs : List (String Global × String Global)).
     IfSome (g.I.ByteInput.left c.args.input.now) (λ source.
-    RunAnswers source (look_up_of_task c.in-Some.task c.args.words.now pairs) (Err e)
+    RunAnswers source (look_up_of_task c.in-Some.task c.args.arguments.now pairs) (Err e)
     (written c.args.output.now) (written c.run_task.new.output)) in
     let answer = subst Ended c.deref.ensures.value run.answer in
     let status = sym c.end_with.ensures.status ∙ is in
@@ -28,7 +28,7 @@ returns-clause-prefix g c is =
     let written = g.O.ByteOutput.written in
     let Ended = λ (pairs : List (String Global × String Global)).
     IfSome (g.I.ByteInput.left c.args.input.now) (λ source.
-    RunAnswers source (look_up_of_task c.in-Some.task c.args.words.now pairs) (Err e)
+    RunAnswers source (look_up_of_task c.in-Some.task c.args.arguments.now pairs) (Err e)
     (written c.args.output.now) (written c.run_task.new.output)) in
     let answer = subst Ended c.deref.ensures.value run.answer in
     let status = sym c.end_with.ensures.status ∙ is in

@@ -1,6 +1,6 @@
--- One more pair gives its value, unless one before it has the name.
+-- The next pair sets its name, unless an earlier one has.
 use Rattle.std.proofs.Common.{sym, ◌∙◌}
-use Rattle.subst_filter_lib.proofs.WordLemmas.{first_value-take}
+use Rattle.subst_filter_lib.proofs.ArgumentLemmas.{first_value-take}
 use Rattle.subst_filter_lib.proofs.values.values_of_pairs.Goals as goal
 
 pub loop-name-preserved : goal.loop-name-preserved

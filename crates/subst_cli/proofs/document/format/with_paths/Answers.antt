@@ -1,4 +1,4 @@
--- Each string that was refused is pushed.
+-- Each refused string is appended.
 use Rattle.std.proofs.Common.{refl, subst}
 use Rattle.std.proofs.lemmas.Slice.Zip.{all_zipped_more}
 use Rattle.std.specs.List.{AllZip}

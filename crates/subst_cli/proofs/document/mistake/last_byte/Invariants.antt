@@ -1,4 +1,4 @@
--- The rest of the bytes has the same last byte, of what came before it.
+-- The last byte is that of the rest, or else that of the bytes before it.
 use Rattle.std.proofs.Common.{◌≡◌, drop}
 use Rattle.subst_cli.specs.Mistakes.{last_of}
 use Rattle.subst_cli.proofs.document.mistake.last_byte.Given as goal

@@ -1,4 +1,4 @@
--- The bracket is that of the rest, at the depth that the bytes before it leave.
+-- The bracket is that of the rest, at the depth after the bytes before it.
 use Rattle.std.proofs.Common.{◌≡◌, ◌≤◌, drop}
 use Rattle.subst_cli.specs.Mistakes.{bracket_past}
 use Rattle.subst_cli.specs.declared.document.mistake.Part.TheVariants.{Outside}

@@ -1,4 +1,4 @@
--- The bytes so far are blanks, and none of them is before a comment.
+-- The bytes so far are blanks, and none of them precedes a comment.
 use Rattle.std.proofs.Common.{◌≡◌, length}
 use Rattle.subst_cli.specs.DotenvLine.{is_ended}
 use Rattle.subst_cli.proofs.dotenv.line.is_ended.Given as goal

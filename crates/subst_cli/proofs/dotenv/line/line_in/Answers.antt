@@ -1,4 +1,4 @@
--- A line that says nothing is shorter than its text, and so is what comes after `export`.
+-- An empty line or a comment is shorter than its text, and so is the text after `export`.
 use Rattle.std.proofs.Common.{◌≡◌, ◌≤◌, [], arith, length}
 use Rattle.std.proofs.lemmas.Grind.{common_steps}
 use Rattle.std.proofs.lemmas.Result.{IfOk-weaker}
@@ -6,8 +6,8 @@ use Rattle.subst_cli.proofs.DotenvLineLemmas.{after_blanks_within, shorter_after
 use Rattle.subst_cli.specs.DotenvLine.{least_len, line_of}
 use Rattle.subst_cli.proofs.dotenv.line.line_in.Goals as goal
 
-pub returns-then-says_nothing-clause-shorter : goal.returns-then-says_nothing-clause-shorter
-returns-then-says_nothing-clause-shorter c some =
+pub returns-then-is_ignored-clause-shorter : goal.returns-then-is_ignored-clause-shorter
+returns-then-is_ignored-clause-shorter c some =
     let text = c.args.text.now in
     let begun = c.after_blanks-begun.result.now in
     let rest = c.first_line.result.1.now in

@@ -1,4 +1,4 @@
--- The index is that of the first byte that is no name byte, or the length.
+-- The index is that of the first byte that isn't a name byte, or the length.
 use Rattle.std.proofs.Common.{◌∙◌, not, rules, tests}
 use Rattle.std.proofs.lemmas.Iterator.{YieldsList-from_slice}
 use Rattle.std.proofs.lemmas.Iterator.Search.{position_from_yields_List}

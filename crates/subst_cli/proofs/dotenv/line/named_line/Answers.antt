@@ -1,4 +1,4 @@
--- The line begins with a name, which is UTF-8, and `=` comes after it.
+-- The line begins with a name, which is UTF-8, and then has `=`.
 use Rattle.std.proofs.Common.{◌≤◌, ◌+◌, ◌∙◌, arith, length, sym}
 use Rattle.std.proofs.lemmas.Grind.{common_steps}
 use Rattle.std.proofs.lemmas.Result.{IfOk-weaker}

@@ -1,4 +1,4 @@
--- A blank at the end is taken off, and bytes without one stay.
+-- A trailing blank is removed, and bytes without one are unchanged.
 use Rattle.std.proofs.Common.{sym, ◌∙◌}
 use Rattle.subst_cli.proofs.DotenvLineLemmas.{trimmed_blank, trimmed_kept}
 use Rattle.subst_cli.proofs.dotenv.line.trimmed.Goals as goal

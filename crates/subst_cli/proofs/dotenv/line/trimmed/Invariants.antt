@@ -1,4 +1,4 @@
--- The bytes taken off so far are blanks.
+-- The bytes removed so far are blanks.
 use Rattle.std.proofs.Common.{◌≡◌, length}
 use Rattle.subst_cli.specs.DotenvLine.{trimmed}
 use Rattle.subst_cli.proofs.dotenv.line.trimmed.Given as goal

@@ -1,4 +1,4 @@
--- A value in quotes begins after its quote.
+-- A quoted value begins after its quote.
 use Rattle.std.proofs.Common.{◌≤◌, ◌+◌, arith, length}
 use Rattle.std.proofs.lemmas.Grind.{common_steps}
 use Rattle.std.proofs.lemmas.Result.{IfOk-weaker}

@@ -1,4 +1,4 @@
--- What comes after the blanks is shorter.
+-- The text after the blanks is shorter.
 use Rattle.std.proofs.Common.{arith}
 use Rattle.std.proofs.lemmas.Grind.{common_steps}
 use Rattle.subst_cli.proofs.DotenvLineLemmas.{after_blanks_within}

@@ -1,4 +1,4 @@
--- What the text gives is its value under the entries.
+-- The expanded text is its value under the entries.
 use Rattle.std.proofs.Common.{Err, map, sym, subst, string_bytes}
 use Rattle.std.proofs.lemmas.List.Elements.{All-map}
 use Rattle.subst.specs.Reading.{variable_of, Listing}

@@ -1,4 +1,4 @@
--- A variable whose value can't be read is among all.
+-- A variable whose value isn't UTF-8 is among all of them.
 use Rattle.std.proofs.Common.{◌≡◌, ◌∷◌, ◌++◌, [], List, map, sym, subst, ◌∙◌}
 use Rattle.std.proofs.lemmas.List.{map-append}
 use Rattle.std.proofs.lemmas.List.Elements.{All-push, Contains-append_left, Contains-push}
@@ -7,11 +7,11 @@ use Rattle.std.specs.Vec.Iter.{into_iter_items}
 use Rattle.subst.specs.Reading.{variable_of}
 use Rattle.subst_cli.specs.Layers.{IsUnreadable}
 use Rattle.subst_cli.proofs.DotenvLemmas.{one_more_done}
-use Rattle.subst_cli.proofs.PartLemmas.{as_told, readable_name}
+use Rattle.subst_cli.proofs.PartLemmas.{unreadable_same, readable_name}
 use Rattle.subst_cli.proofs.dotenv.value.unreadable_in.Goals as goal
 use Rattle.subst_foreign.specs.declared.variables.TextVariable.{TextVariable}
 
--- the last that is done is among all
+-- the last one that is done is among all
 contains_done : (list done rest : List TextVariable) (v : TextVariable)
     → list ≡ (done ++ v ∷ []) ++ rest → Contains (map variable_of list) (variable_of v)
 contains_done list done rest v all =
@@ -44,7 +44,7 @@ returns-then-is_unreadable c =
         variable_of v,
         contains_done _ l.yielded _ v all,
         sym c.in-Ok.ensures.cases.0,
-        as_told c.args.above.now above are c.in-Ok.name.now _ c.is_unreadable.ensures.unreadable
+        unreadable_same c.args.above.now above are c.in-Ok.name.now _ c.is_unreadable.ensures.unreadable
             ∙ c.if-is_unreadable.true,
       );
     }

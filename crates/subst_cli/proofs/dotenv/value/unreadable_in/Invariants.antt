@@ -1,4 +1,4 @@
--- Each variable so far can be read.
+-- The values of the variables so far are UTF-8.
 use Rattle.std.proofs.Common.{◌≡◌, ◌++◌, List}
 use Rattle.std.specs.List.{All}
 use Rattle.std.specs.Vec.Iter.{into_iter_items}

@@ -1,4 +1,4 @@
--- One entry more gives what it says, unless one before it has the name.
+-- The next entry sets its name, unless an earlier one has.
 use Rattle.std.proofs.Common.{sym, map, take, string_bytes, ◌∙◌}
 use Rattle.std.proofs.Math.Path.{fun_ext}
 use Rattle.std.proofs.lemmas.List.{take_all}

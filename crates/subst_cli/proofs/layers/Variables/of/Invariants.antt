@@ -1,6 +1,6 @@
--- Each name has what the entries so far give.
+-- The map has the variables of the entries so far.
 use Rattle.std.proofs.Common.{◌≡◌, ℕ, List, take}
-use Rattle.subst_filter_lib.specs.Words.{value_under}
+use Rattle.subst_filter_lib.specs.Arguments.{value_under}
 use Rattle.subst_cli.specs.Layers.{entries_of, has_unreadable, is_unreadable, look_up_in}
 use Rattle.subst_cli.proofs.layers.Variables.of.Given as goal
 

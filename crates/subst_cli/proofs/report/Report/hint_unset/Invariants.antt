@@ -1,4 +1,4 @@
--- Hints change nothing that was said.
+-- Hints leave the severity unchanged.
 use Rattle.std.proofs.Common.{◌≡◌}
 use Rattle.subst_cli.proofs.report.Report.hint_unset.Given as goal
 

@@ -1,4 +1,4 @@
--- What was read is the source, and the bytes that it gives are written.
+-- The bytes that were read are the source, and its output is written.
 use Rattle.std.proofs.Common.{refl}
 use Rattle.subst.specs.Calls.VariableMap.{look_up_of}
 use Rattle.subst_filter_lib.proofs.FilterRunLemmas.{delivered}

@@ -1,4 +1,4 @@
--- What was read is the source, which is written if it is plain, and refused with the error of its
+-- The bytes that were read are the source. It is written if it is plain, and refused with the error of its
 -- substitution.
 use Rattle.std.proofs.Common.{List, ℕ, string_bytes, subst, ◌∙◌}
 use Rattle.std.specs.List.{All}

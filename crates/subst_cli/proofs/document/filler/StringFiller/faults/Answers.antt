@@ -16,7 +16,7 @@ use Rattle.subst_cli.proofs.PartLemmas.{any_permuted}
 use Rattle.subst_cli.proofs.document.filler.StringFiller.faults.Goals as goal
 use Rattle.subst_cli.proofs.document.filler.StringFiller.faults.Goals.{in-Some+in_ok-fill_bytes-in-Some, in-None+in_ok-uses_in_bytes-in-None}
 
--- there are no faults and the string gives something, or one is so
+-- there are no faults and the string has an output, or one of them is a fault of the string
 faults_or_none : (filler : StringFiller) (s : List ℕ) (variables : Bor Variables)
     (result : Result (Vec ℕ Global) (Vec Fault Global)) (none : Vec Fault Global)
     → filler.variables ≡ Some variables

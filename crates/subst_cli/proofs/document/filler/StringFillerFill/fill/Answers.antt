@@ -1,4 +1,4 @@
--- A string gives what its variables give, or has a fault.
+-- A string has the output of its expansion, or a fault.
 use Rattle.std.proofs.Common.{subst, arith}
 use Rattle.subst_cli.specs.Faults.{IsFaulty}
 use Rattle.subst_cli.specs.Fill.{GivesFor}

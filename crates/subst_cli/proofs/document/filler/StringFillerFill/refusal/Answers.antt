@@ -1,4 +1,4 @@
--- A string without faults gives something, and another one has a fault.
+-- A string without faults has an output, and any other one has a fault.
 use Rattle.std.proofs.Common.{◌≡◌, ◌==◌, ◌∙◌, [], List, ℕ, arith, inl, inr, refl, rules, sym, true, vec_len}
 use Rattle.std.proofs.lemmas.Bool.{eqb-true}
 use Rattle.std.proofs.lemmas.List.{nil_from_length}
@@ -8,10 +8,10 @@ use Rattle.subst_cli.specs.Layers.{Entry}
 use Rattle.subst_cli.specs.Strings.{AreFaults, FillsFrom, GivesSome}
 use Rattle.subst_cli.specs.declared.document.filler.StringFiller.{StringFiller}
 use Rattle.subst_cli.specs.declared.fault.Fault.{Fault}
-use Rattle.subst_cli.proofs.FillingLemmas.{if_none}
+use Rattle.subst_cli.proofs.ExpansionLemmas.{if_none}
 use Rattle.subst_cli.proofs.document.filler.StringFillerFill.refusal.Goals as goal
 
--- no length is counted
+-- a length that is counted as 0 is 0
 empty : (count len : ℕ) → (count == 0) ≡ true → count ≡ len → len ≡ 0
 empty count len none counted = omega (arith, eqb-true count 0 none)
 

@@ -1,0 +1,71 @@
+//! Texts escaped for a terminal.
+
+use std::alloc::{AllocError, Global};
+use std::fmt::Write;
+
+/// Escapes bytes for a terminal. Bytes that aren't UTF-8 become the replacement character, and a tab becomes
+/// a space. Control characters and invisible ones are written by number, such as `\u{1b}`.
+pub(crate) fn printable(alloc: Global, bytes: &[u8]) -> Result<String, AllocError> {
+    if let Ok(text) = str::from_utf8(bytes)
+        && are_printable(bytes)
+    {
+        return String::from_str(alloc, text);
+    }
+    let text = String::from_utf8_lossy(alloc, bytes)?;
+    let mut escaped = String::with_capacity(alloc, text.len())?;
+    for c in text.chars() {
+        push_printable(&mut escaped, c)?;
+    }
+    Ok(escaped)
+}
+
+/// Returns whether all bytes are printable ASCII. Such bytes aren't escaped, and each takes one column.
+pub(crate) fn are_printable(bytes: &[u8]) -> bool {
+    bytes.iter().all(|b| matches!(b, b' '..=b'~'))
+}
+
+/// Escapes a text for a terminal, except for its line feeds.
+pub(crate) fn printable_lines(alloc: Global, text: &str) -> Result<String, AllocError> {
+    let mut escaped = String::with_capacity(alloc, text.len())?;
+    for c in text.chars() {
+        if c == '\n' {
+            escaped.push(c)?;
+        } else {
+            push_printable(&mut escaped, c)?;
+        }
+    }
+    Ok(escaped)
+}
+
+/// Appends a character, escaped if needed.
+fn push_printable(escaped: &mut String, c: char) -> Result<(), AllocError> {
+    if c == '\t' {
+        escaped.push(' ')
+    } else if is_hidden(c) {
+        write!(escaped, "\\u{{{:x}}}", u32::from(c)).map_err(|_| AllocError)
+    } else {
+        escaped.push(c)
+    }
+}
+
+/// Returns whether a character is escaped by its number. Such are control characters, line ends and changes
+/// of direction, and, except for signs of scripts, Unicode's format and default-ignorable characters.
+fn is_hidden(c: char) -> bool {
+    c.is_control()
+        || is_ignorable(c)
+        || matches!(c, '\u{2028}'..='\u{202e}' | '\u{fff9}'..='\u{fffb}')
+}
+
+/// Returns whether a character is ignorable by default: it is invisible if it isn't supported.
+fn is_ignorable(c: char) -> bool {
+    matches!(
+        c,
+        '\u{ad}' | '\u{34f}' | '\u{61c}' | '\u{115f}' | '\u{1160}' | '\u{17b4}' | '\u{17b5}'
+    ) || matches!(c, '\u{180b}'..='\u{180f}' | '\u{200b}'..='\u{200f}' | '\u{2060}'..='\u{206f}')
+        || matches!(
+            c,
+            '\u{3164}' | '\u{fe00}'..='\u{fe0f}' | '\u{feff}' | '\u{ffa0}'
+        )
+        || matches!(c, '\u{fff0}'..='\u{fff8}' | '\u{1bca0}'..='\u{1bca3}')
+        || matches!(c, '\u{1d173}'..='\u{1d17a}' | '\u{e0000}'..='\u{e0fff}')
+}
