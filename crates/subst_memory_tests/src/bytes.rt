@@ -1,6 +1,6 @@
-//! Calls over bytes and their templates.
+//! Calls over bytes, and their templates.
 
-use crate::calls::{Shown, again, clone, say_bytes};
+use crate::calls::{Show, again, clone, print_bytes};
 use std::alloc::{AllocError, Global};
 use std::mem;
 use subst::error::{ExpandError, ParseError};
@@ -8,25 +8,25 @@ use subst::steps::{Reads, Turns};
 use subst::{ByteTemplate, ByteTemplateBuf, Error, substitute_bytes, substitute_bytes_owned};
 use subst_testing::variables::{ByteValues, byte_values};
 
-/// A default in a default, escapes, and a variable.
+/// A sentence with a nested default, escapes, and a variable.
 pub const SENTENCE: &[u8] = b"Hi ${hi:\\{${who:you}\\}} and $name!";
 
-/// A sentence that needs a variable which isn't there.
+/// A sentence with a missing variable.
 pub const MISSING: &[u8] = b"Hi ${hi:$name and ${who:$absent}}!";
 
 /// A source with a bad escape in its inner default.
 pub const BAD_ESCAPE: &[u8] = b"Hi ${hi:$name and ${who:\\!}}!";
 
-/// A value that is longer than each source.
+/// A value that is longer than any of the sources.
 pub const NAME: &str = "name=the whole round world with all that is in it";
 
-impl Shown for &[u8] {
+impl Show for &[u8] {
     fn show(&self, rt: &HostRuntime, word: &str) {
-        say_bytes(rt, word, self);
+        print_bytes(rt, word, self);
     }
 }
 
-impl Shown for ByteValues<'_> {
+impl Show for ByteValues<'_> {
     fn show(&self, rt: &HostRuntime, word: &str) {
         for (name, value) in self.iter() {
             name.show(rt, word);
@@ -40,10 +40,10 @@ fn filled_in(alloc: Global, template: &ByteTemplate<'_>) -> Result<Vec<u8>, Erro
     Ok(template.expand(alloc, &variables)?)
 }
 
-/// A template is shown by its source, and by what it gives.
-impl Shown for ByteTemplate<'_> {
+/// Prints the source of a template, and its output.
+impl Show for ByteTemplate<'_> {
     fn show(&self, rt: &HostRuntime, word: &str) {
-        say_bytes(rt, word, self.source());
+        print_bytes(rt, word, self.source());
         match filled_in(rt.alloc(), self) {
             Ok(bytes) => bytes.show(rt, word),
             Err(fault) => fault.show(rt, word),
@@ -51,7 +51,7 @@ impl Shown for ByteTemplate<'_> {
     }
 }
 
-impl Shown for ByteTemplateBuf {
+impl Show for ByteTemplateBuf {
     fn show(&self, rt: &HostRuntime, word: &str) {
         self.as_template().show(rt, word);
     }
@@ -61,7 +61,7 @@ pub fn owned(alloc: Global, source: &[u8]) -> Result<ByteTemplateBuf, ParseError
     ByteTemplateBuf::from_vec(Vec::from_slice(alloc, source)?)
 }
 
-/// The template that takes bytes over, or another copy if the first one is gone.
+/// Returns a template that owns `bytes`, or if an earlier call has taken `bytes`, a copy of `source`.
 fn taken(
     alloc: Global,
     bytes: &mut Option<Vec<u8>>,
@@ -73,7 +73,7 @@ fn taken(
     }
 }
 
-/// The owned copy of a template, which is taken; the next one borrows from the owner.
+/// Replaces `template` by one that borrows from `owner`, and returns an owned copy of the replaced template.
 fn copied<'a>(
     alloc: Global,
     template: &mut ByteTemplate<'a>,
@@ -104,8 +104,8 @@ fn fill_in(rt: &HostRuntime, name: &str, source: &[u8]) -> Result<(), AllocError
     Ok(())
 }
 
-/// Fills in bytes that are given away, or another copy if the first one is gone.
-fn given_away(
+/// Expands `bytes`, passed by value, or if an earlier call has taken `bytes`, a copy of `source`.
+fn expand_owned(
     alloc: Global,
     bytes: &mut Option<Vec<u8>>,
     source: &[u8],
@@ -122,7 +122,7 @@ fn fill_in_owned(rt: &HostRuntime, name: &str, source: &[u8]) -> Result<(), Allo
     let mut bytes = Some(Vec::from_slice(alloc, source)?);
     let map = byte_values(alloc, NAME)?;
     again!(rt, name, [map, source],
-        Err(Error::OutOfMemory(_)) => given_away(alloc, &mut bytes, source, &map));
+        Err(Error::OutOfMemory(_)) => expand_owned(alloc, &mut bytes, source, &map));
     Ok(())
 }
 

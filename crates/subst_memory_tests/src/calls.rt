@@ -1,71 +1,70 @@
-//! Calls between marks, and what is shown of them.
+//! Calls between printed marks, and the values that are printed around them.
 
 use std::alloc::AllocError;
 use subst::Error;
 use subst::error::{ExpandError, NoSuchVariable, ParseError};
-use subst_testing::answers::told_fault;
+use subst_testing::answers::fault_text;
 
-/// Makes a call, by the name that it has in `docs/MEMORY.md`, and once more if what came matches the pattern
-/// of out of memory. Shows what the call borrows, before it and after it, and what it gives. An empty line is
-/// last.
+/// Makes a call, named `$name` in `docs/MEMORY.md`, and repeats it if its result matches `$out_of_memory`.
+/// Prints the borrowed values before and after the call, its result, and an empty line.
 macro_rules! again {
     ($rt:ident, $name:expr, [$($borrowed:ident),*], $out_of_memory:pat => $call:expr) => {
         $($borrowed.show($rt, "borrowed");)*
         $crate::marks::begin($rt, $name);
-        let mut came = $call;
+        let mut returned = $call;
         $crate::marks::end($rt);
-        if let $out_of_memory = came {
-            $crate::marks::say_out_of_memory($rt);
+        if let $out_of_memory = returned {
+            $crate::marks::print_out_of_memory($rt);
             $($borrowed.show($rt, "borrowed");)*
-            came = $call;
+            returned = $call;
         }
-        $crate::calls::tell($rt, came);
+        $crate::calls::print_result($rt, returned);
         $($borrowed.show($rt, "borrowed");)*
-        $crate::calls::say_end($rt);
+        $crate::calls::print_end($rt);
     };
 }
 
-/// Makes a call that takes no memory, by the name that it has in `docs/MEMORY.md`, and returns what it gives.
+/// Makes a call between marks, under the name `$name` in `stdout`, and returns the result.
 macro_rules! once {
     ($rt:expr, $name:expr => $call:expr) => {{
         $crate::marks::begin($rt, $name);
-        let came = $call;
+        let returned = $call;
         $crate::marks::end($rt);
-        came
+        returned
     }};
 }
 
 pub(crate) use again;
 pub(crate) use once;
 
-/// What is printed of calls.
-pub trait Shown {
-    /// What is printed of an empty list of them.
+/// A value that is printed, as an argument or a result of a call.
+pub trait Show {
+    /// The text printed for an empty list of such values.
     const NONE: &'static str = "none";
 
-    /// Prints this value, in lines that begin with a word.
+    /// Prints the value, in lines that begin with `word`.
     fn show(&self, rt: &HostRuntime, word: &str);
 }
 
-/// Prints a line.
-pub fn say(rt: &HostRuntime, word: &str, text: &str) {
+/// Prints a line of `word`, a space and `text`.
+pub fn print(rt: &HostRuntime, word: &str, text: &str) {
     let _ = rt.println(format_args!("{word} {text}"));
 }
 
 /// Prints an empty line.
-pub fn say_end(rt: &HostRuntime) {
+pub fn print_end(rt: &HostRuntime) {
     let _ = rt.println("");
 }
 
-/// Prints a line of bytes, which are those of a text.
-pub fn say_bytes(rt: &HostRuntime, word: &str, bytes: &[u8]) {
-    say(rt, word, str::from_utf8(bytes).unwrap_or("no text"));
+/// Prints a line of `word` and bytes, or of `word` and `no text` if the bytes aren't UTF-8.
+pub fn print_bytes(rt: &HostRuntime, word: &str, bytes: &[u8]) {
+    print(rt, word, str::from_utf8(bytes).unwrap_or("no text"));
 }
 
-/// Prints what a call gave.
-pub fn tell<T: Shown + Drop, E: Shown + Drop>(rt: &HostRuntime, came: Result<T, E>) {
-    match came {
-        Ok(given) => given.show(rt, "gives"),
+/// Prints the result of a call: the value after `gives`, or the error after `refused`.
+pub fn print_result<T: Show + Drop, E: Show + Drop>(rt: &HostRuntime, returned: Result<T, E>) {
+    match returned {
+        Ok(value) => value.show(rt, "gives"),
         Err(fault) => fault.show(rt, "refused"),
     }
 }
@@ -75,43 +74,43 @@ fn cloned<T: Clone>(original: &T) -> Result<T, AllocError> {
     copy
 }
 
-/// Makes the call `clone`.
-pub fn clone<T: Clone + Shown + Drop>(rt: &HostRuntime, name: &str, original: T) {
+/// Makes the call `clone` on a value, and prints the result.
+pub fn clone<T: Clone + Show + Drop>(rt: &HostRuntime, name: &str, original: T) {
     again!(rt, name, [original], Err(_) => cloned(&original));
 }
 
-impl Shown for () {
+impl Show for () {
     fn show(&self, rt: &HostRuntime, word: &str) {
-        say(rt, word, "nothing");
+        print(rt, word, "nothing");
     }
 }
 
-/// A text is printed line by line.
-impl Shown for &str {
+/// Prints a text line by line.
+impl Show for &str {
     fn show(&self, rt: &HostRuntime, word: &str) {
         for line in self.lines() {
-            say(rt, word, line);
+            print(rt, word, line);
         }
     }
 }
 
-impl Shown for String {
+impl Show for String {
     fn show(&self, rt: &HostRuntime, word: &str) {
-        say(rt, word, self.as_str());
+        print(rt, word, self.as_str());
     }
 }
 
-impl Shown for Vec<u8> {
+impl Show for Vec<u8> {
     fn show(&self, rt: &HostRuntime, word: &str) {
-        say_bytes(rt, word, self.as_slice());
+        print_bytes(rt, word, self.as_slice());
     }
 }
 
-/// A list is printed value by value.
-impl<T: Shown> Shown for Vec<T> {
+/// Prints a list value by value.
+impl<T: Show> Show for Vec<T> {
     fn show(&self, rt: &HostRuntime, word: &str) {
         if self.is_empty() {
-            say(rt, word, T::NONE);
+            print(rt, word, T::NONE);
         }
         for it in self {
             it.show(rt, word);
@@ -119,28 +118,28 @@ impl<T: Shown> Shown for Vec<T> {
     }
 }
 
-impl Shown for AllocError {
+impl Show for AllocError {
     fn show(&self, rt: &HostRuntime, word: &str) {
-        say(rt, word, "for want of memory");
+        print(rt, word, "for want of memory");
     }
 }
 
-impl Shown for Error {
+impl Show for Error {
     fn show(&self, rt: &HostRuntime, word: &str) {
-        match told_fault(rt.alloc(), self) {
-            Ok(told) => say(rt, word, told.as_str()),
-            Err(_) => say(rt, word, "a fault that isn't told"),
+        match fault_text(rt.alloc(), self) {
+            Ok(text) => print(rt, word, text.as_str()),
+            Err(_) => print(rt, word, "a fault that isn't told"),
         }
     }
 }
 
-impl Shown for ParseError {
+impl Show for ParseError {
     fn show(&self, rt: &HostRuntime, word: &str) {
         Error::from(*self).show(rt, word);
     }
 }
 
-impl Shown for ExpandError {
+impl Show for ExpandError {
     fn show(&self, rt: &HostRuntime, word: &str) {
         match self {
             ExpandError::NoSuchVariable(fault) => fault.show(rt, word),
@@ -149,7 +148,7 @@ impl Shown for ExpandError {
     }
 }
 
-impl Shown for NoSuchVariable {
+impl Show for NoSuchVariable {
     const NONE: &'static str = "all there";
 
     fn show(&self, rt: &HostRuntime, word: &str) {

@@ -1,36 +1,36 @@
 //! Calls over JSON and TOML.
 
-use crate::calls::{Shown, again, say};
+use crate::calls::{Show, again, print};
 use std::alloc::{AllocError, Global};
 use subst::{Error, json, toml as filled};
 use subst_testing::variables::texts;
 
-/// A tree of each kind, in its compact form.
+/// A JSON tree with values of each kind, in compact form.
 const JSON: &str = "{\"k\":[\"$name\",1,null,{\"$name\":\"${b:x}\"}],\"l\":\"${c:$name}/y\"}";
 
-/// A tree whose second string needs a variable which isn't there.
+/// A JSON tree whose second string has a missing variable.
 const MISSING_IN_JSON: &str = "[\"$name\",[\"é$absent\"],\"$\"]";
 
-/// A document with a tree of each kind.
+/// A TOML document with values of each kind.
 const TOML: &str =
     "d = 1979-05-27\nk = ['$name', 1, true, { '$name' = '${b:x}' }]\n[t]\nl = '${c:$name}/y'\n";
 
-/// A document whose second string needs a variable which isn't there.
+/// A TOML document whose second string has a missing variable.
 const MISSING_IN_TOML: &str = "k = ['$name', ['é$absent'], '$']";
 
 pub const VARIABLES: &str = "name=the whole round world,a=1";
 
-impl Shown for serde_json::Value {
+impl Show for serde_json::Value {
     fn show(&self, rt: &HostRuntime, word: &str) {
         let _ = rt.println(format_args!("{word} {self}"));
     }
 }
 
-impl Shown for json::Error {
+impl Show for json::Error {
     fn show(&self, rt: &HostRuntime, word: &str) {
         match self {
             json::Error::Subst(fault) => fault.show(rt, "refused in a string"),
-            _ => say(rt, word, "by another error"),
+            _ => print(rt, word, "by another error"),
         }
     }
 }
@@ -64,32 +64,32 @@ fn read_json_of_bytes(rt: &HostRuntime) -> Result<(), AllocError> {
     Ok(())
 }
 
-impl Shown for toml::Value {
+impl Show for toml::Value {
     fn show(&self, rt: &HostRuntime, word: &str) {
         let _ = rt.println(format_args!("{word} {self:?}"));
     }
 }
 
-impl Shown for filled::Error {
+impl Show for filled::Error {
     fn show(&self, rt: &HostRuntime, word: &str) {
         match self {
             filled::Error::Subst(fault) => fault.show(rt, "refused in a string"),
-            _ => say(rt, word, "by another error"),
+            _ => print(rt, word, "by another error"),
         }
     }
 }
 
-/// A tree, and another one that it was equal to.
+/// A tree, and a copy of it from before a call.
 #[derive(Drop)]
 struct Compared {
     tree: toml::Value,
     before: toml::Value,
 }
 
-impl Shown for Compared {
+impl Show for Compared {
     fn show(&self, rt: &HostRuntime, word: &str) {
         let is_as_before = self.tree == self.before;
-        say(rt, word, if is_as_before { "as before" } else { "changed" });
+        print(rt, word, if is_as_before { "as before" } else { "changed" });
         self.tree.show(rt, word);
     }
 }

@@ -1,15 +1,15 @@
-//! Clones of errors, and what is shown of one over its source.
+//! Clones of errors, and the report of an error over its source.
 
 ghost use Rattle.std.specs.Prelude.{◌≡◌, Some};
 ghost use Rattle.subst.specs.ErrorFault.{error_fault};
 ghost use Rattle.subst.specs.Fault as fault;
 
-use crate::calls::{Shown, again, clone};
+use crate::calls::{Show, again, clone};
 use std::alloc::{AllocError, Global};
 use subst::Error;
 use subst::error::{ExpandError, MissingVariableName, NoSuchVariable, underline};
 
-/// The fault of a variable that isn't there.
+/// Returns the fault of a missing variable.
 pub fn absent(alloc: Global) -> Result<NoSuchVariable, AllocError> {
     let name = String::from_str(alloc, "absent")?;
     Ok(NoSuchVariable { position: 3, name })
@@ -18,7 +18,7 @@ pub fn absent(alloc: Global) -> Result<NoSuchVariable, AllocError> {
 /// A source with a fault in its second line.
 const SOURCE: &str = "one\nHi $!";
 
-/// The fault of `SOURCE`.
+/// Returns the fault of `SOURCE`.
 pub fn no_name() -> Error
     ensures { error_fault result ≡ Some (fault.MissingVariableName 7 1) }
 {

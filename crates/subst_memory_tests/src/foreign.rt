@@ -1,20 +1,20 @@
-//! Calls that read texts of other tools.
+//! Calls that convert texts of other tools.
 
-use crate::calls::{Shown, again, say};
+use crate::calls::{Show, again, print};
 use std::alloc::AllocError;
 use subst::foreign::{
     self, AllNames, FormAt, Forms, Missing, OnlyNames, Style, TextError, TextVariable,
 };
 
-/// A text with variables, and with dollars and a backslash that are text.
+/// A text with variables, literal dollars and a literal backslash.
 const TEXT: &str = "a $b \\ $1 ${c} $";
 
-/// A text of a shell, and one with forms that are refused.
+/// A shell-style text without refused forms, unlike `REFUSED`.
 const SHELL: &str = "a ${b:-x} $$ ${c:?m}";
 
 const REFUSED: &str = "a ${b:=x} ${} ${c:-";
 
-impl Shown for TextError {
+impl Show for TextError {
     fn show(&self, rt: &HostRuntime, word: &str) {
         match self {
             TextError::Refused(form) => form.show(rt, word),
@@ -23,14 +23,14 @@ impl Shown for TextError {
     }
 }
 
-impl Shown for FormAt {
+impl Show for FormAt {
     fn show(&self, rt: &HostRuntime, word: &str) {
         let FormAt { position, form } = self;
         let _ = rt.println(format_args!("{word} {position}: {form}"));
     }
 }
 
-impl Shown for TextVariable<'_> {
+impl Show for TextVariable<'_> {
     fn show(&self, rt: &HostRuntime, word: &str) {
         let name = str::from_utf8(self.name).unwrap_or("no text");
         let (position, operator) = (self.position, self.operator);
@@ -38,14 +38,14 @@ impl Shown for TextVariable<'_> {
     }
 }
 
-/// Of a set of names nothing can be shown.
-impl Shown for OnlyNames<'_> {
+/// Prints a placeholder: a set of names has no text.
+impl Show for OnlyNames<'_> {
     fn show(&self, rt: &HostRuntime, word: &str) {
-        say(rt, word, "names");
+        print(rt, word, "names");
     }
 }
 
-/// A style in which all names count.
+/// Returns a style with all names chosen.
 fn of_all(forms: Forms) -> Style<'static, AllNames> {
     Style {
         forms,

@@ -1,6 +1,6 @@
-//! Calls of the library that take no memory.
+//! Calls of the library that don't allocate.
 
-use crate::calls::{once, say, say_bytes, say_end};
+use crate::calls::{once, print, print_bytes, print_end};
 use crate::marks::{begin, end};
 use indexmap::IndexMap;
 use std::alloc::{AllocError, Global};
@@ -12,20 +12,20 @@ use subst::{
 };
 use subst_testing::variables::owned_pairs;
 
-/// Looks `name` and `absent` up.
+/// Looks up `name` and `absent`.
 fn get<'a, M: VariableMap<'a>>(rt: &HostRuntime, call: &str, variables: &'a M)
 where
     M::Value: Drop,
 {
     let (has_name, has_absent) = once!(rt, call =>
         (variables.get("name").is_some(), variables.get("absent").is_some()));
-    say(rt, "name:", if has_name { "a value" } else { "no value" });
-    let told = if has_absent { "a value" } else { "no value" };
-    say(rt, "absent:", told);
-    say_end(rt);
+    print(rt, "name:", if has_name { "a value" } else { "no value" });
+    let text = if has_absent { "a value" } else { "no value" };
+    print(rt, "absent:", text);
+    print_end(rt);
 }
 
-/// Looks up in a map of this kind in which `name` is `world`.
+/// Looks up in a map of this kind, in which `name` is `world`.
 macro_rules! get_of {
     ($rt:ident, $call:expr, $map:ident, $key:expr) => {
         let mut map = $map::new($rt.alloc());
@@ -66,34 +66,34 @@ fn get_of_env(rt: &HostRuntime) -> Result<(), AllocError> {
     Ok(())
 }
 
-/// Prints the sources of templates that are borrowed in two ways.
-fn say_source(rt: &HostRuntime, borrowed: Template<'_>, by_from: Template<'_>) {
-    say(rt, "as_template:", borrowed.source());
-    say(rt, "from:", by_from.source());
+/// Prints the sources of two borrowed templates.
+fn print_source(rt: &HostRuntime, borrowed: Template<'_>, by_from: Template<'_>) {
+    print(rt, "as_template:", borrowed.source());
+    print(rt, "from:", by_from.source());
 }
 
 fn take_text_apart(rt: &HostRuntime, owner: TemplateBuf) {
     begin(rt, "lending and sources of texts");
-    say_source(rt, owner.as_template(), Template::from(&owner));
-    say(rt, "source:", owner.source());
+    print_source(rt, owner.as_template(), Template::from(&owner));
+    print(rt, "source:", owner.source());
     let source = owner.into_source();
     end(rt);
-    say(rt, "into_source:", source.as_str());
+    print(rt, "into_source:", source.as_str());
 }
 
-/// Prints the sources of byte templates that are borrowed in two ways.
-fn say_byte_source(rt: &HostRuntime, borrowed: ByteTemplate<'_>, by_from: ByteTemplate<'_>) {
-    say_bytes(rt, "as_template:", borrowed.source());
-    say_bytes(rt, "from:", by_from.source());
+/// Prints the sources of two borrowed byte templates.
+fn print_byte_source(rt: &HostRuntime, borrowed: ByteTemplate<'_>, by_from: ByteTemplate<'_>) {
+    print_bytes(rt, "as_template:", borrowed.source());
+    print_bytes(rt, "from:", by_from.source());
 }
 
 fn take_bytes_apart(rt: &HostRuntime, owner: ByteTemplateBuf) {
     begin(rt, "lending and sources of bytes");
-    say_byte_source(rt, owner.as_template(), ByteTemplate::from(&owner));
-    say_bytes(rt, "source:", owner.source());
+    print_byte_source(rt, owner.as_template(), ByteTemplate::from(&owner));
+    print_bytes(rt, "source:", owner.source());
     let source = owner.into_source();
     end(rt);
-    say_bytes(rt, "into_source:", source.as_slice());
+    print_bytes(rt, "into_source:", source.as_slice());
 }
 
 fn templates(rt: &HostRuntime) -> Result<(), Error> {
@@ -102,29 +102,29 @@ fn templates(rt: &HostRuntime) -> Result<(), Error> {
         rt,
         TemplateBuf::from_string(String::from_str(rt.alloc(), source)?)?,
     );
-    say_end(rt);
+    print_end(rt);
     take_bytes_apart(
         rt,
         ByteTemplateBuf::from_vec(Vec::from_slice(rt.alloc(), source.as_bytes())?)?,
     );
-    say_end(rt);
+    print_end(rt);
     Ok(())
 }
 
-/// A source without dollars and backslashes, given away as a text and as bytes.
+/// Makes the calls over a source without dollars and backslashes, passed by value as a text and as bytes.
 fn plain_sources(rt: &HostRuntime) -> Result<(), Error> {
     let alloc = rt.alloc();
     let text = String::from_str(alloc, "{a: b}")?;
     let bytes = Vec::from_slice(alloc, b"{a: b}")?;
     let is_plain = once!(rt, "escape::is_plain" => escape::is_plain(&bytes));
-    say(rt, "plain:", if is_plain { "yes" } else { "no" });
+    print(rt, "plain:", if is_plain { "yes" } else { "no" });
     let text = once!(rt, "substitute_owned of a plain source" =>
         substitute_owned(alloc, text, &NoSubstitution));
-    say(rt, "text:", text?.as_str());
+    print(rt, "text:", text?.as_str());
     let bytes = once!(rt, "substitute_bytes_owned of a plain source" =>
         substitute_bytes_owned(alloc, bytes, &NoSubstitution));
-    say_bytes(rt, "bytes:", bytes?.as_slice());
-    say_end(rt);
+    print_bytes(rt, "bytes:", bytes?.as_slice());
+    print_end(rt);
     Ok(())
 }
 
@@ -152,7 +152,7 @@ fn call_laws() {
 fn steps_and_laws(rt: &HostRuntime) {
     let _ = once!(rt, "Reads::new and Turns::new" => (Reads::new(), Turns::new()));
     once!(rt, "the laws" => call_laws());
-    say_end(rt);
+    print_end(rt);
 }
 
 pub fn calls(rt: &HostRuntime) -> Result<(), Error> {

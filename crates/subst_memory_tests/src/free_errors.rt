@@ -1,8 +1,8 @@
-//! Calls on errors that take no memory.
+//! Calls on errors that don't allocate.
 
-use crate::calls::{Shown, once, say};
+use crate::calls::{Show, once, print};
 use crate::errors::{absent, no_name};
-use crate::runs::{new_drip, new_trickle, status_of_run, words_of};
+use crate::runs::{arguments_of, new_drip, new_trickle, status_of_run};
 use std::alloc::AllocError;
 use std::fmt::{Display, Write};
 use subst::error::{
@@ -11,7 +11,7 @@ use subst::error::{
     UnexpectedCharacter, line_and_column,
 };
 use subst::foreign::{FormAt, ShellForm, TextError};
-use subst::{Error, json, toml as filled};
+use subst::{Error, json, toml as filled, yaml};
 use subst_filter_lib::device::standard::{FromReader, ToWriter};
 use subst_filter_lib::device::{ByteInput, ByteOutput};
 use subst_filter_lib::program::end_with;
@@ -38,14 +38,14 @@ fn unexpected() -> UnexpectedCharacter {
     }
 }
 
-/// Writes the text of a value, for which there is capacity, and prints whether that is all of it.
+/// Writes the text of a value into a buffer with enough capacity, and prints whether it is complete.
 pub fn display<D: Display>(rt: &HostRuntime, call: &str, value: &D) -> Result<(), AllocError> {
     let text = value.to_string(rt.alloc())?;
     let mut capacity = String::with_capacity(rt.alloc(), 128)?;
     let is_written = once!(rt, call => write!(capacity, "{value}").is_ok());
     let is_whole = is_written && capacity == text;
-    let told = if is_whole { "its text" } else { "another text" };
-    say(rt, "gives", told);
+    let text = if is_whole { "its text" } else { "another text" };
+    print(rt, "gives", text);
     Ok(())
 }
 
@@ -90,11 +90,11 @@ fn characters(rt: &HostRuntime) -> Result<(), AllocError> {
     display(rt, "Display of CharOrByte", &character)?;
     display(rt, "Display of QuotedPrintable", &quoted)?;
     once!(rt, "calls of ExpectedCharacter" =>
-        say(rt, "gives", ExpectedCharacter::new("a brace").message()));
+        print(rt, "gives", ExpectedCharacter::new("a brace").message()));
     Ok(())
 }
 
-/// Whether an error that is made of other ones is the same by each way.
+/// Prints whether errors that are converted in two steps are the same as those converted in one.
 fn convert(rt: &HostRuntime) -> Result<(), AllocError> {
     let (first, second) = (absent(rt.alloc())?, absent(rt.alloc())?);
     let is_kept = once!(rt, "From of errors, and ==" =>
@@ -118,7 +118,7 @@ fn clone(rt: &HostRuntime) -> Result<(), AllocError> {
     Ok(())
 }
 
-/// Makes the error of a format from that of its reader, from a refusal, and from a failed allocation.
+/// Converts a reader's error, a refusal and a failed allocation, and prints whether the cases are right.
 macro_rules! convert_into {
     ($rt:ident, $format:ident, $case:ident, $name:literal => $reading:ident) => {
         let (reading, refusal, memory) = once!($rt, $name => ($format::Error::from($reading),
@@ -138,6 +138,14 @@ fn convert_what_is_no_text(rt: &HostRuntime) {
     }
 }
 
+fn convert_into_yaml(rt: &HostRuntime) {
+    let (refusal, memory) = once!(rt, "From into yaml::Error" =>
+        (yaml::Error::from(Error::from(BRACE)), yaml::Error::from(AllocError)));
+    let are_kept = matches!(refusal, yaml::Error::Subst(_))
+        && matches!(memory, yaml::Error::OutOfMemory(_));
+    let _ = rt.println(format_args!("of their cases: {are_kept}"));
+}
+
 fn convert_of_readers(rt: &HostRuntime) {
     if let Err(reading) = serde_json::Value::from_str(rt.alloc(), "[") {
         convert_into!(rt, json, Json, "From into json::Error" => reading);
@@ -146,9 +154,10 @@ fn convert_of_readers(rt: &HostRuntime) {
         convert_into!(rt, filled, Toml, "From into toml::Error" => reading);
     }
     convert_what_is_no_text(rt);
+    convert_into_yaml(rt);
 }
 
-/// What is shown of an error over its source.
+/// Prints the offset, the line, the position and the highlighting of an error in its source.
 fn report(rt: &HostRuntime) -> Result<(), AllocError> {
     let mut capacity = String::with_capacity(rt.alloc(), 128)?;
     let e = no_name();
@@ -164,7 +173,7 @@ fn report(rt: &HostRuntime) -> Result<(), AllocError> {
     Ok(())
 }
 
-/// Why the source `$` is refused.
+/// Returns the error of a run over the source `$`.
 fn refusal(rt: &HostRuntime) -> Result<RunError, AllocError> {
     let e = Error::from(MissingVariableName {
         position: 0,
@@ -184,11 +193,11 @@ fn end_with_refusal(rt: &HostRuntime) -> Result<(), AllocError> {
 }
 
 fn run_wrongly(rt: &HostRuntime) -> Result<(), AllocError> {
-    let words = words_of(rt.alloc(), "bytes name")?;
+    let arguments = arguments_of(rt.alloc(), "bytes name")?;
     let (mut output, mut errors) = (new_drip(rt.alloc())?, new_drip(rt.alloc())?);
     let pairs = Vec::new(rt.alloc());
-    let status = once!(rt, "run_program after wrong words" =>
-        status_of_run(rt.alloc(), &words, pairs, &mut output, &mut errors));
+    let status = once!(rt, "run_program after wrong arguments" =>
+        status_of_run(rt.alloc(), &arguments, pairs, &mut output, &mut errors));
     let _ = rt.println(format_args!("status {status}"));
     output.show(rt, "gives");
     errors.show(rt, "gives");

@@ -1,32 +1,41 @@
-//! Calls that fill in a document where its strings stand, and that list them.
+//! Calls that fill in a document in place, and that list its strings.
 
-use crate::calls::{Shown, again};
+use crate::calls::{Show, again};
 use crate::documents::VARIABLES;
 use std::alloc::AllocError;
 use std::ops::Range;
 use subst::json::StringAt;
-use subst::{json, toml as filled};
+use subst::{json, toml as filled, yaml};
 use subst_testing::variables::texts;
 
-/// A text with a string that changes, one that stays, and other values.
+/// A JSON text with a string that changes, one that doesn't, and other values.
 const JSON: &str = "{\"k\" : [\"$name\", 1.50],\n \"$a\":\"\\u0061\"}";
 
-/// One with two refused strings, the second one with an escape.
+/// A JSON text whose second and third strings are refused. The second has an escape.
 const MISSING_IN_JSON: &str = "[\"$name\",[\"\\u00e9$absent\"],\"$\"]";
 
-/// The same for TOML.
+/// A TOML document like `JSON`.
 const TOML: &str = "k = [\"$name\", 1.50] # $b\n[t]\n'$a' = \"\\u0061\"\n";
 
 const MISSING_IN_TOML: &str = "k = ['$name', [\"\\u00E9$absent\"], '$']\n";
 
-impl Shown for StringAt {
+/// A YAML text like `JSON`, with a value in each style.
+const YAML: &str =
+    "k: [$name, 1.50] # $b\n\"$a\": \"\\u0061\"\nl: '$name'\nm: \"$name\"\nn: |\n  $name\no: >\n  a\n";
+
+const MISSING_IN_YAML: &str = "k: ['$name', [\"\\u00E9$absent\"], '$']\n";
+
+/// A YAML text that is refused, after a value that would change.
+const NO_YAML: &str = "k: $name\nl: b: c\n";
+
+impl Show for StringAt {
     fn show(&self, rt: &HostRuntime, word: &str) {
         self.span.show(rt, word);
         self.text.show(rt, word);
     }
 }
 
-impl Shown for json::RefusalAt {
+impl Show for json::RefusalAt {
     fn show(&self, rt: &HostRuntime, word: &str) {
         self.path.show(rt, word);
         self.span.show(rt, word);
@@ -35,7 +44,7 @@ impl Shown for json::RefusalAt {
     }
 }
 
-impl Shown for filled::RefusalAt {
+impl Show for filled::RefusalAt {
     fn show(&self, rt: &HostRuntime, word: &str) {
         self.path.show(rt, word);
         self.span.show(rt, word);
@@ -44,15 +53,26 @@ impl Shown for filled::RefusalAt {
     }
 }
 
-/// The ranges of the name and of the end of the string that both have.
+impl Show for yaml::Error {
+    fn show(&self, rt: &HostRuntime, word: &str) {
+        match self {
+            yaml::Error::Subst(fault) => fault.show(rt, "refused in a string"),
+            yaml::Error::Yaml(fault) => {
+                let _ = rt.println(format_args!("{word} {fault}"));
+            }
+            yaml::Error::OutOfMemory(fault) => fault.show(rt, word),
+        }
+    }
+}
+
+/// Returns the byte ranges of the name, and of the empty end, in a document's first refused string.
 fn ranges() -> [Range<usize>; 2] {
     [3..9, 9..9]
 }
 
-/// Makes the calls of a format over a document, and over one with two refused strings, of which the second is
-/// at this span. What is given of a report is how long it is.
-macro_rules! calls_in_place {
-    ($rt:ident, $format:ident $name:literal => $source:ident, $missing:ident, $span:expr, $file:expr) => {
+/// Makes the calls of a format that fill in `$source`, and `$missing`, which has two refused strings.
+macro_rules! calls_of_fill_in {
+    ($rt:ident, $format:ident $name:literal => $source:ident, $missing:ident) => {
         let alloc = $rt.alloc();
         let map = texts(alloc, VARIABLES)?;
         again!($rt, concat!($name, "::fill_in"), [$source, map],
@@ -61,6 +81,16 @@ macro_rules! calls_in_place {
             Err($format::Error::OutOfMemory(_)) => $format::fill_in(alloc, $missing, &map));
         again!($rt, concat!($name, "::fill_in_slice"), [$source, map],
             Err($format::Error::OutOfMemory(_)) => $format::fill_in_slice(alloc, $source.as_bytes(), &map));
+    };
+}
+
+/// Makes the calls of a format over `$source`, and over `$missing`, whose first refused string has the span
+/// `$span`. Of a report, only the length is printed.
+macro_rules! calls_in_place {
+    ($rt:ident, $format:ident $name:literal => $source:ident, $missing:ident, $span:expr, $file:expr) => {
+        let alloc = $rt.alloc();
+        let map = texts(alloc, VARIABLES)?;
+        calls_of_fill_in!($rt, $format $name => $source, $missing);
         again!($rt, concat!($name, "::strings"), [$source],
             Err($format::Error::OutOfMemory(_)) => $format::strings(alloc, $source));
         again!($rt, concat!($name, "::refusals_in"), [$missing, map],
@@ -81,5 +111,13 @@ pub fn json_calls(rt: &HostRuntime) -> Result<(), AllocError> {
 
 pub fn toml_calls(rt: &HostRuntime) -> Result<(), AllocError> {
     calls_in_place!(rt, filled "toml" => TOML, MISSING_IN_TOML, 15..30, "app.toml");
+    Ok(())
+}
+
+pub fn yaml_calls(rt: &HostRuntime) -> Result<(), AllocError> {
+    calls_of_fill_in!(rt, yaml "yaml" => YAML, MISSING_IN_YAML);
+    let map = texts(rt.alloc(), VARIABLES)?;
+    again!(rt, "yaml::fill_in of a refused text", [NO_YAML, map],
+        Err(yaml::Error::OutOfMemory(_)) => yaml::fill_in(rt.alloc(), NO_YAML, &map));
     Ok(())
 }

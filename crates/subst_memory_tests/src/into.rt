@@ -1,6 +1,6 @@
-//! Calls that append to a borrowed output, with hardly any capacity and with enough.
+//! Calls that append to a borrowed buffer, with hardly any capacity and with enough.
 
-use crate::calls::{Shown, again, say};
+use crate::calls::{Show, again, print};
 use crate::{bytes, texts};
 use std::alloc::{AllocError, Global};
 use subst::error::{
@@ -12,13 +12,13 @@ use subst::{
 };
 use subst_testing::variables;
 
-/// The capacity for what an output begins with, and no more.
+/// The capacity for the initial contents of a buffer, and no more.
 const NONE: usize = 2;
 
-/// More capacity than each call writes.
+/// More capacity than any of the calls needs.
 const ENOUGH: usize = 256;
 
-impl Shown for ExpandIntoError<'_> {
+impl Show for ExpandIntoError<'_> {
     fn show(&self, rt: &HostRuntime, word: &str) {
         match self {
             ExpandIntoError::NoSuchVariable(fault) => {
@@ -30,7 +30,7 @@ impl Shown for ExpandIntoError<'_> {
     }
 }
 
-impl Shown for SubstituteIntoError<'_> {
+impl Show for SubstituteIntoError<'_> {
     fn show(&self, rt: &HostRuntime, word: &str) {
         match self {
             SubstituteIntoError::Parse(fault) => fault.show(rt, word),
@@ -39,7 +39,7 @@ impl Shown for SubstituteIntoError<'_> {
     }
 }
 
-impl Shown for usize {
+impl Show for usize {
     fn show(&self, rt: &HostRuntime, word: &str) {
         let _ = rt.println(format_args!("{word} {self}"));
     }
@@ -167,7 +167,7 @@ fn owned_refusal(alloc: Global, fault: SubstituteIntoError<'_>) -> Result<(), Er
     Err(fault.into_owned(alloc))
 }
 
-/// Gives errors names of their own.
+/// Converts errors that borrow a name into ones that own it.
 fn own(rt: &HostRuntime) {
     let alloc = rt.alloc();
     let position = 3;
@@ -186,7 +186,7 @@ fn own(rt: &HostRuntime) {
     again!(rt, name, [fault], Err(Error::OutOfMemory(_)) => owned_refusal(alloc, fault));
 }
 
-fn without_room(rt: &HostRuntime) -> Result<(), Error> {
+fn without_capacity(rt: &HostRuntime) -> Result<(), Error> {
     let (sentence, missing) = (texts::SENTENCE, texts::MISSING);
     expand_text(rt, "Template::expand_into", sentence, NONE)?;
     let name = "Template::expand_into of a missing variable";
@@ -206,7 +206,7 @@ fn without_room(rt: &HostRuntime) -> Result<(), Error> {
     Ok(escape(rt, "escape::escape_into", NONE)?)
 }
 
-fn with_room(rt: &HostRuntime) -> Result<(), Error> {
+fn with_capacity(rt: &HostRuntime) -> Result<(), Error> {
     let (sentence, missing) = (texts::SENTENCE, texts::MISSING);
     expand_text(rt, "Template::expand_into with room", sentence, ENOUGH)?;
     let name = "Template::expand_into with room, of a missing variable";
@@ -227,8 +227,8 @@ fn with_room(rt: &HostRuntime) -> Result<(), Error> {
 }
 
 pub fn calls(rt: &HostRuntime) -> Result<(), Error> {
-    without_room(rt)?;
-    with_room(rt)?;
+    without_capacity(rt)?;
+    with_capacity(rt)?;
     own(rt);
     Ok(())
 }

@@ -1,15 +1,15 @@
-//! Calls that list the variables of templates, and those that a map has nothing for.
+//! Calls that list the variables of templates, and the variables that a map lacks.
 
-use crate::calls::{Shown, again};
+use crate::calls::{Show, again};
 use crate::{bytes, texts};
 use std::alloc::AllocError;
 use subst::{ByteTemplate, ByteTemplateBuf, Error, Template, TemplateBuf, Variable};
 use subst_testing::variables::{byte_values, texts as text_values};
 
-/// Names that are missing: one twice, and two in a default.
+/// A text with missing variables: one is used twice, and two are in a default.
 const LACKING: &str = "Hé $a, ${b:$c and ${d:$e}}, ${f?} and $a!";
 
-impl Shown for Variable<'_> {
+impl Show for Variable<'_> {
     const NONE: &'static str = "no variable";
 
     fn show(&self, rt: &HostRuntime, word: &str) {
@@ -52,7 +52,7 @@ fn of_byte_owner(rt: &HostRuntime, owner: &ByteTemplateBuf) -> Result<(), AllocE
     Ok(())
 }
 
-/// Lists that are empty: a text without variables, and a map that all needed ones are in.
+/// Makes the calls whose lists are empty: over a text without variables, and with a map of all needed ones.
 fn of_nothing(rt: &HostRuntime) -> Result<(), Error> {
     let alloc = rt.alloc();
     let plain = Template::from_str(alloc, "Hé \\$a!")?;

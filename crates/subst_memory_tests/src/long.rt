@@ -1,23 +1,26 @@
-//! Calls with room over sources of 10 KiB, which ask for no more than over short ones. Of an output the length
-//! is shown.
+//! Calls over sources of 10 KiB: with enough capacity, they allocate no more than over short sources. Calls
+//! that fill in documents of 10 KiB. Only the length of each output is printed.
 
-use crate::calls::{Shown, again, say_end};
+use crate::calls::{Show, again, print_end};
 use crate::{bytes, texts};
 use std::alloc::Global;
 use subst::error::{ExpandIntoError, ParseError, SubstituteIntoError};
-use subst::{ByteTemplate, Error, Template, substitute_bytes_into, substitute_into};
+use subst::{ByteTemplate, Error, Template, substitute_bytes_into, substitute_into, yaml};
 use subst_testing::variables;
 
 /// How often the sentence is repeated.
 const TIMES: usize = 300;
 
-/// More capacity than each call writes.
+/// The part of a document that is repeated.
+const ITEM: &str = "- image: shop/server # of the shop\n";
+
+/// More capacity than any of the calls needs.
 const ENOUGH: usize = 65536;
 
-/// Shows how much was written.
-fn say_len(rt: &HostRuntime, len: usize) {
+/// Prints the length of an output in bytes.
+fn print_len(rt: &HostRuntime, len: usize) {
     let _ = rt.println(format_args!("{len} bytes"));
-    say_end(rt);
+    print_end(rt);
 }
 
 fn expand_text(rt: &HostRuntime, source: &str) -> Result<(), Error> {
@@ -27,7 +30,7 @@ fn expand_text(rt: &HostRuntime, source: &str) -> Result<(), Error> {
     let mut output = String::with_capacity(alloc, ENOUGH)?;
     again!(rt, "Template::expand_into with room, of 10 KiB", [map],
         Err(ExpandIntoError::OutOfMemory(_)) => template.expand_into(&mut output, &map));
-    say_len(rt, output.len());
+    print_len(rt, output.len());
     Ok(())
 }
 
@@ -38,7 +41,7 @@ fn expand_bytes(rt: &HostRuntime, source: &[u8]) -> Result<(), Error> {
     let mut output = Vec::with_capacity(alloc, ENOUGH)?;
     again!(rt, "ByteTemplate::expand_into with room, of 10 KiB", [map],
         Err(ExpandIntoError::OutOfMemory(_)) => template.expand_into(&mut output, &map));
-    say_len(rt, output.len());
+    print_len(rt, output.len());
     Ok(())
 }
 
@@ -51,7 +54,7 @@ fn fill_in_text(rt: &HostRuntime, source: &str) -> Result<(), Error> {
             SubstituteIntoError::Parse(ParseError::OutOfMemory(_))
             | SubstituteIntoError::Expand(ExpandIntoError::OutOfMemory(_)),
         ) => substitute_into(alloc, source, &mut output, &map));
-    say_len(rt, output.len());
+    print_len(rt, output.len());
     Ok(())
 }
 
@@ -64,7 +67,18 @@ fn fill_in_bytes(rt: &HostRuntime, source: &[u8]) -> Result<(), Error> {
             SubstituteIntoError::Parse(ParseError::OutOfMemory(_))
             | SubstituteIntoError::Expand(ExpandIntoError::OutOfMemory(_)),
         ) => substitute_bytes_into(alloc, source, &mut output, &map));
-    say_len(rt, output.len());
+    print_len(rt, output.len());
+    Ok(())
+}
+
+fn fill_in_yaml(rt: &HostRuntime) -> Result<(), Error> {
+    let alloc = rt.alloc();
+    let items = ITEM.repeat(alloc, TIMES)?;
+    let source = format!(in alloc; "{items}- $name\n")?;
+    let map = variables::texts(alloc, texts::NAME)?;
+    again!(rt, "yaml::fill_in of 10 KiB", [map],
+        Err(yaml::Error::OutOfMemory(_)) => yaml::fill_in(alloc, &source, &map)
+            .map(|output| output.map(|text| 0..text.len())));
     Ok(())
 }
 
@@ -73,5 +87,6 @@ pub fn calls(rt: &HostRuntime) -> Result<(), Error> {
     expand_text(rt, &text)?;
     expand_bytes(rt, text.as_bytes())?;
     fill_in_text(rt, &text)?;
-    fill_in_bytes(rt, text.as_bytes())
+    fill_in_bytes(rt, text.as_bytes())?;
+    fill_in_yaml(rt)
 }

@@ -1,5 +1,5 @@
-//! Makes each call of `docs/MEMORY.md`, for `tests/test_memory.py`, which refuses each of their requests
-//! for memory in turn. Nothing is judged here.
+//! Makes each call of `docs/MEMORY.md`. `tests/test_memory.py` runs this program, and makes each allocation
+//! of the calls fail in turn. The program itself checks nothing.
 #![tactic(auto)]
 
 mod bytes;
@@ -33,6 +33,7 @@ fn main(rt: HostRuntime) -> Result<(), Error> {
     refusals::toml_calls(&rt)?;
     in_place::json_calls(&rt)?;
     in_place::toml_calls(&rt)?;
+    in_place::yaml_calls(&rt)?;
     errors::calls(&rt)?;
     runs::calls(&rt)?;
     free_calls::calls(&rt)?;

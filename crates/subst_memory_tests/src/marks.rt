@@ -1,18 +1,18 @@
-//! Marks of calls, by which the script that refuses each request for memory in turn knows whose a request is.
+//! Printed marks around calls. They show the script that makes allocations fail which call allocates.
 
 use std::io::Print;
 
-/// Prints that a call begins, by the name that it has in `docs/MEMORY.md`.
+/// Prints the mark before a call, with its name in `docs/MEMORY.md`.
 pub fn begin(rt: &impl Print, call: &str) {
     let _ = rt.println(format_args!("call: {call}"));
 }
 
-/// Prints that it has ended.
+/// Prints the mark after a call.
 pub fn end(rt: &impl Print) {
     let _ = rt.println("end of call");
 }
 
-/// Prints that it was out of memory.
-pub fn say_out_of_memory(rt: &impl Print) {
+/// Prints the mark of a call that was out of memory.
+pub fn print_out_of_memory(rt: &impl Print) {
     let _ = rt.println("out of memory");
 }

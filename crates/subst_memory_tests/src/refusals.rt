@@ -1,6 +1,6 @@
-//! Calls about the refused strings of a document: where it spells a part of one, and their paths.
+//! Calls about a document's refused strings: `place_in` for a name in one, and `Display` of its path.
 
-use crate::calls::{Shown, again, say};
+use crate::calls::{Show, again, print};
 use crate::documents::VARIABLES;
 use crate::free_errors::display;
 use std::alloc::AllocError;
@@ -8,45 +8,45 @@ use std::ops::Range;
 use subst::{json, toml as filled};
 use subst_testing::variables::texts;
 
-/// A document with two members of one key. In the second one, and after it, is a refused string.
+/// A JSON text with two equal keys. The second and the third of its members have refused strings.
 const JSON: &str = "{\"a\":\"x\",\"\\u0061\":{\"b/~\":[\"$name\",\"\\u00e9$absent\"]},\"c\":\"$\"}";
 
-/// A document with a refused string after a dotted key, and one after it.
+/// A TOML document with a refused string under a dotted key, and one after it.
 const TOML: &str = "a.\"\\u0062 c\" = ['$name', \"\\u00E9$absent\"]\nd = '$'\n";
 
-/// The range of the name in the first refused string of both.
+/// Returns the byte range of the name in the first refused string of each document.
 fn name_in_string() -> Range<usize> {
     3..9
 }
 
-impl<T: Shown> Shown for Option<T> {
+impl<T: Show> Show for Option<T> {
     fn show(&self, rt: &HostRuntime, word: &str) {
         match self {
             Some(it) => it.show(rt, word),
-            None => say(rt, word, "none"),
+            None => print(rt, word, "none"),
         }
     }
 }
 
-impl Shown for Range<usize> {
+impl Show for Range<usize> {
     fn show(&self, rt: &HostRuntime, word: &str) {
         let _ = rt.println(format_args!("{word} {}..{}", self.start, self.end));
     }
 }
 
-impl Shown for json::Path {
+impl Show for json::Path {
     fn show(&self, rt: &HostRuntime, word: &str) {
         let _ = rt.println(format_args!("{word} {self}"));
     }
 }
 
-impl Shown for filled::Path {
+impl Show for filled::Path {
     fn show(&self, rt: &HostRuntime, word: &str) {
         let _ = rt.println(format_args!("{word} {self}"));
     }
 }
 
-/// Looks for the name in the first refused string of a document.
+/// Makes the calls on the first refused string of a document: the span of the name in it, and its path.
 macro_rules! calls_of_refusals {
     ($rt:ident, $format:ident, $name:literal, $source:ident) => {
         let alloc = $rt.alloc();

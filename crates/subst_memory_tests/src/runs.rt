@@ -1,21 +1,21 @@
 //! Runs of the filter, whose input is read one byte per call.
 
-use crate::calls::{Shown, again, once, say_end, tell};
-use crate::marks::say_out_of_memory;
+use crate::calls::{Show, again, once, print_end, print_result};
+use crate::marks::print_out_of_memory;
 use std::alloc::{AllocError, Global};
 use subst_filter_lib::device::standard::{FromReader, ToWriter};
 use subst_filter_lib::engine::{run_bytes, run_text};
 use subst_filter_lib::program::run_program;
 use subst_filter_lib::run_error::RunError;
 use subst_filter_lib::status::OUT_OF_MEMORY;
-use subst_filter_lib::values::{Values, values_of_pairs, values_of_words};
+use subst_filter_lib::values::{Values, values_of_arguments, values_of_pairs};
 use subst_testing::fakes::{Drip, Fault, Trickle};
 use subst_testing::variables::{ByteValues, Texts, byte_values, owned_pairs, texts};
 
-/// A sentence that needs a variable which isn't there.
+/// A sentence with a missing variable.
 const MISSING: &[u8] = b"Hi ${hi:$name and ${who:$absent}}!";
 
-/// A reader that never fails.
+/// Creates a reader that never fails.
 pub fn new_trickle(left: &[u8]) -> Trickle<'_> {
     Trickle {
         left,
@@ -23,19 +23,19 @@ pub fn new_trickle(left: &[u8]) -> Trickle<'_> {
     }
 }
 
-/// A writer that takes all bytes and never fails.
+/// Creates a writer that accepts all bytes and never fails.
 pub fn new_drip(alloc: Global) -> Result<Drip, AllocError> {
     Drip::new(alloc, usize::MAX, Fault::never())
 }
 
-impl Shown for Drip {
+impl Show for Drip {
     fn show(&self, rt: &HostRuntime, word: &str) {
         let text = str::from_utf8(self.taken.as_slice()).unwrap_or("no text");
         let _ = rt.println(format_args!("{word} {text:?}, {} bytes flushed", self.flushed));
     }
 }
 
-impl Shown for RunError {
+impl Show for RunError {
     fn show(&self, rt: &HostRuntime, word: &str) {
         match self {
             RunError::Subst(fault, highlighting) => {
@@ -90,17 +90,17 @@ fn run_over_text(rt: &HostRuntime, name: &str, source: &[u8]) -> Result<(), Allo
     Ok(())
 }
 
-/// A status that the program ended with.
+/// An exit status of the program.
 #[derive(Drop)]
 pub struct Status(u8);
 
-impl Shown for Status {
+impl Show for Status {
     fn show(&self, rt: &HostRuntime, word: &str) {
         let _ = rt.println(format_args!("{word} status {}", self.0));
     }
 }
 
-/// What the program writes.
+/// The output and the standard error of the program.
 #[derive(Drop)]
 struct Written {
     output: Drip,
@@ -115,17 +115,18 @@ impl Written {
     }
 }
 
-impl Shown for Written {
+impl Show for Written {
     fn show(&self, rt: &HostRuntime, word: &str) {
         self.output.show(rt, word);
         self.errors.show(rt, word);
     }
 }
 
-/// The status of the program with these arguments over `Hello $name!`, with these pairs as its environment.
+/// Runs the program with the arguments `line`, the environment `pairs` and the input `Hello $name!`, and
+/// returns the exit status.
 pub fn status_of_run(
     alloc: Global,
-    words: &[String],
+    line: &[String],
     pairs: Vec<(String, String)>,
     output: &mut Drip,
     errors: &mut Drip,
@@ -133,14 +134,14 @@ pub fn status_of_run(
     let mut input = FromReader::new(new_trickle(b"Hello $name!"));
     let mut output = ToWriter::new(output);
     let mut errors = ToWriter::new(errors);
-    run_program(alloc, words, pairs, &mut input, &mut output, &mut errors)
+    run_program(alloc, line, pairs, &mut input, &mut output, &mut errors)
 }
 
-/// The status of the program with the pair of `name` and `world`, or another one if it is gone. Where the
-/// program is out of memory, it has to say that and no more, which is then forgotten.
+/// Runs the program with the environment `pairs`, or `name=world` if an earlier call has taken `pairs`, and
+/// returns the exit status. A lone message that memory ran out is discarded, and returned as the error.
 fn ended(
     alloc: Global,
-    words: &[String],
+    line: &[String],
     pairs: &mut Option<Vec<(String, String)>>,
     written: &mut Written,
 ) -> Result<Status, AllocError> {
@@ -148,13 +149,7 @@ fn ended(
         Some(pairs) => pairs,
         None => owned_pairs(alloc, &[("name", "world")])?,
     };
-    let status = status_of_run(
-        alloc,
-        words,
-        pairs,
-        &mut written.output,
-        &mut written.errors,
-    );
+    let status = status_of_run(alloc, line, pairs, &mut written.output, &mut written.errors);
     let errors = &mut written.errors;
     if status == OUT_OF_MEMORY && errors.taken.as_slice() == b"subst: out of memory\n".as_slice() {
         *errors = new_drip(alloc)?;
@@ -163,22 +158,22 @@ fn ended(
     Ok(Status(status))
 }
 
-/// The arguments in a line.
-pub fn words_of(alloc: Global, line: &str) -> Result<Vec<String>, AllocError> {
-    let mut words = Vec::new(alloc);
+/// Splits a line into arguments.
+pub fn arguments_of(alloc: Global, line: &str) -> Result<Vec<String>, AllocError> {
+    let mut arguments = Vec::new(alloc);
     for word in line.split(' ') {
-        words.push(String::from_str(alloc, word)?)?;
+        arguments.push(String::from_str(alloc, word)?)?;
     }
-    Ok(words)
+    Ok(arguments)
 }
 
-impl Shown for (String, String) {
+impl Show for (String, String) {
     fn show(&self, rt: &HostRuntime, word: &str) {
         let _ = rt.println(format_args!("{word} {}={}", self.0, self.1));
     }
 }
 
-impl Shown for Values<'_> {
+impl Show for Values<'_> {
     fn show(&self, rt: &HostRuntime, word: &str) {
         for (name, value) in self.iter() {
             let _ = rt.println(format_args!("{word} {name}={value}"));
@@ -188,32 +183,33 @@ impl Shown for Values<'_> {
 
 fn run_after(rt: &HostRuntime, name: &str, line: &str) -> Result<(), AllocError> {
     let alloc = rt.alloc();
-    let words = words_of(alloc, line)?;
+    let arguments = arguments_of(alloc, line)?;
     let mut pairs = Some(owned_pairs(alloc, &[("name", "world")])?);
     let mut written = Written::new(alloc)?;
-    again!(rt, name, [words, written], Err(_) => ended(alloc, &words, &mut pairs, &mut written));
+    again!(rt, name, [arguments, written],
+        Err(_) => ended(alloc, &arguments, &mut pairs, &mut written));
     Ok(())
 }
 
-/// Makes a call as `again!` does, whose result borrows from its argument.
+/// Makes a call as `again!` does, for a result that borrows from the argument.
 macro_rules! make_values {
     ($rt:ident, $call:ident, $name:literal => $borrowed:ident) => {
         $borrowed.show($rt, "borrowed");
         match once!($rt, $name => $call($rt.alloc(), $borrowed)) {
             Ok(values) => values.show($rt, "gives"),
             Err(_) => {
-                say_out_of_memory($rt);
+                print_out_of_memory($rt);
                 $borrowed.show($rt, "borrowed");
-                tell($rt, $call($rt.alloc(), $borrowed));
+                print_result($rt, $call($rt.alloc(), $borrowed));
             }
         }
         $borrowed.show($rt, "borrowed");
-        say_end($rt);
+        print_end($rt);
     };
 }
 
-fn make_values_of_words(rt: &HostRuntime, words: &Vec<String>) {
-    make_values!(rt, values_of_words, "values_of_words" => words);
+fn make_values_of_arguments(rt: &HostRuntime, arguments: &Vec<String>) {
+    make_values!(rt, values_of_arguments, "values_of_arguments" => arguments);
 }
 
 fn make_values_of_pairs(rt: &HostRuntime, pairs: &Vec<(String, String)>) {
@@ -237,7 +233,7 @@ pub fn calls(rt: &HostRuntime) -> Result<(), AllocError> {
     run_after(rt, "run_program after bytes name=world", "bytes name=world")?;
     run_after(rt, "run_program after text name=world", "text name=world")?;
     run_after(rt, "run_program after env", "env")?;
-    make_values_of_words(rt, &words_of(rt.alloc(), "name=world")?);
+    make_values_of_arguments(rt, &arguments_of(rt.alloc(), "name=world")?);
     make_values_of_pairs(rt, &owned_pairs(rt.alloc(), &[("name", "world")])?);
     Ok(())
 }

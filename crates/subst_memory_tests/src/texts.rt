@@ -1,28 +1,28 @@
-//! Calls over texts and their templates.
+//! Calls over texts, and their templates.
 
-use crate::calls::{Shown, again, clone, say};
+use crate::calls::{Show, again, clone, print};
 use std::alloc::{AllocError, Global};
 use std::mem;
 use subst::error::{ExpandError, ParseError};
 use subst::{Error, Template, TemplateBuf, laws, substitute, substitute_owned};
 use subst_testing::variables::{Texts, texts};
 
-/// A default in a default, escapes, and a variable.
+/// A sentence with a nested default, escapes, and a variable.
 pub const SENTENCE: &str = "Hé ${hi:\\{${who:❤}\\}} and $name!";
 
-/// A sentence that needs a variable which isn't there.
+/// A sentence with a missing variable.
 pub const MISSING: &str = "Hé ${hi:$name and ${who:$absent}}!";
 
 /// A source with a bad escape in its inner default.
 pub const BAD_ESCAPE: &str = "Hé ${hi:$name and ${who:\\!}}!";
 
-/// Defaults in defaults.
+/// A sentence with nested defaults.
 const DEFAULTS: &str = "Hello ${a:cruel ${b:round ${c:world}}}!";
 
-/// A value that is longer than each source.
+/// A value that is longer than any of the sources.
 pub const NAME: &str = "name=the whole round world with all that is in it";
 
-impl Shown for Texts<'_> {
+impl Show for Texts<'_> {
     fn show(&self, rt: &HostRuntime, word: &str) {
         for (name, value) in self.iter() {
             let _ = rt.println(format_args!("{word} {name}={value}"));
@@ -35,10 +35,10 @@ fn filled_in(alloc: Global, template: &Template<'_>) -> Result<String, Error> {
     Ok(template.expand(alloc, &variables)?)
 }
 
-/// A template is shown by its source, and by what it gives.
-impl Shown for Template<'_> {
+/// Prints the source of a template, and its output.
+impl Show for Template<'_> {
     fn show(&self, rt: &HostRuntime, word: &str) {
-        say(rt, word, self.source());
+        print(rt, word, self.source());
         match filled_in(rt.alloc(), self) {
             Ok(text) => text.show(rt, word),
             Err(fault) => fault.show(rt, word),
@@ -46,7 +46,7 @@ impl Shown for Template<'_> {
     }
 }
 
-impl Shown for TemplateBuf {
+impl Show for TemplateBuf {
     fn show(&self, rt: &HostRuntime, word: &str) {
         self.as_template().show(rt, word);
     }
@@ -56,7 +56,7 @@ pub fn owned(alloc: Global, source: &str) -> Result<TemplateBuf, ParseError> {
     TemplateBuf::from_string(String::from_str(alloc, source)?)
 }
 
-/// The template that takes a text over, or another copy if the first one is gone.
+/// Returns a template that owns `text`, or if an earlier call has taken `text`, a copy of `source`.
 fn taken(
     alloc: Global,
     text: &mut Option<String>,
@@ -68,7 +68,7 @@ fn taken(
     }
 }
 
-/// The owned copy of a template, which is taken; the next one borrows from the owner.
+/// Replaces `template` by one that borrows from `owner`, and returns an owned copy of the replaced template.
 fn copied<'a>(
     alloc: Global,
     template: &mut Template<'a>,
@@ -84,8 +84,8 @@ fn fill_in(rt: &HostRuntime, name: &str, source: &str) -> Result<(), AllocError>
     Ok(())
 }
 
-/// Fills in a text that is given away, or another copy if the first one is gone.
-fn given_away(
+/// Expands `text`, passed by value, or if an earlier call has taken `text`, a copy of `source`.
+fn expand_owned(
     alloc: Global,
     text: &mut Option<String>,
     source: &str,
@@ -102,7 +102,7 @@ fn fill_in_owned(rt: &HostRuntime, name: &str, source: &str) -> Result<(), Alloc
     let mut text = Some(String::from_str(alloc, source)?);
     let map = texts(alloc, NAME)?;
     again!(rt, name, [map, source],
-        Err(Error::OutOfMemory(_)) => given_away(alloc, &mut text, source, &map));
+        Err(Error::OutOfMemory(_)) => expand_owned(alloc, &mut text, source, &map));
     Ok(())
 }
 

@@ -1,5 +1,5 @@
-//! One run of each caller of `subst_uses` with enough memory. Its contract says what it gives, but a body that
-//! always gives up is proved too. Those for each kind of map are run in `maps`, the loaders in `loaders`.
+//! A run of each caller of `subst_uses` with enough memory. A contract states the output, but also admits a
+//! body that always fails. The callers for each kind of map are in `maps`, and the loaders in `loaders`.
 
 use crate::expect::{expect, expect_bytes};
 use std::alloc::{AllocError, Global};
@@ -12,7 +12,7 @@ use subst_uses::compose::ComposeError;
 use subst_uses::greeting::{Guest, greet};
 use subst_uses::launcher::command_line;
 use subst_uses::log_line::{Fields, LINE, ROOM, append_line};
-use subst_uses::missing::{Prompt, filled_or_asked, given_or_none};
+use subst_uses::missing::{Prompt, expanded_or_none, expanded_or_prompted};
 use subst_uses::own_map::{Colours, coloured, warning};
 use subst_uses::report::Outcome;
 use subst_uses::{all_missing, any_map, any_template, compose, filled, lines, plain, texts, words};
@@ -21,7 +21,7 @@ const SOURCE: &str = "Hello $name!";
 
 const DEFAULT: &[u8] = b"Hello ${name:world}!";
 
-/// The variable `name`.
+/// Returns a map with the variable `name`.
 fn named<V: Drop>(alloc: Global, value: V) -> Result<BTreeMap<String, V>, AllocError> {
     let mut variables = BTreeMap::new(alloc);
     let _ = variables.insert(String::from_str(alloc, "name")?, value)?;
@@ -64,7 +64,7 @@ fn in_few_turns(alloc: Global) -> Result<Vec<u8>, Error> {
     Ok(any_template::expanded_in_few_turns(alloc, &template, &NoSubstitution, turns)?)
 }
 
-/// A template that was expanded without a name, and is filled in again.
+/// Returns the output of a cache whose template is expanded without `name`, and then with `name` set.
 fn by_cache(alloc: Global) -> Result<Vec<u8>, Error> {
     let template = ByteTemplate::from_slice(alloc, b"Hello ${name:you}!")?;
     let mut cached = Cached::new(alloc, template, BTreeMap::new(alloc))?;
@@ -101,23 +101,23 @@ fn callers_of_a_map(rt: HostRuntime) -> Result<(), AllocError> {
     Ok(())
 }
 
-/// Whatever is asked for is `world`.
+/// A prompt whose answer is always `world`.
 #[derive(Drop)]
-struct SaysWorld;
+struct WorldPrompt;
 
-impl Prompt for SaysWorld {
+impl Prompt for WorldPrompt {
     fn ask(&mut self, alloc: Global, _name: &str) -> Result<String, AllocError> {
         String::from_str(alloc, "world")
     }
 }
 
-fn asked(alloc: Global) -> Result<String, Error> {
-    filled_or_asked(alloc, SOURCE, &mut BTreeMap::new(alloc), &mut SaysWorld)
+fn by_prompt(alloc: Global) -> Result<String, Error> {
+    expanded_or_prompted(alloc, SOURCE, &mut BTreeMap::new(alloc), &mut WorldPrompt)
 }
 
-fn given(alloc: Global) -> Result<String, Error> {
+fn or_none(alloc: Global) -> Result<String, Error> {
     let template = Template::from_str(alloc, SOURCE)?;
-    let given = given_or_none(alloc, &template, &world(alloc)?)?;
+    let given = expanded_or_none(alloc, &template, &world(alloc)?)?;
     Ok(given.unwrap_or(String::new(alloc)))
 }
 
@@ -142,8 +142,8 @@ fn callers_that_give_a_text(rt: HostRuntime) {
     let alloc = rt.alloc();
     let runs = [
         ("a guest", greet(alloc, &Guest { name: "world" })),
-        ("asked for", asked(alloc)),
-        ("given", given(alloc)),
+        ("asked for", by_prompt(alloc)),
+        ("given", or_none(alloc)),
         ("a copy", by_a_copy(alloc)),
         ("a page", page(alloc)),
         ("all there", not_missing(alloc)),
@@ -153,7 +153,7 @@ fn callers_that_give_a_text(rt: HostRuntime) {
     }
 }
 
-/// The report of a missing variable.
+/// Returns the report of a missing variable.
 fn reported(alloc: Global) -> Result<String, AllocError> {
     match all_missing::filled(alloc, "web.conf", "host = $host", &BTreeMap::new(alloc))? {
         Outcome::Output(_) => Ok(String::new(alloc)),
@@ -186,13 +186,13 @@ fn is_early(alloc: Global) -> bool {
 #[test]
 fn other_callers(rt: HostRuntime) {
     let alloc = rt.alloc();
-    let told = reported(alloc).map(|text| {
+    let actual = reported(alloc).map(|text| {
         text.starts_with("web.conf:1:9: ") && text.ends_with("\n  host = $host\n          ^^^^\n")
     });
-    assert_eq!(rt; told, Ok(true));
+    assert_eq!(rt; actual, Ok(true));
     expect_bytes(&rt, "the last word", last_word(alloc), "to world");
-    let told = around_word(alloc);
-    expect(&rt, "around a word", told, "vi world ${line} a");
+    let actual = around_word(alloc);
+    expect(&rt, "around a word", actual, "vi world ${line} a");
     expect_bytes(&rt, "a log", logged(alloc), "info $level\n");
     let color = coloured(alloc, b"${bold}a", &Colours { on: true });
     expect_bytes(&rt, "a color", color, "\x1B[1ma");
@@ -230,6 +230,6 @@ fn callers_that_change_nothing(rt: HostRuntime) {
     let unchanged = plain::unchanged(alloc, b"{a: b}", &NoSubstitution);
     expect_bytes(&rt, "unchanged", unchanged, "{a: b}");
     expect_bytes(&rt, "handed back", handed_back(alloc), "{a: b}");
-    let told = words::escaped_and_filled_in(alloc, "a$b{c}:\\", &NoSubstitution);
-    expect(&rt, "escaped", told, "a$b{c}:\\");
+    let actual = words::escaped_and_filled_in(alloc, "a$b{c}:\\", &NoSubstitution);
+    expect(&rt, "escaped", actual, "a$b{c}:\\");
 }

@@ -1,20 +1,20 @@
-//! Nested defaults and nested braces, a hundred thousand deep.
+//! Defaults and braces that nest 100,000 deep.
 
 use crate::expect::{Testing, expect};
 use std::alloc::{AllocError, Global};
 use std::test::Fail;
 use subst::steps::{Reads, Turns};
 use subst::{ByteTemplate, Error, NoSubstitution, Template, substitute, substitute_bytes};
-use subst_testing::answers::{told_bytes, told_text};
+use subst_testing::answers::{bytes_or_fault, text_or_fault};
 
-/// A text, repeated so many times.
+/// The number of repetitions of a text, and the text.
 type Part<'a> = (usize, &'a str);
 
 const DEPTH: usize = 100_000;
 
 const UNCLOSED: &str = "1..2: MissingClosingBrace";
 
-/// The parts, concatenated.
+/// Returns the text of each part, repeated as often as the part states, concatenated.
 fn repeated(alloc: Global, parts: &[Part<'_>]) -> Result<String, AllocError> {
     let mut all = String::new(alloc);
     for &(count, text) in parts {
@@ -36,21 +36,21 @@ fn by_counted_calls(alloc: Global, source: &[u8]) -> Result<Vec<u8>, Error> {
     Ok(template.expand_counted(alloc, &NoSubstitution, &mut Turns::new())?)
 }
 
-/// The parts, concatenated, have this answer without variables, by each way.
+/// Expects the answer `want` from each call that expands the concatenated parts, without variables.
 fn expect_answer(rt: &impl Testing, parts: &[Part<'_>], want: &str) -> Result<(), AllocError> {
     let alloc = rt.alloc();
     let source = repeated(alloc, parts)?;
     let bytes = source.as_bytes();
     let text = substitute(alloc, &source, &NoSubstitution);
-    expect(rt, "substitute", told_text(alloc, text), want);
+    expect(rt, "substitute", text_or_fault(alloc, text), want);
     let given = substitute_bytes(alloc, bytes, &NoSubstitution);
-    expect(rt, "substitute_bytes", told_bytes(alloc, given), want);
+    expect(rt, "substitute_bytes", bytes_or_fault(alloc, given), want);
     let text = by_template(alloc, &source);
-    expect(rt, "Template", told_text(alloc, text), want);
+    expect(rt, "Template", text_or_fault(alloc, text), want);
     let given = by_byte_template(alloc, bytes);
-    expect(rt, "ByteTemplate", told_bytes(alloc, given), want);
+    expect(rt, "ByteTemplate", bytes_or_fault(alloc, given), want);
     let given = by_counted_calls(alloc, bytes);
-    expect(rt, "from_slice_counted", told_bytes(alloc, given), want);
+    expect(rt, "from_slice_counted", bytes_or_fault(alloc, given), want);
     Ok(())
 }
 

@@ -1,11 +1,11 @@
-//! Errors of documents that are read without variables: each has the text of the one inside.
+//! Errors of documents that are read without variables: each has the text of its inner error.
 
 use std::alloc::{AllocError, Global};
 use std::fmt::Display;
 use subst::{NoSubstitution, json, toml as filled};
 
-/// Whether an error has this text.
-fn is_shown<E: Display>(alloc: Global, error: &E, want: String) -> Result<bool, AllocError> {
+/// Returns whether an error has this text.
+fn displays_as<E: Display>(alloc: Global, error: &E, want: String) -> Result<bool, AllocError> {
     Ok(error.to_string(alloc)? == want)
 }
 
@@ -20,7 +20,7 @@ fn inside_json(alloc: Global, error: &json::Error) -> Result<String, AllocError>
 fn json_shows_what_is_inside(alloc: Global, source: &str) -> Result<bool, AllocError> {
     match json::value_from_str(alloc, source, &NoSubstitution) {
         Ok(_) => Ok(false),
-        Err(e) => is_shown(alloc, &e, inside_json(alloc, &e)?),
+        Err(e) => displays_as(alloc, &e, inside_json(alloc, &e)?),
     }
 }
 
@@ -55,7 +55,7 @@ fn inside_toml(alloc: Global, error: &filled::Error) -> Result<String, AllocErro
 fn toml_shows_what_is_inside(alloc: Global, source: &[u8]) -> Result<bool, AllocError> {
     match filled::value_from_slice(alloc, source, &NoSubstitution) {
         Ok(_) => Ok(false),
-        Err(e) => is_shown(alloc, &e, inside_toml(alloc, &e)?),
+        Err(e) => displays_as(alloc, &e, inside_toml(alloc, &e)?),
     }
 }
 

@@ -1,6 +1,7 @@
-//! Errors: what their texts and `{:?}` show, equality, conversions and clones. The texts are columns of rows.
+//! Errors: their formatting, equality, conversions and clones. Rows of `subst_vectors` have the texts of
+//! faults.
 
-use crate::expect::{Testing, expect_debug, expect_plain, expect_shown};
+use crate::expect::{Testing, expect_debug, expect_display, expect_plain};
 use CharOrByte::{Byte, Char};
 use std::alloc::{AllocError, AllocFailed, Global};
 use std::fmt::{Debug, Display};
@@ -13,7 +14,7 @@ use subst::error::{
 
 #[test]
 fn characters_and_bytes(rt: HostRuntime) {
-    // Each with its length in a source, its text, and its quoted form.
+    // Each character or byte with its length in bytes in a source, its text, and its quoted form.
     let rows: &[(CharOrByte, usize, &str, &str)] = &[
         (Char('w'), 1, "w", "'w'"),
         (Char('y'), 1, "y", "'y'"),
@@ -46,8 +47,8 @@ fn characters_and_bytes(rt: HostRuntime) {
     ];
     for &(character, len, shown, quoted) in rows {
         assert_eq!(rt; character.source_len(), len, "{character:?}");
-        expect_shown(&rt, &character, shown);
-        expect_shown(&rt, &character.quoted_printable(), quoted);
+        expect_display(&rt, &character, shown);
+        expect_display(&rt, &character.quoted_printable(), quoted);
     }
 }
 
@@ -99,16 +100,16 @@ fn unclosed(position: usize) -> ParseError {
     ParseError::from(MissingClosingBrace { position })
 }
 
-/// A fault has the same text with each option, and so has the error that it becomes.
+/// Expects that a fault and the `Error` made from it have the same text, whatever the formatting options.
 fn expect_one_text(rt: &impl Testing, fault: ParseError) -> Result<(), AllocError> {
     let error = Error::from(fault);
     let text = fault.to_string(rt.alloc())?;
-    expect_shown(rt, &fault, &text);
-    expect_shown(rt, &error, &text);
+    expect_display(rt, &fault, &text);
+    expect_display(rt, &error, &text);
     Ok(())
 }
 
-/// Faults are equal as this says, and so are the errors that they become.
+/// Expects that two faults, and the `Error`s made from them, are equal exactly if `are_equal` is set.
 fn expect_equality(rt: &impl Testing, one: ParseError, other: ParseError, are_equal: bool) {
     assert_eq!(rt; one == other, are_equal, "{one:?} and {other:?}");
     let are_errors_equal = Error::from(one) == Error::from(other);
@@ -147,7 +148,7 @@ fn texts_and_equality_of_faults(rt: HostRuntime) -> Result<(), Fail> {
     Ok(())
 }
 
-/// `{:?}` shows this of a fault, and of an error that it becomes the same in parentheses after its name.
+/// Expects `want` as the `{:?}` of a fault, and `CASE(want)` as that of the errors made from the fault.
 fn expect_fault<F: Copy + Debug>(rt: &impl Testing, fault: F, want: &str) -> Result<(), AllocError>
 where
     ParseError: From<F>,
@@ -201,7 +202,7 @@ fn debug_texts_of_out_of_memory(rt: HostRuntime) {
     expect_debug(&rt, &ExpandError::from(AllocFailed { value: 7u8 }), want);
     expect_debug(&rt, &Error::from(AllocError), want);
     expect_debug(&rt, &Error::from(AllocFailed { value: 7u8 }), want);
-    expect_shown(&rt, &ExpandError::from(AllocError), "out of memory");
+    expect_display(&rt, &ExpandError::from(AllocError), "out of memory");
 }
 
 fn absent(alloc: Global, position: usize, name: &str) -> Result<NoSuchVariable, AllocError> {
@@ -209,7 +210,7 @@ fn absent(alloc: Global, position: usize, name: &str) -> Result<NoSuchVariable, 
     Ok(NoSuchVariable { position, name })
 }
 
-/// A value has the same text with each option, and `{:?}` shows this of it.
+/// Expects that the text of a value doesn't depend on formatting options, and that its `{:?}` is `debug`.
 fn expect_texts<D: Debug + Display>(
     rt: &impl Testing,
     value: &D,
@@ -231,24 +232,24 @@ fn texts_of_a_missing_variable(rt: HostRuntime) -> Result<(), Fail> {
     Ok(())
 }
 
-/// Whether a clone of one value is equal to the other.
+/// Returns whether the clone of a value equals another value.
 fn is_clone_equal<T: Clone + PartialEq + Drop>(one: T, other: T) -> Result<bool, AllocError> {
     let clone: Result<T, AllocError> = one.clone();
     Ok(clone? == other)
 }
 
-/// Whether clones of a missing `name` at 8 are equal to this one.
+/// Returns whether the missing variable `"name"` at 8, cloned, equals the missing variable of the arguments.
 fn is_equal(alloc: Global, position: usize, name: &str) -> Result<bool, AllocError> {
     is_clone_equal(absent(alloc, 8, "name")?, absent(alloc, position, name)?)
 }
 
-/// Whether clones of the error of expansion for a missing `name` at 8 are equal to that for this one.
+/// Returns the result of `is_equal`, with each missing variable as an `ExpandError`.
 fn is_equal_in_expansion(alloc: Global, position: usize, name: &str) -> Result<bool, AllocError> {
     let one = ExpandError::from(absent(alloc, 8, "name")?);
     is_clone_equal(one, ExpandError::from(absent(alloc, position, name)?))
 }
 
-/// Whether clones of the error for a missing `name` at 8 are equal to that for this one.
+/// Returns the result of `is_equal`, with each missing variable as an `Error`.
 fn is_equal_as_error(alloc: Global, position: usize, name: &str) -> Result<bool, AllocError> {
     let one = Error::from(absent(alloc, 8, "name")?);
     is_clone_equal(one, Error::from(absent(alloc, position, name)?))

@@ -1,7 +1,7 @@
-//! Templates for texts of other tools. Those of envsubst were worked out by hand, and agree with it; the others
-//! were worked out from the forms alone.
+//! Templates for texts of other tools. The rows of envsubst's texts were worked out by hand, and agree with
+//! envsubst. The other rows were worked out from the definition of the forms alone.
 
-use crate::expect::{Testing, expect, expect_bytes, expect_shown};
+use crate::expect::{Testing, expect, expect_bytes, expect_display};
 use std::alloc::{AllocError, Global};
 use std::test::Fail;
 use subst::foreign::{
@@ -11,7 +11,7 @@ use subst::foreign::{
 use subst::{Error, NoEmpty, NoSubstitution, ShellMap, Template, substitute, substitute_bytes};
 use subst_testing::variables::{byte_values, texts};
 
-/// A text, its template, and what that gives with the variables.
+/// A text, its template, and the template's output with `VARIABLES`.
 type Row<'t> = (&'t str, &'t str, &'t str);
 
 const VARIABLES: &str = "a=1,b_2=$a,1=one,d=4,e=";
@@ -28,7 +28,7 @@ const OF_ENVSUBST: [Row<'static>; 9] = [
     ("${a}}$a}${${a}}", "${a}}$a}\\${${a}}", "1}1}${1}"),
 ];
 
-/// Names, and a text in which these alone are names.
+/// Names, and the row of a text in which only these names are variables.
 const WITH_ONLY: [(&[&str], Row<'static>); 5] = [
     (&[], ("$a \\", "\\$a \\\\", "$a \\")),
     (
@@ -50,7 +50,7 @@ const WITH_ONLY: [(&[&str], Row<'static>); 5] = [
     ),
 ];
 
-/// Texts in each form, in which all names count.
+/// Texts in each form, with all names chosen.
 const OF_FORMS: [(Forms, Missing, Row<'static>); 10] = [
     (
         Forms::Own,
@@ -120,7 +120,7 @@ const OF_FORMS: [(Forms, Missing, Row<'static>); 10] = [
     (Forms::Common, Missing::Nothing, ("", "", "")),
 ];
 
-/// Texts in each form, in which the names that have a value count, and all with an operator.
+/// Texts in several forms. The variables are the names with a value, and all names with an operator.
 const OF_KNOWN: [(Forms, Row<'static>); 3] = [
     (Forms::Own, ("$a $x ${x:d}", "$a \\$x ${x:d}", "1 $x d")),
     (Forms::Envsubst, ("$a:${x}", "$a:\\${x}", "1:${x}")),
@@ -134,7 +134,7 @@ const OF_KNOWN: [(Forms, Row<'static>); 3] = [
     ),
 ];
 
-/// Texts of common forms that are refused, where nothing else is before the refused form.
+/// Texts of common forms that begin with a refused form.
 const REFUSED: [(&str, ShellForm); 18] = [
     ("$1", ShellForm::Dollar),
     ("$(b)", ShellForm::Dollar),
@@ -156,15 +156,15 @@ const REFUSED: [(&str, ShellForm); 18] = [
     ("${a:-$b", ShellForm::Unclosed),
 ];
 
-/// Texts of envsubst, each with the position of its first name.
+/// Texts of envsubst, each with the position of its first variable's name.
 const NAMES: [(&str, usize); 3] = [("$x", 1), ("$5 for ${x}", 9), ("\\$$x $y", 3)];
 
-/// A form that is refused.
+/// Returns the refused form `form` at `position`.
 fn at(position: usize, form: ShellForm) -> FormAt {
     FormAt { position, form }
 }
 
-/// A variable of a text.
+/// Returns a variable of a text.
 fn variable<'t>(
     position: usize,
     name: &'t str,
@@ -179,7 +179,7 @@ fn variable<'t>(
     }
 }
 
-/// A style in which all names count.
+/// Returns a style with all names chosen.
 fn of_all(forms: Forms, missing: Missing) -> Style<'static, AllNames> {
     Style {
         forms,
@@ -188,7 +188,7 @@ fn of_all(forms: Forms, missing: Missing) -> Style<'static, AllNames> {
     }
 }
 
-/// Returns the output of a template of these forms.
+/// Returns the output, with `VARIABLES`, of a template for a text of these forms.
 fn filled(alloc: Global, forms: Forms, template: &str) -> Result<String, Error> {
     let map = texts(alloc, VARIABLES)?;
     match forms {
@@ -198,7 +198,7 @@ fn filled(alloc: Global, forms: Forms, template: &str) -> Result<String, Error> 
     }
 }
 
-/// Returns the output of a template of bytes of these forms.
+/// Returns the output, with `VARIABLES`, of a byte template for a text of these forms.
 fn filled_bytes(alloc: Global, forms: Forms, template: &[u8]) -> Result<Vec<u8>, Error> {
     let map = byte_values(alloc, VARIABLES)?;
     match forms {
@@ -208,7 +208,7 @@ fn filled_bytes(alloc: Global, forms: Forms, template: &[u8]) -> Result<Vec<u8>,
     }
 }
 
-/// A text, and its bytes, have this template in a style, which gives this, and nothing in it is refused.
+/// Expects the template and the output of `row` for its text and the text's bytes, without refused forms.
 fn expect_row<N: Names>(rt: &impl Testing, style: Style<'_, N>, row: Row<'_>) {
     let (text, template, given) = row;
     let (bytes, alloc) = (text.as_bytes(), rt.alloc());
@@ -310,11 +310,11 @@ fn all_refused_forms_are_listed(rt: HostRuntime) -> Result<(), Fail> {
 }
 
 #[test]
-fn errors_of_texts_are_shown(rt: HostRuntime) {
+fn errors_of_texts_are_displayed(rt: HostRuntime) {
     let want = "`=` of a shell's variable can't be given here";
-    expect_shown(&rt, &ShellForm::Equals, want);
-    expect_shown(&rt, &TextError::Refused(at(0, ShellForm::Equals)), want);
-    expect_shown(&rt, &TextError::from(AllocError), "out of memory");
+    expect_display(&rt, &ShellForm::Equals, want);
+    expect_display(&rt, &TextError::Refused(at(0, ShellForm::Equals)), want);
+    expect_display(&rt, &TextError::from(AllocError), "out of memory");
 }
 
 #[test]
@@ -336,8 +336,8 @@ fn variables_are_listed_with_operators_and_messages(rt: HostRuntime) -> Result<(
     Ok(())
 }
 
-/// Returns the position in a text of envsubst of the first name that has no value: a variable of the template
-/// has the index of the one of the text.
+/// Returns the position of the first unset variable in a text of envsubst. The variables of the template have
+/// the same indices as those of the text.
 fn missing_position(alloc: Global, text: &str) -> Result<Option<usize>, Error> {
     let source = from_envsubst(alloc, text)?;
     let template = Template::from_str(alloc, source.as_str())?;

@@ -1,4 +1,4 @@
-//! Strings of documents with where they stand, worked out by hand.
+//! Spans of strings in documents, worked out by hand.
 
 use std::alloc::{AllocError, Global};
 use std::fmt::Display;
@@ -6,15 +6,15 @@ use std::ops::Range;
 use subst::json::StringAt;
 use subst::{NoSubstitution, json, toml as filled};
 
-/// A document with members of equal keys, and strings that are refused.
+/// A document with equal keys, and refused strings.
 const JSON: &str =
     "{\"b\":[1,\"x\",{\"k\":\"$M\"},\"$\"],\"a\":\"$N\", \"b\":\"\\u00e9${\",\"\":\"\"}";
 
-/// One with a string in a table of an array, and after a dotted key.
+/// A document with a string in a table of an array, and one after a dotted key.
 const TOML: &str =
     "k = '$' # '$'\n[[t]]\n[[t]]\n\"$\" = [1, {a.b = '''$$''', c = '3'}]\n[t.u]\nx = '0'\ny='${'\n";
 
-/// Adds a line for a string: its path, its text and its span.
+/// Appends a line for a string: its path, its text and its span.
 fn add<P: Display>(
     alloc: Global,
     lines: &mut String,
@@ -88,7 +88,7 @@ fn refused_strings_have_their_paths(rt: HostRuntime) {
     );
 }
 
-/// Returns the spans of ranges as a text.
+/// Returns the spans, as a text.
 fn spans(alloc: Global, places: Option<Vec<Range<usize>>>) -> Result<String, AllocError> {
     let mut lines = String::new(alloc);
     for span in places.unwrap_or(Vec::new(alloc)) {

@@ -1,4 +1,4 @@
-//! Large trees, and a long text that is escaped.
+//! Large trees, and a long text to escape.
 
 use crate::expect::expect;
 use serde_json::Value;
@@ -6,20 +6,20 @@ use std::alloc::{AllocError, Global};
 use subst::{Error, NoSubstitution, json, laws, toml};
 use subst_testing::variables::texts;
 
-/// How many strings are in one array.
+/// The number of strings in one array.
 const COUNT: usize = 100_000;
 
-fn told_json(alloc: Global, source: &str) -> Result<String, json::Error> {
+fn json_output(alloc: Global, source: &str) -> Result<String, json::Error> {
     let tree = json::value_from_str(alloc, source, &texts(alloc, "a=1")?)?;
     Ok(tree.to_string(alloc)?)
 }
 
-fn told_toml(alloc: Global, source: &str) -> Result<String, toml::Error> {
+fn toml_output(alloc: Global, source: &str) -> Result<String, toml::Error> {
     let tree = toml::value_from_str(alloc, source, &texts(alloc, "a=1")?)?;
     Ok(format!(in alloc; "{tree}")?)
 }
 
-/// This many times a part, between two ends.
+/// Returns `start`, then `part` repeated, then `end`.
 fn repeated(
     alloc: Global,
     start: &str,
@@ -31,7 +31,7 @@ fn repeated(
     [start, parts.as_str(), end].concat(alloc)
 }
 
-/// A text in an array in an array, and so on, between two ends.
+/// Returns `start`, then `inner` in `depth` nested arrays, then `end`.
 fn nested(
     alloc: Global,
     start: &str,
@@ -48,7 +48,7 @@ fn many_strings_in_one_array(rt: HostRuntime) -> Result<(), AllocError> {
     let alloc = rt.alloc();
     let source = repeated(alloc, "[", "\"x${a}y\",", COUNT, "0]")?;
     let want = repeated(alloc, "[", "\"x1y\",", COUNT, "0]")?;
-    expect(&rt, "JSON", told_json(alloc, &source), &want);
+    expect(&rt, "JSON", json_output(alloc, &source), &want);
     Ok(())
 }
 
@@ -57,7 +57,7 @@ fn many_strings_in_one_array_of_toml(rt: HostRuntime) -> Result<(), AllocError> 
     let alloc = rt.alloc();
     let source = repeated(alloc, "k = [", "\"x${a}y\",", COUNT, "0]")?;
     let want = repeated(alloc, "{ k = [", "\"x1y\", ", COUNT, "0] }")?;
-    expect(&rt, "TOML", told_toml(alloc, &source), &want);
+    expect(&rt, "TOML", toml_output(alloc, &source), &want);
     Ok(())
 }
 
@@ -66,7 +66,7 @@ fn as_deep_as_the_reader_goes(rt: HostRuntime) -> Result<(), AllocError> {
     let alloc = rt.alloc();
     let source = nested(alloc, "", 127, "\"$a\"", "")?;
     let want = nested(alloc, "", 127, "\"1\"", "")?;
-    expect(&rt, "JSON", told_json(alloc, &source), &want);
+    expect(&rt, "JSON", json_output(alloc, &source), &want);
     Ok(())
 }
 
@@ -75,11 +75,11 @@ fn as_deep_as_the_reader_of_toml_goes(rt: HostRuntime) -> Result<(), AllocError>
     let alloc = rt.alloc();
     let source = nested(alloc, "k = ", 80, "\"$a\"", "")?;
     let want = nested(alloc, "{ k = ", 80, "\"1\"", " }")?;
-    expect(&rt, "TOML", told_toml(alloc, &source), &want);
+    expect(&rt, "TOML", toml_output(alloc, &source), &want);
     Ok(())
 }
 
-/// A string of TOML in this many inline tables, one in the other, each under a key of 80 parts.
+/// Returns a TOML string in `tables` nested inline tables, each under a key of 80 parts.
 fn under_long_keys(alloc: Global, tables: usize) -> Result<String, AllocError> {
     let key = repeated(alloc, "", "k.", 79, "k = ")?;
     let open = repeated(
@@ -104,7 +104,7 @@ fn as_deep_as_long_keys_make_a_tree_of_toml(rt: HostRuntime) -> Result<(), Alloc
     let source = under_long_keys(alloc, 12)?;
     let open = repeated(alloc, "", "{ k = ", 13 * 80, "\"1\"")?;
     let want = repeated(alloc, &open, " }", 13 * 80, "")?;
-    expect(&rt, "TOML", told_toml(alloc, &source), &want);
+    expect(&rt, "TOML", toml_output(alloc, &source), &want);
     Ok(())
 }
 
@@ -127,7 +127,7 @@ fn nested_deeper_than_the_reader_goes(rt: HostRuntime) -> Result<(), AllocError>
     Ok(())
 }
 
-/// A string in this many arrays, one in the other.
+/// Returns the string `text` in `depth` nested arrays.
 fn deep(alloc: Global, depth: usize, text: &str) -> Result<Value, AllocError> {
     let mut tree = Value::String(String::from_str(alloc, text)?);
     for _ in 0..depth {
@@ -138,7 +138,7 @@ fn deep(alloc: Global, depth: usize, text: &str) -> Result<Value, AllocError> {
     Ok(tree)
 }
 
-fn told_in_place(alloc: Global, mut tree: Value) -> Result<String, Error> {
+fn output_in_place(alloc: Global, mut tree: Value) -> Result<String, Error> {
     json::substitute_string_values(alloc, &mut tree, &texts(alloc, "a=1")?)?;
     Ok(tree.to_string(alloc)?)
 }
@@ -147,12 +147,12 @@ fn told_in_place(alloc: Global, mut tree: Value) -> Result<String, Error> {
 fn deeper_trees_of_a_caller_are_filled_in(rt: HostRuntime) -> Result<(), AllocError> {
     let alloc = rt.alloc();
     let want = nested(alloc, "", 1_000, "\"1\"", "")?;
-    let told = told_in_place(alloc, deep(alloc, 1_000, "$a")?);
-    expect(&rt, "in place", told, &want);
+    let output = output_in_place(alloc, deep(alloc, 1_000, "$a")?);
+    expect(&rt, "in place", output, &want);
     Ok(())
 }
 
-/// How many dollars are escaped: so many that a test would not end if the time grew with their square.
+/// The number of dollars to escape: enough that a test wouldn't end if the time grew quadratically.
 const DOLLARS: usize = 1 << 20;
 
 #[test]

@@ -1,12 +1,10 @@
-//! Tests of `subst` over its public calls, by subject, where more than a source, its variables and their answer
-//! is needed.
+//! Tests of the public calls of `subst`, in a module for each subject. Tests that need only a source, its
+//! variables and its answer are rows of `subst_vectors` instead.
 //!
-//! The expected answers were taken from the Rust crate's tests, or worked out by hand from the rules of the
-//! language. An answer is shown as a text, as `gives Hello world!` or `6..7: MissingVariableName`.
+//! The expected answers are from the tests of the Rust crate `subst`, or worked out by hand. An answer is a
+//! text, such as `gives Hello world!` or `6..7: MissingVariableName`.
 #![tactic(auto)]
 
-#[cfg(test)]
-mod asked_names;
 #[cfg(test)]
 mod callers;
 #[cfg(test)]
@@ -25,6 +23,8 @@ mod in_place;
 mod large;
 #[cfg(test)]
 mod loaders;
+#[cfg(test)]
+mod look_ups;
 #[cfg(test)]
 mod maps;
 #[cfg(test)]

@@ -1,4 +1,4 @@
-//! The loaders of `subst_uses`, and the positions that their reports name, of which no contract speaks.
+//! The loaders of `subst_uses`, and the positions in their reports, which no contract states.
 
 use crate::expect::expect;
 use serde::Deserialize;
@@ -25,14 +25,14 @@ fn one_pair(alloc: Global, name: &str, value: &str) -> Result<Env, AllocError> {
     Ok(Env::from_pairs(owned_pairs(alloc, &[(name, value)])?))
 }
 
-/// A report of a fault at this position, which is shown so.
+/// Returns the report of a fault at `place`, such as `web.json:1:4`, with the highlighted `lines`.
 fn reported<F: Display + Drop>(
     alloc: Global,
     place: &str,
     fault: F,
-    shown: &str,
+    lines: &str,
 ) -> Result<String, AllocError> {
-    format!(in alloc; "{place}: {fault}\n{shown}")
+    format!(in alloc; "{place}: {fault}\n{lines}")
 }
 
 fn absent(alloc: Global, name: &str) -> Result<NoSuchVariable, AllocError> {
@@ -40,7 +40,7 @@ fn absent(alloc: Global, name: &str) -> Result<NoSuchVariable, AllocError> {
     Ok(NoSuchVariable { position: 1, name })
 }
 
-fn told_json(alloc: Global, source: &str) -> Result<String, AllocError> {
+fn loaded_json(alloc: Global, source: &str) -> Result<String, AllocError> {
     let environment = one_pair(alloc, "user", "ann \"a\"")?;
     let defaults = named(alloc, "user", "nobody")?;
     match config::load(alloc, "web.json", source, &environment, &defaults)? {
@@ -60,7 +60,7 @@ fn a_configuration(rt: HostRuntime) {
         ("[1,\n", "web.json:1:4: EOF while parsing\n  [1,\n     ^\n"),
     ];
     for (source, want) in rows {
-        expect(&rt, source, told_json(rt.alloc(), source), want);
+        expect(&rt, source, loaded_json(rt.alloc(), source), want);
     }
 }
 
@@ -79,14 +79,14 @@ fn a_configuration_without_a_name(rt: HostRuntime) -> Result<(), AllocError> {
         ),
         ("\"$name\"", "web.json:1:3", "  \"$name\"\n    ^^^^\n"),
     ];
-    for (source, place, shown) in rows {
-        let want = reported(rt.alloc(), place, absent(rt.alloc(), "name")?, shown)?;
-        expect(&rt, source, told_json(rt.alloc(), source), &want);
+    for (source, place, lines) in rows {
+        let want = reported(rt.alloc(), place, absent(rt.alloc(), "name")?, lines)?;
+        expect(&rt, source, loaded_json(rt.alloc(), source), &want);
     }
     Ok(())
 }
 
-/// Reports of two faults, the one after the other.
+/// Returns the reports of two faults, concatenated.
 fn both(
     alloc: Global,
     first: Result<String, AllocError>,
@@ -112,11 +112,11 @@ fn all_faults_of_a_file(rt: HostRuntime) -> Result<(), AllocError> {
     );
     let want = both(alloc, first, second)?;
     let source = "[\"$a\", 1,\n \"$b\"]";
-    expect(&rt, source, told_json(alloc, source), &want);
+    expect(&rt, source, loaded_json(alloc, source), &want);
     Ok(())
 }
 
-fn told_toml(alloc: Global, source: &str) -> Result<String, AllocError> {
+fn loaded_toml(alloc: Global, source: &str) -> Result<String, AllocError> {
     let environment = one_pair(alloc, "HOST", "db \"1\"")?;
     let defaults = BTreeMap::new(alloc);
     match settings::load(alloc, "app.toml", source, &environment, &defaults)? {
@@ -146,7 +146,7 @@ fn settings_of_a_file(rt: HostRuntime) {
         ),
     ];
     for (source, want) in rows {
-        expect(&rt, source, told_toml(rt.alloc(), source), want);
+        expect(&rt, source, loaded_toml(rt.alloc(), source), want);
     }
 }
 
@@ -169,9 +169,9 @@ fn settings_without_a_port(rt: HostRuntime) -> Result<(), AllocError> {
             "  $PORT\"\"\"]\n   ^^^^\n",
         ),
     ];
-    for (source, place, shown) in rows {
-        let want = reported(rt.alloc(), place, absent(rt.alloc(), "PORT")?, shown)?;
-        expect(&rt, source, told_toml(rt.alloc(), source), &want);
+    for (source, place, lines) in rows {
+        let want = reported(rt.alloc(), place, absent(rt.alloc(), "PORT")?, lines)?;
+        expect(&rt, source, loaded_toml(rt.alloc(), source), &want);
     }
     Ok(())
 }
@@ -180,18 +180,18 @@ fn settings_without_a_port(rt: HostRuntime) -> Result<(), AllocError> {
 fn a_dollar_that_is_written_as_an_escape(rt: HostRuntime) -> Result<(), AllocError> {
     let (position, len) = (0, 1);
     let fault = MissingVariableName { position, len };
-    let shown = "  a = \"\\u0024\"\n       ^^^^^^\n";
-    let want = reported(rt.alloc(), "app.toml:1:6: a", fault, shown)?;
+    let lines = "  a = \"\\u0024\"\n       ^^^^^^\n";
+    let want = reported(rt.alloc(), "app.toml:1:6: a", fault, lines)?;
     expect(
         &rt,
         "an escape",
-        told_toml(rt.alloc(), "a = \"\\u0024\"\n"),
+        loaded_toml(rt.alloc(), "a = \"\\u0024\"\n"),
         &want,
     );
     Ok(())
 }
 
-fn told_bytes(alloc: Global, source: &[u8]) -> Result<String, AllocError> {
+fn bytes_report(alloc: Global, source: &[u8]) -> Result<String, AllocError> {
     match filled::from_slice::<Texts, _>(alloc, source, &NoSubstitution) {
         Ok(_) => Ok(String::new(alloc)),
         Err(e) => filled::report(alloc, "app.toml", "", &NoSubstitution, &e),
@@ -201,7 +201,7 @@ fn told_bytes(alloc: Global, source: &[u8]) -> Result<String, AllocError> {
 #[test]
 fn settings_that_are_no_text(rt: HostRuntime) {
     let want = "app.toml: invalid utf-8 sequence of 1 bytes from index 5\n";
-    expect(&rt, "bytes", told_bytes(rt.alloc(), b"a = '\xFF'"), want);
+    expect(&rt, "bytes", bytes_report(rt.alloc(), b"a = '\xFF'"), want);
 }
 
 #[derive(Debug, Deserialize, Drop)]
@@ -210,7 +210,7 @@ struct Server {
     port: u16,
 }
 
-fn told_server(alloc: Global, file: &str, source: &str) -> Result<String, AllocError> {
+fn loaded_server(alloc: Global, file: &str, source: &str) -> Result<String, AllocError> {
     let environment = one_pair(alloc, "HOST", "db")?;
     let defaults = named(alloc, "DOMAIN", "example.org")?;
     let loaded: Loaded<Server> = if file.ends_with(".json") {
@@ -246,6 +246,6 @@ fn a_server(rt: HostRuntime) {
         ),
     ];
     for (file, source, want) in rows {
-        expect(&rt, source, told_server(rt.alloc(), file, source), want);
+        expect(&rt, source, loaded_server(rt.alloc(), file, source), want);
     }
 }

@@ -9,11 +9,11 @@ use std::test::Fail;
 use subst::{
     Env, Layered, NoEmpty, NoSubstitution, ShellMap, VariableMap, substitute, substitute_bytes,
 };
-use subst_testing::answers::{told_bytes, told_text};
+use subst_testing::answers::{bytes_or_fault, text_or_fault};
 use subst_testing::variables::owned_pairs;
 use subst_uses::maps::{bytes, texts};
 
-/// A source has this answer, as a text and as bytes.
+/// Expects the answer `want` of a source, expanded as a text and as bytes.
 fn expect_answer<'a, M: VariableMap<'a>>(
     rt: &impl Testing,
     source: &str,
@@ -24,12 +24,12 @@ where
     M::Value: AsStr + AsSlice<u8> + Drop,
 {
     let text = substitute(rt.alloc(), source, variables);
-    expect(rt, source, told_text(rt.alloc(), text), want);
+    expect(rt, source, text_or_fault(rt.alloc(), text), want);
     let bytes = substitute_bytes(rt.alloc(), source.as_bytes(), variables);
-    expect(rt, source, told_bytes(rt.alloc(), bytes), want);
+    expect(rt, source, bytes_or_fault(rt.alloc(), bytes), want);
 }
 
-/// Each gives `Hello world!` where `name` is `world` and there is no other variable.
+/// Sources with the output `Hello world!`, if `name` is `world` and no other variable is set.
 const SOURCES: [&str; 4] = [
     "Hello $name!",
     "Hello ${name}!",
@@ -50,7 +50,8 @@ fn key(alloc: Global) -> Result<String, AllocError> {
     String::from_str(alloc, "name")
 }
 
-/// A map in which `name` is `world` gives that of each source, and its callers in `subst_uses` of the first.
+/// Expects `Hello world!` for each of `SOURCES` with a map in which `name` is `world`. For the first source,
+/// the callers of the map in `subst_uses` are tested too.
 macro_rules! expect_map {
     ($rt:ident, $map:ident, $key:expr, $caller:ident) => {
         let mut variables = $map::new($rt.alloc());
@@ -159,7 +160,7 @@ fn an_empty_value_counts_as_none(rt: HostRuntime) -> Result<(), Fail> {
     Ok(())
 }
 
-/// Sources that ask about a variable with a value, an empty one and a missing one, and their outputs.
+/// Sources that ask a `ShellMap` about a set, an empty and an unset variable, and their outputs.
 const QUESTIONS: [(&str, &str); 4] = [
     ("${1full:d} ${1empty:d} ${1absent:d}", "text  d"),
     ("${2full:d} ${2empty:d} ${2absent:d}", "d d "),
@@ -188,7 +189,7 @@ fn digits_before_names_ask_what_they_have(rt: HostRuntime) -> Result<(), Fail> {
     Ok(())
 }
 
-/// A map that has a value for every name.
+/// A map in which every name is set.
 struct Stars;
 
 impl<'a> VariableMap<'a> for Stars {

@@ -1,6 +1,6 @@
-//! Where a report says that a fault is: its line and its column, both from 1.
+//! Positions in reports: the line and the column of a fault, both from 1.
 //!
-//! The range, the line and the underline are columns of `data/rows.tsv`, which has all these sources.
+//! Ranges, source lines and underlines are in `data/rows.tsv` of `subst_vectors`, with all these sources.
 
 ghost use Rattle.subst.specs.ErrorFault.{error_fault};
 ghost use Rattle.subst.specs.Range.{range_of, IsRangeIn};
@@ -12,7 +12,7 @@ use std::test::Fail;
 use subst::error::{MissingClosingBrace, MissingVariableName};
 use subst::{Error, NoSubstitution, substitute};
 
-/// A fault has this line and column, as `1:7`, and its highlighting is written as it is returned.
+/// Expects a fault's line and column, such as `1:7`, and the same highlighting whether written or returned.
 fn expect_position(
     rt: &impl Testing,
     fault: &Error,
@@ -23,7 +23,7 @@ fn expect_position(
 {
     let (line, column) = fault.source_position(source);
     expect(rt, source, format!(in rt.alloc(); "{line}:{column}"), want);
-    let shown = fault.source_highlighting(rt.alloc(), source)?;
+    let lines = fault.source_highlighting(rt.alloc(), source)?;
     let mut written = String::from_str(rt.alloc(), "> ")?;
     assert!(rt;
         fault
@@ -31,11 +31,11 @@ fn expect_position(
             .is_ok()
     );
     let written = written.as_str().strip_prefix("> ");
-    assert_eq!(rt; written, Some(shown.as_str()), "{source:?}");
+    assert_eq!(rt; written, Some(lines.as_str()), "{source:?}");
     Ok(())
 }
 
-/// The fault of a source without variables has this line and column, as `expect_position` has them.
+/// Expects, as `expect_position` does, that the fault of a source without variables is at `want`.
 fn expect_refused(rt: &impl Testing, source: &str, want: &str) -> Result<(), AllocError> {
     match substitute(rt.alloc(), source, &NoSubstitution) {
         Ok(_) => panic!(rt; "no fault: {source:?}"),
@@ -77,7 +77,7 @@ fn lines_and_columns(rt: HostRuntime) -> Result<(), Fail> {
         ("x\\\ny", "1:2"),
         ("\\\r\n", "1:1"),
         ("${a\n", "1:4"),
-        // A wide character has two columns, a combining one and a joiner none, a control character one.
+        // A wide character has two columns, a combining one or a joiner none, and a control character one.
         ("Hello $", "1:7"),
         ("Hello \u{3000}$", "1:9"),
         ("日本語$", "1:7"),
@@ -112,7 +112,7 @@ fn columns_of_wide_lines(rt: HostRuntime) -> Result<(), Fail> {
     Ok(())
 }
 
-/// A fault has this range, position and line, and the line is underlined so.
+/// Expects that a fault is at `position`, and that `want` is the fault's range, source line and highlighting.
 fn expect_report(
     rt: &impl Testing,
     fault: &Error,
@@ -124,9 +124,9 @@ fn expect_report(
 {
     expect_position(rt, fault, source, position)?;
     let (range, line) = (fault.source_range(), fault.source_line(source));
-    let shown = fault.source_highlighting(rt.alloc(), source)?;
-    let told = format!(in rt.alloc(); "{range:?} of {line:?}\n{shown}");
-    expect(rt, source, told, want);
+    let lines = fault.source_highlighting(rt.alloc(), source)?;
+    let actual = format!(in rt.alloc(); "{range:?} of {line:?}\n{lines}");
+    expect(rt, source, actual, want);
     Ok(())
 }
 
@@ -157,7 +157,7 @@ fn range_of_out_of_memory(rt: HostRuntime) -> Result<(), Fail> {
     Ok(())
 }
 
-/// A writer that fails after so many calls.
+/// A writer that fails after this many calls.
 #[derive(Drop)]
 struct Fails {
     after: u8,

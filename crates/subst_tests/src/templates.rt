@@ -1,6 +1,5 @@
-//! Templates under two maps, those whose original is taken apart, what fits into a slice, how templates are
-//! shown, and texts that are escaped. What else templates give, borrowed ones and copies too, is asked of
-//! each row.
+//! Templates with two maps, owned templates that are taken apart, expansion into slices, `{:?}` of templates,
+//! and escaped texts. Other outputs, also of borrowed templates and copies, are tested by each row.
 
 use crate::expect::expect;
 use std::alloc::{AllocError, Global};
@@ -10,7 +9,7 @@ use subst::{
 };
 use subst_testing::variables::{byte_values, texts};
 
-type Told = Result<String, Error>;
+type TextResult = Result<String, Error>;
 
 fn text(bytes: &[u8]) -> &str {
     str::from_utf8(bytes).unwrap_or("no text")
@@ -18,29 +17,29 @@ fn text(bytes: &[u8]) -> &str {
 
 const LETTER: &str = "Welcome to our hair salon, $name!";
 
-/// Two texts, one after the other.
-fn two(alloc: Global, first: Told, second: Told) -> Told {
+/// Returns two texts, concatenated.
+fn two(alloc: Global, first: TextResult, second: TextResult) -> TextResult {
     let first = first?;
     let second = second?;
     Ok(format!(in alloc; "{first}; {second}")?)
 }
 
-fn letter(alloc: Global, template: &Template<'_>, pairs: &str) -> Told {
+fn letter(alloc: Global, template: &Template<'_>, pairs: &str) -> TextResult {
     Ok(template.expand(alloc, &texts(alloc, pairs)?)?)
 }
 
-fn letters(alloc: Global) -> Told {
+fn letters(alloc: Global) -> TextResult {
     let template = Template::from_str(alloc, LETTER)?;
     let first = letter(alloc, &template, "name=Scrappy");
     two(alloc, first, letter(alloc, &template, "name=Coco"))
 }
 
-fn letter_of_bytes(alloc: Global, template: &ByteTemplate<'_>, pairs: &str) -> Told {
+fn letter_of_bytes(alloc: Global, template: &ByteTemplate<'_>, pairs: &str) -> TextResult {
     let given = template.expand(alloc, &byte_values(alloc, pairs)?)?;
     Ok(String::from_str(alloc, text(&given))?)
 }
 
-fn letters_of_bytes(alloc: Global) -> Told {
+fn letters_of_bytes(alloc: Global) -> TextResult {
     let template = ByteTemplate::from_slice(alloc, LETTER.as_bytes())?;
     let first = letter_of_bytes(alloc, &template, "name=Scrappy");
     two(alloc, first, letter_of_bytes(alloc, &template, "name=Coco"))
@@ -55,30 +54,30 @@ fn one_template_serves_two_maps(rt: HostRuntime) {
 
 const GREETING: &str = "Hello ${name}!";
 
-/// What a template gives, and its source.
-fn told(alloc: Global, template: &TemplateBuf) -> Told {
+/// Returns the output of a template, and its source.
+fn expanded(alloc: Global, template: &TemplateBuf) -> TextResult {
     let given = template.expand(alloc, &texts(alloc, "name=world")?)?;
     Ok(format!(in alloc; "{given} of {}", template.source())?)
 }
 
-fn told_of_bytes(alloc: Global, template: &ByteTemplateBuf) -> Told {
+fn expanded_of_bytes(alloc: Global, template: &ByteTemplateBuf) -> TextResult {
     let given = template.expand(alloc, &byte_values(alloc, "name=world")?)?;
     Ok(format!(in alloc; "{} of {}", text(&given), text(template.source()))?)
 }
 
-/// What a template gives that is handed over, and its source, which is then put in upper case.
-fn taken_apart(alloc: Global, template: TemplateBuf) -> Told {
-    let told = told(alloc, &template)?;
+/// Returns the output of an owned template, its source, and the source that it hands over, in upper case.
+fn taken_apart(alloc: Global, template: TemplateBuf) -> TextResult {
+    let output = expanded(alloc, &template)?;
     let mut source = template.into_source();
     source.make_ascii_uppercase();
-    Ok(format!(in alloc; "{told}, {source}")?)
+    Ok(format!(in alloc; "{output}, {source}")?)
 }
 
-fn taken_apart_as_bytes(alloc: Global, template: ByteTemplateBuf) -> Told {
-    let told = told_of_bytes(alloc, &template)?;
+fn taken_apart_as_bytes(alloc: Global, template: ByteTemplateBuf) -> TextResult {
+    let output = expanded_of_bytes(alloc, &template)?;
     let mut source = template.into_source();
     source.make_ascii_uppercase();
-    Ok(format!(in alloc; "{told}, {}", text(&source))?)
+    Ok(format!(in alloc; "{output}, {}", text(&source))?)
 }
 
 fn owner(alloc: Global) -> Result<TemplateBuf, Error> {
@@ -90,18 +89,18 @@ fn owner_of_bytes(alloc: Global) -> Result<ByteTemplateBuf, Error> {
     Ok(ByteTemplateBuf::from_vec(source)?)
 }
 
-/// What the original and its clone give, with their sources, the original first.
-fn with_clone(alloc: Global) -> Told {
+/// Returns the output and the source of a template that is taken apart, and then of its clone.
+fn with_clone(alloc: Global) -> TextResult {
     let original = owner(alloc)?;
     let clone = original.clone()?;
-    two(alloc, taken_apart(alloc, original), told(alloc, &clone))
+    two(alloc, taken_apart(alloc, original), expanded(alloc, &clone))
 }
 
-fn with_clone_of_bytes(alloc: Global) -> Told {
+fn with_clone_of_bytes(alloc: Global) -> TextResult {
     let original = owner_of_bytes(alloc)?;
     let clone = original.clone()?;
     let first = taken_apart_as_bytes(alloc, original);
-    two(alloc, first, told_of_bytes(alloc, &clone))
+    two(alloc, first, expanded_of_bytes(alloc, &clone))
 }
 
 #[test]
@@ -111,9 +110,9 @@ fn clone_outlives_what_is_handed_over_and_taken_apart(rt: HostRuntime) {
     expect(&rt, "bytes", with_clone_of_bytes(rt.alloc()), want);
 }
 
-/// How many bytes a template needs, and a slice of this length, with as many dots before, where it is as
-/// long.
-fn in_slice(alloc: Global, length: usize) -> Told {
+/// Writes the output of a template to a slice of `length` dots. Returns the length of the output and, if the
+/// slice suffices, the slice.
+fn in_slice(alloc: Global, length: usize) -> TextResult {
     let template = ByteTemplate::from_slice(alloc, b"Hello ${name:you}!")?;
     let mut dots = *b"..............";
     let slice = &mut dots[..length.min(14)];
@@ -137,29 +136,29 @@ fn bytes_are_written_in_slices(rt: HostRuntime) {
     }
 }
 
-/// How a template of a text is shown, and one that owns it.
-fn shown(alloc: Global, source: &str) -> Told {
+/// Returns the `{:?}` of a borrowed template and of its owner.
+fn debug_text(alloc: Global, source: &str) -> TextResult {
     let owner = TemplateBuf::from_string(String::from_str(alloc, source)?)?;
     Ok(format!(in alloc; "{:?} {owner:?}", owner.as_template())?)
 }
 
-fn shown_of_bytes(alloc: Global, source: &[u8]) -> Told {
+fn debug_text_of_bytes(alloc: Global, source: &[u8]) -> TextResult {
     let owner = ByteTemplateBuf::from_vec(Vec::from_slice(alloc, source)?)?;
     Ok(format!(in alloc; "{:?} {owner:?}", owner.as_template())?)
 }
 
 #[test]
-fn templates_are_shown_as_their_sources(rt: HostRuntime) {
+fn debug_texts_of_templates_are_their_sources(rt: HostRuntime) {
     let alloc = rt.alloc();
     let want = "Template(\"a\\\"❤\") TemplateBuf(\"a\\\"❤\")";
-    expect(&rt, "a text", shown(alloc, "a\"❤"), want);
+    expect(&rt, "a text", debug_text(alloc, "a\"❤"), want);
     let want = "ByteTemplate(b\"a\") ByteTemplateBuf(b\"a\")";
-    expect(&rt, "bytes", shown_of_bytes(alloc, b"a"), want);
+    expect(&rt, "bytes", debug_text_of_bytes(alloc, b"a"), want);
     let want = "ByteTemplate([97, 255]) ByteTemplateBuf([97, 255])";
-    expect(&rt, "no text", shown_of_bytes(alloc, b"a\xFF"), want);
+    expect(&rt, "no text", debug_text_of_bytes(alloc, b"a\xFF"), want);
 }
 
-/// Returns the text before and then the other text escaped.
+/// Returns the text `before`, followed by `text` escaped.
 fn escaped_after(alloc: Global, before: &str, text: &str) -> Result<String, AllocError> {
     let mut output = String::from_str(alloc, before)?;
     escape::escape_into(text, &mut output)?;

@@ -1,4 +1,4 @@
-//! Types that are read from a tree once it is filled in.
+//! Types that are read from a filled-in tree.
 
 use crate::expect::expect;
 use serde::Deserialize;
@@ -6,7 +6,7 @@ use std::alloc::{AllocError, Global};
 use std::collections::BTreeMap;
 use std::fmt::Debug;
 use subst::{NoSubstitution, json, toml as filled};
-use subst_testing::answers::told_fault;
+use subst_testing::answers::fault_text;
 use subst_testing::variables::texts;
 use toml::value::{Datetime, Value};
 
@@ -18,12 +18,11 @@ struct Config {
     ports: Vec<u16>,
 }
 
-/// Variables, of which some have values that are templates, and give something else, or are a text's own
-/// characters.
+/// Variables as pairs. Some values would change or be refused if they were read as templates.
 const PAIRS: &str = "bar=aap,baz=noot,port=80,verbatim=$bar${a:x}\\\",\
     short=$bar,braces=${a:x},escaped=\\$bar,two=\\\\,one=\\,open={,close=}";
 
-/// The text of a value that is read from JSON, or the fault of a string; `no JSON` stands for an error of the
+/// Returns the text of a value read from JSON, or the fault of a string, or `no JSON` for an error of the
 /// reader.
 fn of_json<T: Debug + Drop>(
     alloc: Global,
@@ -32,12 +31,13 @@ fn of_json<T: Debug + Drop>(
     match read {
         Ok(value) => format!(in alloc; "{value:?}"),
         Err(json::Error::Json(_)) => String::from_str(alloc, "no JSON"),
-        Err(json::Error::Subst(fault)) => told_fault(alloc, &fault),
+        Err(json::Error::Subst(fault)) => fault_text(alloc, &fault),
         Err(json::Error::OutOfMemory(e)) => Err(e),
     }
 }
 
-/// The text of a value that is read from TOML, or the fault of a string; `no TOML` is an error of the reader.
+/// Returns the text of a value read from TOML, or the fault of a string, or `no TOML` for an error of the
+/// reader.
 fn of_toml<T: Debug + Drop>(
     alloc: Global,
     read: Result<T, filled::Error>,
@@ -46,12 +46,12 @@ fn of_toml<T: Debug + Drop>(
         Ok(value) => format!(in alloc; "{value:?}"),
         Err(filled::Error::InvalidUtf8(_)) => String::from_str(alloc, "no text"),
         Err(filled::Error::Toml(_)) => String::from_str(alloc, "no TOML"),
-        Err(filled::Error::Subst(fault)) => told_fault(alloc, &fault),
+        Err(filled::Error::Subst(fault)) => fault_text(alloc, &fault),
         Err(filled::Error::OutOfMemory(e)) => Err(e),
     }
 }
 
-/// What the text of a source and its bytes both give.
+/// Returns `of_text`, the result of a text, if `of_bytes`, that of its bytes, is equal, or else both.
 fn both(alloc: Global, of_text: String, of_bytes: String) -> Result<String, AllocError> {
     if of_text == of_bytes {
         Ok(of_text)
@@ -74,7 +74,7 @@ fn a_struct_of_json(rt: HostRuntime) {
             "{\"bar\":\"$bar\",\"baz\":\"$baz/with/stuff\",\"ports\":[80,8080]}",
             "Config { bar: \"aap\", baz: \"noot/with/stuff\", ports: [80, 8080] }",
         ),
-        // A value is no template.
+        // A value is never read as a template.
         (
             "{\"bar\":\"$verbatim\",\"baz\":\"${x:$verbatim}\",\"more\":1}",
             "Config { bar: \"$bar${a:x}\\\\\\\"\", baz: \"$bar${a:x}\\\\\\\"\", ports: [] }",
@@ -83,10 +83,10 @@ fn a_struct_of_json(rt: HostRuntime) {
         ("{\"bar\":\"\",\"baz\":null}", "no JSON"),
         ("[]", "no JSON"),
         ("{}", "no JSON"),
-        // A string that is refused comes before the type, and what is no JSON before both.
+        // A refused string is reported before an error of the type, and invalid JSON before both.
         ("{\"bar\":\"$x\"}", "1..2: NoSuchVariable x"),
         ("{\"bar\":\"$x\"", "no JSON"),
-        // A string that is filled in is no number.
+        // A filled-in string is no number.
         (
             "{\"bar\":\"\",\"baz\":\"\",\"ports\":[\"$port\"]}",
             "no JSON",
@@ -254,7 +254,7 @@ fn a_map_of_json_without_substitution(rt: HostRuntime) {
     expect(&rt, source, json_owners(rt.alloc(), source), want);
 }
 
-/// How a tree is read from TOML as a type, where a key is under a header of 80 parts.
+/// Returns the result of reading a type from TOML, with a key under a header of 80 parts.
 fn toml_under_a_long_header(alloc: Global, key: &str) -> Result<String, AllocError> {
     let header = "k.".repeat(alloc, 79)?;
     let source = ["[", header.as_str(), "k]\n", key, " = 'x'\n"].concat(alloc)?;
@@ -266,7 +266,7 @@ fn toml_under_a_long_header(alloc: Global, key: &str) -> Result<String, AllocErr
 
 #[test]
 fn a_type_is_read_from_80_levels_of_toml(rt: HostRuntime) {
-    // One more is read as a tree, but the tree is printed with a header of 81 parts.
+    // One more part is read as a tree, but the tree is printed with a header of 81 parts.
     let rows: &[(&str, &str)] = &[("k", "a tree"), ("k.k", "no TOML")];
     for &(key, want) in rows {
         expect(&rt, key, toml_under_a_long_header(rt.alloc(), key), want);
@@ -295,7 +295,7 @@ fn a_map_of_toml_without_substitution(rt: HostRuntime) {
             "{\"end\": Datetime { date: Some(Date { year: 2024, month: 5, day: 1 }), time: \
              Some(Time { hour: 8, minute: 0, second: Some(0), nanosecond: None }), offset: Some(Z) }}",
         ),
-        // A string that is filled in is no date.
+        // A filled-in string is no date.
         ("day = '${day:2024-05-01}'", "no TOML"),
     ];
     for &(source, want) in rows {

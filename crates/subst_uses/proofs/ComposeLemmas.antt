@@ -1,4 +1,4 @@
--- What a template of a text gives is what the text gives.
+-- The value of a template for a text is that of the text.
 use Rattle.std.proofs.Common.{◌≡◌, ℕ, List, Option, Some, None, Ok, IfSome, inr, refl, sym, ap, subst, ◌∙◌}
 use Rattle.std.specs.Option.{option_map}
 use Rattle.subst.specs.ErrorFault.{error_fault}
@@ -9,7 +9,7 @@ use Rattle.subst.specs.Language.LookUp.{LookUp}
 use Rattle.subst.specs.Language.Value.{Value, Bytes, Missing, value}
 use Rattle.subst.specs.Question.{by_question}
 use Rattle.subst.specs.Foreign.{unplaced}
-use Rattle.subst.specs.Template.{IsTemplate, told}
+use Rattle.subst.specs.Template.{IsTemplate, renamed}
 use Rattle.subst.proofs.Calling.{answer_unique}
 use Rattle.subst.specs.Styles.forms.{Shell}
 use Rattle.subst.specs.Styles.missing.{Nothing}
@@ -20,7 +20,7 @@ abbrev pub IsAnswerOf : LookUp → (s : List ℕ) → Answer → Type 0
 IsAnswerOf look s (Gives x) = IsValueOf look s (Ok x)
 IsAnswerOf look s (Refuses f) = IsMissingOf look s f
 
--- the answer of a template, under the answers to questions, is that of the text
+-- the answer of a template, under the answers to questions, is that of its text
 pub answered : (look : LookUp) (s source : List ℕ) (answer : Answer) → IsTemplate compose Nothing s source
     → Answers source (by_question look) answer → IsAnswerOf look s answer
 answered look s source answer is known = of (value 0 is.tree (by_question look)) refl
@@ -29,17 +29,17 @@ answered look s source answer is known = of (value 0 is.tree (by_question look))
     of (Bytes x) same =
         let one = answer_unique source (by_question look) answer (Gives x) known (is.tree, is.spells, same) in
         subst (IsAnswerOf look s) (sym one)
-        (is.items, is.read, is.spelled, sym (is.gives look) ∙ ap (λ v. told Shell (unplaced v)) same)
+        (is.items, is.read, is.spelled, sym (is.gives look) ∙ ap (λ v. renamed Shell (unplaced v)) same)
     of (Missing position name) same =
         let missing = NoSuchVariable position name in
         let one =
         answer_unique source (by_question look) answer (Refuses missing) known
         (inr (is.tree, is.spells, (position, name, same, refl))) in
-        let value = sym (is.gives look) ∙ ap (λ v. told Shell (unplaced v)) same in
+        let value = sym (is.gives look) ∙ ap (λ v. renamed Shell (unplaced v)) same in
         subst (IsAnswerOf look s) (sym one)
         (position, name, refl, (is.items, is.read, is.spelled, value))
 
--- an error that states the fault of the template states the variable that the text is missing
+-- an error with the fault of the template states the missing variable of the text
 pub missing_stated : (look : LookUp) (s source : List ℕ) (e : Error) → IsTemplate compose Nothing s source
     → IfSome (option_map Refuses (error_fault e)) (Answers source (by_question look))
     → IfSome (error_fault e) (IsMissingOf look s)

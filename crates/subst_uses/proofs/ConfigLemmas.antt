@@ -1,4 +1,4 @@
--- Why there is a report in place of a configuration.
+-- Reports in place of a configuration.
 use Rattle.std.proofs.Common.{◌≡◌, ◌⊎◌, inl, inr, ℕ, List, None, Err}
 use Rattle.serde_json.specs.Data.{Data}
 use Rattle.serde_json.specs.Errors.{IsOfText}
@@ -19,7 +19,7 @@ use Rattle.subst_uses.specs.Config.{CanFillIn, IsReported}
 use Rattle.subst_uses.proofs.LoaderLemmas.{of_a_fault}
 
 module _ (ask : List ℕ → Answer → Type 0) (file s : List ℕ) where
-  -- an error of which a call has stated why: of the reader by P, and of a substitution by its fault
+  -- an error is reported: the reader's, for which P holds, or a substitution's, by its fault
   pub reported : (text : List ℕ) (P : reading.Error → Type 0) (IsUnread : Type 0) (e : Error)
       → ((d : reading.Error) → P d → IsUnread) → IfJson {T = ℕ} (Err e) P
       → OnSubst {T = ℕ} (Err e) (λ f. ReadsAsTree s (λ d. RefusesFirst ask (strings d) f))
@@ -29,7 +29,7 @@ module _ (ask : List ℕ → Answer → Type 0) (file s : List ℕ) where
       (λ fault. ReportsAll (AreAllRefused ask s) ReportsRefused file s fault text) memory subst told)
   reported text P IsUnread (OutOfMemory e) why json subst memory told = absurd told
 
-  -- the text isn't JSON; or its tree, filled in, is none of a type
+  -- the text isn't JSON, or its filled-in tree doesn't fit a type
   pub unread : (IsRead : reading.Error → Data → Type 0) (e : reading.Error)
       → ((read s ≡ None) × IsOfText e)
       ⊎ ReadsAsTree s (λ d. (filled : Data) × IsEach (GivesBy ask) d filled × IsRead e filled)

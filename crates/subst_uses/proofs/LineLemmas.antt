@@ -1,4 +1,4 @@
--- Lists of arguments that sources give.
+-- Lists of arguments, which are outputs of sources.
 use Rattle.std.proofs.Common.{◌≡◌, ℕ, ◌+◌, ◌<◌, List, [], ◌∷◌, ◌++◌, map, take, get_or, length, Option, Some, None, option_map, Result, Ok, Err, IfErr, IfSome, sym, subst, arith}
 use Rattle.std.specs.Result.{IsErrAnd}
 use Rattle.std.proofs.lemmas.List.{get_or-map, length-map, map_more, map_push, take-map}
@@ -10,7 +10,7 @@ use Rattle.subst.specs.Language.LookUp.{LookUp}
 use Rattle.subst.specs.Language.Answer.{Answers, Gives, Refuses}
 use Rattle.subst.specs.Language.Several.{EachGives, IsFirstRefusal, under}
 
--- the argument that the source at an index gives, after those of the sources before it
+-- the output of the source at an index is appended to those of the sources before it
 pub word_added : {X W : Type 0} (look : LookUp) (text : X → List ℕ) (bytes : W → List ℕ)
     (xs : List X) (i : ℕ) (d : X) (line : List W) (w : W) (source : List ℕ) → i < length xs
     → EachGives (under look) (map text (take i xs)) (map bytes line)
@@ -23,7 +23,7 @@ word_added look text bytes xs i d line w source h each is given =
     rw (sources, words)
     (each_more (under look) (map text (take i xs)) (map bytes line) _ (bytes w) each here)
 
--- the source at an index is refused, and those before it aren't
+-- the source at an index is refused, and none before it
 pub word_refused : {X T : Type 0} (look : LookUp) (text : X → List ℕ) (xs : List X) (i : ℕ) (d : X)
     (words : List (List ℕ)) (source : List ℕ) (result : Result T Error) (e : Error)
     → IsErrAnd result (λ x. x ≡ e) → i < length xs → EachGives (under look) (map text (take i xs)) words

@@ -8,14 +8,14 @@ use Rattle.subst.specs.Fault.{Fault, NoSuchVariable}
 use Rattle.subst.specs.Language.Variables.{Variable, required}
 use Rattle.subst_uses.specs.Report.{AreReports, IsReport, report_of}
 
--- the report of an error that states a fault is that of the fault
+-- the report of an error that states a fault is the report of the fault
 pub report_of_a_fault : {T E : Type 0} (bytes_of : T → List ℕ) (e : Option Fault) (file s : List ℕ)
     (result : Result T E) → e ≢ None → IfOk result (λ text. IsReport file e s (bytes_of text))
     → IfOk result (λ text. IsSomeAnd e (λ f. IsReport file (Some f) s (bytes_of text)))
 report_of_a_fault bytes_of (Some f) file s result some report = report
 report_of_a_fault bytes_of None file s result some report = absurd (some refl)
 
--- one more report, of a variable that is missing
+-- the report of one more missing variable is appended
 pub report_added : (file s : List ℕ) (missing : List Variable) (position : ℕ) (name text shown both : List ℕ)
     → AreReports file missing s text → IsReport file (Some (NoSuchVariable position name)) s shown
     → both ≡ text ++ shown → AreReports file (missing ++ required position name ∷ []) s both

@@ -1,4 +1,4 @@
--- Why there is a report in place of settings.
+-- Reports in place of settings.
 use Rattle.std.proofs.Common.{◌≡◌, ◌⊎◌, inl, inr, ℕ, List, None, Err, IsUtf8}
 use Rattle.toml.specs.Data.{table, Members}
 use Rattle.toml.specs.Errors.{IsWithin}
@@ -12,16 +12,16 @@ use Rattle.subst.specs.Toml.{Error}
 use Rattle.subst.specs.Toml.error.{InvalidUtf8, Toml, Subst, OutOfMemory}
 use Rattle.subst.specs.Toml.Errors.{HasOwnMemory}
 use Rattle.subst.specs.Toml.Mapped.{strings, IsEach}
-use Rattle.subst.specs.Toml.Outcome.{ReadsAsTree, IfToml, OnSubst, TellsUtf8}
+use Rattle.subst.specs.Toml.Outcome.{ReadsAsTree, IfToml, OnSubst, StatesUtf8}
 use Rattle.subst.specs.Toml.Listed.{AreAllRefused}
 use Rattle.subst.specs.Toml.Report.{Reports, ReportsRefused}
 use Rattle.subst_uses.specs.Settings.{AreReported, CanFillIn}
 use Rattle.subst_uses.proofs.LoaderLemmas.{of_a_fault}
 
 module _ (ask : List ℕ → Answer → Type 0) (file s : List ℕ) where
-  -- an error of which a call has stated why: of the reader by P, and of a substitution by its fault
+  -- an error is reported: the reader's, for which P holds, or a substitution's, by its fault
   pub reported : (text : List ℕ) (P : reading.Error → Type 0) (AreUnread : Type 0) (e : Error)
-      → IsUtf8 s → ((d : reading.Error) → P d → AreUnread) → TellsUtf8 {T = ℕ} s (Err e)
+      → IsUtf8 s → ((d : reading.Error) → P d → AreUnread) → StatesUtf8 {T = ℕ} s (Err e)
       → IfToml {T = ℕ} (Err e) P
       → OnSubst {T = ℕ} (Err e) (λ f. ReadsAsTree s (λ d. RefusesFirst ask (strings d) f))
       → HasOwnMemory e → Reports ask file s e text → AreReported ask file s AreUnread text
@@ -31,13 +31,13 @@ module _ (ask : List ℕ → Answer → Type 0) (file s : List ℕ) where
       (λ fault. ReportsAll (AreAllRefused ask s) ReportsRefused file s fault text) memory subst told)
   reported text P AreUnread (OutOfMemory e) is why utf8 toml subst memory told = absurd told
 
-  -- a tree of which a type was read can be filled in
+  -- a tree that a type was read from can be filled in
   pub filled_in : (IsRead : Members → Type 0)
       → ReadsAsTree s (λ d. (filled : Members) × IsEach (GivesBy ask) d (table filled) × IsRead filled)
       → CanFillIn ask s
   filled_in IsRead (ms, parsed, (filled, each, _)) = (ms, parsed, (table filled, each))
 
-  -- the text is no document; or its tree, filled in, is none of a type
+  -- the text isn't a document, or its filled-in tree doesn't fit a type
   pub unread : (IsRead : reading.Error → Members → Type 0) (e : reading.Error)
       → ((parse_document s ≡ None) × IsWithin s e)
       ⊎ ReadsAsTree s (λ d. (filled : Members) × IsEach (GivesBy ask) d (table filled) × IsRead e filled)

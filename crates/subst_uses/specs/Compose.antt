@@ -1,4 +1,4 @@
--- What a text of Docker Compose is filled in as.
+-- The value of a text of Docker Compose.
 use Rattle.std.specs.Prelude.{◌≡◌, ℕ, true, false, List, [], Err, IfSome}
 use Rattle.subst.specs.ErrorFault.{error_fault}
 use Rattle.subst.specs.Fault.{Fault, NoSuchVariable}
@@ -13,7 +13,7 @@ use Rattle.subst.specs.Styles.missing.{Nothing}
 use Rattle.subst_uses.specs.declared.compose.ComposeError.{ComposeError}
 use Rattle.subst_uses.specs.declared.compose.ComposeError.TheVariants.{Text, Variable}
 
--- a shell's forms, of all names
+-- the grammar of a shell's forms with all names
 abbrev pub compose : Grammar
 compose = grammar Shell true (λ operated name. Unit {0})
 
@@ -22,12 +22,13 @@ abbrev pub IsValueOf : LookUp → (s : List ℕ) → Given → Type 0
 IsValueOf look s given = (items : text.Text) × text.IsText compose false items [] × (s ≡ text.spelling items)
     × (text.text_value Shell Nothing items look ≡ given)
 
--- the fault names the variable for which the text s has no value: a digit before its name is a question
+-- the fault states the missing variable of the text s; its name may have a digit before it, which a
+-- `ShellMap` reads
 abbrev pub IsMissingOf : LookUp → (s : List ℕ) → Fault → Type 0
 IsMissingOf look s f = (position : ℕ) × (name : List ℕ) × (f ≡ NoSuchVariable position name)
     × IsValueOf look s (Err (without_question name))
 
--- the error states the first form of the text s that is refused, or the variable that is missing
+-- the error states the first refused form of the text s, or its missing variable
 abbrev pub IsFaultOf : LookUp → (s : List ℕ) → ComposeError → Type 0
 IsFaultOf look s (Text e) = IsRefusalOf compose s e
 IsFaultOf look s (Variable e) = IfSome (error_fault e) (IsMissingOf look s)

@@ -1,4 +1,4 @@
--- An environment, and defaults for what it lacks.
+-- Answers under the variables of an environment, with defaults.
 use denote.Ref.{Bor}
 use Rattle.std.proofs.Common.{inl, inr}
 use Rattle.std.specs.BTreeMap.{BTreeMap, get_by_text}
@@ -8,7 +8,7 @@ use Rattle.subst.specs.Calls.Clauses.{AnswersText}
 use Rattle.subst.specs.Calls.Maps.{first_value, layered, of_one}
 use Rattle.subst.specs.Language.Answer.{Answer}
 
--- which answers a text has from both
+-- the answers of a text under an environment, with defaults for the names that it doesn't set
 abbrev pub answers_of : List (String Global × String Global) → BTreeMap (String Global) (String Global)
     → List ℕ → Answer → Type 0
 answers_of environment defaults =

@@ -1,4 +1,4 @@
--- What people are shown of a text that is refused.
+-- The reports of a refused text.
 use Rattle.std.specs.Prelude.{◌≡◌, ◌⊎◌, ℕ, List, [], Option, Some, IfSome, codes, map, string_bytes}
 use Rattle.std.specs.Fmt.{decimal, ◌++?◌}
 use Rattle.std.specs.List.{concat}
@@ -15,24 +15,25 @@ use Rattle.subst.specs.Position.{position_of}
 use Rattle.subst_uses.specs.declared.report.Outcome.{Outcome}
 use Rattle.subst_uses.specs.declared.report.Outcome.TheVariants.{Output, Report}
 
--- `file:line:column: fault`, and then the line of the fault, underlined; where the fault has one text
+-- `file:line:column: fault`, and then the line of the fault, underlined; `None` if the fault quotes a
+-- character that isn't ASCII, which may be escaped or not
 abbrev pub report_of : List ℕ → Option Fault → List ℕ → Option (List ℕ)
 report_of file e s =
     let place = position_of e s in
     Some file ++? Some (codes ":") ++? Some (decimal place.0) ++? Some (codes ":") ++? Some (decimal place.1)
     ++? Some (codes ": ") ++? display_of_error e ++? Some (codes "\n") ++? Some (highlighting_of e s)
 
--- the text is the report, where that is one text
+-- the text is the report of a fault, if `report_of` has one
 abbrev pub IsReport : List ℕ → Option Fault → List ℕ → List ℕ → Type 0
 IsReport file e s text = IfSome (report_of file e s) (λ shown. text ≡ shown)
 
--- the text is the reports of the variables that are missing, one for each, in their order
+-- the text is the reports of the variables `missing` of the source s, concatenated in order
 abbrev pub AreReports : List ℕ → List Variable → List ℕ → List ℕ → Type 0
 AreReports file missing s text = (reports : List (List ℕ))
     × (map (λ v. report_of file (Some (NoSuchVariable v.position v.name)) s) missing ≡ map Some reports)
     × (text ≡ concat reports)
 
--- what the source gives; or a report of its fault, or of each variable that it is missing, if there is one
+-- the outcome is the output of the source s, or a report: of its fault, or of each of its missing variables
 abbrev pub IsWholeOutcome : LookUp → List ℕ → List ℕ → Outcome → Type 0
 IsWholeOutcome look file s (Output output) = Answers s look (Gives (string_bytes output))
 IsWholeOutcome look file s (Report text) =

@@ -1,4 +1,4 @@
--- What a loader of settings returns. `ask` tells which answers a string has.
+-- The results of a loader of settings. `ask` relates a string to its answers.
 use Rattle.std.specs.Prelude.{◌≡◌, ◌⊎◌, ℕ, List, None, Some, string_bytes}
 use Rattle.toml.specs.Data.{Data}
 use Rattle.toml.specs.Parse.{parse_document}
@@ -16,26 +16,26 @@ use Rattle.subst.specs.Toml.Report.{ReportsReader, ReportsRefused}
 use Rattle.subst_uses.specs.declared.config.Loaded.{Loaded}
 use Rattle.subst_uses.specs.declared.config.Loaded.TheVariants.{Configuration, Report}
 
--- the text s is a document, and each of its strings can be filled in
+-- the text s is a TOML document, and none of its strings is refused
 abbrev pub CanFillIn : (List ℕ → Answer → Type 0) → List ℕ → Type 0
 CanFillIn ask s = ReadsAsTree s (λ d. (e : Data) × IsEach (GivesBy ask) d e)
 
--- The text reports what is wrong with the text s of a file: what the reader says, if that is so, or all strings
--- that are refused.
+-- `text` is a report for the text s of a file: of the reader's message, if `AreUnread` holds, or of all
+-- refused strings of s.
 abbrev pub AreReported : (List ℕ → Answer → Type 0) → (file s : List ℕ) → Type 0 → List ℕ → Type 0
 AreReported ask file s AreUnread text =
     (AreUnread × ((e : reading.Error) × ReportsReader e file s text))
     ⊎ ((f : Fault) × ReadsAsTree s (λ d. RefusesFirst ask (strings d) f)
     × ReportsAll (AreAllRefused ask s) ReportsRefused file s (Some f) text)
 
--- A tree is the one that the text s of a file is read as, with its strings filled in. There is a report where
--- that isn't a document, or where a string is refused.
+-- The settings are the tree of the text s of a file, with its strings filled in. There is a report instead if
+-- s isn't a document, or if a string is refused.
 abbrev pub AreLoaded : (List ℕ → Answer → Type 0) → (file s : List ℕ) → Loaded Value → Type 0
 AreLoaded ask file s (Configuration tree) = ReadsAsTree s (λ d. IsEach (GivesBy ask) d (view tree))
 AreLoaded ask file s (Report text) = AreReported ask file s (parse_document s ≡ None) (string_bytes text)
 
--- A value is there where each string can be filled in. There is a report also where the tree is then none of
--- the type.
+-- There are settings of the text s of a file only if s is a document and no string is refused. There is a
+-- report otherwise, and also if the filled-in tree doesn't fit the type.
 abbrev pub AreLoadedAs : {T : Type 0} → (List ℕ → Answer → Type 0) → (file s : List ℕ) → Loaded T → Type 0
 AreLoadedAs ask file s (Configuration value) = CanFillIn ask s
 AreLoadedAs ask file s (Report text) =

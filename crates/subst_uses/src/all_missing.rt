@@ -1,4 +1,4 @@
-//! A text filled in, or a report of all that is missing in it, each variable with its line underlined.
+//! A text expanded, or a report of all its missing variables, each with its line underlined.
 
 ghost use Rattle.std.specs.Prelude.{IfOk, map, string_bytes};
 ghost use Rattle.std.specs.List.{All};
@@ -14,12 +14,12 @@ use std::collections::BTreeMap;
 use subst::error::NoSuchVariable;
 use subst::{Error, Template, laws};
 
-/// Returns the text of a file, filled in, or a report of each variable that it is missing, one after the
-/// other, in the order of the text. A text that is no template has a report of its one fault.
+/// Expands the text of a file, or reports every missing variable, in order. If the text isn't a template, its
+/// one fault is reported.
 ///
 /// # Errors
 ///
-/// When allocation fails, and for nothing else.
+/// If allocation fails.
 pub fn filled(
     alloc: Global,
     file: &str,
@@ -46,7 +46,7 @@ pub fn filled(
     }
 }
 
-/// Returns the reports of variables that are missing.
+/// Returns the reports of missing variables, concatenated.
 fn reports(
     alloc: Global,
     file: &str,

@@ -1,5 +1,5 @@
-//! Maps of any kind: where a source is refused is known without knowing how values are read, and what it gives
-//! of a map of bytes.
+//! Callers with maps of any kind. Contracts state the position of a refusal, even if the bytes of values are
+//! unknown. For maps of bytes, contracts state the output too.
 
 ghost use Rattle.std.specs.Prelude.{◌≡◌, ◌≤◌, length, IfErr, IfOk, IfSome};
 ghost use Rattle.subst.specs.ErrorFault.{error_fault};
@@ -14,15 +14,15 @@ use std::convert::AsSlice;
 use std::ops::Range;
 use subst::{BytesMap, Error, VariableMap, substitute_bytes};
 
-/// Why a source isn't filled in, and where.
+/// The error of a source, and its range.
 #[derive(Debug, PartialEq, Eq, Drop)]
 pub struct Refusal {
     pub error: Error,
-    /// The bytes of the source that the error is about; where memory ran out, none.
+    /// The byte range of the source that the error is about. It is empty if memory ran out.
     pub range: Range<usize>,
 }
 
-/// Returns a source with its variables filled in from a map of any kind, or why it isn't, and where.
+/// Expands a source from a map of any kind, or returns its error with the range.
 ///
 /// # Errors
 ///
@@ -50,7 +50,7 @@ where
     }
 }
 
-/// Returns a source with its variables filled in from a map of bytes.
+/// Expands a source from a map of bytes.
 ///
 /// # Errors
 ///

@@ -1,4 +1,4 @@
-//! Templates that are handed in: what one gives is known without its source.
+//! Callers that are passed a template. Contracts state the output, whatever the source of the template.
 
 ghost use Rattle.std.specs.Prelude.{◌≤◌, ◌+◌, length};
 ghost use Rattle.subst.specs.Language.Tree.{Tree};
@@ -13,7 +13,7 @@ use subst::error::ExpandError;
 use subst::steps::Turns;
 use subst::{ByteTemplate, VariableMap, laws};
 
-/// Returns what a template gives: its source has a tree, and the output is the value of that tree.
+/// Expands a template. Its source has a tree, and the output is the value of that tree.
 ///
 /// # Errors
 ///
@@ -32,7 +32,7 @@ where
     template.expand(alloc, variables)
 }
 
-/// Returns what a template gives, in at most as many turns as its source has bytes.
+/// Expands a template in at most as many turns as its source has bytes.
 ///
 /// # Errors
 ///

@@ -1,4 +1,4 @@
-//! A cache: what a template gave is used again where the variables changed, but not those of the template.
+//! A cache of a template's output. The output is reused until a variable of the template changes.
 
 ghost use Rattle.std.specs.Prelude.{◌≡◌, ◌↔◌, IsTrue, IfOk, OnErr};
 ghost use Rattle.std.specs.List.{All};
@@ -13,13 +13,13 @@ use std::marker::Model;
 use subst::error::ExpandError;
 use subst::{ByteTemplate, Variable, laws};
 
-/// A template with what it gave last. Contracts see it as these two.
+/// A template and its latest output. Contracts see it as this pair.
 #[derive(Drop)]
 pub struct Cached<'t> {
     template: ByteTemplate<'t>,
     /// The variables of the template.
     needed: Vec<Variable<'t>>,
-    /// Variables, and what the template gives under them.
+    /// The variables with which `output` was expanded.
     variables: BTreeMap<String, String>,
     output: Vec<u8>,
 }
@@ -42,7 +42,7 @@ impl<'t> Model for Cached<'t> {
 }
 
 impl<'t> Cached<'t> {
-    /// Returns a template that is expanded for the first time.
+    /// Creates a cache, with a first expansion of the template.
     ///
     /// # Errors
     ///
@@ -66,19 +66,19 @@ impl<'t> Cached<'t> {
         })
     }
 
-    /// Returns what the template gave last.
+    /// Returns the latest output.
     pub fn output(&self) -> &[u8]
         ensures { result.now ≡ self.now.1 }
     {
         &self.output
     }
 
-    /// Fills the template in with these variables. It isn't expanded again where each name in it, also in a
-    /// default, has the value that it had when it was last expanded, or again none.
+    /// Expands the template with `variables`. Reuses the latest output if `variables` agree with those of its
+    /// expansion on each variable of the template, even in defaults.
     ///
     /// # Errors
     ///
-    /// As `expand`. The output is then as before.
+    /// As `expand`. The output is then unchanged.
     pub fn fill(
         &mut self,
         alloc: Global,
@@ -100,7 +100,7 @@ impl<'t> Cached<'t> {
     }
 }
 
-/// Whether two maps have the same for the name of each of the variables: equal values, or none.
+/// Returns whether two maps agree on each of the variables: equal values, or unset in both.
 fn agree(variables: &[Variable], a: &BTreeMap<String, String>, b: &BTreeMap<String, String>) -> bool
     ensures { IsTrue result
         ↔ All (λ v. texts_of a.now v.name.now ≡ texts_of b.now v.name.now) variables.now }
@@ -113,7 +113,7 @@ fn agree(variables: &[Variable], a: &BTreeMap<String, String>, b: &BTreeMap<Stri
     true
 }
 
-/// Whether two maps have the same for a name.
+/// Returns whether a name has the same value in two maps, or is unset in both.
 fn has_same(name: &str, a: &BTreeMap<String, String>, b: &BTreeMap<String, String>) -> bool
     ensures { IsTrue result ↔ (texts_of a.now name.now ≡ texts_of b.now name.now) }
 {

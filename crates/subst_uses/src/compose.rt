@@ -1,4 +1,4 @@
-//! A text of Docker Compose, filled in from the environment.
+//! A text of Docker Compose, expanded from the environment.
 
 ghost use Rattle.std.specs.Prelude.{◌≡◌, Ok, IfErr, IfOk, string_bytes};
 ghost use Rattle.subst.specs.Calls.Maps.{first_value};
@@ -9,12 +9,12 @@ use std::alloc::Global;
 use subst::foreign::{AllNames, Forms, Missing, Style, TextError};
 use subst::{Env, Error, ShellMap, substitute};
 
-/// Why a text isn't filled in. Both say when memory ran out.
+/// The error of a text of Docker Compose. Each case may also be that memory ran out.
 #[derive(Debug, Drop)]
 pub enum ComposeError {
-    /// A form of it is refused.
+    /// A form of the text is refused.
     Text(TextError),
-    /// A variable that has to have a value is missing.
+    /// A required variable is missing.
     Variable(Error),
 }
 
@@ -34,11 +34,11 @@ impl From<Error> for ComposeError {
     }
 }
 
-/// Returns a text of Docker Compose, filled in from the environment. An unset variable expands to nothing.
+/// Expands a text of Docker Compose from the environment. An unset variable expands to nothing.
 ///
 /// # Errors
 ///
-/// The first form that is refused. Otherwise the first variable that is missing, of those with `?` or `:?`.
+/// The first refused form. Otherwise the first missing variable with `?` or `:?`.
 pub fn filled_in(alloc: Global, text: &str, environment: &Env) -> Result<String, ComposeError>
     ensures value { IfOk result
         (λ output. IsValueOf (first_value environment.now) text.now (Ok (string_bytes output))) }

@@ -1,5 +1,5 @@
-//! A loader of configurations: it reads JSON, fills it in from an environment and, for what
-//! that lacks, from defaults, and reports what is wrong, and where.
+//! A loader of configurations. It reads JSON, fills it in from an environment with defaults, and reports
+//! errors with their positions.
 
 ghost use Rattle.std.specs.Prelude.{IfOk};
 ghost use Rattle.subst_uses.specs.Config.{IsLoaded, IsLoadedAs};
@@ -11,20 +11,20 @@ use std::alloc::{AllocError, Global};
 use std::collections::BTreeMap;
 use subst::{Env, Layered, json};
 
-/// A configuration, or why there is none.
+/// A configuration, or a report of its errors.
 #[derive(Drop)]
 pub enum Loaded<T> {
-    /// What was read, with its strings filled in.
+    /// The configuration, with its strings filled in.
     Configuration(T),
-    /// What is wrong with the file, as `report` of its format tells it.
+    /// The errors of the file, as reported by `report` of its format.
     Report(String),
 }
 
-/// Returns the configuration of a file, or a report of what is wrong with it.
+/// Returns the configuration of a file, or a report of its errors.
 ///
 /// # Errors
 ///
-/// When allocation fails, and for nothing else.
+/// If allocation fails.
 pub fn load(
     alloc: Global,
     file: &str,
@@ -45,11 +45,11 @@ pub fn load(
     }
 }
 
-/// Returns the configuration of a file as a type, or a report of what is wrong with it.
+/// Returns the configuration of a file as a type, or a report of its errors.
 ///
 /// # Errors
 ///
-/// When allocation fails, and for nothing else.
+/// If allocation fails.
 pub fn load_as<T: DeserializeOwned>(
     alloc: Global,
     file: &str,

@@ -1,4 +1,4 @@
-//! Sources filled in from a `BTreeMap`: for each type of its values, how their bytes are read.
+//! Sources expanded from a `BTreeMap` with each type of values. Contracts state how the values are read.
 
 ghost use Rattle.std.specs.Prelude.{IfSome, string_bytes};
 ghost use Rattle.std.specs.Option.{option_map};
@@ -11,7 +11,7 @@ use std::collections::BTreeMap;
 use std::convert::AsSlice;
 use subst::{Error, substitute_bytes};
 
-/// Returns the source filled in from byte strings.
+/// Expands a source with byte vectors as values.
 pub fn by_vectors(
     alloc: Global,
     source: &[u8],
@@ -23,7 +23,7 @@ pub fn by_vectors(
     substitute_bytes(alloc, source, variables)
 }
 
-/// Returns the source filled in from slices of bytes.
+/// Expands a source with byte slices as values.
 pub fn by_slices(
     alloc: Global,
     source: &[u8],
@@ -35,7 +35,7 @@ pub fn by_slices(
     substitute_bytes(alloc, source, variables)
 }
 
-/// Returns the source filled in from owned texts.
+/// Expands a source with owned texts as values.
 pub fn by_strings(
     alloc: Global,
     source: &[u8],
@@ -48,7 +48,7 @@ pub fn by_strings(
     substitute_bytes(alloc, source, variables)
 }
 
-/// Returns the source filled in from texts.
+/// Expands a source with borrowed texts as values.
 pub fn by_texts(
     alloc: Global,
     source: &[u8],
@@ -60,7 +60,7 @@ pub fn by_texts(
     substitute_bytes(alloc, source, variables)
 }
 
-/// Returns the source filled in from arrays.
+/// Expands a source with byte arrays as values.
 pub fn by_arrays<const N: usize>(
     alloc: Global,
     source: &[u8],
@@ -72,7 +72,7 @@ pub fn by_arrays<const N: usize>(
     substitute_bytes(alloc, source, variables)
 }
 
-/// Returns the source filled in from values of any type that lends bytes.
+/// Expands a source with values of any type that can be borrowed as bytes.
 pub fn by_values<V: AsSlice<u8>>(
     alloc: Global,
     source: &[u8],

@@ -1,4 +1,4 @@
-//! A greeting: a map of one name, and a contract that says what is greeted.
+//! A greeting: a map of one variable, and a contract that states the output.
 
 ghost use Rattle.std.specs.Prelude.{◌≡◌, ◌++◌, None, codes, IfErr, IfOk, string_bytes};
 ghost use Rattle.subst.specs.ErrorFault.{error_fault};
@@ -6,7 +6,7 @@ ghost use Rattle.subst.specs.ErrorFault.{error_fault};
 use std::alloc::Global;
 use subst::{Error, VariableMap, substitute};
 
-/// The variable `name`.
+/// A map with the variable `name`.
 #[derive(Drop)]
 pub struct Guest<'g> {
     pub name: &'g str,
@@ -33,7 +33,7 @@ impl<'a> VariableMap<'a> for Guest<'a> {
 ///
 /// # Errors
 ///
-/// When allocation fails, and for nothing else.
+/// If allocation fails.
 pub fn greet(alloc: Global, guest: &Guest<'_>) -> Result<String, Error>
     ensures ok { IfOk result (λ greeting. string_bytes greeting
         ≡ codes "Hello " ++ (guest.now.name.now ++ codes "!")) }

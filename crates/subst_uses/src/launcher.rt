@@ -10,11 +10,11 @@ use std::alloc::Global;
 use std::collections::BTreeMap;
 use subst::Error;
 
-/// Returns the arguments of a command line, each filled in from the variables. A value is never split.
+/// Expands each argument of a command line. A value is never split.
 ///
 /// # Errors
 ///
-/// The fault of the first argument that is refused. `OutOfMemory` when allocation fails.
+/// If an argument is refused, the error of the first such argument. `OutOfMemory` if allocation fails.
 pub fn command_line(
     alloc: Global,
     words: &[&str],

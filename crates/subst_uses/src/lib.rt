@@ -1,4 +1,4 @@
-//! Callers of `subst`, as users write them.
+//! Callers of `subst`, as users would write them.
 //!
 //! Each has a contract of its own, proved from the contracts of `subst` and its lemmas for callers.
 #![tactic(auto)]

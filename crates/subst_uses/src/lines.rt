@@ -1,4 +1,4 @@
-//! A reader of lines, which reports a fault as soon as no further line can mend it.
+//! A reader of lines, which reports a fault as soon as no further line can correct it.
 
 ghost use Rattle.std.specs.Prelude.{◌++◌, ◌↔◌, ℕ, List, IfSome, IfNone, IfOk, IsSomeAnd, IsTrue, length};
 ghost use Rattle.subst.specs.ErrorFault.{parse_fault};
@@ -10,12 +10,12 @@ use std::alloc::{AllocError, Global};
 use subst::error::ParseError;
 use subst::{Template, laws};
 
-/// Returns the fault of a text of which only the first lines have come, if the whole text has it whatever the
-/// rest is; or `None` if the lines have no fault, or one that the rest may mend.
+/// Returns the fault of `lines`, if each text that begins with these lines has this fault. Returns `None` if
+/// the lines have no fault, or one that further lines may correct.
 ///
 /// # Errors
 ///
-/// When allocation fails, and for nothing else.
+/// If allocation fails.
 pub fn early_fault(alloc: Global, lines: &str) -> Result<Option<ParseError>, AllocError>
     ensures some { IfOk result (λ found. IfSome found (λ e. IfSome (parse_fault e)
         (λ f. (rest : List ℕ) → HasFault 0 (lines.now ++ rest) f))) }
@@ -35,11 +35,11 @@ pub fn early_fault(alloc: Global, lines: &str) -> Result<Option<ParseError>, All
     }
 }
 
-/// Whether the fault of a text that ends at the offset `end` stays whatever comes after it.
+/// Returns whether `e`, the fault of a text of `end` bytes, remains whatever text follows.
 ///
 /// # Errors
 ///
-/// Where the error states no fault: allocation failed.
+/// If allocation failed, so that the error states no fault.
 fn is_settled(e: &ParseError, end: usize) -> Result<bool, AllocError>
     ensures { IfOk result (λ settled. IsSomeAnd (parse_fault e.now)
         (λ f. IsTrue settled ↔ IsSettled end f)) }

@@ -1,20 +1,20 @@
-//! Lines of a log, which has capacity for them before they are written, so that no line takes memory.
+//! Lines of a log, whose capacity is reserved in advance, so that no line allocates.
 
 ghost use Rattle.std.specs.Prelude.{◌≡◌, ◌↔◌, ◌≤◌, ◌+◌, ◌++◌, length, max, codes, IfSome, IsSome, IsTrue, IsFalse, vec_capacity, vec_len};
 ghost use Rattle.subst_uses.specs.declared.log_line.TheConstants.{LONGEST};
 
 use subst::{ByteTemplate, VariableMap};
 
-/// What a line says, and how severe that is.
+/// The template of a line: its level and its message.
 pub const LINE: &[u8] = b"$level $message\n";
 
-/// A field of a line has at most so many bytes.
+/// The maximum length of a field in bytes.
 pub const LONGEST: usize = 200;
 
-/// Room for a line: the length of its source, and of a field for each dollar.
+/// The capacity that suffices for any line: the length of `LINE`, and twice `LONGEST`.
 pub const ROOM: usize = LINE.len() + 2 * LONGEST;
 
-/// The variables `level` and `message`, of which none is longer than `LONGEST`.
+/// A map with the variables `level` and `message`, neither longer than `LONGEST`.
 #[derive(Drop)]
 pub struct Fields<'f> {
     pub level: &'f str,
@@ -23,7 +23,7 @@ pub struct Fields<'f> {
 }
 
 impl<'f> Fields<'f> {
-    /// Returns the fields of a line, or `None` where one is too long.
+    /// Returns the fields of a line, or `None` if one is too long.
     pub fn new(level: &'f str, message: &'f str) -> Option<Fields<'f>>
         ensures short { IsSome result ↔ (max (length level.now) (length message.now) ≤ LONGEST) }
         ensures given { IfSome result (λ f. (f.level ≡ level.entry) × (f.message ≡ message.entry)) }
@@ -56,8 +56,8 @@ impl<'a> VariableMap<'a> for Fields<'a> {
     }
 }
 
-/// Appends a line to a log: the level, a space, the message and a line feed. Returns whether it did: exactly
-/// where the log has room for the longest line, since no field is missing. Otherwise the log is as before.
+/// Appends a line to a log: the level, a space, the message and a line feed. Returns `false`, and leaves the
+/// log unchanged, exactly if the log lacks the capacity for the longest line.
 pub fn append_line(line: &ByteTemplate<'_>, fields: &Fields<'_>, log: &mut Vec<u8>) -> bool
     requires { line.now ≡ LINE.now }
     ensures room { IsTrue result ↔ (vec_len log.old + ROOM ≤ vec_capacity log.old) }

@@ -1,4 +1,4 @@
-//! Callers at each kind of map.
+//! Callers with each kind of map.
 
 pub mod bytes;
 pub mod texts;

@@ -1,4 +1,4 @@
-//! The error of a call that can fail by memory alone.
+//! The error of a call that can fail only if memory runs out.
 
 ghost use Rattle.std.specs.Prelude.{◌≡◌, None};
 ghost use Rattle.subst.specs.ErrorFault.{error_fault, expand_fault};
@@ -7,7 +7,7 @@ use std::alloc::AllocError;
 use subst::Error;
 use subst::error::ExpandError;
 
-/// Returns what an error of substitution says where it states no fault.
+/// Returns the allocation error of a substitution whose error states no fault.
 pub fn of_substituting(e: Error) -> AllocError
     requires { error_fault e ≡ None }
 {
@@ -17,7 +17,7 @@ pub fn of_substituting(e: Error) -> AllocError
     }
 }
 
-/// Returns what an error of expansion says where it states no fault.
+/// Returns the allocation error of an expansion whose error states no fault.
 pub fn of_expanding(e: ExpandError) -> AllocError
     requires { expand_fault e ≡ None }
 {

@@ -1,4 +1,4 @@
-//! Missing variables: one that is asked for, and none where each name was looked for before.
+//! Callers with missing variables: one prompts for a value, and one looks up all names before it expands.
 
 ghost use Rattle.std.specs.Prelude.{◌≡◌, ◌↔◌, ℕ, List, Some, IfOk, IfErr, IfSome, IfNone, IsSome, IsTrue, string_bytes};
 ghost use Rattle.std.specs.List.{All};
@@ -15,19 +15,19 @@ use std::alloc::{AllocError, Global};
 use std::collections::BTreeMap;
 use subst::{Error, Template, Variable, laws, substitute};
 
-/// Who is asked for values of variables.
+/// A source of values for missing variables.
 pub trait Prompt {
-    /// Returns the value of a variable.
+    /// Prompts for the value of a variable.
     fn ask(&mut self, alloc: Global, name: &str) -> Result<String, AllocError>;
 }
 
-/// Returns a text filled in. Where a variable is missing, its value is asked for and added to the variables,
-/// and the text is filled in once more.
+/// Expands a text. If a variable is missing, prompts for its value, adds it to the variables, and expands the
+/// text once more.
 ///
 /// # Errors
 ///
-/// As `substitute`, and never for the variable that was asked for.
-pub fn filled_or_asked<P: Prompt>(
+/// As `substitute`, but never for the variable that was prompted for.
+pub fn expanded_or_prompted<P: Prompt>(
     alloc: Global,
     source: &str,
     variables: &mut BTreeMap<String, String>,
@@ -35,7 +35,7 @@ pub fn filled_or_asked<P: Prompt>(
 ) -> Result<String, Error>
     ensures answer { IfSome (answer_of (λ output. string_bytes output) result)
         (Answers source.now (texts_of variables.new)) }
-    ensures asked { (position q : ℕ) (name : List ℕ)
+    ensures prompted { (position q : ℕ) (name : List ℕ)
         → Answers source.now (texts_of variables.old) (Refuses (NoSuchVariable position name))
         → IfErr result (λ e. ¬ (error_fault e ≡ Some (NoSuchVariable q name))) }
 {
@@ -53,7 +53,7 @@ pub fn filled_or_asked<P: Prompt>(
     }
 }
 
-/// Adds a variable.
+/// Adds a variable to the map.
 fn add(
     variables: &mut BTreeMap<String, String>,
     name: String,
@@ -65,13 +65,13 @@ fn add(
     Ok(())
 }
 
-/// Returns what a template gives, or `None` where the variables have nothing for one of its names. These are
-/// looked for first, also those in defaults.
+/// Expands a template, or returns `None` if the variables lack one of its names. All names are looked up
+/// first, including those in defaults.
 ///
 /// # Errors
 ///
-/// When allocation fails, and for nothing else.
-pub fn given_or_none(
+/// If allocation fails.
+pub fn expanded_or_none(
     alloc: Global,
     template: &Template<'_>,
     variables: &BTreeMap<String, String>,
@@ -93,7 +93,7 @@ pub fn given_or_none(
     }
 }
 
-/// Whether the variables have something for the name of each of those that are needed.
+/// Returns whether the variables have a value for each needed name.
 fn have_all(variables: &BTreeMap<String, String>, needed: &[Variable]) -> bool
     ensures { IsTrue result ↔ All (λ v. IsSome (texts_of variables.now v.name.now)) needed.now }
 {
@@ -105,7 +105,7 @@ fn have_all(variables: &BTreeMap<String, String>, needed: &[Variable]) -> bool
     true
 }
 
-/// Whether the variables have something for a name.
+/// Returns whether the variables have a value for a name.
 fn has(variables: &BTreeMap<String, String>, name: &str) -> bool
     ensures { IsTrue result ↔ IsSome (texts_of variables.now name.now) }
 {

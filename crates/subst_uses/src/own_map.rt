@@ -1,4 +1,4 @@
-//! A map of one's own, which computes: the colours of a terminal.
+//! A map that computes its values: the colours of a terminal.
 
 ghost use Rattle.std.specs.Prelude.{◌≡◌, ◌++◌, codes, IfOk, IfSome};
 ghost use Rattle.std.specs.Option.{option_map};
@@ -10,7 +10,8 @@ use crate::memory;
 use std::alloc::{AllocError, Global};
 use subst::{Error, VariableMap, substitute_bytes};
 
-/// The variables `red`, `bold` and `reset`: the codes for a terminal, or nothing where the colours are off.
+/// A map with the variables `red`, `bold` and `reset`: escape codes of a terminal, or empty if colours are
+/// off.
 pub struct Colours {
     pub on: bool,
 }
@@ -32,7 +33,7 @@ impl<'a> VariableMap<'a> for Colours {
     }
 }
 
-// The code for a terminal.
+/// Returns the terminal's escape code for a variable, or `None` if there is no such variable.
 fn code(name: &str) -> Option<&'static [u8]>
     ensures { option_map (λ v. v.now) result ≡ code_of name.now }
 {
@@ -47,11 +48,11 @@ fn code(name: &str) -> Option<&'static [u8]>
     }
 }
 
-/// Returns a source with its colours filled in.
+/// Expands a source with the colours as variables.
 ///
 /// # Errors
 ///
-/// As `substitute_bytes`: `NoSuchVariable` for any other variable without a default.
+/// As `substitute_bytes`. `NoSuchVariable` for any other variable without a default.
 pub fn coloured(alloc: Global, source: &[u8], colours: &Colours) -> Result<Vec<u8>, Error>
     ensures { IfSome (answer_of (λ output. output.items) result)
         (Answers source.now (colours_of colours.now.on)) }
@@ -59,11 +60,11 @@ pub fn coloured(alloc: Global, source: &[u8], colours: &Colours) -> Result<Vec<u
     substitute_bytes(alloc, source, colours)
 }
 
-/// Returns the word that begins a warning, in red where the colours are on.
+/// Returns the word that begins a warning, in red if colours are on.
 ///
 /// # Errors
 ///
-/// When allocation fails, and for nothing else.
+/// If allocation fails.
 pub fn warning(alloc: Global, colours: &Colours) -> Result<Vec<u8>, AllocError>
     ensures { IfOk result (λ output. output.items ≡ coded colours.now.on (codes "[31m")
         ++ (codes "Warning: " ++ coded colours.now.on (codes "[0m"))) }

@@ -14,11 +14,11 @@ use std::collections::BTreeMap;
 use std::convert::AsSlice;
 use subst::{Error, VariableMap, laws, substitute_bytes, substitute_bytes_owned, substitute_owned};
 
-/// Returns a source that has no dollar and no backslash: itself, under every map.
+/// Expands a source without dollars and backslashes: the output is the source, with any map.
 ///
 /// # Errors
 ///
-/// When allocation fails, and for nothing else.
+/// If allocation fails.
 pub fn unchanged<'a, M: VariableMap<'a>>(
     alloc: Global,
     source: &[u8],
@@ -35,8 +35,8 @@ where
     substitute_bytes(alloc, source, variables)
 }
 
-/// Returns a source that is given away and has no dollar and no backslash: itself. Nothing can prevent that,
-/// so there is no error.
+/// Expands an owned source without dollars and backslashes, and returns it. This can't fail, so there is no
+/// error.
 pub fn handed_back<'a, M: VariableMap<'a>>(
     alloc: Global,
     source: Vec<u8>,
@@ -53,7 +53,7 @@ where
     }
 }
 
-/// Returns a page that was read, filled in. It isn't copied if there is nothing to fill in.
+/// Expands an owned page. It isn't copied if it has nothing to expand.
 ///
 /// # Errors
 ///

@@ -1,4 +1,4 @@
-//! Reports of what is wrong with a text, as compilers write them.
+//! Reports of the errors in a text, in the form that compilers use.
 
 ghost use Rattle.std.specs.Prelude.{Some, IfOk, IsSomeAnd, string_bytes};
 ghost use Rattle.subst.specs.ErrorFault.{error_fault};
@@ -8,12 +8,12 @@ ghost use Rattle.subst_uses.specs.Report.{IsReport};
 use std::alloc::{AllocError, Global};
 use subst::Error;
 
-/// A text filled in, or why it isn't.
+/// The output of a text, or the report of its errors.
 #[derive(Debug, PartialEq, Eq, Drop)]
 pub enum Outcome {
-    /// The text, filled in.
+    /// The output of the text.
     Output(String),
-    /// `file:line:column: fault`, and then the line of the fault, underlined; so for each fault.
+    /// For each error `file:line:column: fault`, followed by its line, underlined.
     Report(String),
 }
 
@@ -21,7 +21,7 @@ pub enum Outcome {
 ///
 /// # Errors
 ///
-/// When allocation fails, and where the error says that it did.
+/// If allocation fails, or if the error is an allocation failure.
 pub(crate) fn fault_report(
     alloc: Global,
     file: &str,

@@ -1,5 +1,5 @@
-//! A loader of settings: it reads TOML, fills it in from an environment and, for what that
-//! lacks, from defaults, and reports what is wrong, and where.
+//! A loader of settings. It reads TOML, fills it in from an environment with defaults, and reports errors
+//! with their positions.
 
 ghost use Rattle.std.specs.Prelude.{IfOk};
 ghost use Rattle.subst_uses.specs.Settings.{AreLoaded, AreLoadedAs};
@@ -13,11 +13,11 @@ use subst::toml::{from_str, report, value_from_str};
 use subst::{Env, Layered};
 use toml::Value;
 
-/// Returns the settings of a file, or a report of what is wrong with them.
+/// Returns the settings of a file, or a report of the file's errors.
 ///
 /// # Errors
 ///
-/// When allocation fails, and for nothing else.
+/// If allocation fails.
 pub fn load(
     alloc: Global,
     file: &str,
@@ -38,11 +38,11 @@ pub fn load(
     }
 }
 
-/// Returns the settings of a file as a type, or a report of what is wrong with them.
+/// Returns the settings of a file as a type, or a report of the file's errors.
 ///
 /// # Errors
 ///
-/// When allocation fails, and for nothing else.
+/// If allocation fails.
 pub fn load_as<T: DeserializeOwned>(
     alloc: Global,
     file: &str,

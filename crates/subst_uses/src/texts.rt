@@ -12,7 +12,7 @@ use std::collections::BTreeMap;
 use subst::error::{ExpandError, ParseError};
 use subst::{Template, TemplateBuf};
 
-/// Returns what a template gives that owns its text.
+/// Expands a template that owns its text.
 pub fn by_owner(
     alloc: Global,
     template: &TemplateBuf,
@@ -24,7 +24,7 @@ pub fn by_owner(
     template.expand(alloc, variables)
 }
 
-/// Returns the template of a text, as one that owns a copy of it.
+/// Returns the template of a text, with a copy of the text.
 pub fn kept(alloc: Global, source: &str) -> Result<TemplateBuf, ParseError>
     ensures { IfOk result (λ template. template ≡ source.now) }
 {
@@ -32,7 +32,7 @@ pub fn kept(alloc: Global, source: &str) -> Result<TemplateBuf, ParseError>
     Ok(TemplateBuf::from_template(alloc, &template)?)
 }
 
-/// Returns a copy of a template, made of what a clone of it lends.
+/// Returns a copy of a template, from the borrowed template of a clone.
 pub fn copied(alloc: Global, template: &TemplateBuf) -> Result<TemplateBuf, AllocError>
     ensures { IfOk result (λ copy. copy ≡ template.now) }
 {
@@ -40,7 +40,7 @@ pub fn copied(alloc: Global, template: &TemplateBuf) -> Result<TemplateBuf, Allo
     TemplateBuf::of_template(alloc, Template::from(&clone))
 }
 
-/// Returns a text that was taken over by a template, or its fault.
+/// Returns `source` if it is a template, or else its fault.
 pub fn checked(source: String) -> Result<String, ParseError>
     ensures { IfOk result (λ text. string_bytes text ≡ string_bytes source) }
 {

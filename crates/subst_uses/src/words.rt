@@ -1,4 +1,4 @@
-//! Words that have to stay as they are: escaped, alone and between templates.
+//! Words that have to stay literal: escaped, alone and between templates.
 
 ghost use Rattle.std.specs.Prelude.{◌≡◌, ◌++◌, ℕ, List, IfOk, IfSome, codes, string_bytes};
 ghost use Rattle.subst.specs.Language.Answer.{Answers, Gives};
@@ -11,11 +11,11 @@ use std::collections::BTreeMap;
 use std::convert::AsStr;
 use subst::{Error, VariableMap, laws, substitute};
 
-/// Returns a text, escaped and then filled in: itself, under every map.
+/// Escapes a text, and expands the result: the output is the text, with any map.
 ///
 /// # Errors
 ///
-/// When allocation fails, and for nothing else.
+/// If allocation fails.
 pub fn escaped_and_filled_in<'a, M: VariableMap<'a>>(
     alloc: Global,
     text: &str,
@@ -32,12 +32,12 @@ where
     substitute(alloc, source.as_str(), variables)
 }
 
-/// Returns the command line of what a template gives, a word as it is, and what another template gives, with
-/// a space between each two, where both templates give something.
+/// Expands two templates, and returns their outputs with a literal word between them, all separated by
+/// spaces.
 ///
 /// # Errors
 ///
-/// The fault of the template that is refused. `OutOfMemory` when allocation fails.
+/// If a template is refused, its error. `OutOfMemory` if allocation fails.
 pub fn around_word(
     alloc: Global,
     before: &str,
@@ -57,7 +57,7 @@ pub fn around_word(
     substitute(alloc, source.as_str(), variables)
 }
 
-/// Returns three texts with a space between each two.
+/// Returns three texts, separated by spaces.
 fn spaced(alloc: Global, first: &str, second: &str, third: &str) -> Result<String, AllocError>
     ensures { IfOk result (λ text. string_bytes text
         ≡ first.now ++ (codes " " ++ (second.now ++ (codes " " ++ third.now)))) }

@@ -1,27 +1,27 @@
-//! Answers, and the columns that they are written as.
+//! Answers of calls, and their columns in a row.
 
-use crate::encoding::{IN_TEXT, written};
+use crate::encoding::{IN_TEXT, encoded};
 use crate::fault;
 use std::alloc::{AllocError, Global};
 use subst::Error;
 
-/// What a way gives.
+/// The answer of a call.
 #[derive(Debug, PartialEq, Drop)]
 pub enum Answer {
-    /// The source, filled in.
+    /// The output of the source.
     Gives(Vec<u8>),
-    /// The fault of the source, or of the first string that is refused; or a missing variable.
+    /// The fault of the source or of the first refused string, or a missing variable.
     Refuses(Error),
-    /// The source isn't what it is to be read as.
+    /// The source isn't JSON, TOML or UTF-8. The text is the name of the reader's error.
     IsNot(&'static str),
-    /// The columns of its lists.
+    /// The column of the variables and the column of the missing ones, separated by a tab.
     Lists(String),
-    /// Something that holds of each answer doesn't.
+    /// A property that every answer must have, and this one lacks.
     Breaks(&'static str),
 }
 
 impl Answer {
-    /// Returns the answer that a result states, unless it is out of memory.
+    /// Returns the answer of a call that returned this result, or the error if memory ran out.
     pub fn of(filled: Result<Vec<u8>, Error>) -> Result<Answer, AllocError> {
         match filled {
             Ok(bytes) => Ok(Answer::Gives(bytes)),
@@ -30,11 +30,12 @@ impl Answer {
         }
     }
 
-    /// Returns the columns of the answer. A fault has a line in a source that is a text.
+    /// Returns the answer as columns separated by tabs. If no source text is passed, a fault has dots in
+    /// place of its source line and underline.
     pub fn columns(&self, alloc: Global, source: Option<&str>) -> Result<String, AllocError> {
         match self {
             Answer::Gives(bytes) => {
-                let output = written(alloc, bytes, IN_TEXT)?;
+                let output = encoded(alloc, bytes, IN_TEXT)?;
                 format!(in alloc; "ok\t{output}")
             }
             Answer::Refuses(fault) => fault::columns(alloc, fault, source),

@@ -1,4 +1,4 @@
-//! The ways in which bytes are filled in.
+//! The calls that expand bytes.
 
 use crate::answer::Answer;
 use crate::lists::is_as_refused;
@@ -11,8 +11,8 @@ use subst::{
     substitute_bytes_owned,
 };
 
-/// Adds all ways in which bytes are filled in.
-pub fn ask(source: &[u8], values: &Values, ways: &mut Ways) -> Result<(), AllocError> {
+/// Makes all calls that expand bytes, and adds their answers.
+pub fn call(source: &[u8], values: &Values, ways: &mut Ways) -> Result<(), AllocError> {
     ways.bytes(
         "substitute_bytes",
         substitute_bytes(ways.alloc, source, values),
@@ -58,7 +58,7 @@ fn by_template(
     into_slice(template, values, ways)
 }
 
-/// Adds the call that writes to a slice: one that has room for nothing, and one that has room for all.
+/// Expands a template into an empty slice, then into a slice of the returned length, and adds the answer.
 fn into_slice(template: &ByteTemplate, values: &Values, ways: &mut Ways) -> Result<(), AllocError> {
     let name = "ByteTemplate::expand_into_slice";
     let len = match template.expand_into_slice(&mut [], values) {
@@ -99,7 +99,7 @@ fn owner_into(
     ways.added("ByteTemplateBuf::expand_into", &output, filled)
 }
 
-/// Adds the ways by templates that an owner lends.
+/// Makes the calls by templates that are borrowed from an owner, and adds their answers.
 fn borrowed(owner: &ByteTemplateBuf, values: &Values, ways: &mut Ways) -> Result<(), AllocError> {
     ways.bytes(
         "as_template",
@@ -113,7 +113,7 @@ fn borrowed(owner: &ByteTemplateBuf, values: &Values, ways: &mut Ways) -> Result
     ways.bytes("ByteTemplate::clone", clone.expand(ways.alloc, values))
 }
 
-/// Adds the ways by copies that own the source.
+/// Makes the calls by copies that own the source, and adds their answers.
 fn copies(owner: &ByteTemplateBuf, values: &Values, ways: &mut Ways) -> Result<(), AllocError> {
     let (source, borrowed) = (owner.source(), owner.as_template());
     let copy = ByteTemplateBuf::from_template(ways.alloc, &borrowed)?;

@@ -1,4 +1,4 @@
-//! The ways in which documents are filled in.
+//! The calls that fill in documents.
 
 use crate::answer::Answer;
 use crate::format::Format;
@@ -8,19 +8,19 @@ use std::alloc::{AllocError, Global};
 use std::str::from_utf8;
 use subst::Error;
 
-/// Adds all ways in which documents are filled in.
-pub fn ask<F: Format>(source: &[u8], values: &Texts, ways: &mut Ways) -> Result<(), AllocError> {
+/// Makes all calls that fill in documents, and adds their answers.
+pub fn call<F: Format>(source: &[u8], values: &Texts, ways: &mut Ways) -> Result<(), AllocError> {
     ways.module = F::MODULE;
     let alloc = ways.alloc;
     let read = F::from_slice(alloc, source, values);
     ways.add("value_from_slice", answer::<F>(alloc, read)?)?;
     match from_utf8(source) {
-        Ok(text) => ask_text::<F>(text, values, ways),
+        Ok(text) => call_text::<F>(text, values, ways),
         Err(_) => Ok(()),
     }
 }
 
-fn ask_text<F: Format>(text: &str, values: &Texts, ways: &mut Ways) -> Result<(), AllocError> {
+fn call_text<F: Format>(text: &str, values: &Texts, ways: &mut Ways) -> Result<(), AllocError> {
     let alloc = ways.alloc;
     let read = answer::<F>(alloc, F::from_str(alloc, text, values))?;
     let filled = F::fill_in(alloc, text, values);
@@ -44,7 +44,8 @@ fn ask_text<F: Format>(text: &str, values: &Texts, ways: &mut Ways) -> Result<()
     }
 }
 
-/// Returns whether a string is refused where the text is, and the fault of its tree is one of theirs.
+/// Returns whether the list of a text's faults agrees with two other results. The list has to be empty
+/// exactly if the text is filled in, and to have the fault of the tree, if any.
 fn are_as_refused<E>(
     refusals: &Result<Option<Vec<Error>>, E>,
     filled: &Result<Option<String>, E>,
@@ -60,7 +61,7 @@ fn are_as_refused<E>(
     has_that_of_tree && all.is_empty() == filled.is_ok()
 }
 
-/// Returns the answer of a tree that is filled in.
+/// Fills in a tree in place, and returns the answer.
 fn in_place<F: Format>(
     alloc: Global,
     tree: &mut F::Tree,
@@ -83,8 +84,8 @@ fn answer<F: Format>(alloc: Global, read: Result<F::Tree, F::Error>) -> Result<A
     }
 }
 
-/// Returns the answer of a text that was filled in where its strings stand, as that of its tree. Where members
-/// have equal keys, another of its strings may be the first that is refused.
+/// Reads a filled-in text as a tree, and returns the answer. If both text and tree are refused and keys may
+/// be equal, returns the fault of the tree: the first refused string of the text may be another.
 fn read_again<F: Format>(
     alloc: Global,
     filled: Result<Option<String>, F::Error>,
@@ -101,8 +102,8 @@ fn read_again<F: Format>(
     }
 }
 
-/// Adds all ways in which texts are filled in where their strings stand.
-pub fn ask_in_place<F: Format>(
+/// Makes all calls that fill in texts in place, and adds their answers.
+pub fn call_in_place<F: Format>(
     source: &[u8],
     values: &Texts,
     ways: &mut Ways,

@@ -1,17 +1,17 @@
-//! The encoding of the files: texts, in which a byte that can't be there is `%XX`.
+//! The encoding of bytes as a column of a row: UTF-8 text, with other bytes and some characters as `%XX`.
 
 use percent_encoding::percent_decode;
 use std::alloc::{AllocError, Global};
 use std::fmt::Write;
 
-/// What is `%XX` in a text, beside control characters and what isn't part of UTF-8.
+/// The characters written as `%XX` in a text, besides control characters and invalid UTF-8.
 pub const IN_TEXT: &str = "%";
 
-/// What is `%XX` in an entry of a list.
+/// The characters written as `%XX` in an entry of a list.
 pub const IN_LIST: &str = "%,=";
 
-/// Returns the column in which bytes are written.
-pub fn written(alloc: Global, bytes: &[u8], escaped: &str) -> Result<String, AllocError> {
+/// Returns the column that encodes these bytes, in which characters of `escaped` are written as `%XX`.
+pub fn encoded(alloc: Global, bytes: &[u8], escaped: &str) -> Result<String, AllocError> {
     let mut column = String::new(alloc);
     for chunk in bytes.utf8_chunks() {
         write_text(&mut column, chunk.valid(), escaped)?;
@@ -37,12 +37,12 @@ fn write_text(column: &mut String, text: &str, escaped: &str) -> Result<(), Allo
     Ok(())
 }
 
-/// Returns the bytes that are written in a column, or nothing where they would be written otherwise.
+/// Returns the bytes that a column encodes, or `None` if `encoded` would return another column for them.
 pub fn read(alloc: Global, column: &str, escaped: &str) -> Result<Option<Vec<u8>>, AllocError> {
     let mut bytes = Vec::new(alloc);
     if column != "-" {
         percent_decode(column.as_bytes()).append_to(&mut bytes)?;
     }
-    let again = written(alloc, &bytes, escaped)?;
+    let again = encoded(alloc, &bytes, escaped)?;
     Ok((again.as_str() == column).then_some(bytes))
 }

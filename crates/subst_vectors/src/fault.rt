@@ -4,23 +4,23 @@ ghost use Rattle.std.specs.Prelude.{◌^◌, ◌<◌, IsTrue};
 ghost use Rattle.subst.specs.ErrorFault.{error_fault};
 ghost use Rattle.subst.specs.Range.{range_of};
 
-use crate::encoding::{IN_TEXT, written};
+use crate::encoding::{IN_TEXT, encoded};
 use std::alloc::{AllocError, Global};
 use std::ops::Range;
 use subst::Error;
 use subst::error::CharOrByte;
 
-/// Returns the columns of a fault. Those of its line are a dot where the source isn't shown.
+/// Returns the columns of a fault. Without a source, the source line and the underline are dots.
 pub fn columns(alloc: Global, fault: &Error, source: Option<&str>) -> Result<String, AllocError> {
-    let said = said(alloc, fault)?;
+    let kind = kind_columns(alloc, fault)?;
     let text = format!(in alloc; "{fault}")?;
-    let place = place(alloc, fault, source)?;
-    let text = written(alloc, text.as_bytes(), IN_TEXT)?;
-    format!(in alloc; "fault\t{said}\t{text}\t{place}")
+    let range = range_columns(alloc, fault, source)?;
+    let text = encoded(alloc, text.as_bytes(), IN_TEXT)?;
+    format!(in alloc; "fault\t{kind}\t{text}\t{range}")
 }
 
-/// Returns the case, the position, the detail and what was expected.
-fn said(alloc: Global, fault: &Error) -> Result<String, AllocError> {
+/// Returns the columns of a fault's case, position, detail and expected characters.
+fn kind_columns(alloc: Global, fault: &Error) -> Result<String, AllocError> {
     match fault {
         Error::InvalidEscapeSequence(e) => {
             let detail = escaped_character(alloc, e.character)?;
@@ -31,14 +31,14 @@ fn said(alloc: Global, fault: &Error) -> Result<String, AllocError> {
         }
         Error::UnexpectedCharacter(e) => {
             let detail = character(alloc, e.character)?;
-            let expected = written(alloc, e.expected.message().as_bytes(), IN_TEXT)?;
+            let expected = encoded(alloc, e.expected.message().as_bytes(), IN_TEXT)?;
             format!(in alloc; "UnexpectedCharacter\t{}\t{detail}\t{expected}", e.position)
         }
         Error::MissingClosingBrace(e) => {
             format!(in alloc; "MissingClosingBrace\t{}\t-\t-", e.position)
         }
         Error::NoSuchVariable(e) => {
-            let name = written(alloc, e.name.as_bytes(), IN_TEXT)?;
+            let name = encoded(alloc, e.name.as_bytes(), IN_TEXT)?;
             format!(in alloc; "NoSuchVariable\t{}\t{name}\t-", e.position)
         }
         Error::OutOfMemory(e) => Err(*e),
@@ -59,8 +59,8 @@ fn character(alloc: Global, character: CharOrByte) -> Result<String, AllocError>
     }
 }
 
-/// Returns the range of a fault, its line, and the line underlined.
-fn place(alloc: Global, fault: &Error, source: Option<&str>) -> Result<String, AllocError> {
+/// Returns the columns of a fault's range, source line and underline.
+fn range_columns(alloc: Global, fault: &Error, source: Option<&str>) -> Result<String, AllocError> {
     if !ends(fault) {
         return String::from_str(alloc, "its range has no end");
     }
@@ -68,15 +68,15 @@ fn place(alloc: Global, fault: &Error, source: Option<&str>) -> Result<String, A
     match source {
         None => format!(in alloc; "{start}..{end}\t.\t."),
         Some(text) if text.is_char_boundary(start) && text.is_char_boundary(end) => {
-            let line = shown(alloc, fault.source_line(text))?;
-            let underlined = shown(alloc, fault.source_highlighting(alloc, text)?.as_str())?;
+            let line = line_column(alloc, fault.source_line(text))?;
+            let underlined = line_column(alloc, fault.source_highlighting(alloc, text)?.as_str())?;
             format!(in alloc; "{start}..{end}\t{line}\t{underlined}")
         }
         Some(_) => format!(in alloc; "{start}..{end} isn't in its source"),
     }
 }
 
-/// Returns whether the range of a fault ends within a `usize`.
+/// Returns whether the end of a fault's range fits in a `usize`.
 fn ends(fault: &Error) -> bool
     ensures { IsTrue result → (range_of (error_fault fault.now)).end < 2 ^ 64 }
 {
@@ -98,10 +98,10 @@ fn ends(fault: &Error) -> bool
     }
 }
 
-/// Returns the column of a line, where a dot alone says that there is none.
-fn shown(alloc: Global, line: &str) -> Result<String, AllocError> {
+/// Returns the column of a source line or an underline. A lone dot is escaped, since a dot means none.
+fn line_column(alloc: Global, line: &str) -> Result<String, AllocError> {
     match line {
         "." => String::from_str(alloc, "%2E"),
-        _ => written(alloc, line.as_bytes(), IN_TEXT),
+        _ => encoded(alloc, line.as_bytes(), IN_TEXT),
     }
 }

@@ -1,4 +1,4 @@
-//! Formats of documents, with the calls of `subst` over them.
+//! Formats of documents, and the calls of `subst` for each.
 
 use crate::answer::Answer;
 use crate::row::Texts;
@@ -8,29 +8,29 @@ use std::alloc::{AllocError, Global};
 use subst::{Error, json, toml as filled};
 use toml::Value as TomlValue;
 
-/// A text that is filled in where its strings stand.
+/// The result of filling in a text in place.
 type Filled<E> = Result<Option<String>, E>;
 
 /// A format of documents.
 pub trait Format {
-    /// The module of `subst` that its calls are in, as a prefix.
+    /// The prefix of the names of calls, such as `json::`.
     const MODULE: &'static str;
 
-    /// Whether members may have equal keys. A tree has the last of them alone, and its strings in the order of
-    /// its keys; a text is filled in at each of them, in its own order.
+    /// Whether a document may have equal keys. A tree keeps only the last of the members with a key, and
+    /// visits strings in the order of its keys. A text is filled in at each member, in document order.
     const HAS_EQUAL_KEYS: bool;
 
     type Tree: Drop;
 
     type Error: Drop;
 
-    /// Returns the answer that an error states, unless it is out of memory.
+    /// Returns the answer that an error of the format states.
     fn refusal(e: Self::Error) -> Result<Answer, AllocError>;
 
-    /// Reads a tree, whose strings aren't filled in.
+    /// Reads a tree without filling in its strings.
     fn tree(alloc: Global, source: &str) -> Result<Self::Tree, Self::Error>;
 
-    /// Returns the text of a tree as JSON without spaces, with keys in byte order.
+    /// Returns a tree as JSON without spaces, with keys in byte order.
     fn text_of(alloc: Global, tree: &Self::Tree) -> Result<String, AllocError>;
 
     /// Calls `value_from_slice`.
@@ -48,7 +48,7 @@ pub trait Format {
     /// Calls `fill_in`.
     fn fill_in(alloc: Global, source: &str, map: &Texts) -> Filled<Self::Error>;
 
-    /// Returns the faults of `refusals_in`, or `None` where a place isn't confirmed.
+    /// Returns the faults of `refusals_in`, or `None` if a span isn't confirmed.
     fn refusals(
         alloc: Global,
         source: &str,
@@ -56,7 +56,7 @@ pub trait Format {
     ) -> Result<Option<Vec<Error>>, Self::Error>;
 }
 
-/// JSON.
+/// The format JSON.
 pub struct Json;
 
 impl Format for Json {
@@ -116,7 +116,7 @@ impl Format for Json {
     }
 }
 
-/// TOML.
+/// The format TOML.
 pub struct Toml;
 
 impl Format for Toml {

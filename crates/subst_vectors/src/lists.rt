@@ -1,4 +1,4 @@
-//! The ways in which variables are listed.
+//! The calls that list variables.
 
 use crate::answer::Answer;
 use crate::row::Values;
@@ -12,8 +12,8 @@ use subst::{
     substitute_bytes,
 };
 
-/// Adds all ways in which variables are listed.
-pub fn ask(source: &[u8], values: &Values, ways: &mut Ways) -> Result<(), AllocError> {
+/// Makes all calls that list variables, and adds their answers.
+pub fn call(source: &[u8], values: &Values, ways: &mut Ways) -> Result<(), AllocError> {
     by_byte_template(source, values, ways)?;
     by_byte_owner(source, values, ways)?;
     if let Ok(text) = from_utf8(source) {
@@ -73,8 +73,8 @@ fn by_owner(source: &str, values: &Values, ways: &mut Ways) -> Result<(), AllocE
     }
 }
 
-/// Returns whether nothing is missing where a source is filled in, and else the first is what it is refused
-/// for.
+/// Returns whether the missing variables agree with the result `filled` of an expansion: there are none if it
+/// is an output, and otherwise the first is its fault.
 pub fn is_as_refused(missing: &[NoSuchVariable], filled: &Result<Vec<u8>, Error>) -> bool {
     match (missing.first(), filled) {
         (None, Ok(_)) => true,
@@ -83,7 +83,7 @@ pub fn is_as_refused(missing: &[NoSuchVariable], filled: &Result<Vec<u8>, Error>
     }
 }
 
-/// Adds the columns of two lists.
+/// Adds the answer of the call `name`: the column of the variables and that of the missing ones.
 fn add(
     name: &'static str,
     variables: &[Variable<'_>],
@@ -107,13 +107,13 @@ fn write_variables(columns: &mut String, list: &[Variable<'_>]) -> Result<(), Al
         position,
         kind,
     } in list {
-        write!(columns, "{separator}{}@{position}={name}", word(*kind))?;
+        write!(columns, "{separator}{}@{position}={name}", kind_name(*kind))?;
         separator = ",";
     }
     Ok(())
 }
 
-fn word(kind: VariableKind) -> &'static str {
+fn kind_name(kind: VariableKind) -> &'static str {
     match kind {
         VariableKind::Required => "required",
         VariableKind::Optional => "optional",

@@ -1,8 +1,8 @@
-//! Runs the rows of files in every way: `subst_vectors FILE..`.
+//! Runs the rows of files by every call: `subst_vectors FILE..`.
 //!
-//! `data/README.md` says what a row is. For each file it prints how many rows hold, or each row that doesn't,
-//! with what was expected, what came, and by which call. Then, and where a row is malformed or a file can't
-//! be read, the status is 1.
+//! `data/README.md` describes the rows. For each file, the program prints how many rows hold, or each row
+//! that doesn't, with the expected answer, the actual one, and the call. The exit status is then 1, as it is
+//! if a row is malformed or a file can't be read.
 #![tactic(auto)]
 
 use std::process::ExitCode;

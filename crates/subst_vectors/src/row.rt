@@ -1,24 +1,24 @@
-//! Rows: what is asked, and the answer that is wanted.
+//! Rows: a kind, a source, its variables, and the expected answer.
 
 use crate::encoding::{IN_LIST, IN_TEXT, read};
 use std::alloc::{AllocError, Global};
 use std::collections::BTreeMap;
 use std::str::from_utf8;
 
-/// What is asked of a source.
+/// The kind of a row.
 #[derive(Clone, Copy, Debug, PartialEq, Eq)]
 pub enum Kind {
-    /// It is filled in.
+    /// The source is expanded.
     Bytes,
-    /// It is read as JSON, and its strings are filled in.
+    /// The source is read as a JSON tree, whose strings are filled in.
     Json,
-    /// It is read as TOML, and its strings are filled in.
+    /// The source is read as a TOML tree, whose strings are filled in.
     Toml,
-    /// It is read as JSON, and filled in where its strings stand.
+    /// The source is a JSON text that is filled in in place.
     JsonText,
-    /// It is read as TOML, and filled in where its strings stand.
+    /// The source is a TOML text that is filled in in place.
     TomlText,
-    /// Its variables are listed, and those that are missing.
+    /// The variables of the source are listed, and the missing ones.
     Lists,
 }
 
@@ -36,26 +36,26 @@ impl Kind {
     }
 }
 
-/// Variables with their values.
+/// A map of values by name.
 pub type Values = BTreeMap<String, Vec<u8>>;
 
-/// Variables whose values are texts.
+/// A map of texts by name.
 pub type Texts<'v> = BTreeMap<&'v str, &'v str>;
 
 /// A row of a file.
 #[derive(Drop)]
 pub struct Row<'l> {
-    /// What is asked.
+    /// The kind of the row.
     pub kind: Kind,
-    /// The source.
+    /// The bytes of the source.
     pub source: Vec<u8>,
-    /// Its variables.
+    /// The variables of the source.
     pub values: Values,
-    /// The columns of the answer that is wanted.
-    pub wanted: &'l str,
+    /// The columns of the expected answer.
+    pub expected: &'l str,
 }
 
-/// Returns the row of a line, or nothing where it is malformed.
+/// Reads the row of a line, or returns `None` if it is malformed.
 pub fn read_row(alloc: Global, line: &str) -> Result<Option<Row<'_>>, AllocError> {
     let Some((kind, rest)) = line.split_once('\t') else {
         return Ok(None);
@@ -63,7 +63,7 @@ pub fn read_row(alloc: Global, line: &str) -> Result<Option<Row<'_>>, AllocError
     let (Some(kind), Some((source, rest))) = (Kind::named(kind), rest.split_once('\t')) else {
         return Ok(None);
     };
-    let Some((pairs, wanted)) = rest.split_once('\t') else {
+    let Some((pairs, expected)) = rest.split_once('\t') else {
         return Ok(None);
     };
     let (Some(source), Some(values)) = (read(alloc, source, IN_TEXT)?, values(alloc, pairs)?) else {
@@ -73,11 +73,11 @@ pub fn read_row(alloc: Global, line: &str) -> Result<Option<Row<'_>>, AllocError
         kind,
         source,
         values,
-        wanted,
+        expected,
     }))
 }
 
-/// Returns the variables of a column, or nothing where it is malformed or has a name twice.
+/// Reads the variables of a column, or returns `None` if it is malformed or sets a name twice.
 fn values(alloc: Global, column: &str) -> Result<Option<Values>, AllocError> {
     let mut values = BTreeMap::new(alloc);
     if column == "-" {
@@ -107,7 +107,7 @@ fn entry(alloc: Global, pair: &str) -> Result<Option<(String, Vec<u8>)>, AllocEr
     Ok(String::from_utf8(name).ok().map(|name| (name, value)))
 }
 
-/// Returns the variables as texts, or nothing where a value is none.
+/// Returns the variables as texts, or `None` if a value isn't UTF-8.
 pub fn texts(alloc: Global, values: &Values) -> Result<Option<Texts<'_>>, AllocError> {
     let mut texts = BTreeMap::new(alloc);
     for (name, value) in values.iter() {

@@ -10,10 +10,10 @@ use std::{fs, io};
 use subst::ByteTemplate;
 use subst::error::ParseError;
 
-/// What may come after a name in braces, as the Rust crate says it.
+/// The characters expected after a name in braces, in the words of the Rust crate.
 const AFTER_NAME: &str = "a closing brace ('}') or colon (':')";
 
-/// Returns whether the rows of a file hold, and prints how many there are, or what differs.
+/// Runs the rows of a file, and prints how many hold, or which don't. Returns whether all hold.
 pub fn rows_hold(rt: &HostRuntime, file: &str) -> io::Result<bool> {
     let all = fs::read_to_string(rt, file)?;
     let after_name = after_name(rt.alloc())?;
@@ -36,7 +36,7 @@ pub fn rows_hold(rt: &HostRuntime, file: &str) -> io::Result<bool> {
     Ok(hold)
 }
 
-/// Returns what this library says in the place of `AFTER_NAME`. The rows worked out by hand have these words.
+/// Returns this library's text for `AFTER_NAME`. Rows from the Rust crate have `AFTER_NAME` instead.
 fn after_name(alloc: Global) -> Result<String, AllocError> {
     match ByteTemplate::from_slice(alloc, b"${a(") {
         Err(ParseError::UnexpectedCharacter(e)) => String::from_str(alloc, e.expected.message()),
@@ -44,41 +44,41 @@ fn after_name(alloc: Global) -> Result<String, AllocError> {
     }
 }
 
-/// Returns what differs in a row, as text: nothing where it holds.
+/// Returns the difference between the answers of a row and the expected one. It is empty if the row holds.
 fn difference(alloc: Global, line: &str, after_name: &str) -> Result<String, AllocError> {
     let mut ways = Ways::new(alloc);
     match read_row(alloc, line)? {
-        Some(row) if ask(&row, &mut ways)? => {
-            let wanted = row.wanted.replace(alloc, AFTER_NAME, after_name)?;
-            ways.difference(shown(&row), &wanted)
+        Some(row) if call(&row, &mut ways)? => {
+            let expected = row.expected.replace(alloc, AFTER_NAME, after_name)?;
+            ways.difference(source_text(&row), &expected)
         }
         _ => String::from_str(alloc, "  the row is malformed"),
     }
 }
 
-/// Returns the text in which faults have a line, if there is one.
-fn shown<'r>(row: &'r Row<'_>) -> Option<&'r str> {
+/// Returns the source as a text if the columns of the row's faults have a source line, or `None` if not.
+fn source_text<'r>(row: &'r Row<'_>) -> Option<&'r str> {
     match from_utf8(&row.source) {
         Ok(text) if row.kind == Kind::Bytes => Some(text),
         _ => None,
     }
 }
 
-/// Adds the ways to the answer of a row, and returns whether there is one: a document has texts for values.
-fn ask(row: &Row<'_>, ways: &mut Ways) -> Result<bool, AllocError> {
+/// Makes the calls for a row and adds their answers. Returns `false` if a variable of a document isn't UTF-8.
+fn call(row: &Row<'_>, ways: &mut Ways) -> Result<bool, AllocError> {
     let source = row.source.as_slice();
     match (row.kind, texts(ways.alloc, &row.values)?) {
         (Kind::Bytes, texts) => {
-            bytes::ask(source, &row.values, ways)?;
+            bytes::call(source, &row.values, ways)?;
             if let (Ok(source), Some(texts)) = (from_utf8(source), texts) {
-                text::ask(source, &texts, ways)?;
+                text::call(source, &texts, ways)?;
             }
         }
-        (Kind::Lists, _) => lists::ask(source, &row.values, ways)?,
-        (Kind::Json, Some(texts)) => document::ask::<Json>(source, &texts, ways)?,
-        (Kind::Toml, Some(texts)) => document::ask::<Toml>(source, &texts, ways)?,
-        (Kind::JsonText, Some(texts)) => document::ask_in_place::<Json>(source, &texts, ways)?,
-        (Kind::TomlText, Some(texts)) => document::ask_in_place::<Toml>(source, &texts, ways)?,
+        (Kind::Lists, _) => lists::call(source, &row.values, ways)?,
+        (Kind::Json, Some(texts)) => document::call::<Json>(source, &texts, ways)?,
+        (Kind::Toml, Some(texts)) => document::call::<Toml>(source, &texts, ways)?,
+        (Kind::JsonText, Some(texts)) => document::call_in_place::<Json>(source, &texts, ways)?,
+        (Kind::TomlText, Some(texts)) => document::call_in_place::<Toml>(source, &texts, ways)?,
         (_, None) => return Ok(false),
     }
     Ok(true)

@@ -1,4 +1,4 @@
-//! The ways in which texts are filled in.
+//! The calls that expand texts.
 
 use crate::answer::Answer;
 use crate::row::Texts;
@@ -6,8 +6,8 @@ use crate::ways::{BEFORE, Ways};
 use std::alloc::AllocError;
 use subst::{Error, Template, TemplateBuf, substitute, substitute_into, substitute_owned};
 
-/// Adds all ways in which texts are filled in.
-pub fn ask(source: &str, values: &Texts, ways: &mut Ways) -> Result<(), AllocError> {
+/// Makes all calls that expand texts, and adds their answers.
+pub fn call(source: &str, values: &Texts, ways: &mut Ways) -> Result<(), AllocError> {
     ways.text("substitute", substitute(ways.alloc, source, values))?;
     owned(source, values, ways)?;
     into(source, values, ways)?;
@@ -60,7 +60,7 @@ fn owner_into(template: &TemplateBuf, values: &Texts, ways: &mut Ways) -> Result
     ways.added("TemplateBuf::expand_into", output.as_bytes(), filled)
 }
 
-/// Adds the ways by templates that an owner lends.
+/// Makes the calls by templates that are borrowed from an owner, and adds their answers.
 fn borrowed(owner: &TemplateBuf, values: &Texts, ways: &mut Ways) -> Result<(), AllocError> {
     ways.text(
         "as_template",
@@ -74,7 +74,7 @@ fn borrowed(owner: &TemplateBuf, values: &Texts, ways: &mut Ways) -> Result<(), 
     ways.text("Template::clone", clone.expand(ways.alloc, values))
 }
 
-/// Adds the ways by copies that own the source.
+/// Makes the calls by copies that own the source, and adds their answers.
 fn copies(owner: &TemplateBuf, values: &Texts, ways: &mut Ways) -> Result<(), AllocError> {
     let (source, borrowed) = (owner.source(), owner.as_template());
     let copy = TemplateBuf::from_template(ways.alloc, &borrowed)?;

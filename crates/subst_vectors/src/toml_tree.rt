@@ -5,7 +5,7 @@ use std::alloc::{AllocError, Global};
 use toml::Table;
 use toml::value::Datetime;
 
-/// Returns the text of a tree as JSON without spaces, with keys in byte order.
+/// Returns a tree as JSON without spaces, with keys in byte order.
 pub fn text_of(alloc: Global, tree: &toml::Value) -> Result<String, AllocError> {
     as_json(alloc, tree)?.to_string(alloc)
 }
@@ -43,7 +43,7 @@ fn members_as_json(alloc: Global, members: &Table) -> Result<Map<String, Value>,
     Ok(trees)
 }
 
-/// Returns an array that says that this is a date, and its text.
+/// Returns a date as an array of the text `date`, null, and the text of the date.
 fn date_as_json(alloc: Global, date: &Datetime) -> Result<Value, AllocError> {
     let text = format!(in alloc; "{date}")?;
     let mut items = Vec::with_capacity(alloc, 3)?;

@@ -1,33 +1,33 @@
-//! The ways to the answer of a row, and what differs in them.
+//! The calls for a row, and the differences between their answers.
 
 use crate::answer::Answer;
 use std::alloc::{AllocError, Global};
 use std::fmt::Write;
 use subst::Error;
 
-/// A way to an answer, with what it gives.
+/// A call and its answer.
 #[derive(Drop)]
 pub struct Way {
-    /// The call.
+    /// The name of the call.
     pub name: &'static str,
-    /// What it gives.
+    /// The answer of the call.
     pub answer: Answer,
 }
 
-/// The ways to the answer of a row.
+/// The calls for a row, with their answers.
 #[derive(Drop)]
 pub struct Ways {
     pub alloc: Global,
-    /// The module of `subst` that the calls are in, or nothing.
+    /// The prefix of the names of calls, such as `json::`, or an empty text.
     pub module: &'static str,
     all: Vec<Way>,
 }
 
-/// What an output holds before a call adds to it.
+/// The contents of an output before a call appends to it.
 pub const BEFORE: &str = "> ";
 
 impl Ways {
-    /// Returns an empty list of ways.
+    /// Creates an empty list of calls.
     pub fn new(alloc: Global) -> Ways {
         Ways {
             alloc,
@@ -36,9 +36,9 @@ impl Ways {
         }
     }
 
-    /// Returns what is wanted and what came instead, with the ways that gave it, or nothing where all of them
-    /// give what is wanted.
-    pub fn difference(&self, source: Option<&str>, wanted: &str) -> Result<String, AllocError> {
+    /// Returns a text of the expected answer, and each other answer with the calls that returned it. The text
+    /// is empty if all calls returned the expected answer.
+    pub fn difference(&self, source: Option<&str>, expected: &str) -> Result<String, AllocError> {
         let mut text = String::new(self.alloc);
         let module = self.module;
         let (mut last, mut is_right) = (None, true);
@@ -46,7 +46,7 @@ impl Ways {
             if last != Some(answer) {
                 last = Some(answer);
                 let columns = answer.columns(self.alloc, source)?;
-                is_right = is_wanted(columns.as_str(), wanted);
+                is_right = is_expected(columns.as_str(), expected);
                 if !is_right {
                     write!(text, "\n  came     {columns} by {module}{name}")?;
                 }
@@ -57,16 +57,16 @@ impl Ways {
         if text.is_empty() {
             return Ok(text);
         }
-        format!(in self.alloc; "  expected {wanted}{text}")
+        format!(in self.alloc; "  expected {expected}{text}")
     }
 
-    /// Adds a way.
+    /// Adds a call and its answer.
     pub fn add(&mut self, name: &'static str, answer: Answer) -> Result<(), AllocError> {
         self.all.push(Way { name, answer })?;
         Ok(())
     }
 
-    /// Adds a way that gives bytes.
+    /// Adds a call that returns bytes, and its answer.
     pub fn bytes<E: Drop>(
         &mut self,
         name: &'static str,
@@ -78,7 +78,7 @@ impl Ways {
         self.add(name, Answer::of(filled.map_err(Error::from))?)
     }
 
-    /// Adds a way that gives a text.
+    /// Adds a call that returns a text, and its answer.
     pub fn text<E: Drop>(
         &mut self,
         name: &'static str,
@@ -90,7 +90,8 @@ impl Ways {
         self.bytes(name, filled.map(|text| text.into_bytes()))
     }
 
-    /// Adds a way that adds to an output, which held `BEFORE`, or else leaves it as it was.
+    /// Adds a call that appended to an output with the contents `BEFORE`, and its answer. `output` is the
+    /// output after the call, which an error must leave unchanged.
     pub fn added(
         &mut self,
         name: &'static str,
@@ -109,13 +110,14 @@ impl Ways {
     }
 }
 
-/// Returns whether columns are those that are wanted; of a fault, the case and the position may be all.
-fn is_wanted(columns: &str, wanted: &str) -> bool {
-    match columns.strip_prefix(wanted) {
+/// Returns whether `columns` are the expected ones. For a fault, `expected` may end after the case and the
+/// position.
+fn is_expected(columns: &str, expected: &str) -> bool {
+    match columns.strip_prefix(expected) {
         Some("") => true,
         Some(rest) => {
-            wanted.starts_with("fault\t")
-                && wanted.split('\t').count() == 3
+            expected.starts_with("fault\t")
+                && expected.split('\t').count() == 3
                 && rest.starts_with('\t')
         }
         None => false,

@@ -1,12 +1,11 @@
-//! Bytes filled in from each kind of map: what each has under a name. `filled` has a `BTreeMap` that owns its
-//! keys.
+//! Bytes expanded from each kind of map, by its lookup. For a `BTreeMap` with owned keys, see `filled`.
 
 ghost use Rattle.std.specs.Prelude.{IfSome};
 ghost use Rattle.std.specs.Option.{option_map, option_or};
 ghost use Rattle.std.specs.BTreeMap.{get_by_text as btree_get_by_text};
 ghost use Rattle.std.specs.HashMap.{get_by_text as hash_get_by_text};
 ghost use Rattle.subst.specs.Language.Answer.{Answers};
-ghost use Rattle.subst.specs.Calls.Maps.{first_value, btree_get_by_lent_text, hash_get_by_lent_text, without_empty};
+ghost use Rattle.subst.specs.Calls.Maps.{first_value, btree_get_by_borrowed_text, hash_get_by_borrowed_text, without_empty};
 ghost use Rattle.subst.specs.Calls.Outcome.{answer_of};
 ghost use Rattle.subst.specs.Question.{by_question};
 
@@ -18,7 +17,7 @@ use std::convert::AsSlice;
 use std::hash::BuildHasher;
 use subst::{Env, Error, Layered, NoEmpty, NoSubstitution, ShellMap, substitute_bytes};
 
-/// Returns bytes filled in from a `BTreeMap` whose keys are borrowed.
+/// Expands bytes from a `BTreeMap` with borrowed keys.
 pub fn btree_map_of_borrowed<V: AsSlice<u8>>(
     alloc: Global,
     source: &[u8],
@@ -26,12 +25,12 @@ pub fn btree_map_of_borrowed<V: AsSlice<u8>>(
 ) -> Result<Vec<u8>, Error>
     ensures { IfSome (answer_of (λ output. output.items) result)
         (Answers source.now
-        (λ name. option_map V.items (btree_get_by_lent_text variables.now name))) }
+        (λ name. option_map V.items (btree_get_by_borrowed_text variables.now name))) }
 {
     substitute_bytes(alloc, source, variables)
 }
 
-/// Returns bytes filled in from a `HashMap`.
+/// Expands bytes from a `HashMap`.
 pub fn hash_map<V: AsSlice<u8>, S: BuildHasher>(
     alloc: Global,
     source: &[u8],
@@ -43,7 +42,7 @@ pub fn hash_map<V: AsSlice<u8>, S: BuildHasher>(
     substitute_bytes(alloc, source, variables)
 }
 
-/// Returns bytes filled in from a `HashMap` whose keys are borrowed.
+/// Expands bytes from a `HashMap` with borrowed keys.
 pub fn hash_map_of_borrowed<V: AsSlice<u8>, S: BuildHasher>(
     alloc: Global,
     source: &[u8],
@@ -51,12 +50,12 @@ pub fn hash_map_of_borrowed<V: AsSlice<u8>, S: BuildHasher>(
 ) -> Result<Vec<u8>, Error>
     ensures { IfSome (answer_of (λ output. output.items) result)
         (Answers source.now
-        (λ name. option_map V.items (hash_get_by_lent_text variables.now name))) }
+        (λ name. option_map V.items (hash_get_by_borrowed_text variables.now name))) }
 {
     substitute_bytes(alloc, source, variables)
 }
 
-/// Returns bytes filled in from an `IndexMap`.
+/// Expands bytes from an `IndexMap`.
 pub fn index_map<V: AsSlice<u8>, S: BuildHasher>(
     alloc: Global,
     source: &[u8],
@@ -68,7 +67,7 @@ pub fn index_map<V: AsSlice<u8>, S: BuildHasher>(
     substitute_bytes(alloc, source, variables)
 }
 
-/// Returns bytes filled in from an `IndexMap` whose keys are borrowed.
+/// Expands bytes from an `IndexMap` with borrowed keys.
 pub fn index_map_of_borrowed<V: AsSlice<u8>, S: BuildHasher>(
     alloc: Global,
     source: &[u8],
@@ -76,12 +75,12 @@ pub fn index_map_of_borrowed<V: AsSlice<u8>, S: BuildHasher>(
 ) -> Result<Vec<u8>, Error>
     ensures { IfSome (answer_of (λ output. output.items) result)
         (Answers source.now
-        (λ name. option_map V.items (hash_get_by_lent_text variables.now name))) }
+        (λ name. option_map V.items (hash_get_by_borrowed_text variables.now name))) }
 {
     substitute_bytes(alloc, source, variables)
 }
 
-/// Returns bytes filled in without variables, so that each default is used.
+/// Expands bytes without variables, so that every default is used.
 pub fn no_substitution(alloc: Global, source: &[u8]) -> Result<Vec<u8>, Error>
     ensures { IfSome (answer_of (λ output. output.items) result)
         (Answers source.now (λ _. None)) }
@@ -89,7 +88,7 @@ pub fn no_substitution(alloc: Global, source: &[u8]) -> Result<Vec<u8>, Error>
     substitute_bytes(alloc, source, &NoSubstitution)
 }
 
-/// Returns bytes filled in from the pairs of an `Env`.
+/// Expands bytes from the pairs of an `Env`.
 pub fn env(alloc: Global, source: &[u8], variables: &Env) -> Result<Vec<u8>, Error>
     ensures { IfSome (answer_of (λ output. output.items) result)
         (Answers source.now (first_value variables.now)) }
@@ -97,7 +96,7 @@ pub fn env(alloc: Global, source: &[u8], variables: &Env) -> Result<Vec<u8>, Err
     substitute_bytes(alloc, source, variables)
 }
 
-/// Returns bytes filled in from pairs, and from a map for the names that no pair has.
+/// Expands bytes from pairs, and from a map for the names that no pair sets.
 pub fn layered<V: AsSlice<u8>>(
     alloc: Global,
     source: &[u8],
@@ -115,7 +114,7 @@ pub fn layered<V: AsSlice<u8>>(
     any_map::filled_in(alloc, source, &layers)
 }
 
-/// Returns bytes filled in from the pairs of an `Env` whose values aren't empty.
+/// Expands bytes from the pairs of an `Env`, with empty values as unset.
 pub fn no_empty(alloc: Global, source: &[u8], variables: &Env) -> Result<Vec<u8>, Error>
     ensures { IfSome (answer_of (λ output. output.items) result)
         (Answers source.now (without_empty (first_value variables.now))) }
@@ -123,7 +122,7 @@ pub fn no_empty(alloc: Global, source: &[u8], variables: &Env) -> Result<Vec<u8>
     any_map::filled_in(alloc, source, &NoEmpty { map: variables })
 }
 
-/// Returns bytes filled in from the answers to questions about the pairs of an `Env`.
+/// Expands bytes from a `ShellMap` over the pairs of an `Env`.
 pub fn shell_map(alloc: Global, source: &[u8], variables: &Env) -> Result<Vec<u8>, Error>
     ensures { IfSome (answer_of (λ output. output.items) result)
         (Answers source.now (by_question (first_value variables.now))) }

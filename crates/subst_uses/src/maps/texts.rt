@@ -1,11 +1,11 @@
-//! Texts filled in from each kind of map: what each has under a name.
+//! Texts expanded from each kind of map, by its lookup.
 
 ghost use Rattle.std.specs.Prelude.{IfSome, string_bytes};
 ghost use Rattle.std.specs.Option.{option_map, option_or};
 ghost use Rattle.std.specs.BTreeMap.{get_by_text as btree_get_by_text};
 ghost use Rattle.std.specs.HashMap.{get_by_text as hash_get_by_text};
 ghost use Rattle.subst.specs.Language.Answer.{Answers};
-ghost use Rattle.subst.specs.Calls.Maps.{first_value, btree_get_by_lent_text, hash_get_by_lent_text, without_empty};
+ghost use Rattle.subst.specs.Calls.Maps.{first_value, btree_get_by_borrowed_text, hash_get_by_borrowed_text, without_empty};
 ghost use Rattle.subst.specs.Calls.Outcome.{answer_of};
 ghost use Rattle.subst.specs.Question.{by_question};
 
@@ -16,7 +16,7 @@ use std::convert::AsStr;
 use std::hash::BuildHasher;
 use subst::{Env, Error, Layered, NoEmpty, NoSubstitution, ShellMap, laws, substitute};
 
-/// Returns a text filled in from a `BTreeMap`.
+/// Expands a text from a `BTreeMap`.
 pub fn btree_map<V: AsStr>(
     alloc: Global,
     source: &str,
@@ -28,7 +28,7 @@ pub fn btree_map<V: AsStr>(
     substitute(alloc, source, variables)
 }
 
-/// Returns a text filled in from a `BTreeMap` whose keys are borrowed.
+/// Expands a text from a `BTreeMap` with borrowed keys.
 pub fn btree_map_of_borrowed<V: AsStr>(
     alloc: Global,
     source: &str,
@@ -36,12 +36,12 @@ pub fn btree_map_of_borrowed<V: AsStr>(
 ) -> Result<String, Error>
     ensures { IfSome (answer_of (λ output. string_bytes output) result)
         (Answers source.now
-        (λ name. option_map V.text (btree_get_by_lent_text variables.now name))) }
+        (λ name. option_map V.text (btree_get_by_borrowed_text variables.now name))) }
 {
     substitute(alloc, source, variables)
 }
 
-/// Returns a text filled in from a `HashMap`.
+/// Expands a text from a `HashMap`.
 pub fn hash_map<V: AsStr, S: BuildHasher>(
     alloc: Global,
     source: &str,
@@ -53,7 +53,7 @@ pub fn hash_map<V: AsStr, S: BuildHasher>(
     substitute(alloc, source, variables)
 }
 
-/// Returns a text filled in from a `HashMap` whose keys are borrowed.
+/// Expands a text from a `HashMap` with borrowed keys.
 pub fn hash_map_of_borrowed<V: AsStr, S: BuildHasher>(
     alloc: Global,
     source: &str,
@@ -61,12 +61,12 @@ pub fn hash_map_of_borrowed<V: AsStr, S: BuildHasher>(
 ) -> Result<String, Error>
     ensures { IfSome (answer_of (λ output. string_bytes output) result)
         (Answers source.now
-        (λ name. option_map V.text (hash_get_by_lent_text variables.now name))) }
+        (λ name. option_map V.text (hash_get_by_borrowed_text variables.now name))) }
 {
     substitute(alloc, source, variables)
 }
 
-/// Returns a text filled in from an `IndexMap`.
+/// Expands a text from an `IndexMap`.
 pub fn index_map<V: AsStr, S: BuildHasher>(
     alloc: Global,
     source: &str,
@@ -78,7 +78,7 @@ pub fn index_map<V: AsStr, S: BuildHasher>(
     substitute(alloc, source, variables)
 }
 
-/// Returns a text filled in from an `IndexMap` whose keys are borrowed.
+/// Expands a text from an `IndexMap` with borrowed keys.
 pub fn index_map_of_borrowed<V: AsStr, S: BuildHasher>(
     alloc: Global,
     source: &str,
@@ -86,12 +86,12 @@ pub fn index_map_of_borrowed<V: AsStr, S: BuildHasher>(
 ) -> Result<String, Error>
     ensures { IfSome (answer_of (λ output. string_bytes output) result)
         (Answers source.now
-        (λ name. option_map V.text (hash_get_by_lent_text variables.now name))) }
+        (λ name. option_map V.text (hash_get_by_borrowed_text variables.now name))) }
 {
     substitute(alloc, source, variables)
 }
 
-/// Returns a text filled in without variables, so that each default is used.
+/// Expands a text without variables, so that every default is used.
 pub fn no_substitution(alloc: Global, source: &str) -> Result<String, Error>
     ensures { IfSome (answer_of (λ output. string_bytes output) result)
         (Answers source.now (λ _. None)) }
@@ -99,7 +99,7 @@ pub fn no_substitution(alloc: Global, source: &str) -> Result<String, Error>
     substitute(alloc, source, &NoSubstitution)
 }
 
-/// Returns a text filled in from the pairs of an `Env`.
+/// Expands a text from the pairs of an `Env`.
 pub fn env(alloc: Global, source: &str, variables: &Env) -> Result<String, Error>
     ensures { IfSome (answer_of (λ output. string_bytes output) result)
         (Answers source.now (first_value variables.now)) }
@@ -107,7 +107,7 @@ pub fn env(alloc: Global, source: &str, variables: &Env) -> Result<String, Error
     substitute(alloc, source, variables)
 }
 
-/// Returns a text filled in from pairs, and from a map for the names that no pair has.
+/// Expands a text from pairs, and from a map for the names that no pair sets.
 pub fn layered<V: AsStr>(
     alloc: Global,
     source: &str,
@@ -126,7 +126,7 @@ pub fn layered<V: AsStr>(
     substitute(alloc, source, &layers)
 }
 
-/// Returns a text filled in from the pairs of an `Env` whose values aren't empty.
+/// Expands a text from the pairs of an `Env`, with empty values as unset.
 pub fn no_empty(alloc: Global, source: &str, variables: &Env) -> Result<String, Error>
     ensures { IfSome (answer_of (λ output. string_bytes output) result)
         (Answers source.now (without_empty (first_value variables.now))) }
@@ -134,7 +134,7 @@ pub fn no_empty(alloc: Global, source: &str, variables: &Env) -> Result<String, 
     substitute(alloc, source, &NoEmpty { map: variables })
 }
 
-/// Returns a text filled in from the answers to questions about the pairs of an `Env`.
+/// Expands a text from a `ShellMap` over the pairs of an `Env`.
 pub fn shell_map(alloc: Global, source: &str, variables: &Env) -> Result<String, Error>
     ensures { IfSome (answer_of (λ output. string_bytes output) result)
         (Answers source.now (by_question (first_value variables.now))) }

@@ -1,4 +1,4 @@
--- Where nothing is missing, the template gives a text.
+-- If no variable is missing, the template has an output.
 use Rattle.std.proofs.Common.{◌≡◌, [], Option, Some, None, map, refl, sym, ap, ◌∙◌, string_bytes, arith}
 use Rattle.std.proofs.lemmas.Bool.Decides.{nat_tests}
 use Rattle.std.proofs.lemmas.List.{nil_from_length}
@@ -8,7 +8,7 @@ use Rattle.subst.specs.Calls.Variables.{missing_variable}
 use Rattle.subst_uses.specs.CommandLine.{texts_of}
 use Rattle.subst_uses.proofs.all_missing.filled.Goals as goal
 
--- there is something as bytes where there is something
+-- an option has a value if and only if the mapped option has one
 is_some-mapped : {X Y : Type 0} (f : X → Y) (o : Option X) → is_some (option_map f o) ≡ is_some o
 is_some-mapped f (Some x) = refl
 is_some-mapped f None = refl

@@ -1,4 +1,4 @@
--- The reports of the variables so far, and variables that are left.
+-- The reports of the variables so far, and the remaining variables.
 use Rattle.std.proofs.Common.{◌≡◌, ◌++◌, map, string_bytes}
 use Rattle.std.specs.List.{All}
 use Rattle.std.specs.Vec.Iter.{into_iter_items}

@@ -1,4 +1,4 @@
--- The map's values are read as its look-up of bytes has them.
+-- The map's values are read as in its look-up of bytes.
 use Rattle.std.proofs.Common.{rules, IfSome}
 use Rattle.subst.specs.Language.Answer.{Answers}
 use Rattle.subst.specs.Calls.Outcome.{answer_of}

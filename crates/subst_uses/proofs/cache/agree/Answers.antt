@@ -1,4 +1,4 @@
--- One more variable, or none is left.
+-- One more variable agrees, or none is left.
 use Rattle.std.proofs.Common.{◌≡◌, refl, arith}
 use Rattle.subst_uses.specs.CommandLine.{texts_of}
 use Rattle.subst_uses.proofs.NameLemmas.{one_more}

@@ -1,4 +1,4 @@
--- The maps have the same for the name of each variable so far.
+-- The maps agree on each variable so far.
 use Rattle.std.proofs.Common.{◌≡◌, ℕ, ◌<◌, get_or}
 use Rattle.subst_uses.specs.CommandLine.{texts_of}
 use Rattle.subst_uses.proofs.cache.agree.Given as goal

@@ -1,4 +1,4 @@
--- How the bytes of a value are read, as its type says.
+-- The values are read as their bytes, by their type.
 use Rattle.std.proofs.Common.{refl}
 use Rattle.subst_uses.proofs.filled.by_values.Goals as goal
 

@@ -1,4 +1,4 @@
--- How the bytes of a value are read.
+-- The values are read as their bytes.
 use Rattle.std.proofs.Common.{refl}
 use Rattle.subst_uses.proofs.filled.by_vectors.Goals as goal
 

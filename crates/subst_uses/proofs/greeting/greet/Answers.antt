@@ -1,4 +1,4 @@
--- What the source gives is computed, so no fault can come.
+-- The output of the source is computed, so there is no fault.
 use Rattle.std.proofs.Common.{refl, string_bytes}
 use Rattle.subst.proofs.Calling.{alone_as_read, computed_gives, given_as_read}
 use Rattle.subst_uses.proofs.greeting.greet.Goals as goal

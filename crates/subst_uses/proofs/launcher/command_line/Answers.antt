@@ -1,4 +1,4 @@
--- Each turn adds an argument, or ends at the first source that is refused.
+-- Each turn appends an argument, or returns at the first refused source.
 use Rattle.subst_uses.specs.CommandLine.{texts_of}
 use Rattle.subst_uses.proofs.LineLemmas.{word_added, word_refused}
 use Rattle.subst_uses.proofs.launcher.command_line.Goals as goal

@@ -1,4 +1,4 @@
--- Each argument so far is given by its source.
+-- Each argument so far is the output of its source.
 use Rattle.std.proofs.Common.{map, take}
 use Rattle.subst.specs.Language.Several.{EachGives, under}
 use Rattle.subst_uses.specs.CommandLine.{texts_of}

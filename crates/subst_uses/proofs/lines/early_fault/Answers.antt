@@ -1,4 +1,4 @@
--- Where no fault is returned, the lines have none, or their one fault isn't settled.
+-- If no fault is returned, the lines have none, or their one fault isn't settled.
 use Rattle.std.proofs.Common.{◌≡◌, ◌↔◌, ℕ, Bool, false, List, length, Option, Some, None, Result, Ok, IfOk, IfSome, IsTrue, sym, subst, ◌∙◌}
 use Rattle.std.specs.Prelude.{IfNone, IsSomeAnd}
 use Rattle.std.specs.declared.alloc.AllocError.{AllocError}
@@ -15,13 +15,13 @@ use Rattle.subst_uses.proofs.lines.early_fault.Goals as goal
 abbrev HasNoneSettled : List ℕ → Type 0
 HasNoneSettled s = (f : Fault) → HasFault 0 s f → ¬ (IsSettled (length s) f)
 
--- that is so where the result is `Ok(None)`
+-- no fault is settled if the result is `Ok(None)`
 none_returned : (s : List ℕ) (result : Result (Option ParseError) AllocError) → result ≡ Ok None
     → HasNoneSettled s
     → IfOk result (λ found. IfNone found (HasNoneSettled s))
 none_returned s result is none = subst (λ r. IfOk r (λ found. IfNone found (HasNoneSettled s))) (sym is) none
 
--- it is so where the fault of an error, the text's one fault, isn't settled
+-- no fault is settled if the fault of an error, the text's only one, isn't
 none_settled : (s : List ℕ) (found : Option Fault) (settled : Bool) → OneTreeOrOneFault s
     → IfSome found (HasFault 0 s) → IsSomeAnd found (λ f. IsTrue settled ↔ IsSettled (length s) f)
     → settled ≡ false → HasNoneSettled s

@@ -1,4 +1,4 @@
--- What a line gives is computed, and it fits where there is room for the longest.
+-- The output of a line is computed, and it fits if there is capacity for the longest line.
 use Rattle.std.proofs.Common.{◌≡◌, ◌≤◌, ◌+◌, ◌++◌, ◌∷◌, [], ℕ, List, Result, Ok, Err, IsOk, OnOk, length, length-append, refl, arith, vec_capacity, vec_len}
 use Rattle.subst.specs.Language.Answer.{Answers, Gives}
 use Rattle.subst.specs.Language.LookUp.{LookUp}
@@ -27,7 +27,7 @@ returns-then-capacity-len-ge-ROOM-clause-room c =
       λ fits. rw c.is_ok.ensures.value given,
     )
 
--- where bytes that a source gives are appended, these are
+-- if an output of a source is appended, it is this output
 appended : {T E : Type 0} (s x : List ℕ) (look : LookUp) (before after : List ℕ) (result : Result T E)
     → Answers s look (Gives x)
     → OnOk result ((y : List ℕ) × Answers s look (Gives y) × (after ≡ before ++ y))

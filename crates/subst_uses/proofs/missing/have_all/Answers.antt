@@ -1,4 +1,4 @@
--- One more name, or none is left.
+-- One more name has a value, or none is left.
 use Rattle.std.proofs.Common.{IsSome, refl, arith}
 use Rattle.subst_uses.specs.CommandLine.{texts_of}
 use Rattle.subst_uses.proofs.NameLemmas.{one_more}

@@ -1,4 +1,4 @@
--- The variables have something for each name so far.
+-- The variables have a value for each name so far.
 use Rattle.std.proofs.Common.{ℕ, ◌<◌, IsSome, get_or}
 use Rattle.subst_uses.specs.CommandLine.{texts_of}
 use Rattle.subst_uses.proofs.missing.have_all.Given as goal

@@ -1,4 +1,4 @@
--- What the source gives is known, so no fault can come.
+-- The output of the source is known, so there is no fault.
 use Rattle.std.proofs.Common.{Ok}
 use Rattle.subst_uses.specs.Colours.{colours_of}
 use Rattle.subst.proofs.Calling.{given, memory_alone}

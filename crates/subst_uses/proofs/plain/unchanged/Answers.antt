@@ -1,4 +1,4 @@
--- A plain source gives itself, and has no other answer.
+-- A plain source is its own output, and has no other answer.
 use Rattle.std.proofs.lemmas.Option.{IfSome_then}
 use Rattle.subst.specs.Language.Answer.{Gives}
 use Rattle.subst.specs.Calls.VariableMap.{look_up_of}

@@ -1,4 +1,4 @@
--- An error that isn't out of memory states a fault, and its report is that of the fault.
+-- An error other than out of memory states a fault, and its report is that of the fault.
 use Rattle.std.proofs.Common.{◌≡◌, ◌≢◌, None, refl, string_bytes}
 use Rattle.std.specs.declared.alloc.AllocError.{AllocError}
 use Rattle.subst.specs.ErrorFault.{error_fault}
@@ -7,7 +7,7 @@ use Rattle.subst.specs.Errors.error.{OutOfMemory}
 use Rattle.subst_uses.proofs.ReportLemmas.{report_of_a_fault}
 use Rattle.subst_uses.proofs.report.fault_report.Goals as goal
 
--- an error that isn't out of memory states a fault
+-- an error other than out of memory states a fault
 states_a_fault : (e : Error) → ((x : AllocError) → ¬ (e ≡ OutOfMemory x)) → error_fault e ≢ None
 states_a_fault (OutOfMemory x) other none = other x refl
 states_a_fault _ other none = cc

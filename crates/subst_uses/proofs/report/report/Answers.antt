@@ -1,4 +1,4 @@
--- What is formatted, with the position and the highlighting in their places.
+-- The formatted text, with the position and the highlighting in place.
 use Rattle.std.proofs.Common.{◌≡◌, Some, IfOk, IfSome, codes, string_bytes}
 use Rattle.std.specs.Fmt.{decimal, ◌++?◌}
 use Rattle.subst.specs.Display.{display_of_error}

@@ -1,4 +1,4 @@
--- How the bytes of a value are read.
+-- The values are read as their bytes.
 use Rattle.std.proofs.Common.{refl, string_bytes}
 use Rattle.subst_uses.proofs.texts.by_owner.Goals as goal
 

@@ -9,7 +9,7 @@ use Rattle.subst.proofs.Calling.{answer_unique, followed_by_no_name, only_plain,
 use Rattle.subst_uses.specs.CommandLine.{texts_of}
 use Rattle.subst_uses.proofs.words.around_word.Goals as goal
 
--- a text that begins with a space begins with no name byte
+-- a text that begins with a space doesn't begin with a name byte
 space_no_name : (x : List ℕ) → BeginsWithNo IsNameByte (codes " " ++ x)
 space_no_name x h = cc
 

@@ -1,4 +1,4 @@
--- An escaped text gives the text, and has no other answer.
+-- An escaped text expands to the text, and has no other answer.
 use Rattle.std.proofs.Common.{◌≡◌, sym, subst, ◌∙◌, string_bytes}
 use Rattle.std.proofs.lemmas.Option.{IfSome_then}
 use Rattle.subst.specs.Language.Answer.{Answers, Gives}

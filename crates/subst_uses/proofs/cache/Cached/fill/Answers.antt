@@ -1,4 +1,4 @@
--- Maps that have the same for the names of the template's variables give it one value.
+-- Under maps that agree on its variables, the template has the same value.
 use Rattle.std.proofs.Common.{◌≡◌, ℕ, List, Result, Ok, Err, IfSome, refl, sym, ap, subst, ◌∙◌, string_bytes}
 use Rattle.std.specs.Result.{IsErrAnd}
 use Rattle.subst.specs.Calls.Outcome.{Expands}
@@ -10,7 +10,7 @@ use Rattle.subst_uses.specs.CommandLine.{texts_of}
 use Rattle.subst_uses.proofs.NameLemmas.{all_mapped_twice}
 use Rattle.subst_uses.proofs.cache.Cached.fill.Goals as goal
 
--- an error of an expansion is passed on
+-- the error of an expansion is returned
 handed_on : {T : Type 0} (bytes_of : T → List ℕ) (result : Result T ExpandError) (e : ExpandError) (v : Value)
     → IsErrAnd result (λ x. x ≡ e) → IfSome (expand_fault e) (IsMissing v) → Expands bytes_of result v
 handed_on bytes_of (Ok x) e v same missing = absurd same

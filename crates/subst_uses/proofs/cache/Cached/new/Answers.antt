@@ -1,4 +1,4 @@
--- What the first expansion returns is what the template gives.
+-- The first expansion returns the output of the template.
 use Rattle.std.proofs.Common.{refl, string_bytes}
 use Rattle.subst_uses.proofs.cache.Cached.new.Goals as goal
 

@@ -1,4 +1,4 @@
--- The values are read as they are.
+-- The values are read unchanged.
 use Rattle.std.proofs.Common.{refl}
 use Rattle.subst.proofs.Calling.{answer_as_read}
 use Rattle.subst_uses.proofs.maps.bytes.env.Goals as goal

@@ -1,4 +1,4 @@
--- How the text of a value is read, as its type says.
+-- The values are read as their texts, by their type.
 use Rattle.std.proofs.Common.{refl}
 use Rattle.subst_uses.proofs.maps.texts.index_map.Goals as goal
 

@@ -1,4 +1,4 @@
--- The values of each map are read in their own way.
+-- The values of each map are read by their own type.
 use Rattle.std.proofs.Common.{IfSome, option_map, refl, string_bytes, sym}
 use Rattle.std.proofs.lemmas.Iterator.Adapters.{option_map_id}
 use Rattle.std.specs.BTreeMap.{get_by_text}

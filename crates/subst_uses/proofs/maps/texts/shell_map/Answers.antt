@@ -1,4 +1,4 @@
--- The answers are read as they are.
+-- The answers are read unchanged.
 use Rattle.std.proofs.Common.{refl}
 use Rattle.subst.proofs.Calling.{answer_as_read}
 use Rattle.subst_uses.proofs.maps.texts.shell_map.Goals as goal

@@ -1,4 +1,4 @@
--- What was asked for has a value then, so it isn't missing again.
+-- A variable that was prompted for has a value, so it isn't missing again.
 use Rattle.std.proofs.Common.{◌≡◌, ℕ, List, Option, Some, None, Result, Ok, Err, IfErr, IfSome, IsSome, refl, subst, string_bytes}
 use Rattle.std.specs.Option.{option_map}
 use Rattle.subst.specs.ErrorFault.{error_fault}
@@ -10,7 +10,7 @@ use Rattle.subst.specs.Language.LookUp.{LookUp}
 use Rattle.subst.specs.Calls.Outcome.{answer_of}
 use Rattle.subst.proofs.Calling.{answer_unique}
 use Rattle.subst_uses.specs.CommandLine.{texts_of}
-use Rattle.subst_uses.proofs.missing.filled_or_asked.Goals as goal
+use Rattle.subst_uses.proofs.missing.expanded_or_prompted.Goals as goal
 
 -- an error that isn't `NoSuchVariable` states no missing variable
 states_another : (e : Error) → ((x : _) → ¬ (e ≡ error.NoSuchVariable x)) → (q : ℕ) (name : List ℕ)
@@ -18,7 +18,7 @@ states_another : (e : Error) → ((x : _) → ¬ (e ≡ error.NoSuchVariable x))
 states_another (error.NoSuchVariable x) other q name is = other x refl
 states_another _ other q name is = cc
 
--- the variable that an error states is the one that the source is refused for
+-- the variable that an error states is the one the source is refused for
 same_name : (s : List ℕ) (look : LookUp) (e : Error) (x : _) (position : ℕ) (name : List ℕ)
     → e ≡ error.NoSuchVariable x → IfSome (option_map Refuses (error_fault e)) (Answers s look)
     → Answers s look (Refuses (NoSuchVariable position name)) → string_bytes x.name ≡ name
@@ -28,7 +28,7 @@ same_name s look e x position name is stated refused =
     subst (λ y. IfSome (option_map Refuses (error_fault y)) (Answers s look)) is stated in
     let same = answer_unique s look fault (Refuses (NoSuchVariable position name)) answer refused in cc
 
--- where the source isn't refused for a variable, no error states that
+-- if the source isn't refused for a variable, no error states it
 not_stated : {T : Type 0} (bytes_of : T → List ℕ) (s : List ℕ) (look : LookUp) (q : ℕ) (name : List ℕ)
     (result : Result T Error) → ¬ (Answers s look (Refuses (NoSuchVariable q name)))
     → IfSome (answer_of bytes_of result) (Answers s look)
@@ -49,8 +49,8 @@ pub returns-in_ok-add-in-NoSuchVariable-clause-answer : goal.returns-in_ok-add-i
 returns-in_ok-add-in-NoSuchVariable-clause-answer g c =
     c.substitute-in-NoSuchVariable.ensures.answer (λ v. string_bytes v) (λ v. refl)
 
-pub returns-in_ok-add-in-NoSuchVariable-clause-asked : goal.returns-in_ok-add-in-NoSuchVariable-clause-asked
-returns-in_ok-add-in-NoSuchVariable-clause-asked g c = λ position q name refused.
+pub returns-in_ok-add-in-NoSuchVariable-clause-prompted : goal.returns-in_ok-add-in-NoSuchVariable-clause-prompted
+returns-in_ok-add-in-NoSuchVariable-clause-prompted g c = λ position q name refused.
     let s = c.args.source.now in
     let new = texts_of c.add.new.variables in
     let same =
@@ -64,5 +64,5 @@ returns-in_ok-add-in-NoSuchVariable-clause-asked g c = λ position q name refuse
 pub returns-in_default : goal.returns-in_default
 returns-in_default g c = record {
   answer = c.in-Err.ensures.answer (λ v. string_bytes v) (λ v. refl);
-  asked = λ position q name _ is. states_another c.in-Err.e c.in_default.not-NoSuchVariable q name is;
+  prompted = λ position q name _ is. states_another c.in-Err.e c.in_default.not-NoSuchVariable q name is;
 }

@@ -1,10 +1,10 @@
--- Each name of the tree has a value, so no variable is missing; or one of them has none.
+-- Each name of the tree has a value, so no variable is missing; or a name has no value.
 use Rattle.std.proofs.Common.{◌≡◌, ℕ, true, List, IsSome, refl, sym, ◌∙◌, string_bytes}
 use Rattle.std.proofs.lemmas.Bool.{false≢true}
 use Rattle.subst.proofs.Calling.{expanded_memory_alone}
 use Rattle.subst_uses.specs.CommandLine.{texts_of}
 use Rattle.subst_uses.proofs.NameLemmas.{all_mapped_twice}
-use Rattle.subst_uses.proofs.missing.given_or_none.Goals as goal
+use Rattle.subst_uses.proofs.missing.expanded_or_none.Goals as goal
 
 pub of_expanding-requires : goal.of_expanding-requires
 of_expanding-requires c =
