@@ -3,5 +3,5 @@ import pathlib
 import sys
 
 sys.dont_write_bytecode = True
-# What builds and installs is imported by its name alone, as `import building`.
+# Modules that build and install are imported by name alone, as `import building`.
 sys.path.insert(1, str(pathlib.Path(__file__).resolve().parent.parent / 'tools'))

@@ -1,10 +1,10 @@
-"""Runs the tests, of which the last line is 'N passed, M failed', with ', K skipped' where some were.
+"""Runs the tests. The last line is 'N passed, M failed', with ', K skipped' if some were.
 
-Without --proved these are the tests that need no proof. With it they are the gate: `rt ci`; one more proof, over which
-all that follows is built, as `rt ci` keeps nothing; the must-fail edits of crates that have changed since all of theirs
-were refused, or all; and the tests of what is built, several files side by side. After names, as test_files,
-test_files.Output or test_files.Output.test_output, these alone run, with --proved those of what is built. The processor
-seconds of each part are said at the end.
+Without --proved, runs the tests that need no proof. With it, runs the gate: `rt ci`; one more proof, over which all
+that follows is built, as `rt ci` keeps nothing; the must-fail edits of crates that changed since all of theirs were
+refused, or all edits; and the tests of built programs, several files side by side. With names, as test_files,
+test_files.Output or test_files.Output.test_output, runs these alone, with --proved those of built programs. The
+processor seconds of each part are printed at the end.
 """
 import argparse
 import collections
@@ -23,7 +23,7 @@ COUNTS = re.compile(r'(\d+) passed, (\d+) failed(?:, (\d+) skipped)?$')
 
 
 class Result(unittest.TextTestResult):
-    """The outcomes of tests, which are counted as a whole, also where parts of them failed."""
+    """The results of tests. A test counts once, also if several of its parts fail."""
     passed = 0
 
     def addSuccess(self, test):
@@ -31,19 +31,19 @@ class Result(unittest.TextTestResult):
         self.passed += 1
 
     def failed(self):
-        """Returns the names of the tests that failed."""
+        """Returns the names of the failed tests."""
         wrong = [test for test, _ in self.failures + self.errors] + self.unexpectedSuccesses
         return list(dict.fromkeys(getattr(test, 'test_case', test).id() for test in wrong))
 
 
 class Totals:
-    """The counts of all parts, the names of what failed, and the processor seconds of each part."""
+    """The counts of all parts, the names of failures, and the processor seconds of each part."""
 
     def __init__(self):
         self.counts, self.failed, self.parts = collections.Counter(), [], []
 
     def run(self, name, part, *arguments):
-        """Runs a part, a function that returns how many passed, what failed, and how many were skipped."""
+        """Runs a part, a function that returns how many passed, the names of failures, and how many were skipped."""
         before = processor_seconds()
         print(f'\n{name}', flush=True)
         passed, failed, skipped = part(*arguments)
@@ -52,7 +52,7 @@ class Totals:
         self.parts.append(f'{processor_seconds() - before:6.0f}  {name}')
 
     def end(self):
-        """Prints all, and ends."""
+        """Prints all results, and exits."""
         print('\nprocessor seconds:', *self.parts, sep='\n')
         for name in self.failed:
             print(f'failed: {name}')
@@ -62,13 +62,13 @@ class Totals:
 
 
 def processor_seconds():
-    """Returns the seconds that this process took and all that it has waited for."""
+    """Returns the processor seconds of this process and of all ended children."""
     used = [resource.getrusage(whose) for whose in (resource.RUSAGE_SELF, resource.RUSAGE_CHILDREN)]
     return sum(it.ru_utime + it.ru_stime for it in used)
 
 
 def command(*words):
-    """Runs a command whose last line has its counts."""
+    """Runs a command that prints its counts in a line."""
     counts = None
     with subprocess.Popen(words, cwd=TOP, stdin=subprocess.DEVNULL, stdout=subprocess.PIPE, stderr=subprocess.STDOUT,
                           encoding='utf-8', errors='replace') as ran:
@@ -81,13 +81,13 @@ def command(*words):
 
 
 def cases(suite):
-    """Runs cases of unittest."""
+    """Runs tests of unittest."""
     result = unittest.TextTestRunner(sys.stdout, resultclass=Result).run(suite)
     return result.passed, result.failed(), len(result.skipped)
 
 
 def files(names):
-    """Runs the tests of what is built, a file in a process of its own and several side by side."""
+    """Runs the tests of built programs, each file in a process of its own and several side by side."""
     def run(name):
         return subprocess.run([sys.executable, '-m', 'tests', '--proved', name], cwd=TOP, stdin=subprocess.DEVNULL,
                               stdout=subprocess.PIPE, stderr=subprocess.STDOUT, check=False, encoding='utf-8',
@@ -107,7 +107,7 @@ def files(names):
 
 
 def suite_of(name, left_out):
-    """Returns the tests of a file, a class or a method, without those of the classes that are left out."""
+    """Returns the tests of a file, a class or a method, without those of these classes."""
     def flattened(suite):
         for test in suite:
             yield from flattened(test) if isinstance(test, unittest.TestSuite) else [test]

@@ -1,8 +1,8 @@
-/* Tests what only C and C++ can: the functions of subst.h, with NULL beside a length of 0, and its version. All else
- * that the header says is tried by fuzz/subst.c. A test that fails prints a line, and the last line is 'N passed, M
+/* Tests of what only C and C++ can pass: the functions of subst.h with NULL beside a length of 0, and its version.
+ * fuzz/subst.c tests all other promises of the header. A failed test prints a line, and the last line is 'N passed, M
  * failed'.
  *
- * With the arguments CALL SOURCE [NAME VALUE].. nothing is tested: this call is made, and its result is the status.
+ * With the arguments CALL SOURCE [NAME VALUE].., makes this call alone, and exits with its result.
  */
 #include "subst.h"
 
@@ -13,7 +13,7 @@
 enum { ROOM = 128, MOST_PAIRS = 64 };
 
 static int passed, failed;
-/* The call that is tested. */
+/* The name of the tested call. */
 static const char *tested = "";
 
 #define EXPECT(fact) ((fact) ? (void)(passed += 1) : fail(#fact))
@@ -24,7 +24,7 @@ static void fail(const char *fact)
     printf("%s FAILED: %s\n", tested, fact);
 }
 
-/* Whether a call is done that needs nothing. What it needs is then something again. */
+/* Returns whether a call is done and needs nothing, and resets the needed length. */
 static int is_empty(uint32_t result, size_t *needed)
 {
     int is_right = result == SUBST_DONE && *needed == 0;
@@ -35,7 +35,7 @@ static int is_empty(uint32_t result, size_t *needed)
 typedef uint32_t filling(const void *source, size_t source_len, const struct subst_pair *pairs, size_t pairs_len,
                          void *buffer, size_t buffer_len, size_t *needed, struct subst_fault *fault);
 
-/* The buffer that is too small is none. */
+/* Tests a call that fills in, also without a buffer. */
 static void test_filling(const char *name, filling *call)
 {
     struct subst_pair empty = {"a", 1, NULL, 0}, nameless = {NULL, 0, "1", 1};
@@ -73,11 +73,37 @@ static void test_documents_and_faults(void)
     EXPECT(subst_json(NULL, 0, NULL, 0, NULL, 0, &needed, &fault) == SUBST_REFUSED
            && fault.kind == SUBST_INVALID_DOCUMENT);
     EXPECT(is_empty(subst_toml(NULL, 0, NULL, 0, NULL, 0, &needed, &fault), &needed));
+    EXPECT(is_empty(subst_yaml(NULL, 0, NULL, 0, NULL, 0, &needed, &fault), &needed));
     EXPECT(is_empty(subst_json_fault_text("1", 1, NULL, 0, NULL, 0, &needed), &needed));
     EXPECT(is_empty(subst_toml_fault_text(NULL, 0, NULL, 0, NULL, 0, &needed), &needed));
+    EXPECT(is_empty(subst_yaml_fault_text(NULL, 0, NULL, 0, NULL, 0, &needed), &needed));
     EXPECT(is_empty(subst_fault_text(NULL, 0, NULL, 0, NULL, 0, &needed), &needed));
     EXPECT(is_empty(subst_fault_highlighting(NULL, 0, NULL, 0, NULL, 0, &needed), &needed));
     EXPECT(subst_place(NULL, 0, 0, &line, &column) == SUBST_DONE && line == 1 && column == 1);
+}
+
+/* The span of a fault is its own, within its value. */
+static void test_yaml(void)
+{
+    const struct subst_pair port = {"PORT", 4, "80", 2}, mapping = {"PORT", 4, "a: b", 4};
+    struct subst_fault fault = {0, 0, 0};
+    size_t needed = ROOM;
+    char buffer[ROOM];
+    EXPECT(subst_yaml("a: $PORT # $A", 13, &port, 1, buffer, ROOM, &needed, &fault) == SUBST_DONE && needed == 10
+           && memcmp(buffer, "a: 80 # $A", 10) == 0);
+    EXPECT(subst_yaml("$PORT: $PORT", 12, &mapping, 1, buffer, 12, &needed, &fault) == SUBST_ROOM_TOO_SMALL
+           && needed == 13);
+    EXPECT(subst_yaml("$PORT: $PORT", 12, &mapping, 1, buffer, 13, &needed, &fault) == SUBST_DONE && needed == 13
+           && memcmp(buffer, "$PORT: \"a: b\"", 13) == 0);
+    EXPECT(subst_yaml("- 1\n- \"$PORT$A\"\n", 16, &port, 1, buffer, ROOM, &needed, &fault) == SUBST_REFUSED
+           && fault.kind == SUBST_NO_SUCH_VARIABLE && fault.position == 13 && fault.length == 1);
+    EXPECT(subst_yaml_fault_text("- 1\n- \"$PORT$A\"\n", 16, &port, 1, buffer, ROOM, &needed) == SUBST_DONE
+           && needed > 5 && memcmp(buffer, "[1]: ", 5) == 0);
+    EXPECT(subst_yaml("a: $A\n\tb: 1", 11, NULL, 0, buffer, ROOM, &needed, &fault) == SUBST_REFUSED
+           && fault.kind == SUBST_NOT_YAML && fault.position == 6 && fault.length == 1);
+    EXPECT(subst_yaml_fault_text("a: $A\n\tb: 1", 11, NULL, 0, buffer, ROOM, &needed) == SUBST_DONE
+           && needed > 5 && memcmp(buffer, "a tab", 5) == 0);
+    EXPECT(subst_yaml("\xC3", 1, NULL, 0, buffer, ROOM, &needed, &fault) == SUBST_NOT_UTF8);
 }
 
 /* Any number but 0 makes variables optional. No form has the largest number. */
@@ -142,7 +168,7 @@ static void test_styles(void)
     EXPECT(subst_text_by_style("\xC3$a", 3, &shell, NULL, 0, buffer, ROOM, &needed, &fault) == SUBST_NOT_UTF8);
 }
 
-/* Makes the call of this name, or fails. */
+/* Makes the call of this name. Returns UINT32_MAX if there is none. */
 static uint32_t call_of(const char *name, const char *source, const struct subst_pair *pairs, size_t pairs_len)
 {
     struct subst_fault fault;
@@ -176,6 +202,7 @@ int main(int argc, char **argv)
     tested = "";
     test_rows_and_lists();
     test_documents_and_faults();
+    test_yaml();
     test_other_tools();
     EXPECT(subst_version() == SUBST_VERSION && SUBST_VERSION_MINOR < 100 && SUBST_VERSION_PATCH < 100);
     printf("%d passed, %d failed\n", passed, failed);

@@ -1,11 +1,11 @@
-/* Tests calls of the library from several threads at once, over a source and pairs that all of them share. */
+/* Tests calls of the library from several threads at once, over a shared source and shared pairs. */
 #include "subst.h"
 
 #include <pthread.h>
 #include <stdio.h>
 #include <string.h>
 
-/* More pairs and placeholders than are searched in turn. */
+/* More pairs and placeholders than are searched one by one. */
 enum { THREADS = 4, TURNS = 500, PAIRS = 40, ROOM = 256 };
 
 static char names[PAIRS][8];
@@ -13,7 +13,7 @@ static struct subst_pair pairs[PAIRS];
 static char source[ROOM];
 static char wanted[ROOM];
 
-/* Makes pairs a0, a1, .. whose values are their names, a source of them all, and what that gives. */
+/* Makes pairs a0, a1, .. whose values are their names, a source with all of them, and its output. */
 static void make_source(void)
 {
     for (int at = 0; at < PAIRS; at++) {
@@ -26,7 +26,7 @@ static void make_source(void)
     }
 }
 
-/* Whether a call gives what is wanted, and another one reports the fault of a source without its last pair. */
+/* Returns whether a call has this output, and another one reports the fault without the last pair. */
 static int is_right(void)
 {
     char buffer[ROOM];

@@ -1,7 +1,7 @@
-"""A second reader of other tools' texts, written from the grammar alone: what the program's answers are compared with.
+"""A second reader of other tools' texts, written from the grammar alone, to compare the program's answers with.
 
-A text is bytes. Its forms are `OWN`, `ENVSUBST` or `SHELL`, and its names are all (`None`) or chosen: a function of a
-name, and of whether the name has an operator. The forms:
+A text is bytes. Its forms are `OWN`, `ENVSUBST` or `SHELL`. Its names are all (`None`), or chosen by a function of a
+name and of whether it has an operator. The forms:
 
     text      = { byte | variable | dollars | braces }
     variable  = '$' name | '${' name '}' | '${' name operator text '}' | '${' name question message '}'
@@ -13,58 +13,58 @@ name, and of whether the name has an operator. The forms:
     message   = { byte that is no brace | '{' message '}' }
 
 - A name is the longest run of letters, digits and '_'; that of ENVSUBST and SHELL begins with no digit.
-- A dollar that begins no form of a name that counts is text. Of all names of a shell '${' has to begin a form: else it
-  is refused by what follows, and reading goes on after '${' and the name.
-- The text of an operator ends at the first '}' that closes neither a variable nor a brace in it. One that never ends is
-  refused at its dollar: the outermost alone, after all else. A message that never ends is refused at once, and nothing
-  after it is read.
-- A brace in the text of an operator of OWN is refused where it begins no variable; reading goes on after it.
+- A dollar that begins no form of a chosen name is text. With all names of a shell '${' has to begin a form; else it is
+  refused by what follows, and reading continues after '${' and the name.
+- The text of an operator ends at the first '}' that closes neither a variable nor a brace in it. If it never ends, it
+  is refused at its dollar: the outermost alone, after all else. A message that never ends is refused at once, and
+  nothing after it is read.
+- A brace in the text of an operator of OWN is refused if it begins no variable; reading continues after it.
 """
 import re
 from typing import NamedTuple, Optional, Union
 
 OWN, ENVSUBST, SHELL = 'own', 'envsubst', 'shell'
-# What a plain variable without a value is.
+# Expansions of an unset plain variable.
 FAULT, NOTHING = 'fault', 'nothing'
 # The kinds of variables.
 PLAIN, OPTIONAL, DEFAULT, ALTERNATIVE, REQUIRED = 'plain', 'optional', 'default', 'alternative', 'required'
 
 NAMES = {OWN: re.compile(rb'[0-9A-Za-z_]+'), SHELL: re.compile(rb'[A-Za-z_][0-9A-Za-z_]*')}
 NAMES[ENVSUBST] = NAMES[SHELL]
-# What may follow a name in braces: the kind of the variable, and whether an empty value counts as none.
+# The kind of a variable by its operator, and whether an empty value counts as unset.
 OPERATORS = {
     OWN: {b'}': (PLAIN, False), b'?}': (OPTIONAL, False), b':': (DEFAULT, False)},
     ENVSUBST: {b'}': (PLAIN, False)},
     SHELL: {b'}': (PLAIN, False), b':-': (DEFAULT, True), b'-': (DEFAULT, False), b':+': (ALTERNATIVE, True),
             b'+': (ALTERNATIVE, False), b':?': (REQUIRED, True), b'?': (REQUIRED, False)},
 }
-# How a default of another tool begins, which is none of OWN.
+# Beginnings of other tools' defaults, which OWN leaves as text.
 OF_OTHERS = (b'-', b'=', b'?', b'+')
-# The refused forms of a shell by what follows the name, and the other refused forms.
+# The refused forms of a shell, by the text after the name, and other refused forms.
 REFUSED = {b':=': 'ColonEquals', b':': 'Colon', b'=': 'Equals', b'#': 'Hash', b'%': 'Percent', b'/': 'Slash'}
 OTHER, NO_NAME, UNCLOSED, BRACE = 'Other', 'NoName', 'Unclosed', 'Brace'
 
 
 class Refusal(NamedTuple):
-    """A refused form, and its byte offset: that of its dollar, or of its brace."""
+    """A refused form, and the byte offset of its dollar or of its brace."""
     at: int
     form: str
 
 
 class Tree(NamedTuple):
-    """A text as it was read: bytes, and variables."""
+    """A parsed text: bytes and variables."""
     items: list
 
 
 class Message(NamedTuple):
-    """A message, and how it was read as a text: a tree, or nothing if it is refused."""
+    """A message, and its tree as a text, or nothing if it is refused."""
     text: bytes
     tree: Optional[Tree]
 
 
 class Variable(NamedTuple):
-    """A variable: the byte offset of its name, the name, its kind, whether an empty value counts as none, and what its
-    operator has."""
+    """A variable: the byte offset of its name, the name, its kind, whether an empty value counts as unset, and the
+    operand."""
     at: int
     name: bytes
     kind: str
@@ -73,8 +73,8 @@ class Variable(NamedTuple):
 
 
 class Fault(NamedTuple):
-    """A variable that has to have a value: the byte offset of its name, the name, whether it is empty rather than
-    unset, and the message as it is reported, or nothing."""
+    """A variable that must have a value: the byte offset of its name, the name, whether it is empty rather than unset,
+    and the reported message, or nothing."""
     at: int
     name: bytes
     is_empty: bool
@@ -82,7 +82,7 @@ class Fault(NamedTuple):
 
 
 class Reader:
-    """Reads one text, and collects what is refused."""
+    """A reader of one text, which collects the refused forms."""
 
     def __init__(self, text, forms, names):
         self.text, self.forms, self.names = text, forms, names
@@ -93,8 +93,8 @@ class Reader:
         self.refusals.append(Refusal(at, form))
 
     def items(self, at, is_inside):
-        """Reads to the end of the text or, inside of an operator's text, to its closing brace. Returns the tree and the
-        offset after it, or nothing in its place if that brace isn't there."""
+        """Reads to the end of the text, or inside of an operator's text to its closing brace. Returns the tree and the
+        offset after it, or nothing as the tree if that brace is missing."""
         items, braces = [], 0
         while at < len(self.text):
             byte = self.text[at:at + 1]
@@ -116,7 +116,7 @@ class Reader:
         return Tree(items), None
 
     def dollar(self, at, is_inside):
-        """Reads what the dollar at an offset begins, or the dollar as text. Returns that and the offset after it."""
+        """Reads the variable at a dollar, or the dollar as text. Returns it and the offset after it."""
         if self.is_compose and self.text.startswith(b'$$', at):
             return b'$', at + 2
         if self.text.startswith(b'${', at):
@@ -127,7 +127,7 @@ class Reader:
         return b'$', at + 1
 
     def braced(self, at, is_inside):
-        """Does so for a dollar that an opening brace follows."""
+        """Reads the variable at a dollar before a brace, or refuses it. Returns it and the offset after it."""
         name = self.name(at + 2)
         after = at + 2 + len(name)
         operator = self.operator(after) if name else None
@@ -163,7 +163,7 @@ class Reader:
         return None if is_of_others else found
 
     def refused_form(self, at):
-        """Returns the form that is refused for what follows its name at an offset."""
+        """Returns the refused form for the text at an offset, after a name."""
         if at == len(self.text):
             return UNCLOSED
         return next((form for sign, form in REFUSED.items() if self.text.startswith(sign, at)), OTHER)
@@ -190,7 +190,7 @@ class Reader:
 
 
 def read(text, forms, names=None):
-    """Reads a text. Returns its tree, or the list of its refusals in the order in which they are reported."""
+    """Reads a text. Returns its tree, or its refused forms in the order of their reports."""
     assert forms in (ENVSUBST, SHELL) or names is not None, 'the own forms of all names are the language'
     reader = Reader(text, forms, names)
     tree, _ = reader.items(0, False)
@@ -198,14 +198,14 @@ def read(text, forms, names=None):
 
 
 def value(tree, variables, missing):
-    """Expands a tree with the values of names. Returns the output, or the list of faults. Only what is used counts."""
+    """Expands a tree. Returns the output, or the faults. Only what is used is expanded."""
     faults = []
     output = b''.join(values(tree, variables, missing, faults))
     return faults or output
 
 
 def values(tree, variables, missing, faults):
-    """Yields the bytes that items expand to, and appends the faults."""
+    """Yields the outputs of items, and appends the faults."""
     for item in tree.items:
         if isinstance(item, bytes):
             yield item
@@ -225,23 +225,23 @@ def values(tree, variables, missing, faults):
 
 
 def expanded_message(message, variables, missing):
-    """Expands a message, which stays as it is if that is refused or has faults."""
+    """Expands a message, or returns it as it is if it is refused or has faults."""
     output = value(message.tree, variables, missing) if message.tree else message.text
     return output if isinstance(output, bytes) else message.text
 
 
 def answer(text, forms, names, variables, missing):
-    """Returns the output of a text, or the list of its refusals or of its faults."""
+    """Returns the output of a text, or its refused forms, or its faults."""
     tree = read(text, forms, names)
     return value(tree, variables, missing) if isinstance(tree, Tree) else tree
 
 
 def known(variables):
-    """Chooses the names that have a value, and any name that has an operator."""
+    """Returns the choice of names that have a value, and of any name with an operator."""
     return lambda name, is_operated: is_operated or name in variables
 
 
 def only(chosen):
-    """Chooses these names, and of one that ends in an asterisk all that begin so."""
+    """Returns the choice of these names; one that ends in an asterisk chooses all names with this prefix."""
     starts = tuple(name[:-1] for name in chosen if name.endswith(b'*'))
     return lambda name, _: name in chosen or name.startswith(starts)

@@ -1,5 +1,5 @@
-"""What tools/install puts below a prefix, and what the library and its package for Python return, in columns of the rows
-of crates/subst_vectors/data. Sources and variables are bytes or texts.
+"""Installations of tools/install below a prefix, and the answers of the library and its package for Python in columns
+of the rows of crates/subst_vectors/data. Sources and variables are bytes or texts.
 """
 import functools
 import importlib
@@ -18,8 +18,8 @@ CC = os.environ.get('CC') or 'cc'
 
 @functools.lru_cache(None)
 def prefix(*options):
-    """Installs what these options of tools/install name, or else the library and its package, below a new prefix, and
-    returns this. What is installed is proved first if its sources have changed."""
+    """Installs with these options of tools/install, or else the library and its package, below a new prefix. Returns
+    the prefix. Proves first what has changed."""
     folder = pathlib.Path(tempfile.mkdtemp(dir=SCRATCH.name)).resolve()
     for option in options or ('--library', '--python'):
         ran([TOP / 'tools/install', *option.split(), folder], timeout=None)
@@ -27,7 +27,7 @@ def prefix(*options):
 
 
 def packages(below):
-    """Returns the folder below a prefix to which tools/install puts the package for Python."""
+    """Returns the folder below a prefix that has the package for Python."""
     return next(below.glob('lib/python3*/*-packages'))
 
 
@@ -40,10 +40,10 @@ def module():
 
 
 class Compiling(Case):
-    """Tests that compile."""
+    """Tests that compile C."""
 
     def need_to_compile(self, compiler, *options, source='int main(void) { return 0; }'):
-        """Skips the test unless a compiler makes a program with these options, which runs here."""
+        """Skips the test unless a compiler makes a program with these options, and the program runs here."""
         pathlib.Path('probe.c').write_text(f'{source}\n', encoding='utf-8')
         self.need_to_run(compiler, *options, 'probe.c', '-o', 'probe')
         self.need_to_run('./probe', '-runs=1')
@@ -54,7 +54,7 @@ def to_bytes(text):
 
 
 def answer(subst, source, variables):
-    """The columns of the answer to a source."""
+    """Returns the columns of the answer to a source."""
     try:
         return ['ok', encode(to_bytes(subst.fill_in(source, variables)))]
     except subst.SubstError as error:
@@ -62,7 +62,7 @@ def answer(subst, source, variables):
 
 
 def lists(subst, source, variables):
-    """The columns of the lists of a source, or those of its fault."""
+    """Returns the columns of the lists of a source, or those of its fault."""
     try:
         all_, missing = subst.variables(source), subst.missing(source, variables)
     except subst.SubstError as error:
@@ -77,7 +77,7 @@ def entries(source, variables):
 
 
 def fault(source, error):
-    """The columns of a fault."""
+    """Returns the columns of a fault."""
     start, end_ = (len(to_bytes(source[:at])) for at in (error.position, error.position + error.length))
     case, at_fault, text = error.kind.name.title().replace('_', ''), to_bytes(source)[start:end_], error.message
     expected = text.rpartition(faults.texts()['UnexpectedCharacter'][1])[2] if case == 'UnexpectedCharacter' else ''
@@ -97,5 +97,5 @@ def fault(source, error):
 
 
 def of_text(data):
-    """The column of a line or highlighting: a dot would say that there is none."""
+    """Returns the column of a line or highlighting, in which a dot alone would mean that there is none."""
     return '%2E' if data == b'.' else encode(data)

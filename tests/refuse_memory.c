@@ -1,9 +1,9 @@
 /* A library to preload that refuses one request for memory, or reports each.
  *
- * REFUSE_REQUEST says which of the program's requests gets NULL, counted from 1. When that request comes, the file that
- * REFUSE_REPORT names is made, so that without it no request was refused. With REFUSE_NONE in its place none is refused,
- * and at each a line `request N` is written to standard output, where N is how many bytes it asks for: of `realloc` all
- * of the block. It needs GNU's C library.
+ * REFUSE_REQUEST is the number of the request that gets NULL, counted from 1. That request makes the file that
+ * REFUSE_REPORT names, so that without it no request was refused. With REFUSE_NONE instead, none is refused, and each
+ * writes a line `request N` to standard output, where N is its number of bytes: of `realloc` all of the block. It needs
+ * GNU's C library.
  */
 #include <errno.h>
 #include <fcntl.h>
@@ -17,10 +17,10 @@ void *__libc_calloc(size_t count, size_t size);
 void *__libc_realloc(void *block, size_t size);
 void *__libc_memalign(size_t alignment, size_t size);
 
-/* How many requests there are up to the refused one, that one included; 0 if no request is refused any more. */
+/* The number of requests up to the refused one, including it; 0 if none is refused any more. */
 static unsigned long requests_left;
 
-/* Whether a line is written at each request. */
+/* Whether each request writes a line. */
 static int are_told;
 
 __attribute__((constructor)) static void begin(void)
@@ -30,7 +30,7 @@ __attribute__((constructor)) static void begin(void)
     are_told = getenv("REFUSE_NONE") != NULL;
 }
 
-/* Reports a request for this many bytes. If that fails, the program ends with a status of its own. */
+/* Reports a request for this many bytes. Exits with status 99 if that fails. */
 static void tell(size_t size)
 {
     char line[40];
@@ -39,7 +39,7 @@ static void tell(size_t size)
         _exit(99);
 }
 
-/* Reports that a request is refused. If that fails, the program ends with a status of its own. */
+/* Reports that a request is refused. Exits with status 99 if that fails. */
 static void report(void)
 {
     const char *path = getenv("REFUSE_REPORT");
@@ -48,7 +48,7 @@ static void report(void)
         _exit(99);
 }
 
-/* Whether this request, for this many bytes, is the one to refuse. */
+/* Returns whether this request, for this many bytes, is the one to refuse. */
 static int is_refused(size_t size)
 {
     if (are_told)

@@ -1,4 +1,4 @@
-"""The rules of the language in a hundred lines, written apart from the library: what its answers are compared with.
+"""The rules of the language in a hundred lines, written independently of the library, to compare its answers with.
 
 Sources, names and values are bytes, and variables are a dictionary. A source that isn't a template has a fault.
 """
@@ -12,11 +12,11 @@ BRACE = re.compile(rb'\\.|[{}]', re.DOTALL)
 
 
 class Refused(Exception):
-    """The case and the position of a fault, or of a missing variable."""
+    """A fault or a missing variable: its case and its position."""
 
 
 class Variable(NamedTuple):
-    """A variable: its kind, the position of its name, the name, and what replaces it where it has no value."""
+    """A variable: its kind, the position of its name, the name, and its replacement if it is unset."""
     kind: bytes
     place: int
     name: bytes
@@ -24,7 +24,7 @@ class Variable(NamedTuple):
 
 
 def parsed(source, at, end):
-    """The items of the source between two positions: bytes, or a variable."""
+    """Returns the items of the source between two positions: bytes and variables."""
     items = []
     while at < end:
         if plain := PLAIN_BYTES.match(source, at, end):
@@ -42,7 +42,7 @@ def parsed(source, at, end):
 
 
 def placeholder(source, at, end):
-    """The variable that begins at this dollar, and the position after it."""
+    """Returns the variable that begins at this dollar, and the position after it."""
     brace = at + 1 if source[at + 1:min(at + 2, end)] == b'{' else None
     name = NAME.match(source, at + 1 if brace is None else at + 2, end)
     if name is None:
@@ -65,7 +65,7 @@ def placeholder(source, at, end):
 
 
 def closing_brace(source, at, end, brace):
-    """The position of the brace that closes the default which begins here."""
+    """Returns the position of the brace that closes the default at this position."""
     depth = 1
     for found in BRACE.finditer(source, at, end):
         depth += {b'{': 1, b'}': -1}.get(found[0], 0)
@@ -75,12 +75,12 @@ def closing_brace(source, at, end, brace):
 
 
 def template(source):
-    """The items of a whole source."""
+    """Returns the items of a whole source."""
     return parsed(source, 0, len(source))
 
 
 def values(items, variables):
-    """The bytes that items give, one after the other."""
+    """Returns the concatenated bytes of items."""
     for item in items:
         if isinstance(item, bytes):
             yield item
@@ -93,7 +93,7 @@ def values(items, variables):
 
 
 def variable_entries(items):
-    """The variables of items as they are written in an answer, in the order of the source, also those in defaults."""
+    """Returns the variables of items as an answer lists them, in the order of the source, also those in defaults."""
     entries = []
     for item in items:
         if isinstance(item, Variable):
@@ -103,7 +103,7 @@ def variable_entries(items):
 
 
 def missing_entries(items, variables):
-    """Those that items need and that have no value, written so."""
+    """Returns the needed variables of items that are unset, as an answer lists them."""
     entries = []
     for item in items:
         if isinstance(item, Variable) and item.name not in variables:
@@ -114,7 +114,7 @@ def missing_entries(items, variables):
 
 
 def filled(tree, variables):
-    """The tree of a document with its strings filled in, arrays by index and keys in order."""
+    """Returns the tree of a document with its strings filled in, arrays by index and keys in order."""
     if isinstance(tree, str):
         return b''.join(values(template(tree.encode()), variables)).decode()
     if isinstance(tree, list):

@@ -1,8 +1,8 @@
-/* A library to preload under which reads and writes are short, and a signal may interrupt them.
+/* A library to preload that shortens reads and writes, and lets a signal interrupt them.
  *
- * DEVICE_BYTES is how many bytes one read or write moves at most; where it is absent, they are as they are. SIGUSR1 has
- * a handler that does nothing and lets no call go on, so that a call that waits fails as interrupted, or ends with the
- * bytes that it has moved.
+ * DEVICE_BYTES is the most bytes that a read or write moves; without it they are as usual. SIGUSR1 has a handler that
+ * does nothing and restarts no call, so that a waiting call fails as interrupted, or ends with the bytes that it has
+ * moved.
  */
 #define _GNU_SOURCE
 #include <signal.h>

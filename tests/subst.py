@@ -1,4 +1,4 @@
-"""What the tests of the program `subst` share: running it as a shell would, its messages, and files."""
+"""Helpers for tests of the program `subst`: runs as by a shell, its messages, and files."""
 import json
 import os
 import random
@@ -10,20 +10,20 @@ from tests.support import KIB, Built, path_of, run, shown
 from tests.vectors import read_document
 
 PROGRAM = 'subst_cli'
-# A user that owns no file.
+# A user who owns no file.
 NOBODY = 65534
 NO_NAME = missing_name()
-# The fault of a name whose value can't be read, before the name.
+# The message about a variable whose value isn't UTF-8, before its name.
 UNREADABLE = "The value of this variable in the environment isn't UTF-8: $"
 
 
 def subst(words=(), source=b'', **options):
-    """Runs the program under the name that it is installed with."""
+    """Runs the program under its installed name."""
     return run(PROGRAM, words, source, name='subst', **options)
 
 
 def by_another_user():
-    """Returns the options that run a copy of the program as a user that owns no file; or as this one, unless it is
+    """Returns the options that run a copy of the program as a user who owns no file, or as this user unless it is
     root."""
     os.chmod('.', 0o755)
     os.chmod('..', 0o711)
@@ -45,27 +45,27 @@ def become_nobody():
 
 
 def told(place, what, line, carets):
-    """The message about a fault, with the line and the carets as they are shown below its position."""
+    """Returns the message about a fault, with its line and the carets below."""
     return told_without_line(place, what) + f'  {line}\n  {carets}\n'.encode()
 
 
 def told_without_line(place, what):
-    """The message about a fault of a values file, of which no line is shown: it may be a secret."""
+    """Returns the message about a fault of a values file, without the line, which may be a secret."""
     return f'{place}: error: {what}\n'.encode()
 
 
 def missing(name, place, line, carets, path=''):
-    """The message about a variable without a value, in a document with the path of its string."""
+    """Returns the message about an unset variable, with the path of its string in a document."""
     return told(place, f'{path}: ' * bool(path) + no_such_variable(name), line, carets)
 
 
 def wrong_words(text, usage='[OPTIONS]', more=''):
-    """The message about wrong arguments."""
+    """Returns the message about wrong arguments."""
     return f"subst: error: {text}\n\n{more}Usage: subst {usage} [FILE]...\n\nFor more information, try '--help'.\n".encode()
 
 
 def failed(file, number):
-    """The message about a file or a device that fails."""
+    """Returns the message about a file or a device that fails."""
     return failed_since(file, os.strerror(number))
 
 
@@ -74,15 +74,15 @@ def failed_since(file, why):
 
 
 def not_replaced(file, number, new):
-    """The messages about a new file that can't be made, or can't take the place of a file."""
-    return failed(file, number) + failed_since(file, f"{new} can't take its place; '> FILE' writes through")
+    """Returns the messages about a new file that can't be made, or can't replace a file."""
+    return failed(file, number) + failed_since(file, f"{new} can't replace it; use '> FILE' to write into it")
 
 
 # Sources and files
 
 
 def drawn(size):
-    """A source of this size, in which a variable is every some kilobytes, and its output where A is `<value>`."""
+    """Returns a source of this size with a variable every few kilobytes, and its output if A is `<value>`."""
     block = bytes(random.choices(b'abcdefghij klmnop\n', k=64 * KIB))
     parts, count = [], 0
     while count < size:
@@ -92,17 +92,17 @@ def drawn(size):
     return b'${A}'.join(parts), b'<value>'.join(parts)
 
 
-# What a source is read as, and how that spells a text in quotes.
-FORMS = (([], '{}'), (['--bytes'], '{}'), (['--json'], '["{}"]'), (['--toml'], 'a = "{}"\n'))
+# The options of each kind of input, and a template for a text in quotes.
+FORMS = (([], '{}'), (['--bytes'], '{}'), (['--json'], '["{}"]'), (['--toml'], 'a = "{}"\n'), (['--yaml'], 'a: "{}"\n'))
 
 
 def in_each_form(text):
-    """The arguments of each form, with a source of this text in it."""
+    """Returns the options of each kind of input, with a source that has this text."""
     return [(words, form.replace('{}', text).encode()) for words, form in FORMS]
 
 
 def toml_of(tree):
-    """A document whose tables are in braces, which is what JSON writes with `=` in place of `:`."""
+    """Returns a document whose tables are in braces: the JSON of the tree with `=` in place of `:`."""
     return ''.join(f'{key} = {in_braces(value)}\n' for key, value in tree.items())
 
 
@@ -128,7 +128,7 @@ def mode_of(file):
 
 
 class Subst(Built):
-    """Tests of the program, which is run with arguments over a source as its standard input."""
+    """Tests of the program, which runs with arguments over a source as its standard input."""
     programs = PROGRAM,
 
     def assert_done(self, words=(), source=b'', output=b'', **options):
@@ -136,11 +136,11 @@ class Subst(Built):
         self.assert_ends(subst(words, source, **options), 0, output)
 
     def assert_refused(self, words, source, *messages, **options):
-        """Fails the test unless a run refuses a source or a value with these messages."""
+        """Fails the test unless a run refuses a source or a value, with these messages."""
         self.assert_faults(subst(words, source, **options), *messages)
 
     def assert_faults(self, end, *messages):
-        """Fails the test unless a run that has ended refused a source or a value with these messages."""
+        """Fails the test unless an ended run refused a source or a value, with these messages."""
         self.assert_ends(end, 1, errors=b''.join(messages))
 
     def assert_wrong(self, words, text, usage='[OPTIONS]', more='', source=b'$', **options):
@@ -148,11 +148,11 @@ class Subst(Built):
         self.assert_ends(subst(words, source, **options), 2, errors=wrong_words(text, usage, more))
 
     def assert_failed(self, words, *messages, **options):
-        """Fails the test unless a run has these messages about files and devices that fail."""
+        """Fails the test unless a run reports failing files or devices, with these messages."""
         self.assert_ends(subst(words, **options), 3, errors=b''.join(messages))
 
     def assert_tree(self, end, kind, wanted):
-        """Fails the test unless the program gave a document that is read so."""
+        """Fails the test unless the output is a document with this tree."""
         try:
             tree = read_document(kind, end.output.decode())
         except ValueError:
@@ -168,5 +168,5 @@ class Subst(Built):
         self.assertEqual(oct(mode_of(file)), oct(mode), file)
 
     def assert_files(self, *names, folder='.'):
-        """Fails the test unless these files are all that is in a folder."""
+        """Fails the test unless a folder has these files and no others."""
         self.assertEqual(sorted(os.listdir(folder)), sorted(names), folder)

@@ -1,4 +1,4 @@
-"""What tests share: running programs on inputs, pipes and limits, and cases that have a folder of their own."""
+"""Helpers of all tests: runs of programs, pipes and limits, and cases that have a folder of their own."""
 import contextlib
 import ctypes
 import functools
@@ -15,19 +15,19 @@ from typing import NamedTuple
 
 from building import CRATES, PROGRAMS, TOP, build, builds_of, path_of, version
 
-# How long a program may run. Each run takes less than a second on a machine that does nothing else.
+# The most seconds of a run. Each takes less than one on an idle machine.
 SECONDS = 30
 KIB = 1 << 10
 MIB = 1 << 20
 GIB = 1 << 30
-# The seed of the sizes that tests draw, which a failure names: given in the environment, the same ones are drawn again.
+# The seed of random sizes, which a failure names. The environment can set it, to draw the same sizes again.
 SEED = os.environ.get('SEED') or str(random.randrange(10 ** 6))
-# The folders of tests, and what is compiled for them.
+# The folder of the tests' folders, and of what is compiled for them.
 SCRATCH = tempfile.TemporaryDirectory()
 
 
 class End(NamedTuple):
-    """How a program ended, and what it wrote."""
+    """The end of a program: its status, its output and its errors."""
     status: int
     output: bytes
     errors: bytes
@@ -36,19 +36,19 @@ class End(NamedTuple):
 # Running programs
 
 
-# The hints of `subst`, which are printed beside its messages.
+# The hints of `subst`, which are printed besides its messages.
 HINT = re.compile(rb'^\S.*?: hint: .*\n', re.MULTILINE)
 
 
 def run(crate, words=(), source=b'', name=None, **options):
-    """Runs the program of a crate, under its path or another name, and returns how it ended, without hints."""
+    """Runs the program of a crate under its path or another name. Returns how it ended, without hints."""
     end = run_with_hints(crate, words, source, name, **options)
     return end._replace(errors=HINT.sub(b'', end.errors))
 
 
 def run_with_hints(crate, words=(), source=b'', name=None, **options):
-    """Runs the program of a crate, under its path or another name. The source is its input, through a pipe, unless the
-    options, those of subprocess.run, name an input; an output that they don't name is kept."""
+    """Runs the program of a crate under its path or another name. The source is its input, through a pipe, unless the
+    options, those of subprocess.run, set an input. The output is captured unless they set one."""
     if 'stdin' not in options:
         options['input'] = source
     for stream in ('stdout', 'stderr'):
@@ -59,13 +59,13 @@ def run_with_hints(crate, words=(), source=b'', name=None, **options):
 
 
 def ended(command, **options):
-    """Runs any command, and returns how it ended, with its standard error in its output."""
+    """Runs any command. Returns how it ended, with its standard error in its output."""
     usual = {'stdin': subprocess.DEVNULL, 'stdout': subprocess.PIPE, 'stderr': subprocess.STDOUT, 'timeout': SECONDS}
     return subprocess.run(command, text=True, check=False, **{**usual, **options})
 
 
 def ran(command, **options):
-    """Runs any command, which has to end with status 0, and returns its output."""
+    """Runs any command, which has to end with status 0. Returns its output."""
     end = ended(command, **options)
     assert end.returncode == 0, f'{command} ends with status {end.returncode}: {end.stdout}'
     return end.stdout
@@ -73,7 +73,7 @@ def ran(command, **options):
 
 @functools.lru_cache(None)
 def compiled(source, *options):
-    """Compiles a file of C in tests/, and returns the path of what it becomes."""
+    """Compiles a file of C in tests/. Returns the path of the result."""
     made = pathlib.Path(tempfile.mkdtemp(dir=SCRATCH.name)) / pathlib.Path(source).stem
     strict = ['-O2', '-Wall', '-Wextra', '-Werror']
     subprocess.run([os.environ.get('CC') or 'cc', *strict, *options, '-o', made, TOP / 'tests' / source], check=True)
@@ -81,17 +81,17 @@ def compiled(source, *options):
 
 
 def preloading(source, **variables):
-    """Returns the variables of an environment under which a program runs with a library of tests/ before its own."""
+    """Returns the environment in which a program is run with a preloaded library of tests/."""
     return {'LD_PRELOAD': str(compiled(source, '-shared', '-fPIC')), **variables}
 
 
 def limited(kind, amount):
-    """Returns the option that runs a program under a limit."""
+    """Returns the option that limits a resource of a run."""
     return {'preexec_fn': lambda: resource.setrlimit(kind, (amount, amount))}
 
 
 def in_memory(amount):
-    """Returns the option that runs a program in so many bytes of memory."""
+    """Returns the option that runs a program in this many bytes of memory."""
     return limited(resource.RLIMIT_AS, amount)
 
 
@@ -103,7 +103,7 @@ def without(stream):
 
 def with_entries(crate, arguments, entries):
     """Returns the option that runs the program of a crate with these arguments, its name first, and these entries as
-    its environment, which may be no names and values, or have a name twice."""
+    its environment, which may be malformed or have a name twice."""
     def strings(items):
         return (ctypes.c_char_p * (len(items) + 1))(*items, None)
 
@@ -116,7 +116,7 @@ def with_entries(crate, arguments, entries):
 
 @contextlib.contextmanager
 def pipe():
-    """Opens a pipe: its end to read from, and its end to write to."""
+    """Opens a pipe. Its ends are to read from and to write to."""
     reader, writer = os.pipe()
     try:
         yield reader, writer
@@ -127,7 +127,7 @@ def pipe():
 
 @contextlib.contextmanager
 def unread_pipe():
-    """Opens an end to write to of a pipe that nobody can read."""
+    """Opens the writing end of a pipe that has no reader."""
     reader, writer = os.pipe()
     os.close(reader)
     try:
@@ -137,7 +137,7 @@ def unread_pipe():
 
 
 def fill(writer):
-    """Writes to a pipe all that it can hold, and returns how many bytes these are."""
+    """Fills a pipe. Returns how many bytes it holds."""
     os.set_blocking(writer, False)
     count = 0
     with contextlib.suppress(BlockingIOError):
@@ -147,7 +147,7 @@ def fill(writer):
 
 
 def left_in(reader):
-    """Returns the bytes that are in a pipe, of which it holds less than a MiB."""
+    """Returns the bytes in a pipe, which holds less than 1 MiB."""
     os.set_blocking(reader, False)
     return os.read(reader, MIB)
 
@@ -165,24 +165,24 @@ def file_of(data):
 
 
 def some_size(least, most=64 * MIB):
-    """Draws a size between these two, in each doubling as likely as in any other, so that no program has a limit past
-    it."""
+    """Returns a random size between these two, in each doubling with equal probability, so that no program has a hidden
+    limit."""
     return round(least * (most / least) ** random.random())
 
 
-# The characters that a message of `subst` shows by their numbers: what a terminal would obey, or what can't be seen.
+# Characters that a message of `subst` escapes by their numbers: those that a terminal obeys, and invisible ones.
 HIDDEN = re.compile('[\0-\x1f\x7f-\x9f\xad\u034f\u061c\u115f\u1160\u17b4\u17b5\u180b-\u180f\u200b-\u200f'
                     '\u2028-\u202e\u2060-\u206f\u3164\ufe00-\ufe0f\ufeff\uffa0\ufff0-\ufffb\U0001bca0-\U0001bca3'
                     '\U0001d173-\U0001d17a\U000e0000-\U000e0fff]')
 
 
 def as_told(text):
-    """Returns a text as a message of `subst` has it."""
+    """Returns a text as messages of `subst` show it."""
     return HIDDEN.sub(lambda it: f'\\u{{{ord(it[0]):x}}}', text.replace('\t', ' '))
 
 
 def shown(value):
-    """Returns a status, or the start of some bytes and how many there are."""
+    """Returns a status as it is, or the start of some bytes and their length."""
     if isinstance(value, int) or len(value) <= 80:
         return repr(value)
     return f'{value[:80]!r}.. ({len(value)} bytes)'
@@ -192,19 +192,19 @@ def shown(value):
 
 
 def needs(*programs):
-    """Skips a test, or all tests of a class, unless these programs of others are installed."""
+    """Skips a test, or all tests of a class, unless these programs are installed."""
     missing = [program for program in programs if shutil.which(program) is None]
     return unittest.skipIf(missing, f'not installed: {", ".join(missing)}')
 
 
 def assert_ends(end, status, output=b'', errors=b''):
-    """Fails unless a program ended so."""
+    """Fails unless a program ended like this."""
     for field, found, wanted in zip(End._fields, end, End(status, output, errors)):
         assert found == wanted, f'{field} is {shown(found)} and not {shown(wanted)}'
 
 
 class Case(unittest.TestCase):
-    """Tests that each run in an empty folder, with the random numbers of the seed and of their names."""
+    """Tests that each run in an empty folder, with random numbers from the seed and their names."""
     seed = SEED
     assert_ends = staticmethod(assert_ends)
 
@@ -217,22 +217,22 @@ class Case(unittest.TestCase):
         os.chdir(folder.name)
 
     def shortDescription(self):
-        """Names the seed where a test is reported."""
+        """Returns the seed, for reports of a test."""
         return f'SEED={self.seed}'
 
     def need_to_run(self, *command):
-        """Skips the test unless a command is installed, and ends well here."""
+        """Skips the test unless a command is installed, and exits with status 0 here."""
         is_there = shutil.which(command[0]) is not None
         if not is_there or ended(command).returncode != 0:
             self.skipTest(f"{command[0]} {'cannot do this here' if is_there else 'is not installed'}")
 
 
 class Tried(Case):
-    """Tests of what `rt try` runs, without a proof, and `rt ci` runs once it is proved."""
+    """Tests of programs that `rt try` runs without a proof, and `rt ci` runs proved."""
 
 
 class Built(Case):
-    """Tests of programs that are proved and built, which are named by their crates."""
+    """Tests of proved and built programs, named by their crates."""
     programs = ()
 
     @classmethod

@@ -1,6 +1,5 @@
-"""The library for C, as tools/install puts it below a prefix: called from C and C++ and from several threads, on
-sources around 4 GiB, by its names, and with its requests for memory counted. tests/test_fuzzing.py tries what its
-header says.
+"""The library for C, as tools/install puts it below a prefix: calls from C and C++ and from several threads, sources
+around 4 GiB, its names, and its requests for memory. tests/test_fuzzing.py tests the promises of the header.
 """
 import ctypes
 import mmap
@@ -15,16 +14,16 @@ from tests.support import KIB, MIB, TOP, Built, ended, needs, preloading, ran, v
 CXX = os.environ.get('CXX') or 'c++'
 STRICT = ('-O2', '-Wall', '-Wextra', '-Wpedantic', '-Wconversion', '-Werror')
 SANITIZED = ('-g', '-fsanitize=address,undefined', '-fno-sanitize-recover=all')
-# Results, kinds of faults and kinds of variables, as subst.h has them.
+# Results, kinds of faults and kinds of variables of subst.h.
 DONE, REFUSED, ROOM_TOO_SMALL, MISSING_VARIABLE_NAME, NO_SUCH_VARIABLE, REQUIRED, WITH_DEFAULT = 0, 1, 5, 2, 5, 0, 2
-# The option of a map that takes no memory for its pages.
+# The option of mmap that reserves no memory for the pages.
 MAP_NORESERVE = 0x4000
-# Templates, and some of each kind that is refused.
+# Templates, and sources with each kind of fault.
 SOURCES = ('Hello $name!', '${a?}${b:<${name}>}\\$', '$name ${a:$b$name}', '$name ${a:$name', '$name\\x')
 
 
 def built(source, *options, compiler=CC, library='libsubst.a'):
-    """Builds a file of tests/ over the library, and returns the path of the program."""
+    """Builds a file of tests/ with the library. Returns the path of the program."""
     language = ('-std=c++17', '-x', 'c++') if '++' in compiler else ('-std=c99',)
     ran([compiler, *STRICT, *options, *language, f'-I{prefix()}/include', '-o', 'program', TOP / 'tests' / source,
          '-x', 'none', prefix() / 'lib' / library])
@@ -32,7 +31,7 @@ def built(source, *options, compiler=CC, library='libsubst.a'):
 
 
 def defined(*words):
-    """Returns the names that a library defines for others."""
+    """Returns the names that a library exports."""
     return set(re.findall(r' [A-Z] (\w+)$', ran(['nm', '--defined-only', '-g', *words]), re.MULTILINE))
 
 
@@ -41,15 +40,15 @@ def placeholders(count):
 
 
 def pairs(count):
-    """Returns names and values, in turn. Each two pairs have the same name."""
+    """Returns alternating names and values. Each two pairs have the same name."""
     return [word for at in range(count) for word in (str(at // 2), 'vw'[at % 2])]
 
 
 class CLibrary(Compiling, Built):
-    """The library, called as C and C++ do."""
+    """The library, called from C and C++."""
 
     def requests(self, *words):
-        """Returns how many requests for memory a call makes, by the program of tests/c_library.c and its arguments."""
+        """Returns how many requests for memory a call makes, by tests/c_library.c with these arguments."""
         end = ended(words, env={**os.environ, **preloading('refuse_memory.c', REFUSE_NONE='1')})
         self.assertIn(end.returncode, (0, 1), end.stdout)
         return end.stdout.count('request ')
@@ -82,7 +81,7 @@ class CLibrary(Compiling, Built):
         ran([built('c_threads.c', '-pthread', '-g', '-fsanitize=thread')])
 
     def test_filling_in_straight_asks_for_what_the_parse_takes(self):
-        """Also to report that a variable is missing. One that puts its result in place at the end asks for more."""
+        """Also if a variable is missing. A call that copies its output into the buffer at the end makes more."""
         program = built('c_library.c')
         parse, into, copied = ([self.requests(program, call, source, 'name', 'world') for source in SOURCES]
                                for call in ('subst_check', 'subst_bytes_into', 'subst_bytes'))
@@ -98,7 +97,7 @@ class CLibrary(Compiling, Built):
             self.assertEqual((found > parse, found < parse), (has_index, False), (count, placed))
 
     def test_header_and_package_have_the_version(self):
-        """The version of the header, which tests/c_library.c compares with that of the library."""
+        """tests/c_library.c compares the header's version with the library's."""
         header = (prefix() / 'include/subst.h').read_text(encoding='utf-8')
         numbers = re.findall(r'^#define SUBST_VERSION_[MP]\w+ (\d+)$', header, re.MULTILINE)
         self.assertEqual('.'.join(numbers), version())
@@ -118,7 +117,7 @@ class CLibrary(Compiling, Built):
 
     @needs('pkg-config')
     def test_pkg_config_finds_the_library(self):
-        """The options that it prints build a program that runs."""
+        """A program builds and runs with the options that it prints."""
         found = {**os.environ, 'PKG_CONFIG_PATH': str(prefix() / 'lib/pkgconfig')}
         options = ran(['pkg-config', '--cflags', '--libs', 'subst'], env=found).split()
         ran([CC, TOP / 'tests/c_library.c', '-o', 'found', *options])
@@ -126,18 +125,18 @@ class CLibrary(Compiling, Built):
 
 
 class Pair(ctypes.Structure):
-    """A pair as subst.h has it."""
+    """subst_pair of subst.h."""
     _fields_ = [('name', ctypes.c_char_p), ('name_len', ctypes.c_size_t),
                 ('value', ctypes.c_char_p), ('value_len', ctypes.c_size_t)]
 
 
 class Row(ctypes.Structure):
-    """A row as subst.h has it."""
+    """subst_row of subst.h."""
     _fields_ = [('pairs', ctypes.POINTER(Pair)), ('pairs_len', ctypes.c_size_t)]
 
 
 class Place(ctypes.Structure):
-    """A fault or a variable as subst.h has it."""
+    """subst_fault or subst_variable of subst.h."""
     _fields_ = [('kind', ctypes.c_uint32), ('position', ctypes.c_size_t), ('length', ctypes.c_size_t)]
 
     def all(self):
@@ -145,7 +144,7 @@ class Place(ctypes.Structure):
 
 
 def sized(items):
-    """Returns bytes, or an array, and its length."""
+    """Returns bytes, or an array, with its length."""
     return items, ctypes.c_size_t(len(items))
 
 
@@ -154,7 +153,7 @@ def pairs_of(variables):
 
 
 def source_of(length, begin, end):
-    """Maps a source that begins and ends so. All its pages but the first and the last are one page of zeros, which are
+    """Maps a source with this begin and end. All pages but the first and the last share one page of zeros, which are
     plain bytes."""
     source = mmap.mmap(-1, length, mmap.MAP_PRIVATE | mmap.MAP_ANONYMOUS | MAP_NORESERVE)
     source[:len(begin)], source[length - len(end):] = begin, end
@@ -162,7 +161,7 @@ def source_of(length, begin, end):
 
 
 class Names(Built):
-    """The library called by its names alone, as Python does."""
+    """The library called by its names alone, as from Python."""
 
     def setUp(self):
         super().setUp()
@@ -171,12 +170,12 @@ class Names(Built):
         self.buffer = ctypes.create_string_buffer(MIB)
 
     def call(self, name, *arguments):
-        """Makes a call, which writes what is needed and a fault, and returns its result."""
+        """Makes a call with places for the length and for a fault. Returns the result."""
         told = (self.needed, *[self.row] * (name == 'subst_bytes_each'), self.fault)
         return self.library[name](*arguments, *map(ctypes.byref, told))
 
     def time_of(self, *arguments):
-        """Returns the processor time of a call, which is done."""
+        """Returns the processor time of a call, which has to be done."""
         begin = time.process_time()
         self.assertEqual(self.call(*arguments), DONE)
         return time.process_time() - begin
@@ -189,8 +188,8 @@ class Names(Built):
             self.assertEqual((self.call(call, *sized(b'a'), *none[2:]), self.needed.value), (ROOM_TOO_SMALL, 1))
 
     def test_each_name_is_looked_up_in_an_index(self):
-        """Sixteen times the pairs, and as many placeholders, don't take the time of a search in turn, which is 256
-        times that of one."""
+        """Sixteen times the pairs and placeholders take less time than a search in turn, which is 256 times that of
+        one."""
         def time_of(count):
             pairs = pairs_of({b'a%d' % at: b'1' for at in range(count)})
             source = b''.join(b'${a%d}' % (at * 7919 % count) for at in range(count))
@@ -201,7 +200,7 @@ class Names(Built):
         self.assertLess(many, 64 * few + 0.05)
 
     def test_a_source_is_parsed_once_for_all_rows(self):
-        """A thousand rows don't take the time of a hundred parses."""
+        """A thousand rows take less time than a hundred parses."""
         def time_of(count):
             source, pairs, ends = b'${a:' + (MIB - 5) * b'd' + b'}', pairs_of({b'a': b'1'}), (ctypes.c_size_t * count)()
             rows = (Row * count)(*count * [Row(pairs, 1)])
@@ -212,7 +211,7 @@ class Names(Built):
         self.assertLess(many, 100 * one + 0.1)
 
     def test_sources_around_4_gib_take_little_memory(self):
-        """There the parts of a template begin to need offsets of 64 bits."""
+        """At this size the parts of a template begin to need offsets of 64 bits."""
         before = resource.getrusage(resource.RUSAGE_SELF).ru_maxrss
         for length in (2 ** 32 - 1, 2 ** 32):
             source, pairs, variables = source_of(length, b'${a:', b'}x$b'), {b'a': b'1', b'b': b'2'}, (Place * 2)()

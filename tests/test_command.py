@@ -1,72 +1,85 @@
-"""The command line of `subst`: help, files and arguments, what --check and --names print, and hints."""
+"""The command line of `subst`: help, files and arguments, the output of --check and --names, and hints."""
 import errno
+import itertools
 import re
 
 from faults import invalid_escape
 from tests.subst import NO_NAME, PROGRAM, UNREADABLE, Subst, failed, missing, subst, told, told_without_line, write
 from tests.support import MIB, in_memory, run_with_hints, shown, some_size, version
 
+FORMATS = 'json|toml|yaml|text|bytes|auto'
 HELP = b"""\
-Fills in $name, ${name}, ${name:default} and ${name?} in files.
+Fill in $name, ${name}, ${name:default} and ${name?} in files.
 
 Usage: subst [OPTIONS] [FILE]...
 
 Arguments:
-  [FILE]...  The files to fill in; standard input if there are none, and for '-'
+  [FILE]...  Files to fill in; standard input if there are none, or for '-'
 
 Options:
   -h, --help     Print help
   -V, --version  Print version
 
 Variables:
-  -s, --set <NAME=VALUE>      Gives a variable; of one given twice, the last counts
-      --set-file <NAME=FILE>  Gives a variable what is in a file, without its last line end
-  -f, --values <FILE>         Reads NAME=VALUE lines (docker run --env-file) or a folder (directory)
-      --keep-line-end         Keeps the last line end of a file that is a value
-  -e, --env                   Takes variables from the environment
-      --dotenv <FILE>         Read a .env file: quotes, 'export', comments, and variables as with --shell
-      --default <NAME=VALUE>  Gives a variable that nothing above gives
-      --defaults <FILE>       Reads such variables, as --values does
-      --no-empty              Passes over variables whose value is empty
-      --escape <json|sh>      Escapes values for json (in YAML double-quoted strings alone) or sh
+  -s, --set <NAME=VALUE>      Set NAME to VALUE; the last one wins
+      --set-file <NAME=FILE>  Set NAME to the contents of FILE, without its last line end
+  -f, --values <FILE>         Read NAME=VALUE lines (as docker run --env-file), or a directory with a file per name
+      --keep-line-end         Keep the last line end of a file that is a value
+  -e, --env                   Use the environment's variables
+      --dotenv <FILE>         Read a .env file, with quotes, 'export', comments, and variables as with --shell
+      --default <NAME=VALUE>  Set NAME to VALUE if no option above sets it
+      --defaults <FILE>       Read values from FILE, as --values, for names that no option above sets
+      --no-empty              Treat empty values as unset
+      --escape <json|sh>      Escape values for json (in YAML only between double quotes; see --yaml) or sh
+
+Formats:
+      --format <%s>
+          Read files in this format; the options below are its short forms
+      --json
+          Fill in the strings of JSON documents
+      --toml
+          Fill in the strings of TOML documents
+      --yaml
+          Fill in the values of YAML documents, and quote those that need it
+      --bytes
+          Accept any bytes; by default input must be UTF-8
+      --auto
+          Choose the format of each file by its ending: .json, .toml, .yaml or .yml; else text
 
 Reading:
-      --bytes         Takes any bytes, where otherwise text is in UTF-8
-      --json          Fills in the strings of a JSON document
-      --toml          Fills in the strings of a TOML document
-      --only <NAMES>  Expand only these variables, as NAME or APP_*; leave all other text as it is
-      --envsubst      Expand $NAME and ${NAME}, as envsubst; leave all other text as it is
+      --only <NAMES>  Expand only these variables (NAME or APP_*); leave all other text as it is
+      --envsubst      Expand only $NAME and ${NAME}, like envsubst; leave all other text as it is
       --known         Expand only variables that are set; leave all other text as it is
-      --shell         Expand ${NAME:-default} and the other forms that Docker Compose has
-      --compose       The same as --shell
-      --strict        With --shell, report unset variables as errors; with --check, other tools' defaults
-      --optional      Expand unset variables of --envsubst, --shell, --only and --known to nothing
+      --shell         Expand ${NAME:-default} and the other forms of Docker Compose
+      --compose       Same as --shell
+      --strict        With --shell, report unset variables; with --check, defaults in another option's form
+      --optional      Expand unset variables to nothing, with --envsubst, --shell, --only or --known
 
 Writing:
-  -o, --output <FILE>           Writes to a file, whole or not at all
-  -O, --output-folder <FOLDER>  Writes each file, and those of folders, into a folder (directory)
-      --strip <SUFFIX>          Takes of folders such files, and the suffix off their names
-  -i, --in-place                Replaces each file by what it gives, whole or not at all
+  -o, --output <FILE>           Write the output to FILE, whole or not at all
+  -O, --output-folder <FOLDER>  Write each file's output into FOLDER; directories are read recursively
+      --strip <SUFFIX>          In directories, process only files whose names end in SUFFIX; -O removes it from output names
+  -i, --in-place                Replace each file by its output, whole or not at all; directories are read recursively
 
 Asking:
-      --check  Reports the faults of files and of those of folders, and writes nothing
-      --names  Prints each name, where it is first used, whether it is required, and its default
+      --check  Report all errors and write nothing; directories are read recursively
+      --names  List the variables: name, first use, whether required, and default
 
-A backslash escapes \\ $ { } and :, but not where --only, --envsubst, --known or
---shell chooses what a variable is: there it is text.
+A backslash escapes \\ $ { } and :. With --only, --envsubst, --known or --shell,
+a backslash is text.
 
-A name has the value of the first of these that has it: --set, --set-file, the
-values files, the environment, the .env files, --default, the defaults files.
-All names without a value are reported, but of a file with another fault that
-one alone, and of another tool's text all forms that are refused.
+Precedence of values, the first one wins: --set, --set-file, values files, the
+environment, .env files, --default, defaults files. All unset variables of a
+file are reported. If it has another error, only that one is; with --only,
+--envsubst, --known or --shell, all refused forms are.
 
-Status: 0 done, 1 a file or value is refused, 2 wrong arguments, 3 a file or
-device failed, 4 out of memory. The page subst(1) says more.
-"""
+Exit status: 0 done, 1 a file or value is refused, 2 wrong arguments, 3 a file
+or device failed, 4 out of memory. See subst(1) for more.
+""" % FORMATS.encode()
 
 
 class Help(Subst):
-    """What --help and --version print."""
+    """The output of --help and --version."""
 
     def test_help_and_version(self):
         for word in ('--help', '-h'):
@@ -85,17 +98,18 @@ class Help(Subst):
             self.assert_failed(['--help'], failed('<stdout>', errno.ENOSPC), stdout=full)
 
 
-# Pairs of options that can't be given together, as arguments and as they are reported.
+# Pairs of conflicting options, as arguments and in messages.
 CONFLICTS = (
-    ('--bytes', '--json'), ('--bytes', '--toml'), ('--json', '--toml'), ('--only <NAMES>', '--known'),
-    ('--envsubst', '--shell'), ('--envsubst', '--compose'), ('--known', '--names'),
+    *itertools.combinations([f'--format <{FORMATS}>', '--json', '--toml', '--yaml', '--bytes', '--auto'], 2),
+    ('--only <NAMES>', '--known'), ('--envsubst', '--shell'), ('--envsubst', '--compose'),
+    ('--known', '--names'),
     ('--output <FILE>', '--in-place'), ('--output <FILE>', '--check'), ('--output <FILE>', '--names'),
     ('--in-place', '--check'), ('--in-place', '--names'), ('--check', '--names'),
 )
 
 
 class Arguments(Subst):
-    """Files and options, and arguments that are wrong."""
+    """Files and options, and wrong arguments."""
 
     def test_files_and_standard_input(self):
         write('a', b'a$A')
@@ -107,7 +121,7 @@ class Arguments(Subst):
         self.assert_done(['-sA=1', '-', '-'], b'$A.', b'1.')
         self.assert_done(['-sA=1', '--', '-c', 'a'], output=b'c1a1')
         self.assert_done(['-sA=1', './-c'], output=b'c1')
-        # All files are read before one is filled in.
+        # All files are read before any is expanded.
         self.assert_failed(['a', '--', '-sA=1'], failed('-sA=1', errno.ENOENT) + missing('A', 'a:1:3', 'a$A', '  ^'))
         self.assert_done(['-sA=1'], b'')
 
@@ -148,16 +162,17 @@ class Arguments(Subst):
             more = f"  tip: to pass '{word}' as a value, use '-- {word}'\n\n"
             self.assert_wrong([word], f"unexpected argument '{word}' found", more=more)
         self.assert_wrong(['-o', 'a', '-o', 'b'], "the argument '--output <FILE>' cannot be used multiple times")
-        self.assert_ends(subst([b'\xff']), 2, errors=b"subst: error: a word of the command line isn't UTF-8\n")
+        self.assert_ends(subst([b'\xff']), 2, errors=b"subst: error: an argument isn't UTF-8\n")
         self.assert_wrong(['-i'], '--in-place needs a file')
-        self.assert_wrong(['-i', 'a', '-'], "--in-place can't be of standard input")
+        self.assert_wrong(['-i', 'a', '-'], "--in-place can't be used with standard input")
 
     def test_flags_that_are_repeated(self):
         env = {'A': '1'}
         for words in (['-e', '-e'], ['-ee'], ['--env', '-e', '--env']):
             self.assert_done(words, b'$A', b'1', env=env)
         for flag, source, output in (('--bytes', b'\xff$A', b'\xff1'), ('--json', b'["$A"]', b'["1"]'),
-                                     ('--toml', b'a="$A"', b'a="1"'), ('--envsubst', b'$A$1', b'1$1'),
+                                     ('--toml', b'a="$A"', b'a="1"'), ('--yaml', b'a: $A', b'a: 1'),
+                                     ('--envsubst', b'$A$1', b'1$1'),
                                      ('--check', b'$A', b''), ('--names', b'$A', b'A\t<stdin>:1:2\trequired\n')):
             self.assert_done([flag, '-sA=1', flag, flag], source, output)
         write('a', b'$A')
@@ -230,6 +245,8 @@ class Questions(Subst):
                          b'a\t<stdin>:1:17\trequired\nb\t<stdin>:1:24\toptional\nc\t<stdin>:1:44\trequired\n')
         self.assert_done(['--toml', '--names'], b'a = "${x:1}"\n[t]\nb = ["$y"]\n',
                          b'x\t<stdin>:1:8\tdefault\t1\ny\t<stdin>:3:8\trequired\n')
+        self.assert_done(['--yaml', '--names'], b'$k: x ${a?}\n---\n- [b, "c $b ${a:1}"]\n# $c\n',
+                         b'a\t<stdin>:1:9\toptional\nb\t<stdin>:3:11\trequired\n')
         message = told('<stdin>:1:9', f'/1: {NO_NAME}', '["$a", "$"]', '        ^')
         self.assert_refused(['--json', '--names'], b'["$a", "$"]', message)
 
@@ -237,7 +254,10 @@ class Questions(Subst):
         count = some_size(10000, 100000)
         for option, start, between, end in (('--json', b'["', b' ', b'"]'), ('--json', b'["', b'","', b'"]'),
                                             ('--toml', b'a = """\n', b'\\\n ', b'"""\n'),
-                                            ('--toml', b'a = ["', b'",\n"', b'"]\n')):
+                                            ('--toml', b'a = ["', b'",\n"', b'"]\n'),
+                                            ('--yaml', b'- ', b'\n- ', b'\n'), ('--yaml', b'- ', b'\n  ', b'\n'),
+                                            ('--yaml', b'- "', b' ', b'"\n'), ('--yaml', b'- >\n  ', b'\n  ', b'\n'),
+                                            ('--yaml', b'- |\n  ', b'\n  ', b'\n')):
             source = start + between.join([b'$' + b'n' * 24] * count) + end
             came = subst([option], source)
             heads = [line for line in came.errors.splitlines() if line.startswith(b'<stdin>:')]
@@ -260,60 +280,66 @@ def hinted(words, source=b'', **options):
     return run_with_hints(PROGRAM, words, source, name='subst', **options)
 
 
-def default_of_a_shell(place, what, sign):
-    return f"{place}: hint: {what} begins with '{sign}': for a shell's default see --shell\n".encode()
+def default_of_a_shell(place, sign):
+    return f"{place}: hint: this default begins with '{sign}'; use --shell for shell-style defaults\n".encode()
+
+
+def left_as_text(place):
+    return f'{place}: hint: this variable is left as text; use --shell for shell-style defaults\n'.encode()
 
 
 class Hints(Subst):
-    """What may have been meant, beside a message."""
+    """Hints: likely mistakes, printed besides a message."""
 
     def test_hint_of_a_default_of_a_shell(self):
         for sign in '-=?+':
             source = f'$A ${{A:d}}\n${{A_1:{sign}x}}${{B:-y}}'.encode()
-            hint = default_of_a_shell('<stdin>:2:7', 'this default', sign)
+            hint = default_of_a_shell('<stdin>:2:7', sign)
             self.assert_ends(hinted(['-sA=1'], source), 0, f'1 1\n{sign}x-y'.encode(), hint)
             self.assert_ends(hinted(['-sA=1', '--check'], source), 0, errors=hint)
             self.assert_ends(hinted(['-sA=1', '--envsubst'], source), 0, source.replace(b'$A ', b'1 '),
-                             b'<stdin>:1:8: hint: this default is text here: see --only and --known\n')
+                             b'<stdin>:1:8: hint: this default is left as text; use --only or --known\n')
             after = source.split(b'\n')[1]
             self.assert_ends(hinted(['-sA=1', '--envsubst'], after), 0, after,
-                             default_of_a_shell('<stdin>:1:7', 'this text', sign))
+                             left_as_text('<stdin>:1:7'))
             self.assert_ends(hinted(['-sB=1', '--only=A_1'], source), 0, source,
-                             default_of_a_shell('<stdin>:2:7', 'this text', sign))
+                             left_as_text('<stdin>:2:7'))
             self.assert_ends(hinted(['-sA=1', '--only=A'], source), 0, source.replace(b'$A ${A:d}', b'1 1'))
             self.assert_ends(hinted(['-sC=1', '--known'], source), 0, source.replace(b'${A:d}', b'd'),
-                             default_of_a_shell('<stdin>:2:7', 'this text', sign))
+                             left_as_text('<stdin>:2:7'))
         write('a', b'${A:-x}')
         write('b', b'$B ${A:-x}')
-        self.assert_faults(hinted(['a', 'b']), default_of_a_shell('a:1:5', 'this default', '-'),
+        self.assert_faults(hinted(['a', 'b']), default_of_a_shell('a:1:5', '-'),
                           missing('B', 'b:1:2', '$B ${A:-x}', ' ^'))
         for source in (b'${A:x-}', b'{A:-x}', b'$A:-x', b'${A:', b'${:-x}'):
             self.assertTrue(b'--shell\n' not in hinted(['-sA=1', '--only=A'], source).errors, f'{source}')
         for words, source in (([], b'\\${A:-x}'), (['--envsubst', '--only=B'], b'${A:-x}${A:d}')):
             self.assertEqual(hinted(['-sA=1', *words], source).errors, b'', f'{words} {source}')
         self.assert_ends(hinted(['-sA=1'], b'\\\\${A:-x}'), 0, b'\\1',
-                         default_of_a_shell('<stdin>:1:7', 'this default', '-'))
+                         default_of_a_shell('<stdin>:1:7', '-'))
 
     def test_default_that_is_an_error(self):
-        shell, text = "begins with '-': for a shell's default see --shell", 'this default is text here: see --only and --known'
+        shell = "this default begins with '-'; use --shell for shell-style defaults"
+        kept = 'this variable is left as text; use --shell for shell-style defaults'
+        text = 'this default is left as text; use --only or --known'
         words = ['-sA=1', '--check', '--strict']
-        for more, source, place, what in (([], '$A ${A:-x}', '1:8', f'this default {shell}'),
-                                          (['--only=A'], '${A:-x}', '1:5', f'this text {shell}'),
+        for more, source, place, what in (([], '$A ${A:-x}', '1:8', shell),
+                                          (['--only=A'], '${A:-x}', '1:5', kept),
                                           (['--envsubst'], '$A\n${A:x}', '2:5', text),
-                                          ([], 'a' * (2 << 20) + '\n${A:-x}', '2:5', f'this default {shell}')):
+                                          ([], 'a' * (2 << 20) + '\n${A:-x}', '2:5', shell)):
             line = source.split('\n')[-1]
             message = told(f'<stdin>:{place}', what, line, ' ' * (int(place.split(':')[1]) - 1) + '^')
             self.assert_faults(hinted([*words, *more], source.encode()), message)
         source = '${A:-x} \\${A:-x}\n${A:d}${A:+x}'
         self.assert_faults(hinted(words, source.encode()),
-                           told('<stdin>:1:5', f'this default {shell}', source.split('\n')[0], '    ^'),
-                           told('<stdin>:2:11', f'this default {shell}'.replace('-', '+', 1), '${A:d}${A:+x}', ' ' * 10 + '^'))
+                           told('<stdin>:1:5', shell, source.split('\n')[0], '    ^'),
+                           told('<stdin>:2:11', shell.replace('-', '+', 1), '${A:d}${A:+x}', ' ' * 10 + '^'))
         write('a', b'${A:-x}')
         write('b', b'$B ${A:=x}')
-        first = told('a:1:5', f'this default {shell}', '${A:-x}', ' ' * 4 + '^')
-        second = told('b:1:8', f'this default {shell}'.replace('-', '=', 1), '$B ${A:=x}', ' ' * 7 + '^')
+        first = told('a:1:5', shell, '${A:-x}', ' ' * 4 + '^')
+        second = told('b:1:8', shell.replace('-', '=', 1), '$B ${A:=x}', ' ' * 7 + '^')
         self.assert_faults(hinted([*words, 'a', 'b', 'a']), first, second, missing('B', 'b:1:2', '$B ${A:=x}', ' ^'), first)
-        # It is a hint without either option, and none where the default is read as such.
+        # The hint is printed without either option, and not if the default is read as such.
         for less in (['--check'], ['--strict']):
             self.assertEqual(hinted(['-sA=1', *less, 'a']).status, 0)
         self.assert_ends(hinted([*words, '--shell', 'a']), 0)
@@ -328,7 +354,7 @@ class Hints(Subst):
             self.assertEqual(hinted(['--shell', '-sE=', *words], source).errors, b'')
         end = hinted(['--shell', '-sE=', '--strict'], source)
         self.assertEqual((end.status, end.output, b'hint' in end.errors), (1, b'', False))
-        # Each name is hinted at once in a run, and none whose value can't be read.
+        # A run prints one hint for each name, and none for a variable with an unreadable value.
         for name, text in (('a', b'$x ${y-}$x'), ('b', b'$z $x')):
             write(name, text)
         for words in ([], ['-o', 'new'], ['-O', 'out'], ['--check'], ['-i']):
@@ -341,17 +367,17 @@ class Hints(Subst):
         end = hinted(['-e', '--envsubst'], b'listen ${PORT:8080}; $host', env={})
         self.assertEqual((end.status, end.output), (1, b''))
         self.assertIn(missing('host', '<stdin>:1:23', 'listen ${PORT:8080}; $host', ' ' * 22 + '^' * 4), end.errors)
-        self.assertIn(b'<stdin>:1:15: hint: this default is text here: see --only and --known\n', end.errors)
+        self.assertIn(b'<stdin>:1:15: hint: this default is left as text; use --only or --known\n', end.errors)
 
     def test_hint_of_a_file_that_is_no_file(self):
-        hint = b'subst: hint: variables are given by --set, as --set A=..\n'
+        hint = b'subst: hint: use --set A=VALUE to set a variable\n'
         self.assert_ends(hinted(['A=hunter2']), 3, errors=failed('A=hunter2', errno.ENOENT) + hint)
-        hint = b'subst: hint: names are chosen by an option, as for envsubst by its argument\n'
+        hint = b"subst: hint: use --only NAMES to choose variables, as envsubst's argument does\n"
         self.assert_ends(hinted(['$A $B']), 3, errors=failed('$A $B', errno.ENOENT) + hint)
         self.assert_ends(hinted(['-f', 'A=1']), 3, errors=failed('A=1', errno.ENOENT))
 
     def test_hint_of_a_values_file_of_a_shell(self):
-        quotes = 'the quotes are part of this value, as for docker run --env-file'
+        quotes = 'the quotes are part of this value; use --dotenv for quoted values'
         for text, place in (('A="x"', '1:3'), ("A='x y'\r\nB=\"y\"", '1:3'), ('# "\nB=1\n A=""\n', '3:4')):
             write('values', text.encode())
             for word in ('-f', '--defaults'):
@@ -361,13 +387,13 @@ class Hints(Subst):
             self.assert_ends(hinted(['-f', 'values']), 0)
         for text, place in (('export A=1', '1:1'), ('A=1\n\t export A="x"\n', '2:3')):
             write('values', text.encode())
-            hint = f"values:{place}: hint: lines are NAME=VALUE, as for docker run --env-file, without 'export'\n"
+            hint = f"values:{place}: hint: write NAME=VALUE without 'export', as for docker run --env-file\n"
             self.assert_faults(hinted(['-f', 'values']), hint.encode(),
-                              told_without_line(f'values:{place}', 'no template can spell this name'))
+                              told_without_line(f'values:{place}', 'not a variable name'))
 
     def test_hint_of_faults(self):
-        none = b'subst: hint: no variables are given: see --set, --values and --env\n'
-        other = b"subst: hint: of another tool's file see --only, --envsubst and --shell\n"
+        none = b'subst: hint: no option sets variables; use --set, --values or --env\n'
+        other = b"subst: hint: for another tool's file, use --only, --envsubst or --shell\n"
         fault = missing('A', '<stdin>:1:2', '$A', ' ^')
         write('empty', b'')
         for words in ([], ['--envsubst'], ['--no-empty'], ['--check']):

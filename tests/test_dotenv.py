@@ -1,4 +1,4 @@
-"""The .env files of `subst --dotenv`: what their lines set, and which are refused."""
+"""The .env files of `subst --dotenv`: the variables that their lines set, and refused lines."""
 import os
 
 from faults import no_such_variable
@@ -6,7 +6,7 @@ from tests.subst import PROGRAM, UNREADABLE, Subst, told_without_line, write
 from tests.support import run_with_hints
 
 FILE = '.env'
-# Lines, and the value of A. In the environment are HOME, /root, EMPTY, which is empty, and no NONE.
+# Lines, and the value of A. The environment has HOME, which is /root, EMPTY, which is empty, and no NONE.
 VALUES = (
     # Lines.
     ('A=1', '1'), ('A=1\r\n', '1'), ('\ufeffA=1\n', '1'), ('\n \t\r\n# A=2\n  #\nA=1\n', '1'), ('\t A \t=\t 1 \t', '1'),
@@ -27,20 +27,20 @@ VALUES = (
     ('B=$A\nA=[$B]', '[]'), ("B='$HOME'\nA=$B", '$HOME'), ('A=${B}\nB=1', ''),
 )
 SIGN = "missing '='"
-NAME = 'no template can spell this name'
+NAME = 'not a variable name'
 AFTER = 'text after the closing quote'
 QUOTE = 'missing closing quote'
-# Lines that are refused, with the place and the message.
+# Refused lines, with the position and the message.
 REFUSED = (
     ('A=1\n B', '2:2', SIGN), ('export', '1:1', SIGN), ('export A', '1:1', SIGN), ('A B', '1:1', SIGN),
     ('A B=1', '1:1', NAME), ('my-key=1', '1:1', NAME), ('=1', '1:1', NAME), ('exportA B=1', '1:1', NAME),
     ('export =1', '1:1', NAME), ('\u00e4=1', '1:1', NAME),
     ('A="1"2', '1:1', AFTER), ("A='1'#", '1:1', AFTER), ('A=1\nB="\n" x', '2:1', AFTER),
     ('A="1', '1:1', QUOTE), ('A=\'1\n\\', '1:1', QUOTE), ('A="1\\"', '1:1', QUOTE), ('A=1\nB="\n\n\nC=1', '2:1', QUOTE),
-    ('A=1\n\tA=${', '2:2', '`${` without a name; for a dollar write `$$`'),
-    ('A=${B:=c}', '1:1', '`=` assigns, which isn\'t done here; for a default write `${NAME:-default}`'),
-    ('A=${B#c}', '1:1', "patterns aren't matched here; give a variable that has the result"),
-    ('A="${B"', '1:1', 'a variable without its closing brace; write `}` after it'),
+    ('A=1\n\tA=${', '2:2', '`${` without a name; write `$$` for a dollar'),
+    ('A=${B:=c}', '1:1', '`=` assigns, which isn\'t supported; write `${NAME:-default}` for a default'),
+    ('A=${B#c}', '1:1', "patterns aren't supported; set a variable to the result"),
+    ('A="${B"', '1:1', 'a variable without a closing brace; write `}` after it'),
     ('A=${NONE:?hunter $HOME}', '1:1', no_such_variable('NONE') + ': hunter $HOME'),
     ('A=${EMPTY:?set it}', '1:1', '$EMPTY is empty: set it'), ('A=${NONE?}', '1:1', no_such_variable('NONE')),
 )
@@ -85,9 +85,9 @@ class Dotenv(Subst):
         write('template', b'$A $B $C\n')
         self.assert_done(['--dotenv=one', '--dotenv', 'two', 'template'], output=b'2 1 21\n')
         self.assert_done(['--dotenv=two', '--dotenv', '-', 'template'], b'A=9\nB=$C', b'9 2 2\n')
-        self.assert_wrong(['--dotenv', '-'], "standard input is read once: '--values -' needs a FILE")
+        self.assert_wrong(['--dotenv', '-'], "standard input can be read only once; if values are read from it, name the files to fill in")
         self.assert_wrong(['--dotenv', '-', '-f', '-', 'template'],
-                          "standard input is read once: '--values -' needs a FILE")
+                          "standard input can be read only once; if values are read from it, name the files to fill in")
         write('wrong', b'A')
         told = told_without_line('wrong:1:1', SIGN)
         self.assert_refused(['--dotenv=one', '--dotenv=wrong', '--dotenv=two', 'template'], b'', told)

@@ -1,8 +1,7 @@
 """The program subst beside GNU envsubst, on random templates.
 
-Each template goes through envsubst, and through subst with --envsubst, and --only where two names are listed; both
-have to write the same. What subst reports as missing is given to it as an empty value, which is what envsubst takes it
-for.
+Each template is an input of envsubst, and of subst with --envsubst, and with --only if two names are listed. Both
+outputs have to be equal. A variable that subst reports as missing then gets an empty value, as it has in envsubst.
 """
 import random
 import re
@@ -13,7 +12,7 @@ from tests.support import SECONDS, Built, needs, path_of
 
 TEMPLATES = 300
 LISTED = '$HOST $PORT'
-# None of the values is of the names that begin with NONE.
+# No variable has a name that begins with NONE.
 VARIABLES = {'HOST': 'example', 'PORT': '', 'HOSTNAME': '$PORT ${HOST}', 'A': '\\$A}', '_b1': 'two\nlines',
              'é': 'no name'}
 NAMES = ('HOST', 'PORT', 'HOSTNAME', 'A', '_b1', 'NONE', 'NONE_2', '1', 'é', '')
@@ -23,7 +22,7 @@ FORMS = ('$%s', '${%s}', '$%s-', '${%s:-x}', '${%s:x}', '${%s?}', '${%s', '\\$%s
 
 
 def template():
-    """Draws a template."""
+    """Returns a random template."""
     parts = [random.choice(FORMS) % random.choice(NAMES) if random.random() < 0.5 else random.choice(PIECES)
              for _ in range(random.randrange(20))]
     return ''.join(parts).encode()
@@ -31,7 +30,7 @@ def template():
 
 @needs('envsubst')
 class Envsubst(Built):
-    """What both write."""
+    """The outputs of both programs."""
     programs = ('subst_cli',)
 
     def ended(self, command, source):
@@ -40,13 +39,13 @@ class Envsubst(Built):
                               stderr=subprocess.PIPE)
 
     def output_of(self, command, source):
-        """Returns what a command writes, which has to end with status 0."""
+        """Returns the output of a command, which has to end with status 0."""
         end = self.ended(command, source)
         self.assertEqual(end.returncode, 0, (command, source, end.stderr))
         return end.stdout
 
     def output_of_ours(self, words, source):
-        """Returns what subst writes when each missing variable has an empty value."""
+        """Returns the output of subst, with an empty value for each missing variable."""
         command = [path_of('subst_cli'), '-e', *words]
         end, fault = self.ended(command, source), re.escape(no_such_variable(''))
         if end.returncode == 0:
@@ -55,7 +54,7 @@ class Envsubst(Built):
         return self.output_of([*command, *(f'-s{name}=' for name in missing)], source)
 
     def assert_same(self, listed, words):
-        """Compares the two on templates, of which every second isn't UTF-8."""
+        """Compares both programs on templates. Every second one isn't UTF-8."""
         for number in range(TEMPLATES):
             source = template() + (b'\xff$HOST\xc3' if number % 2 else b'')
             found = self.output_of_ours([*words, *(['--bytes'] if number % 2 else [])], source)

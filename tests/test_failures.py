@@ -1,6 +1,6 @@
-"""Reads, writes, pipes and signals that fail, and memory that runs out, while one of both programs runs.
+"""Failing reads, writes, pipes and signals, and a lack of memory, in runs of both programs.
 
-Contracts say nothing of messages, of how much went out before a write failed, and of how much memory is enough.
+No contract covers messages, the output before a failed write, and how much memory is enough.
 """
 import contextlib
 import errno
@@ -18,14 +18,14 @@ from tests.support import (GIB, KIB, MIB, SECONDS, Built, End, file_of, in_memor
                            preloading, run, shown, some_size, unread_pipe, without)
 
 FILTER, COMMAND = 'subst_filter', 'subst_cli'
-# Bytes that are their own output: all of them, also outside UTF-8, and a text.
+# All bytes that expand to themselves, also outside UTF-8, and a text that does.
 PLAIN = bytes(byte for byte in range(256) if byte not in b'\\$')
 TEXT = b'Each line of this text is the same as all others.\n'
 HELLO = b'Hello $name!'
 
 
 class Way(NamedTuple):
-    """A program, with arguments by which it fills in `$name` as `world`."""
+    """A program, with arguments that expand `$name` to `world`."""
     crate: str
     words: list
 
@@ -34,18 +34,18 @@ class Way(NamedTuple):
         return self.crate == FILTER
 
     def run(self, source=b'', **options):
-        """Runs the program, and returns how it ended."""
+        """Runs the program. Returns how it ended."""
         return run(self.crate, self.words, source, **{'name': 'subst', 'env': {'name': 'world'}, **options})
 
     def failed(self, stream, number):
-        """Returns the message about a stream that fails with this error."""
+        """Returns the message about a stream that fails with this error number."""
         if self.is_filter:
             return b'subst: read failed\n' if stream == 'stdin' else b'subst: write failed\n'
         return failed(f'<{stream}>', number)
 
     @contextlib.contextmanager
     def started(self, source=subprocess.PIPE):
-        """Starts the program on a pipe or a file, so that SIGUSR1 interrupts what waits. It is ended with the block."""
+        """Starts the program on a pipe or a file. SIGUSR1 interrupts its system calls. It is ended with the block."""
         env = preloading('slow_devices.c', name='world')
         with subprocess.Popen(['subst', *self.words], executable=path_of(self.crate), bufsize=0, env=env, stdin=source,
                               stdout=subprocess.PIPE, stderr=subprocess.PIPE) as ran:
@@ -57,18 +57,18 @@ class Way(NamedTuple):
 
 WAYS = (Way(FILTER, ['bytes', 'name=world']), Way(FILTER, ['text', 'name=world']), Way(FILTER, ['env']),
         Way(COMMAND, ['-sname=world']), Way(COMMAND, ['--bytes', '-sname=world']), Way(COMMAND, ['-e']))
-# Those that write something: the output, or the names that are in the source.
+# Programs that write the output, or the names in the source.
 WRITERS = (*WAYS, Way(COMMAND, ['--names']))
 
 
 def end_of(ran, rest=None):
-    """Writes the rest of its input to a program that runs, and returns how it ended."""
+    """Writes the rest of its input to a running program. Returns how it ended."""
     output, errors = ran.communicate(rest, timeout=SECONDS)
     return End(ran.returncode, output, errors)
 
 
 def interrupt(ran):
-    """Interrupts a program once it waits for one of its streams, and goes on when it waits again or has ended."""
+    """Interrupts a program that waits for one of its streams. Returns when it waits again or has ended."""
     until_it_waits(ran)
     assert ran.poll() is None, 'the program has ended'
     ran.send_signal(signal.SIGUSR1)
@@ -76,7 +76,7 @@ def interrupt(ran):
 
 
 def until_it_waits(ran):
-    """Goes on when a program waits, or has ended."""
+    """Returns when a program waits, or has ended."""
     end = time.monotonic() + SECONDS
     while ran.poll() is None and not waits(ran.pid):
         assert time.monotonic() < end, 'the program waits for nothing'
@@ -84,7 +84,7 @@ def until_it_waits(ran):
 
 
 def waits(process):
-    """Whether a process sleeps, has a handler of SIGUSR1, and has handled each that came."""
+    """Returns whether a process sleeps with a handler of SIGUSR1, and none is pending."""
     with open(f'/proc/{process}/status', encoding='ascii', errors='replace') as status:
         fields = dict(line.rstrip('\n').split(':\t', 1) for line in status)
 
@@ -95,7 +95,7 @@ def waits(process):
 
 
 def long_text():
-    """Returns a text that is its own output, and more than a pipe holds."""
+    """Returns a text that expands to itself, and is longer than a pipe holds."""
     return TEXT * some_size(3000, 300000)
 
 
@@ -122,7 +122,7 @@ class Reads(Built):
                 self.assert_ends(way.run(stdin=reader), 3, errors=way.failed('stdin', errno.EAGAIN))
 
     def test_read_that_fails_half_way(self):
-        """The input is a terminal that is hung up after the source: a read that fails comes next."""
+        """The input is a terminal that hangs up after the source, so that the next read fails."""
         for way in WAYS:
             with self.subTest(way):
                 terminal, other = os.openpty()
@@ -134,7 +134,7 @@ class Reads(Built):
                 self.assert_ends(end, 3, errors=way.failed('stdin', errno.EIO))
 
     def test_read_that_is_interrupted(self):
-        """The filter fails, and `subst` reads on."""
+        """The filter fails, and `subst` continues reading."""
         for way in WAYS:
             for before in (b'', b'Hello $na'):
                 with self.subTest(way), way.started() as ran:
@@ -159,7 +159,7 @@ class Writes(Built):
                     self.assert_ends(way.run(source, **without(1)), 3, errors=way.failed('stdout', errno.EBADF))
 
     def test_pipe_that_is_closed(self):
-        """Python ignores SIGPIPE and SIGXFSZ: with `restore_signals` the program begins with them not ignored."""
+        """Python ignores SIGPIPE and SIGXFSZ. With `restore_signals` the program starts with their default actions."""
         for way in WRITERS:
             for restored in (True, False):
                 with self.subTest(way), unread_pipe() as writer:
@@ -177,7 +177,7 @@ class Writes(Built):
                 self.assert_ends(end, 3, text[:10], way.failed('stdout', errno.EPIPE))
 
     def test_write_that_a_signal_cuts_short(self):
-        """The pipe is full: the write ends with the bytes that it has moved, and the program writes the rest."""
+        """The pipe is full. The write ends with the bytes that it has moved, and the program writes the rest."""
         for way in WAYS:
             text = long_text()
             with self.subTest(way), file_of(text) as file, way.started(file) as ran:
@@ -185,7 +185,7 @@ class Writes(Built):
                 self.assert_ends(end_of(ran), 0, text)
 
     def test_write_that_is_interrupted(self):
-        """The second signal comes before the next write has moved a byte: the filter fails, and `subst` writes on."""
+        """The second signal comes before the next write moves a byte: the filter fails, and `subst` goes on."""
         for way in WAYS:
             text = long_text()
             with self.subTest(way), file_of(text) as file, way.started(file) as ran:
@@ -236,7 +236,7 @@ class Writes(Built):
 
 
 class Files(Subst):
-    """Files of `subst` that can't be read, and streams that it doesn't need."""
+    """Unreadable files of `subst`, and closed streams that it doesn't need."""
 
     def test_inputs_that_cannot_be_read(self):
         self.assert_failed(['nothing', '.'], failed('nothing', errno.ENOENT), failed('.', errno.EISDIR))
@@ -257,11 +257,11 @@ class Files(Subst):
 
 
 class Memory(Subst):
-    """Memory that runs out."""
+    """A lack of memory."""
     programs = FILTER, COMMAND
 
     def test_memory_that_runs_out_in_the_filter(self):
-        """It isn't enough for the input, for what is kept of open braces, or for the output."""
+        """Memory isn't enough for the input, for the stack of open braces, or for the output."""
         for words, source in (([], b'a' * (80 * MIB)), ([], 2000000 * b'${a:' + 2000000 * b'}'),
                               (['a=' + 100000 * 'v'], 1000000 * b'$a ')):
             end = run(FILTER, ['bytes', *words], source, **in_memory(64 * MIB))
@@ -287,7 +287,7 @@ class Memory(Subst):
         self.assert_file('small', b'1')
 
     def assert_out_of_memory(self, words, errors):
-        """Fails the test unless `subst` reports that 64 MiB aren't enough."""
+        """Fails the test unless `subst` reports that 64 MiB of memory aren't enough."""
         self.assert_ends(subst(words, **in_memory(64 * MIB)), 4, errors=errors)
 
     def test_memory_that_runs_out_at_each_request(self):
@@ -296,8 +296,8 @@ class Memory(Subst):
                 self.refuse_in_turn(way, b'Hello ${who:$name}!', b'Hello world!')
 
     def refuse_in_turn(self, way, source, output):
-        """Runs the program again and again, each time with another of its requests for memory refused, until in a run
-        none is. It has to end as if none were, or to be out of memory."""
+        """Runs the program again and again, and refuses another request for memory in each run, until none is left.
+        Each run has to end as without a refusal, or out of memory."""
         times = 0
         for request in range(1, 1000):
             report = os.path.abspath('report')

@@ -1,4 +1,4 @@
-"""What `subst` says of faults: places, lines and carets."""
+"""Messages of `subst` about faults: positions, lines and carets."""
 import errno
 
 from faults import invalid_escape, missing_brace, no_such_variable, unexpected
@@ -6,8 +6,8 @@ from tests.subst import NO_NAME, Subst, failed, missing, told, told_without_line
 from tests.support import HIDDEN, KIB, as_told, some_size
 
 WIDE = '\u6f22'
-# Sources of one fault each, with its position, whose columns are those of a terminal, what it is, the line as it is
-# shown, how many columns are before the carets, and how many carets there are.
+# Sources of one fault each: the source, the position, with columns of a terminal, the message, the shown line, the
+# columns before the carets, and the number of carets.
 FAULTS = (
     ('$', '1:1', NO_NAME, '$', 0, 1),
     ('a\n$\nb', '2:1', NO_NAME, '$', 0, 1),
@@ -28,7 +28,7 @@ FAULTS = (
     ('\x07\x7f\x9b$', '1:4', NO_NAME, '\\u{7}\\u{7f}\\u{9b}$', 17, 1),
     ('\u202e\u2066$\u200f', '1:1', NO_NAME, '\\u{202e}\\u{2066}$\\u{200f}', 16, 1),
     ('${a\x1b', '1:4', unexpected("'\\u{1b}'"), '${a\\u{1b}', 3, 6),
-    # Lines of 60 columns are shown whole, and of wider ones 60 columns, with the ellipses.
+    # Lines of 60 columns are shown whole. Of wider ones 60 columns are shown, with the ellipses.
     ('$' + '-' * 59, '1:1', NO_NAME, '$' + '-' * 59, 0, 1),
     ('$' + '-' * 60, '1:1', NO_NAME, '$' + '-' * 58 + '\u2026', 0, 1),
     ('a' * 59 + '$', '1:60', NO_NAME, 'a' * 59 + '$', 59, 1),
@@ -64,7 +64,7 @@ class Faults(Subst):
         self.assert_refused([], long.encode(), missing('n' * 70, '<stdin>:1:73', line, ' ' * 30 + '^' * 29))
 
     def test_names_that_are_very_long(self):
-        """Of a fault of more than 240 columns the start is shown, and of a path of more than 120."""
+        """At most 240 columns of a fault's message are shown, and 120 of a path."""
         line, carets = '$' + 'n' * 58 + '\u2026', ' ' + '^' * 58
         room = 240 - len(no_such_variable(''))
         for count in (room, room + 1, some_size(KIB)):

@@ -1,4 +1,4 @@
-"""Files that `subst` writes whole or not at all, also where it is killed and where system calls fail."""
+"""Output files of `subst`, written whole or not at all, also if it is killed or system calls fail."""
 import errno
 import functools
 import os
@@ -49,7 +49,7 @@ class Output(Subst):
                     self.assert_file(file, b'1')
                     self.assert_mode(file, mode & 0o777 & ~mask)
                     os.remove(file)
-                # The mode of none of several counts, nor that of what is no file.
+                # The mode isn't taken from several files, or from something that is no file.
                 self.assert_done(['-o', 'new', '-sA=1', template, template], **options)
                 self.assert_mode('new', 0o666 & ~mask)
                 os.remove('new')
@@ -177,7 +177,7 @@ class Output(Subst):
 
     @unittest.skipUnless(os.getuid() == 0, 'only root can give files away')
     def test_group_stays_where_the_owner_cannot(self):
-        # The groups that the other user has, and the mode before and after: one in the group keeps it.
+        # Groups that the other user has, and modes before and after. A file of such a group keeps its group.
         rows = ((1234, 0o660, 1234, 0o660), (1234, 0o6664, 1234, 0o664), (4321, 0o664, NOBODY, 0o644),
                 (4321, 0o6676, NOBODY, 0o666), (4321, 0o674, NOBODY, 0o644))
         by_another_user()
@@ -243,7 +243,7 @@ class OutputFolder(Subst):
         os.makedirs('two')
         for folder in ('one', 'two'):
             write(f'{folder}/a.in', folder.encode())
-        errors = failed_since('two/a.in', 'another file has its place in the folder')
+        errors = failed_since('two/a.in', 'not written: an earlier file has the same output path')
         self.assert_failed(['-Oout', '--strip=.in', 'one/a.in', 'two'], errors)
         self.assert_file('out/a', b'one')
 
@@ -282,25 +282,25 @@ class OutputFolder(Subst):
 
     def test_hint_of_a_suffix_that_no_file_has(self):
         make_templates()
-        hint = b"subst: hint: no file's name ends in '.tmpl', which --strip takes off\n"
+        hint = b"subst: hint: no file name ends in '.tmpl' (--strip)\n"
         write('a.tmpl', b'')
         for files, errors in ((['templates'], hint), (['templates/README', '--only=A'], hint),
                               (['templates', 'a.tmpl'], b''), (['a.tmpl'], b'')):
-            for words in (['-Oout'], ['--check'], ['--names']):
+            for words in (['-Oout'], ['-i'], ['--check'], ['--names']):
                 end = run_with_hints(PROGRAM, ['-sPORT=1', *words, '--strip=.tmpl', *files], name='subst')
                 self.assert_ends(end, 0, errors=errors)
 
     def test_wrong_words_of_output_folders(self):
         self.assert_wrong(['-Oout'], '--output-folder needs a file')
-        self.assert_wrong(['-Oout', '-'], "--output-folder can't be of standard input")
+        self.assert_wrong(['-Oout', '-'], "--output-folder can't be used with standard input")
         for words in (['--strip=.in'], ['--strip=', '-Oout', 'a'], ['--strip=', '--check']):
-            self.assert_wrong(words, '--strip needs a suffix and --output-folder, --check or --names')
+            self.assert_wrong(words, '--strip needs a suffix and --output-folder, --in-place, --check or --names')
 
 
-# What is filled in as itself, with arguments.
+# Arguments, and sources that expand to themselves.
 SAME = (([], b'a\n'), (['-sA=$A'], b'$A'), (['--bytes'], b'\xff'), (['--bytes', '--only=A'], b'\xff$'),
         (['--envsubst'], b'\\$1\n'), (['--json'], b'{"b": 1.50,\r\n "a" :"1" }'), (['--json', '-sA=$A'], b'"$A"'),
-        (['--toml'], b'# $A\nb=1\na= \'b\'\n'))
+        (['--toml'], b'# $A\nb=1\na= \'b\'\n'), (['--yaml'], b'# $A\r\n$A:   b\r\n--- \'b\''))
 
 
 class InPlace(Subst):
@@ -324,6 +324,9 @@ class InPlace(Subst):
         write('e', b'["$A"]')
         self.assert_done(['--in-place', '--json', '-sA="', 'e'])
         self.assert_file('e', b'["\\""]')
+        write('f', b'# $A\r\n$A:   {a: $A, b: "$A", c: \'$A\'}\r\n')
+        self.assert_done(['--in-place', '--yaml', '-sA=it\'s', 'f'])
+        self.assert_file('f', b'# $A\r\n$A:   {a: it\'s, b: "it\'s", c: \'it\'\'s\'}\r\n')
 
     def test_in_place_of_what_gives_itself(self):
         for words, data in SAME:
@@ -348,7 +351,7 @@ class InPlace(Subst):
             write('f', b'$')
             self.assert_refused(['-i', 'f', other], b'', told('f:1:1', NO_NAME, '$', '^'))
             os.remove('link')
-        # Another name of the file keeps what it was, and is filled in by itself.
+        # Another link to the file keeps its contents, and is filled in separately.
         write('f', b'$A')
         os.link('f', 'hard')
         self.assert_done(['-i', '-sA=$A$A', 'f', 'hard'])
@@ -372,7 +375,7 @@ class InPlace(Subst):
     def test_in_place_of_what_is_no_file(self):
         os.mkfifo('fifo')
         write('file', b'$A')
-        errors = b''.join(failed_since(file, 'not a regular file') for file in ('fifo', '.', '/dev/null'))
+        errors = b''.join(failed_since(file, 'not a regular file') for file in ('fifo', './fifo', '/dev/null'))
         self.assert_failed(['-i', '-sA=1', 'fifo', '.', 'file', '/dev/null'], errors)
         self.assert_file('file', b'1')
         self.assert_files('fifo', 'file')
@@ -414,7 +417,7 @@ class InPlace(Subst):
 
 
 def with_failing_call(call, number, words, *more, when='1'):
-    """Runs the program where the first of such system calls, or those of other numbers, fail, and returns how it
+    """Runs the program with a failure of the first of these system calls, or of others by number. Returns how it
     ended."""
     tracing = ['-qq', '-o', '/dev/null', *more, '-e', f'inject={call}:error={errno.errorcode[number]}:when={when}']
     return run(PROGRAM, [*tracing, path_of(PROGRAM), *words], b'$A\n', name='strace', executable=shutil.which('strace'))
@@ -422,19 +425,19 @@ def with_failing_call(call, number, words, *more, when='1'):
 
 # How often a run is killed.
 KILLS = 200
-# The system calls after which a new file isn't in the old one's place, with the error of each.
+# System calls that leave the old file in place if they fail, with their errors.
 CALLS = (('write', errno.EIO), ('fchmod', errno.EPERM), ('fsync', errno.EIO), ('fsync', errno.ENOSPC),
          ('rename,renameat,renameat2', errno.EACCES), ('rename,renameat,renameat2', errno.EXDEV))
 
 
 def started(words):
-    """The program, which runs and writes nothing that is read."""
+    """Starts the program, without output."""
     return subprocess.Popen(['subst', *words], executable=path_of(PROGRAM), stdin=subprocess.DEVNULL,
                             stdout=subprocess.DEVNULL, stderr=subprocess.DEVNULL)
 
 
 def usual_time(words, source):
-    """How many seconds the program runs in place of a file, at the median."""
+    """Returns the median of the seconds that the program runs to replace a file."""
     times = []
     for _ in range(5):
         write('file', source)
@@ -445,7 +448,7 @@ def usual_time(words, source):
     return sorted(times)[2]
 
 
-# Makes a file one that is mounted by itself, fills it in, and writes through it.
+# A script that mounts a file over itself, expands into it, and writes through it.
 ON_A_BOUND_FILE = """
 mount --bind old file || exit 99
 "$@"
@@ -454,7 +457,7 @@ ls -A >listing
 "$1" -sA=1 template >file
 exit $status
 """
-# Fills a small file system, whose folder and file it then copies to where they are seen.
+# A script that expands into a file of a small file system, and copies the file and its folder's listing out of it.
 ON_A_SMALL_DISK = """
 mount -t tmpfs -o size=64k none disk && cp old disk/file || exit 99
 "$@" <template
@@ -466,7 +469,7 @@ exit $status
 
 
 class Whole(Subst):
-    """Runs that fail or are killed before a file is replaced."""
+    """Runs that fail or are killed before they replace a file."""
 
     def test_system_calls_that_fail(self):
         self.need_to_run('strace', '-o', '/dev/null', 'true')
@@ -499,7 +502,7 @@ class Whole(Subst):
 
     def test_owner_that_is_refused(self):
         self.need_to_run('strace', '-o', '/dev/null', 'true')
-        # Who owns it now lends its identity to nobody, and where the group isn't kept, it may do what others may.
+        # Set-ID bits are lost, and if the group isn't kept, it gets the permissions of others.
         for when, group, mode in (('1', 2, 0o754), ('1+', os.getgid(), 0o744)):
             for words in (['-i', 'file'], ['-o', 'file']):
                 write('file', b'$A\n')
@@ -561,7 +564,7 @@ class Whole(Subst):
 
 
 def modes_of(name):
-    """The mode of a file, if it is still there."""
+    """Returns the mode of a file, if it still exists."""
     try:
         return [mode_of(name)]
     except FileNotFoundError:

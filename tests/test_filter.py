@@ -1,7 +1,7 @@
-"""What the program subst_filter does with its arguments, its environment and its input, also where they are large.
+"""The program subst_filter: its arguments, its environment and its input, also large ones.
 
-Contracts say nothing of `main` and of standard error, so these tests run the program as a shell would. What is expected
-is worked out here, from the rules of the language and not from a run.
+No contract covers `main` and standard error, so these tests run the program as a shell would. Expected outputs are
+worked out here from the rules of the language, not from a run.
 """
 import os
 import random
@@ -17,11 +17,11 @@ NOT_UTF8 = b'subst: input is not UTF-8\n'
 USAGE = b'usage: subst_filter bytes|text|env [NAME=VALUE]...\n'
 READ_FAILED = b'subst: read failed\n'
 SPECIAL = b'\\${}:'
-# Every byte that stands for itself, also outside UTF-8.
+# All bytes that expand to themselves, also outside UTF-8.
 PLAIN = bytes(byte for byte in range(256) if byte not in b'\\$')
-# The bytes that names of variables are made of.
+# The bytes of names of variables.
 NAME_BYTES = b'0123456789ABCDEFGHIJKLMNOPQRSTUVWXYZ_abcdefghijklmnopqrstuvwxyz'
-# Each first argument of the filter, with a variable for those that take one.
+# Each first argument of the filter, with a variable if it takes any.
 WORDS = (['bytes', 'name=world'], ['text', 'name=world'], ['env'])
 WRONG_WORDS = ([], [''], ['', 'bytes', 'a=1'], ['', 'env'], ['bytes', 'name'], ['bytes', 'a=1', 'b'], ['bytes', ''],
                ['text', 'name'], ['text', 'a=1', 'b'], ['env', 'a=1'], ['env', ''], ['env', 'env'], ['Bytes'], ['a=1'],
@@ -44,12 +44,12 @@ def fill_in_from(environment, source=b'', **options):
 
 
 def refused(fault, highlighting=''):
-    """Returns what the filter says of a fault."""
+    """Returns the filter's message about a fault."""
     return f'subst: {fault}\n{highlighting}'.encode()
 
 
 class Filter(Built):
-    """Statuses, with their messages."""
+    """Statuses and messages."""
     programs = PROGRAM,
 
     def test_fills_variables_in(self):
@@ -67,7 +67,7 @@ class Filter(Built):
         self.assert_ends(fill_text_in([]), 0)
 
     def assert_each_word(self, build):
-        """Fails the test unless a build of the filter does what each first argument says."""
+        """Fails the test unless a build of the filter obeys each first argument."""
         letter = ('Dear $name,\n${greeting:Grüße aus ${town:Köln}}! ${title?}You owe ${sum}${empty}\\: '
                   '\\$name, \\{\\}, \\\\ and ❤.\n')
         written = 'Dear Zoë,\nGrüße aus Köln! You owe 12 €: $name, {}, \\ and ❤.\n'
@@ -79,7 +79,7 @@ class Filter(Built):
         self.assert_ends(fill_in_from(variables, lines.encode(), executable=build), 0, given.encode())
 
     def assert_unread(self, words, status, errors, **options):
-        """Fails the test unless a run ends so before it has read its input."""
+        """Fails the test unless a run ends like this before it reads its input."""
         with pipe() as (reader, writer):
             count = fill(writer)
             self.assert_ends(run(PROGRAM, words, stdin=reader, **options), status, errors=errors)
@@ -98,7 +98,7 @@ class Filter(Built):
         for source in (b'\xff', b'$a \xc3', b'\xed\xa0\x80', b'\xc3$'):
             for end in (fill_text_in(['a=1'], source), fill_in_from({'a': '1'}, source)):
                 self.assert_ends(end, 1, errors=NOT_UTF8)
-            # Where the input isn't read to its end, nothing is said of it.
+            # An input that isn't read to its end isn't reported.
             with pipe() as (reader, writer):
                 os.set_blocking(reader, False)
                 os.write(writer, source)
@@ -119,14 +119,14 @@ class Filter(Built):
             self.assert_ends(fill_in_from({b'a': value}, b'<$a>'), 0, b'<' + output + b'>')
         self.assert_ends(fill_in_from({}, b'<${a?}>'), 0, b'<>')
         self.assert_ends(fill_in_from({}, b'<$a>'), 1, errors=refused(no_such_variable('a'), '  <$a>\n    ^\n'))
-        # Names that are no names of variables.
+        # Names that no variable can have.
         self.assert_ends(fill_in_from({b'a.b': b'1', b'': b'2', '\u00e4'.encode(): b'3', b'a': b'4'}, b'$a.b'), 0,
                          b'4.b')
 
     def test_takes_the_first_of_two_entries_with_a_name(self):
         entries = with_entries(PROGRAM, [b'subst_filter', b'env'], [b'A=1', b'A=2', b'B', b'=C'])
         self.assert_ends(run(PROGRAM, [], b'$A', **entries), 0, b'1')
-        # The program `env` sets a name again, and so passes on the last value alone.
+        # The program `env` sets a name again, so it passes on the last value alone.
         words = ['-i', 'A=1', 'A=2', path_of(PROGRAM), 'env']
         self.assert_ends(run(PROGRAM, words, b'$A', name='env', executable=shutil.which('env')), 0, b'2')
 
@@ -138,7 +138,7 @@ class Filter(Built):
 
     def test_has_all_that_an_environment_has(self):
         rng = random.Random(5)
-        # A long value, values of usual names, and names that can't be written in a source.
+        # A long value, values of usual names, and names that no source can have.
         entries = [(b'LONG', b'v' * (100 * KIB)), (b'_', b'1'), (b'_A', b'2'), (b'1', b'3'), (b'a b', b'4'),
                    (b'a.b', b'5')]
         for _ in range(1000):
@@ -157,7 +157,7 @@ class Filter(Built):
     def test_fails_at_an_environment_outside_utf8(self):
         for variables in ({b'a': b'\xff'}, {b'\xff': b'a'}, {b'a': b'1', b'b': b'\xed\xa0\x80'}):
             self.assert_unread(['env'], 3, READ_FAILED, env=variables)
-            # Only the argument `env` reads it.
+            # Only the argument `env` uses the environment.
             for words in (['bytes', 'a=1'], ['text', 'a=1']):
                 self.assert_ends(run(PROGRAM, words, b'$a', env=variables), 0, b'1')
             self.assert_ends(run(PROGRAM, ['env', 'a=1'], b'$a', env=variables), 2, errors=USAGE)
@@ -206,7 +206,7 @@ class Filter(Built):
 
 
 class Large(Built):
-    """Large sources, values and lists, which memory is enough for."""
+    """Large sources, values and lists, for which memory is enough."""
     programs = PROGRAM,
 
     def test_copies_large_sources(self):
@@ -244,7 +244,7 @@ class Large(Built):
         count = some_size(500, 20000)
         words = [f'name{number % count}=value{number}' for number in range(2 * count)]
         source = ''.join(f'${{name{number}}} $name{number}\n' for number in range(count))
-        # The last argument of a name counts.
+        # The last argument of a name wins.
         output = ''.join(f'value{number} value{number}\n' for number in range(count, 2 * count))
         self.assert_ends(fill_in(words, source.encode()), 0, output.encode())
 

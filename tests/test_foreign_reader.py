@@ -1,7 +1,7 @@
 """Texts of other tools: the rows of tests/data/foreign-texts.tsv, and random ones.
 
-The reader of tests/foreign_reader.py has to answer each row so, which needs no program. The program has to answer each
-row so in every way to call it, and random texts as the reader does.
+The reader of tests/foreign_reader.py has to return each row's answer, which needs no program. The program has to return
+it in each of its ways, and for random texts the answer of the reader.
 """
 import contextlib
 import json
@@ -19,13 +19,13 @@ from tests.support import TOP, Built, Case, as_told
 from tests.vectors import decode, read_document, variables_of
 
 TABLE = TOP / 'tests/data/foreign-texts.tsv'
-# The names of a row that aren't chosen one by one.
+# Choices of names in a row that list none.
 ALL, KNOWN = 'all', 'known'
-# How many random texts there are for each form and each choice of names.
+# The number of random texts for each form and choice of names.
 TEXTS = int(os.environ.get('TEXTS', 20000))
-# How many of them are files of one run.
+# The number of files in one run.
 CHUNK = 4000
-# The options of each form, and of the forms what makes an unset variable a fault, or nothing.
+# The options of each form, and of how an unset variable expands, by form.
 FORMS = {OWN: [], ENVSUBST: ['--envsubst'], SHELL: ['--shell']}
 MISSING = {(OWN, FAULT): [], (ENVSUBST, FAULT): [], (SHELL, FAULT): ['--strict'], (OWN, NOTHING): ['--optional'],
            (ENVSUBST, NOTHING): ['--optional'], (SHELL, NOTHING): []}
@@ -33,19 +33,19 @@ ERROR = 'error: '
 
 
 class Style(NamedTuple):
-    """How texts are read: their forms, the names that count, and what an unset variable is."""
+    """The style of a text: its forms, its choice of names, and how an unset variable expands."""
     forms: str
     names: str
     missing: str
 
     def arguments(self, variables):
-        """The arguments of a run in this style, with these variables."""
+        """Returns the arguments of a run in this style, with these variables."""
         names = {ALL: [], KNOWN: ['--known']}.get(self.names, [f'--only={self.names}'])
         given = [word for name, value in variables.items() for word in (b'-s', name + b'=' + value)]
         return [*FORMS[self.forms], *names, *MISSING[self.forms, self.missing], *(given or ['-f', os.devnull])]
 
     def answer(self, text, variables):
-        """What the reader says of a text."""
+        """Returns the answer of the reader to a text."""
         chosen = foreign_reader.only(self.names.encode().split(b','))
         names = {ALL: None, KNOWN: foreign_reader.known(variables)}.get(self.names, chosen)
         return foreign_reader.answer(text, self.forms, names, variables, self.missing)
@@ -55,7 +55,7 @@ class Style(NamedTuple):
 
 
 class Row(NamedTuple):
-    """A row of the table: its line, and what its columns say. The answer is bytes, refusals or faults."""
+    """A row of the table: its line number and its columns. The answer is bytes, refused forms or faults."""
     line: int
     text: bytes
     style: Style
@@ -80,7 +80,7 @@ ANSWERS = {'ok': decode, 'refused': lambda column: list(map(refusal_of, column.s
 
 
 def rows():
-    """The rows of the table."""
+    """Yields the rows of the table."""
     for number, line in enumerate(TABLE.read_text(encoding='utf-8').split('\n'), 1):
         if line and not line.startswith('#'):
             text, forms, names, missing, variables, what, expected = line.split('\t')
@@ -90,12 +90,12 @@ def rows():
 
 # Random texts
 
-# The values of names, of which B, _ and A1 have none; and the choices of names.
+# Values by names, without B, _ and A1; and the choices of names.
 VALUES = {b'A': b'1', b'x': b'', b'AB': b'$A\\}', b'1': b'one'}
 CHOICES = {OWN: ('A,B,x,1', KNOWN), ENVSUBST: (ALL, 'A,B,x,1', KNOWN), SHELL: (ALL, 'A,B,x,1', KNOWN)}
 CHARACTERS = '${}:-+?=AB1_\\x'
 NAMES = (*'AAAAABBBBBxxxxx', 'AB', '1', 'A1', '_')
-# What names are put into, and what has a text in it.
+# Pieces around a name, and pieces around a text.
 SHORT = {OWN: ('$%s', '${%s}', '${%s?}', '${%s', '${%s?', '${%s:-', '${%s=', '\\$%s', '$$%s'),
          ENVSUBST: ('$%s', '${%s}', '${%s', '${%s?}', '${%s:-x}', '\\$%s', '$$%s'),
          SHELL: (*['$%s', '${%s}', '$$%s', '$${%s}', '\\$%s', '${%s:?}', '${%s?}'] * 4, '${%s', '${%s=', '${%s:=x}',
@@ -103,12 +103,12 @@ SHORT = {OWN: ('$%s', '${%s}', '${%s?}', '${%s', '${%s?', '${%s:-', '${%s=', '\\
 OUTER = {OWN: (*['${%s:'] * 8, '${%s:-', '${%s?', '{%s'), ENVSUBST: ('${%s', '${%s:-', '{%s'),
          SHELL: (*['${%s:-', '${%s-', '${%s:+', '${%s+', '${%s:?', '${%s?'] * 2, '${%s:=', '{%s')}
 PLAIN = (*['', ' ', 'x', '-', 'a b', '\n', '\u00e9', '$', '$$', '\\', '{}', '{x}'] * 2, '\\}', '}', '{', '${')
-# The bytes of a text, at most, so that no message is cut where it is reported.
+# The most bytes of a text, so that no message is cut in a report.
 LONGEST = 80
 
 
 def some_text(rng, forms, depth=0):
-    """Joins random pieces, some of which have a text in them."""
+    """Returns joined random pieces, some of which have a text in them."""
     parts = []
     for _ in range(rng.randrange(1, 5)):
         way, name = rng.random(), rng.choice(NAMES)
@@ -130,7 +130,7 @@ def random_texts(rng, forms, count):
 
 
 class Reader(Case):
-    """The reader, which needs no program."""
+    """The reader, without a program."""
 
     def test_reader_answers_each_row_so(self):
         self.assertGreaterEqual(len(list(rows())), 130)
@@ -138,7 +138,7 @@ class Reader(Case):
             self.assertEqual(row.style.answer(row.text, row.variables), row.answer, f'line {row.line}: {row.text}')
 
     def test_rows_have_each_operator_form_and_choice(self):
-        """With a value, an empty one and none, each operator; and each refused form."""
+        """Each operator with a value, an empty one and none, and each refused form."""
         found = list(rows())
         for operator in (':-', '-', ':+', '+', ':?', '?'):
             for name in 'AEB':
@@ -172,20 +172,20 @@ class Reader(Case):
 
 
 class Error(NamedTuple):
-    """An error that the program reports: its line and column, and its text, or nothing if any is right."""
+    """A reported error: its line and column, and its text, or nothing if any text is right."""
     line: int
     column: int
     text: Optional[str]
 
 
 def reported(errors, file):
-    """The errors of a file that a run reports, in their order."""
+    """Returns the errors that a run reports for a file, in order."""
     found = re.findall(rf'^{re.escape(file)}:(\d+):(\d+): {ERROR}(.*)$', errors.decode(), re.MULTILINE)
     return [Error(int(line), int(column), text) for line, column, text in found]
 
 
 def expected(text, answer):
-    """The errors that the program has to report of a text with this answer. All its characters are of one column."""
+    """Returns the errors for a text with this answer. All characters are one column wide."""
     errors = []
     for item in [] if isinstance(answer, bytes) else answer:
         before = text[:item.at]
@@ -195,7 +195,7 @@ def expected(text, answer):
 
 
 def text_of(fault, shown=as_told):
-    """The text of the error of an unset or empty variable, with its message as it is shown."""
+    """Returns the text of the error about an unset or empty variable, with its message as it is shown."""
     name = fault.name.decode()
     message = shown(fault.message.decode(errors='replace'))
     what = f'${name} is empty' if fault.is_empty else no_such_variable(name)
@@ -203,16 +203,16 @@ def text_of(fault, shown=as_told):
 
 
 def is_reported_so(found, wanted):
-    """Whether these errors were reported: each at its place, with its text if that is known."""
+    """Returns whether these errors were found: each position, and each text that is known."""
     return len(found) == len(wanted) and all(
         one[:2] == other[:2] and other.text in (None, one.text) for one, other in zip(found, wanted))
 
 
 class Rows(Subst):
-    """Rows of the table, which the program is given in every way."""
+    """Rows of the table, given to the program in every way."""
 
     def assert_answers(self, row, words, source=b'', file='a', shift=b'', is_text_out=True):
-        """Fails unless a run has the row's answer. The shift is what was put in front of the row's text."""
+        """Fails unless a run has the row's answer. The shift is the text in front of the row's."""
         end = subst([*row.style.arguments(row.variables), *words], source)
         if isinstance(row.answer, bytes):
             wanted = shift + row.answer if is_text_out else b''
@@ -223,12 +223,12 @@ class Rows(Subst):
         self.assertTrue(is_reported_so(reported(end.errors, file), errors), f'{words}: {end.errors} and not {errors}')
 
     def assert_wrote(self, row, file, otherwise=None):
-        """Fails unless a file has the row's output, or what is there otherwise: nothing, or these bytes."""
+        """Fails unless a file has the row's output, or otherwise these bytes, or doesn't exist."""
         wanted = row.answer if isinstance(row.answer, bytes) else otherwise
         self.assertEqual(read(file) if os.path.exists(file) else None, wanted)
 
     def of_each_text(self, test):
-        """Calls a test with each row that is a text, whose file is `a`."""
+        """Calls a test with each row that is UTF-8, in a file `a`."""
         for row in rows():
             if b'\xff' not in row.text:
                 write('a', row.text)
@@ -246,7 +246,7 @@ class Rows(Subst):
         self.of_each_text(test)
 
     def test_rows_in_documents(self):
-        """The text is a string of a document, whose errors have its path and their places in its token."""
+        """Each text is a string of a document. Errors have its path, and positions inside its token."""
         def test(row):
             for kind, path, before, after in (('json', '/0', '[', ']'), ('toml', 'a[0]', 'a = [', ']')):
                 source = f'{before}{spelled(row.text)}{after}'
@@ -308,15 +308,15 @@ class Rows(Subst):
 
 
 def spelled(text):
-    """A text as JSON and TOML spell it."""
+    """Returns a text in the spelling of JSON and TOML."""
     return json.dumps(text.decode(), ensure_ascii=False)
 
 
 class Python(Built):
-    """Rows of the table, as the package for Python fills them in over the library for C."""
+    """Rows of the table, by the package for Python over the library for C."""
 
     def answer(self, subst, row):
-        """The output, or the first refused form or fault, with the text of its error."""
+        """Returns the output, or the first refused form or fault, with the text of its error."""
         forms, names, missing = row.style
         choice = {ALL: {}, KNOWN: {'known': True}}.get(names, {'only': names.encode().split(b',')})
         try:
@@ -338,10 +338,10 @@ class Python(Built):
 
 
 class RandomTexts(Subst):
-    """Random texts, many of which are files of one run."""
+    """Random texts, many files in one run."""
 
     def compare(self, forms, names):
-        """Compares the program with the reader, for both answers to an unset variable."""
+        """Compares the program with the reader, for both expansions of an unset variable."""
         for number in range(-(-TEXTS // CHUNK)):
             rng = random.Random(f'{self.seed} {forms} {names} {number}')
             files = {str(at): text for at, text in enumerate(random_texts(rng, forms, min(CHUNK, TEXTS)))}
@@ -354,7 +354,7 @@ class RandomTexts(Subst):
                 self.assert_outputs(style, files, answers)
 
     def assert_errors(self, style, files, answers):
-        """Fails unless a check of all files reports what is wrong with each, and no more."""
+        """Fails unless a check of all files reports the errors of each, and no others."""
         end = subst([*style.arguments(VALUES), '--check', *files])
         found = {file: [] for file in files}
         for line in end.errors.decode().splitlines(keepends=True):
@@ -366,7 +366,7 @@ class RandomTexts(Subst):
         self.assertEqual((end.status, end.output), (int(is_wrong), b''))
 
     def assert_outputs(self, style, files, answers):
-        """Fails unless the files that have an output have it, all in one run. If they don't, each is run alone."""
+        """Fails unless the files with an output have it in one run. If not, each is run alone."""
         outputs = {file: answer for file, answer in answers.items() if isinstance(answer, bytes)}
         words = style.arguments(VALUES)
         end = subst([*words, *outputs])

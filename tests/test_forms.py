@@ -1,7 +1,7 @@
-"""The examples of docs/decisions whose form isn't available with this version of the kit.
+"""The examples of docs/decisions with forms that this version of the kit refuses.
 
-Each is checked alone, as its page has it, and has to end as the page says; one that ends otherwise with another version
-of the kit is a decision to take anew.
+Each is checked alone, as on its page, and has to end as the page says. If it ends otherwise with another version of the
+kit, the decision is to be taken anew.
 """
 import functools
 import pathlib
@@ -10,7 +10,7 @@ import re
 from tests.support import TOP, Built, ended
 
 SECONDS = 300
-# A trait as `VariableMap` of one name, and a struct of two maps.
+# A trait like `VariableMap` for one name, and a struct of two maps.
 TWO_MAPS = '''ghost use Rattle.std.specs.Prelude.{Option};
 
 pub trait Map<'a> {
@@ -25,7 +25,7 @@ pub struct Both<'a, M, N> {
     pub second: &'a N,
 }
 '''
-# Of each page what its example needs in front of it, and what `rt check` says of it.
+# The code in front of each page's example, and the words of `rt check`.
 FORMS = {
     '01-message-in-place': ('', 'fn form::look: no proof'),
     '03-never-value': ('use std::convert::AsStr;\n', 'fn form::NeverValueAsStr::as_str: proved'),
@@ -39,7 +39,7 @@ class Forms(Built):
     """Forms that are proved, or that `rt check` refuses."""
 
     def assert_ends_as_its_page_says(self, name):
-        """Checks the first block of Rust of a page as a crate, which is a library for C if the page is about that."""
+        """Checks the first Rust block of a page as a crate, which is a library for C if the page is about that."""
         imports, says = FORMS[name]
         page = (TOP / f'docs/decisions/{name}.md').read_text(encoding='utf-8')
         example = re.search(r'^```rust\n(.*?)^```$', page, re.MULTILINE | re.DOTALL)[1]

@@ -1,5 +1,5 @@
-"""The target fuzz/subst.c, which holds each call of the library for C to its header, over the sources of the stored
-answers, over texts of each kind with each request for memory refused, and by libFuzzer.
+"""The target fuzz/subst.c, which tests each call of the library for C against its header: over the sources of the
+stored answers, over texts of each kind with each request for memory refused, and by libFuzzer.
 """
 import concurrent.futures
 import functools
@@ -14,14 +14,14 @@ from tests.support import TOP, Built, needs, preloading, ran
 from tests.test_c_library import SANITIZED
 
 STRICT = ('-std=c99', '-g', '-O1', '-Wall', '-Wextra', '-Werror')
-# How long libFuzzer runs, from which seed.
+# The seconds and the seed of libFuzzer.
 SECONDS, SEED = 30, 1
-# No input makes more requests for memory than these.
+# The most requests for memory of any input.
 MOST_REQUESTS = 5000
 
 
 def built(*options, compiler=CC, library='libsubst.a'):
-    """Builds the target over the library, and returns its path."""
+    """Builds the target with the library. Returns its path."""
     pathlib.Path('texts.h').write_text(faults.header(), encoding='utf-8')
     ran([compiler, *STRICT, *options, '-I.', f'-I{prefix()}/include', '-o', 'target', TOP / 'fuzz/subst.c',
          prefix() / 'lib' / library])
@@ -29,15 +29,15 @@ def built(*options, compiler=CC, library='libsubst.a'):
 
 
 def write_few():
-    """Writes the few inputs into files, and returns their names."""
+    """Writes the few inputs to files. Returns their names."""
     for at, data in enumerate(corpus.few()):
         pathlib.Path(f'input_{at}').write_bytes(data)
     return [f'input_{at}' for at in range(len(corpus.few()))]
 
 
 def times_refused(target, name):
-    """Refuses each request for memory of an input in turn, until none is refused. Returns how many were, and how often
-    a call was out of memory."""
+    """Refuses each request for memory of an input in turn, until none is left. Returns how many were refused, and how
+    often a call was out of memory."""
     times = 0
     for request in range(1, MOST_REQUESTS):
         report = pathlib.Path(f'{name}.refused')
@@ -53,7 +53,7 @@ def times_refused(target, name):
 
 
 class Fuzzing(Compiling, Built):
-    """The calls of the library for C, held to what its header says."""
+    """The calls of the library for C, against the promises of its header."""
 
     def test_calls_are_right_over_the_stored_sources(self):
         target, folder = built('-DSTANDALONE'), pathlib.Path('corpus')

@@ -1,5 +1,5 @@
-"""What this repository asks of its own files, none of which is run: widths and sizes, names, blocks and numbers of
-pages, what README.md says is proved, facts in few files, and that each lemma is cited.
+"""Rules for the repository's own files: widths and sizes, names, blocks and numbers of pages, the claims of proof in
+README.md, facts in few files, and citations of lemmas. No file is run.
 """
 import collections
 import fnmatch
@@ -13,42 +13,42 @@ import faults
 import proved
 from building import TOP, version
 
-# The columns of a line of code or of a definition, of a line of a clause, and of a line of a page.
-CODE, CLAUSE, PROSE = 116, 100, 120
-# The lines of pages, at most; the last one is for each decision.
+# The most columns of a line of code or of a definition, of a clause, of a comment, and of a page.
+CODE, CLAUSE, COMMENT, PROSE = 116, 100, 110, 120
+# The most lines of pages; the last pattern is for each decision.
 LINES = {'README.md': 172, 'docs/DESIGN.md': 160, 'docs/DEFINITIONS.md': 200, 'docs/CALLING.md': 225,
          'docs/CONTRIBUTING.md': 200, 'docs/decisions/[0-9]*.md': 40}
-# The words of README.md and of the pages that are no decisions, the lines of code, of definitions and proofs, and of
-# scripts, and the crates, at most; what the scripts are, and the ends of files beside them that are none.
-SIZES = {'words of pages': 14490, '.rt': 38880, '.antt': 37970, 'scripts': 14630, 'crates': 24}
+# The most words of README.md and of the pages that are no decisions, lines of code, of definitions and proofs, and of
+# scripts, and crates; the patterns of scripts, and the ends of other files' names beside them.
+SIZES = {'words of pages': 16000, '.rt': 42100, '.antt': 42300, 'scripts': 15810, 'crates': 24}
 SCRIPTS = ('tools/*', 'tests/[!d]*', 'fuzz/*', 'python/*', 'benches/*')
 NO_SCRIPTS = ('.rt', '.antt', '.md', '.svg', '.tsv', '.txt', 'args', 'stdin', 'stdout')
-# The files that have an option of subst, at most, and those that have the text of a fault.
-OPTION_FILES, FAULT_FILES = 9, 9
+# The most files with an option of subst, and with the text of a fault.
+OPTION_FILES, FAULT_FILES = 10, 11
 # The page whose blocks of code are quoted from the source.
 QUOTING = 'docs/CALLING.md'
-# What tries the blocks of pages, by their language, that are neither quoted nor commands that tests/test_pages.py runs;
-# it names the page.
+# The tests of blocks that are neither quoted nor run by tests/test_pages.py, by page and language. A test names its
+# page.
 TRIED = (('README.md', ['rust'], 'tests/test_other_repository.py'),
          ('docs/C.md', ['c', 'python'], 'tests/test_pages.py'), ('docs/MEMORY.md', ['text'], 'tests/test_memory.py'),
          ('docs/decisions/*.md', ['rust'], 'tests/test_forms.py'))
-# Blocks that nothing tries: a grammar, a drawing, and parts of programs.
-UNTRIED = (('docs/DEFINITIONS.md', 'ebnf'), ('docs/DESIGN.md', ''), ('docs/decisions/26-c-no-handles.md', 'c'),
-           ('docs/decisions/02-errors-by-hand.md', 'rust'), ('docs/decisions/29-out-of-memory-with-cause.md', 'rust'))
+# Blocks without a test: a grammar, a drawing, and parts of programs.
+UNTRIED = (('docs/DEFINITIONS.md', 'ebnf'), ('docs/DESIGN.md', ''), ('docs/decisions/02-errors-by-hand.md', 'rust'),
+           ('docs/decisions/29-out-of-memory-with-cause.md', 'rust'))
 # The folder of rows and stored answers.
 DATA = 'crates/subst_vectors/data'
 # A page whose indented blocks are lines of these files.
 INDENTED = 'docs/CONTRIBUTING.md', (f'{DATA}/*.tsv', 'crates/*/must-fail/*')
-# The folders whose files pages name, the ends of names of files, and files in backticks that a reader makes.
+# The folders of files that pages name, the ends of their names, and files in backticks that a reader makes.
 FOLDERS = ('.ci', 'benches', 'crates', 'docs', 'fuzz', 'include', 'licences', 'python', 'tests', 'tools')
 ENDINGS = ('.rt', '.antt', '.py', '.sh', '.md', '.c', '.h', '.in', '.tsv', '.edit', '.txt', '.1')
 READERS = ('document.c', 'environment.c', 'greet.c', 'greet.py')
-# Small numbers as pages write them.
+# Small numbers in words.
 NUMBERS = 'no one two three four five six seven eight nine ten eleven twelve thirteen fourteen fifteen'.split()
 
 IMPORT = re.compile(r'\s*(?:pub )?(?:ghost )?(?:use|open) ')
 FENCE = re.compile(r'^```(\w*)\n(.*?)^```$', re.MULTILINE | re.DOTALL)
-# A definition of a file of lemmas, at the margin.
+# A definition at the margin of a file of lemmas.
 DEFINITION = re.compile(r'(?:pub |abbrev |ruleset |data |record )*([^\s:(){}]+)(?= :| =)')
 
 
@@ -59,7 +59,7 @@ def read(path):
 
 @functools.lru_cache(None)
 def files():
-    """All files of the repository, but what is made by `rt`, as paths from its top, in order."""
+    """Returns the paths of all files of the repository from its top, sorted, without the output of `rt`."""
     below = [path for folder in FOLDERS for path in (TOP / folder).rglob('*')]
     paths = (path.relative_to(TOP) for path in [*TOP.glob('*'), *below] if path.is_file())
     return sorted(str(path) for path in paths if 'out' not in path.parts and '__pycache__' not in path.parts)
@@ -70,7 +70,7 @@ def matching(*patterns):
 
 
 def pages():
-    """The pages, but those that are edits of the prover's tests."""
+    """Returns the pages, without the must-fail edits."""
     return [path for path in matching('*.md') if '/must-fail/' not in path]
 
 
@@ -82,13 +82,13 @@ def line_at(text, at):
 
 
 def can_be_broken(lines):
-    """Of each line whether it can be broken: an import, an attribute, a text alone and the name of a goal can't."""
+    """Returns for each line whether it can be broken. Imports, attributes, lone texts and names of goals can't."""
     whole = re.compile(r'\s*(#\[|b?r?#*"[^"]*(\\"[^"]*)*"#*,?$|pub \S+ : goal\.\S+$)')
     return [not (IMPORT.match(line) or whole.match(line)) for line in lines]
 
 
 def in_clauses(lines):
-    """Of each line whether it is in a clause or a ghost member, and no comment."""
+    """Returns for each line whether it is in a clause or a ghost member, and is no comment."""
     found, depth = [], 0
     for line in lines:
         is_in = depth > 0 or bool(re.match(r'\s*(?:requires|ensures|ghost \w+ = )', line))
@@ -97,8 +97,13 @@ def in_clauses(lines):
     return found
 
 
+def in_comments(lines):
+    """Returns for each line whether it is a comment."""
+    return [line.lstrip().startswith(('//', '--')) for line in lines]
+
+
 def in_prose(lines):
-    """Of each line of a page whether it is neither in a block, nor in a table, nor a link alone."""
+    """Returns for each line of a page whether it is outside of blocks and tables, and no lone link."""
     found, is_fenced = [], False
     for line in lines:
         is_fenced ^= line.startswith('```')
@@ -107,7 +112,7 @@ def in_prose(lines):
 
 
 def wider(paths, columns, are_meant):
-    """The lines of files that have more columns, of those that are meant."""
+    """Yields the chosen lines of files that have more columns."""
     for path in paths:
         lines = read(path).splitlines()
         for number, (line, is_meant) in enumerate(zip(lines, are_meant(lines)), 1):
@@ -115,16 +120,65 @@ def wider(paths, columns, are_meant):
                 yield f'{path}:{number}: {len(line)} columns, and not {columns}: {line.strip()[:60]}..'
 
 
-# What pages name
+# Words of comments and pages
+
+# The beginnings of comments, and words in them, that docs/STYLE.md replaces by a noun or a condition.
+VAGUE = re.compile(r'(?:(?:Returns|Prints) (?:what|those|that)|What|That|Those)\b|.*\bthat is there\b')
+# The most words of a sentence of a comment, and of a cell of a page's table.
+SENTENCE, CELL = 25, 25
+# The pages that describe data and measurements.
+DATA_PAGES = ('benches/README.md', 'benches/RESULTS.md', 'crates/subst_vectors/data/README.md', 'tests/data/README.md')
+# The comments that are grammars or the theorem, word for word.
+LONGER = ('crates/subst_language/specs/Language/Tree.antt', 'crates/subst_language/specs/Earlier/Tree.antt',
+          'crates/subst_template/src/lib.rt')
+
+
+def comments(path):
+    """Yields the comments of a file that are lines of their own, each with its first line."""
+    mark = '--' if path.endswith('.antt') else '//[/!]?'
+    for match in re.finditer(rf'(?:^ *{mark}(?: .*)?\n)+', read(path), re.MULTILINE):
+        yield line_at(read(path), match.start()), re.sub(rf'^ *{mark} ?', '', match[0], flags=re.MULTILINE)
+
+
+def sentences(comment):
+    """Returns the sentences of a comment, without code, headings and items of lists."""
+    text = re.sub(r'`[^`]*`', 'X', re.sub(r'^```.*?^```$', '', comment, flags=re.MULTILINE | re.DOTALL))
+    paragraphs = re.split(r'\n\s*\n|\n(?=\s*[-*#|])', text)
+    return [one for it in paragraphs for one in re.split(r'(?<=[.!?:;])\s+', ' '.join(it.split()))]
+
+
+def long_sentences(path, line, text):
+    """Yields the sentences of a comment or paragraph that have too many words."""
+    for it in sentences(text):
+        if len(it.split()) > SENTENCE:
+            yield f'{path}:{line}: {len(it.split())} words, and not {SENTENCE}: {it[:60]}..'
+
+
+def paragraphs(path):
+    """Yields the paragraphs of a page, each with its line, without quotations, links and tables."""
+    text = re.sub(r'^(?:\||>|#|    ).*$', '', prose(read(path)), flags=re.MULTILINE)
+    for match in re.finditer(r'(?:^.*\S.*\n)+', text, re.MULTILINE):
+        yield line_at(text, match.start()), re.sub(r'\[([^]]*)\]\([^)]*\)', r'\1', match[0])
+
+
+def cells(path):
+    """Yields the cells of the tables of a page, each with its line, where code is a word."""
+    for number, line in enumerate(prose(read(path)).splitlines(), 1):
+        if line.startswith('|'):
+            text = re.sub(r'`[^`]*`', 'X', re.sub(r'\[([^]]*)\]\([^)]*\)', r'\1', line)).replace(r'\|', '/')
+            yield from ((number, cell.split()) for cell in text.strip('|').split('|'))
+
+
+# Names in pages
 
 
 def prose(text):
-    """A page with blanks in place of its blocks, so that its lines stay where they are."""
+    """Returns a page with its blocks blanked out, so that lines keep their numbers."""
     return FENCE.sub(lambda block: re.sub(r'[^\n]', ' ', block[0]), text)
 
 
 def spans(path):
-    """What a page has in backticks, each with its line."""
+    """Yields the texts of a page in backticks, each with its line."""
     text = prose(read(path))
     for match in re.finditer(r'(?<!`)`([^`]+)`(?!`)', text):
         yield line_at(text, match.start()), ' '.join(match[1].split())
@@ -132,14 +186,14 @@ def spans(path):
 
 @functools.lru_cache(None)
 def anchors(path):
-    """The anchors of the headings of a page."""
+    """Returns the anchors of a page's headings."""
     titles = re.findall(r'^#+ (.*)$', prose(read(path)), re.MULTILINE)
     texts = [re.sub(r'\[([^]]*)\]\([^)]*\)', r'\1', title).lower() for title in titles]
     return [re.sub(r'[^\w\- ]', '', text).replace(' ', '-') for text in texts]
 
 
 def names_a_file(span):
-    """Whether something in backticks is the name of a file or a folder of the repository that isn't made."""
+    """Returns whether a text in backticks names a file or a folder of the repository that isn't built."""
     segments = span.split('/')
     if not re.fullmatch(r'[\w.*/-]+', span) or set(span) <= set('./*') or 'out' in segments or span in READERS:
         return False
@@ -148,34 +202,34 @@ def names_a_file(span):
 
 
 def is_a_place(span):
-    """Whether the path of a file or a folder has these last segments, also without the ending of a module, or of a file
-    that the version is put into."""
+    """Returns whether a path of a file or a folder ends in these segments, also without the ending of a module or of a
+    template."""
     pattern = re.escape(span.rstrip('/')).replace(r'\*', '.*')
     return re.search(rf'(?:^|/){pattern}(?:\.rt|\.antt|\.in)?(?:/|$)', '\n'.join(files()), re.MULTILINE)
 
 
 @functools.lru_cache(None)
 def known():
-    """All words of the code, of its definitions and proofs, of the header, and of the scripts."""
+    """Returns all words of the code, its definitions and proofs, the header, and the scripts."""
     paths = matching('crates/*.rt', 'crates/*.antt', 'crates.txt', 'include/*', 'tools/*', 'tests/*', 'benches/*')
     return {word for path in paths for pattern in (r'[\w-]+', r'\w+') for word in re.findall(pattern, read(path))}
 
 
 def said_by_rt(word):
-    """The line that `rt` prints for a word."""
+    """Returns the line that `rt` prints for a word."""
     return subprocess.run(['rt', word], stdout=subprocess.PIPE, text=True, check=True).stdout.strip()
 
 
 @functools.lru_cache(None)
 def is_of_the_kit(word):
-    """Whether the code of the kit has a word."""
+    """Returns whether the code of the kit has a word."""
     kit = os.path.dirname(said_by_rt('doc'))
     command = ['grep', '-rqw', '--include=*.rt', '--include=*.antt', '-e', word, kit]
     return subprocess.run(command, check=False).returncode == 0
 
 
 def unknown_items(span):
-    """What of something in backticks is a path of items or the name of a crate, and isn't known."""
+    """Returns the unknown items and crates in a text in backticks."""
     words = [path.split('::')[-1] for path in re.findall(r'\w+(?:::\w+)+', span)]
     words += re.findall(r'\bsubst_\w+', span) if not names_a_file(span) else []
     words += re.findall(r'\bRattle(?:\.\w+)*\.([\w-]+)', span)
@@ -184,14 +238,14 @@ def unknown_items(span):
 
 
 def is_no_lemma(span):
-    """Whether something in backticks is the name of a file of lemmas or of a lemma in one, and isn't there."""
+    """Returns whether a text in backticks names a missing file of lemmas, or a missing lemma."""
     match = re.fullmatch(r'(\w+Lemmas)(?:\.(?!antt$)([\w-]+))?', span)
     homes = matching(f'*/{match[1]}.antt') if match else []
     return match and not any(match[2] is None or match[2] in definitions(path) for path in homes)
 
 
 def unknown_options(span):
-    """The options that something in backticks gives to a script, and that the script doesn't have."""
+    """Returns the options in a command in backticks that its script doesn't have."""
     command = re.match(r'(?:python3 |bash )?((?:tools|benches|fuzz)/[\w.-]+)((?: \S+)*)$', span)
     if command is None or command[1] not in files():
         return []
@@ -202,7 +256,7 @@ def unknown_options(span):
 
 
 def stripped(text):
-    """The lines of a text that aren't empty, without what they begin and end with."""
+    """Returns the lines of a text that aren't empty, without white space around them."""
     return '\n'.join(['', *filter(None, map(str.strip, text.splitlines())), ''])
 
 
@@ -212,13 +266,13 @@ def sources(*patterns):
 
 
 def is_quoted(lines, *patterns):
-    """Whether lines are together in a file; a line `..` stands for any lines."""
+    """Returns whether these lines are consecutive in a file; a line `..` matches any lines."""
     parts = [re.escape(part) for part in re.split(r'\n(?:(?://|--) )?\.\.(?=\n)', stripped(lines))]
     return any(re.search(r'(?:\n.*)*?'.join(parts), source) for source in sources(*patterns))
 
 
 def numbers():
-    """Numbers of pages that other files have: a page, an expression for them, and what they are."""
+    """Yields numbers in pages that other files determine: a page, a pattern, and the numbers that it has to match."""
     names = re.findall(r'^(\w+)', read('crates.txt'), re.MULTILINE)
     yield 'README.md', r'first (\w+) crates', [NUMBERS[names.index('subst') - names.index('subst_error') + 1]]
     for path in matching(f'{DATA}/*.tsv'):
@@ -233,27 +287,27 @@ def numbers():
         [f'{float(number):.2f}' for number in measured.groups()]
 
 
-# What is proved
+# Claims of proof
 
-# A link to a function, and the names of its clauses; where there is no name, its clause has none.
+# A link to a function, and the names of its clauses; without a name its clause has none.
 PROVED_BY = re.compile(r'\[`(\w+)`\]\((crates/[\w/]+\.rt)\)((?: `\w+`,?)*)')
 
 
 def clauses(path, name):
-    """The names of what the functions of a file that have this name ensure; that of a clause without one is empty."""
+    """Returns the names of the `ensures` clauses of these functions of a file, or '' for one without a name."""
     heads = [it.head for item in proved.items_of(read(path)) for it in (item, *item.members) if it.name == name]
     return {found for head in heads for line in head for found in re.findall(r'^ *ensures (?:(\w+) )?\{', line)}
 
 
 # Facts in few files
 
-# The options of subst as its source has them, and what other programs that have options are recognized by.
+# The options of subst in its source, and a pattern of other programs that have options.
 OPTIONS = 'crates/subst_cli/src/options/table.rt'
 OTHER_PROGRAM = re.compile(r'\b(?:tools|benches|fuzz)/\w|\brt[ (]\w')
 
 
 def has_option(path, option):
-    """Whether a file has an option of subst. Benches and other programs have options of the same names."""
+    """Returns whether a file has an option of subst. Benches and other programs have options of the same names."""
     if path == OPTIONS:
         return f'"{option[2:]}"' in read(path)
     text = read(path).replace(r'\-', '-')
@@ -267,13 +321,13 @@ def has_option(path, option):
 
 
 def module_of(path):
-    """The name of the module that a file of proofs is, as imports have it."""
+    """Returns the name of a file of proofs as a module, as imports have it."""
     return 'Rattle.' + path.removeprefix('crates/').removesuffix('.antt').replace('/', '.')
 
 
 @functools.lru_cache(None)
 def imported():
-    """The pairs of a module and a name of it that other files cite, or import for those that import them."""
+    """Returns the pairs of a module and a name in it that other files cite or re-export."""
     found = set()
     for path in matching('crates/*.antt'):
         text = read(path)
@@ -291,8 +345,8 @@ def imported():
 
 @functools.lru_cache(None)
 def definitions(path):
-    """The definitions of a file of lemmas by their names, each with the number of its first line and its lines but
-    comments and imports. They are at the margin, or at that of a block of definitions that cite one another."""
+    """Returns the definitions of a file of lemmas by name, each with the number of its first line, and its lines
+    without comments and imports. They are at the margin, or in a block of mutual definitions."""
     found, margin, name = {}, '', None
     for number, line in enumerate(read(path).splitlines(), 1):
         if line == 'mutual':
@@ -308,7 +362,7 @@ def definitions(path):
 
 
 def gives_nothing(test):
-    """Makes a test of a method that yields what is wrong, which fails with all that it yields."""
+    """Makes a test of a method that yields errors. It fails with all of them."""
     @functools.wraps(test)
     def run(self):
         wrong = list(test(self))
@@ -318,7 +372,7 @@ def gives_nothing(test):
 
 
 class House(unittest.TestCase):
-    """Each test yields what is wrong, mostly with its file and line."""
+    """Rules for files. Each test yields the errors, most with file and line."""
 
     @gives_nothing
     def test_lines_are_not_too_wide(self):
@@ -326,11 +380,32 @@ class House(unittest.TestCase):
         proofs = matching('crates/*/tests/*.rt', 'crates/*/specs/*.antt', 'crates/*/proofs/*.antt')
         yield from wider(sources + proofs, CODE, can_be_broken)
         yield from wider(sources, CLAUSE, in_clauses)
+        yield from wider(sources + proofs, COMMENT, in_comments)
         yield from wider(pages(), PROSE, in_prose)
 
     @gives_nothing
+    def test_comments_are_in_the_words_of_the_style(self):
+        for path in matching('crates/*/src/*.rt', 'crates/*/specs/*.antt', 'crates/*/proofs/*.antt'):
+            for line, comment in comments(path):
+                if VAGUE.match(' '.join(comment.split())):
+                    yield f'{path}:{line}: it begins or goes on vaguely: {comment[:60].strip()}..'
+                yield from () if path in LONGER else long_sentences(path, line, comment)
+
+    @gives_nothing
+    def test_sentences_of_pages_are_short(self):
+        for path in set(pages()) - set(DATA_PAGES):
+            for line, text in paragraphs(path):
+                yield from long_sentences(path, line, text)
+
+    @gives_nothing
+    def test_cells_of_tables_are_short(self):
+        for path in pages():
+            found = ((line, len(words)) for line, words in cells(path) if len(words) > CELL)
+            yield from (f'{path}:{line}: a cell of {count} words, and not {CELL}' for line, count in found)
+
+    @gives_nothing
     def test_no_macro_writes_an_impl(self):
-        """`rt ci` refuses the crate of such a macro, once all below it is proved."""
+        """`rt ci` refuses the crate of such a macro, but only after all below it is proved."""
         for path in matching('crates/*/src/*.rt'):
             for macro in re.finditer(r'^( *)macro_rules! (\w+) .*?^\1\}', read(path), re.MULTILINE | re.DOTALL):
                 if re.search(r'^\s*(?:unsafe )?impl\b', macro[0], re.MULTILINE):
@@ -348,7 +423,7 @@ class House(unittest.TestCase):
     def test_tree_is_not_too_large(self):
         scripts = [path for path in matching(*SCRIPTS) if not path.endswith(NO_SCRIPTS)]
         counts = {'crates': len({path.split('/')[1] for path in matching('crates/*')}),
-                  'words of pages': sum(len(read(path).split()) for path in matching('README.md', 'docs/[!d]*.md'))}
+                  'words of pages': sum(len(read(path).split()) for path in matching('README.md', 'docs/*.md'))}
         for what, paths in (('.rt', matching('*.rt')), ('.antt', matching('*.antt')), ('scripts', scripts)):
             counts[what] = sum(read(path).count('\n') for path in paths)
         yield from (f'{what}: {counts[what]}, and not {most}' for what, most in SIZES.items() if counts[what] > most)
@@ -382,7 +457,7 @@ class House(unittest.TestCase):
 
     @gives_nothing
     def test_quoted_code_is_that_of_the_source(self):
-        """Of antt each part of a block is found alone, since imports are between them."""
+        """Each part of an antt block is found alone, since imports are between them."""
         text = read(QUOTING)
         for block in FENCE.finditer(text):
             for part in {'rust': [block[2]], 'antt': block[2].split('\n\n')}.get(block[1], []):
@@ -400,7 +475,7 @@ class House(unittest.TestCase):
 
     @gives_nothing
     def test_blocks_of_pages_are_tried(self):
-        """Each is quoted, run by tests/test_pages.py, tried by a script that names its page, or meant not to be."""
+        """Each is quoted, run by tests/test_pages.py, tested by a script that names its page, or listed as untested."""
         for path in pages():
             name = path.removeprefix('docs/decisions/').removesuffix('.md')
             tried = ['console', *(language for page, language in UNTRIED if page == path)]
@@ -445,7 +520,7 @@ class House(unittest.TestCase):
 
     @gives_nothing
     def test_readme_stands_on_the_logic_of_this_kit(self):
-        """On the sum of the logic; kits of several names may have the same."""
+        """The sums of the logic are compared; kits of several names may have the same."""
         texts = read('README.md'), said_by_rt('version')
         found, wanted = (re.search(r'rattle-kit-\w+ logic \w+', text)[0] for text in texts)
         if found.split()[-1] != wanted.split()[-1]:
@@ -463,14 +538,14 @@ class House(unittest.TestCase):
         found += [(text, FAULT_FILES, lambda path, text: text in read(path))
                   for text in sorted({*texts, faults.expected_after_name()})]
         for fact, most, has in found:
-            # The tests are one.
+            # All tests count as one file.
             paths = sorted({re.sub(r'^tests/\w+\.py$', 'tests', path) for path in files() if has(path, fact)})
             if len(paths) > most:
                 yield f'{fact!r} is in {len(paths)} files, and not {most}: {" ".join(paths)}'
 
     @gives_nothing
     def test_each_lemma_is_cited(self):
-        """Not answers to goals, which are found by their names, and no worked examples."""
+        """Answers to goals, which are found by name, and worked examples are exempt."""
         for path in matching('crates/*/proofs/*.antt'):
             if re.search(r'/(Answers|Invariants|Proof|Lib)\.antt$|WorkedExamples', path):
                 continue

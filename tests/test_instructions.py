@@ -1,9 +1,10 @@
-"""The instructions that works of the built programs take, beside those stored in tests/data/instructions.tsv.
+"""The instructions of runs of the built programs, compared with those in tests/data/instructions.tsv.
 
-Contracts bound the reads and the turns of a loop, and don't say what each takes: work that is done twice is seen here.
-Callgrind counts, start-up included. A work fails where it takes more than a tenth above what is stored; where it takes
-a tenth less, that is said, and `python3 -m tests.test_instructions --write` stores all anew.
+Contracts bound the reads and the turns of a loop, not their cost; this test finds work that is done twice. Callgrind
+counts, start-up included. A run fails if it takes over a tenth more than the stored count. If it takes a tenth less,
+the test reports it, and `python3 -m tests.test_instructions --write` stores all counts again.
 """
+import json
 import sys
 
 from tests.support import MIB, TOP, Built, needs
@@ -14,9 +15,9 @@ import run as benches
 
 TABLE = TOP / 'tests/data/instructions.tsv'
 HEAD = '# Written by tests/test_instructions.py --write alone: the instructions of each work.\n'
-# How many times as many instructions as are stored are too many, and how many are so few that they are stored anew.
+# The share of the stored instructions that is too many, and the share that is so few that they are stored again.
 MOST, FEW = 1.1, 0.9
-# Without the copies by `rep movsb`, which count once for each byte from a length on that depends on the machine.
+# Without copies by `rep movsb`, which count once a byte from a length on that depends on the machine.
 COPIES = {'GLIBC_TUNABLES': 'glibc.cpu.hwcaps=-ERMS,-FSRM'}
 TEXT = 'A line of prose, in which no byte is special - but Ŵörds are wide.\n'
 NAMES = ('HOST', 'PORT', 'USER_NAME', 'DB', 'REGION', 'TOKEN')
@@ -24,7 +25,7 @@ SETTINGS = [f'{name}=the value of {name}' for name in NAMES]
 
 
 def filled(word, text, size=MIB):
-    """A run of the filter over a text, again and again up to this size."""
+    """Returns a run of the filter over a text that is repeated up to this size."""
     source = text.encode()
     source *= size // len(source)
     return benches.run_on(source, benches.program('subst_filter'), word, *SETTINGS, **COPIES)
@@ -35,8 +36,14 @@ def command(source, *words):
 
 
 def filled_document(kind):
-    made = inputs.document(kind, 100_000)
-    return command(made.source, f'--{kind}', *(f'-s{name}={value}' for name, value in made.variables.items()))
+    made = inputs.document('json' if kind == 'yaml' else kind, 100_000)
+    source = yaml_of(json.loads(made.source)) if kind == 'yaml' else made.source
+    return command(source, f'--{kind}', *(f'-s{name}={value}' for name, value in made.variables.items()))
+
+
+def yaml_of(objects):
+    """Returns a list of objects as YAML without quotes."""
+    return ''.join(f'{" " if at else "-"} {key}: {it[key]}\n' for it in objects for at, key in enumerate(it)).encode()
 
 
 WORKS = {
@@ -54,6 +61,9 @@ WORKS = {
     'TOML': lambda: filled_document('toml'),
     'TOML that stays': lambda: command(''.join(f"name_{line} = '{TEXT[:-1]}'\n" for line in range(1000)).encode(),
                                        '--toml', '-s', SETTINGS[0]),
+    'YAML': lambda: filled_document('yaml'),
+    'YAML that stays': lambda: command(''.join(f"name_{line}: '{TEXT[:-1]}'\n" for line in range(1000)).encode(),
+                                       '--yaml', '-s', SETTINGS[0]),
 }
 
 
@@ -64,7 +74,7 @@ def stored():
 
 @needs('valgrind')
 class Instructions(Built):
-    """Works that take no more than is stored."""
+    """Runs that take no more instructions than are stored."""
     programs = 'subst_filter', 'subst_cli'
 
     def test_works_take_what_is_stored(self):

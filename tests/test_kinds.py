@@ -1,11 +1,11 @@
 """Strings that keep their kind when they are filled in: rows of tests/data/kinds.tsv, and random documents.
 
-A string becomes one of double quotes only if its own kind can't hold the value. Otherwise all bytes outside
-its placeholders stay. 3,000 documents, or COUNT, are joined from pieces whose texts are known; a third are
-JSON, and half of the others have CRLF line ends. What `subst` makes of each is matched piece by piece, with
-any spelling of a value, and read by Python's readers as the tree of the source, filled in by tests/rules.py.
-The reader of TOML folds CRLF, so line ends of values are escaped in such a file, and each string is read once
-more with all its carriage returns. The seed is fixed, unless SEED gives another; a failure names it.
+A string changes to double quotes only if its own kind can't hold the value. Otherwise all bytes outside its
+placeholders stay. 3,000 documents, or COUNT, are joined from pieces whose texts are known; a third are JSON, and half
+of the others have CRLF line ends. The output of `subst` is matched piece by piece, with any spelling of a value, and
+Python's readers have to read it as the tree of the source, filled in by tests/rules.py. The reader of TOML folds CRLF,
+so line ends of values are escaped in such a file, and each string is read once more with all its carriage returns. The
+seed is fixed, unless SEED sets another; a failure names it.
 """
 import functools
 import os
@@ -24,11 +24,11 @@ from tests.vectors import read_document, rows, text_of_tree
 TABLE = TOP / 'tests/data/kinds.tsv'
 SEED = os.environ.get('SEED', '1')
 COUNT = int(os.environ.get('COUNT', 3000))
-# How many documents one run of the program has, and how many wrong ones of a run are printed.
+# How many documents a run has, and how many wrong ones of a run are printed.
 CHUNK, MOST_PRINTED = 50, 3
-# What comes after each document of a run.
+# The document after each document of a run.
 ENDS = {'json': '"the end of a document"\n', 'toml': 'the = "end of a document"\n'}
-# The values of variables, by their names. None is named `none`.
+# Values by the names of variables, without `none`.
 VALUES = {
     'empty': '', 'word': 'shop', 'blank': ' ', 'blanks': '  b ', 'digit': '0', 'hash': '#', 'comment': ' # a',
     'bracket': ']', 'brace': '}', 'open': '${', 'dollar': '$', 'name': '$word', 'itself': '${itself}',
@@ -41,17 +41,17 @@ VALUES = {
     'unit': '\x1f', 'del': '\x7f', 'e9': '\u00e9', 'letters': '\u0416\u20ac', 'emoji': '\U0001f600',
     'parted': '\u2028', 'wide': '\u200b\u4e2d', 'mark': '\ufeff',
 }
-# The beginnings of placeholders with such names, and an escape of the language.
+# Beginnings of placeholders, and an escape of the template language.
 FORMS = '$%s', '${%s}', '${%s}', '${%s?}', '${none?}', '\\', '${%s:', '${none:', '${none:'
-# The names of variables, of which some are drawn more often.
+# Names of variables, some of which are drawn more often.
 NAMES = (*VALUES, *10 * ('empty',), *4 * ('q1', 'd1'))
 VARIABLES = {name.encode(): value.encode() for name, value in VALUES.items()}
 
 # Kinds of strings
 
-# A kind is its quotes, but for the strings of JSON. Of TOML some are drawn more often.
+# The kinds of strings: `json`, and the quotes of TOML, some of which are drawn more often.
 JSON, TOML = 'json', ("'", "'", '"', "'''", "'''", "'''", '"""', '"""', '"""')
-# Texts outside placeholders, as they are spelled and as they are read; `\n` is a line end of the file.
+# Texts outside placeholders, in their spelling and as they are read; `\n` is a line end of the file.
 PLAIN = ('a', 'b9', 'Z_', '-', ' ', '  ', '#', ' # ', ']', '{}', ': ', ', ', '/', '\u00e9', '\u0416\u20ac',
          '\U0001f600', '\u2028', '\u200b')
 ESCAPES = (('\\u00e9', '\u00e9'), ('\\u00E9', '\u00e9'), ('\\u0041', 'A'), ('\\u0020', ' '),
@@ -73,22 +73,22 @@ OWN = {
     '"""': raw('\t', "'", "'''", '"', '""', '""', '\n', '\n', '\n\n') + ESCAPES + OF_TOML + 2 * CONTINUED,
     JSON: raw("'", "'''", '\x7f') + ESCAPES + OF_JSON,
 }
-# The letters of escapes that TOML and JSON have.
+# The letters of escapes in TOML and JSON.
 LETTERS = {'"': '"', '\\': '\\', '\b': 'b', '\f': 'f', '\n': 'n', '\r': 'r', '\t': 't'}
-# The characters of values that a literal string can't hold.
+# Characters of values that a literal string can't hold.
 UNFIT = {"'": re.compile("['\0-\x08\n-\x1f\x7f]"), "'''": re.compile('[\0-\x08\x0b-\x1f\x7f]')}
-# In strings of many lines, what has no carriage return that is read, and the carriage returns that Python's
-# reader leaves out. Another character stands for these.
+# In strings of many lines, parts whose carriage returns aren't read, and carriage returns that Python's reader drops.
+# Another character replaces the latter.
 FOLDED = {"'''": re.compile('(^\r?\n)|\r(?=\n)'),
           '"""': re.compile(r'(^\r?\n|\\[^ \t\r\n]|\\[ \t]*\r?\n[ \t\r\n]*)|\r(?=\n)')}
 RETURN = '\ue000'
-# Any string of double quotes that one of a kind can become.
+# The strings of double quotes that one of each kind can become.
 OF_LINES = re.compile(r'"""((?:[^\\]|\\.)*?"{0,2})"""(?!")', re.DOTALL)
 DOUBLE = {"'": re.compile(r'"(?!"")(?:[^"\\\n]|\\.)*"'), "'''": OF_LINES, '"""': OF_LINES}
 
 
 class Piece(NamedTuple):
-    """A piece of a string: how it is spelled, its text, and of a placeholder the value."""
+    """A piece of a string: its spelling, its text, and the value of a placeholder."""
     spelled: str
     text: str
     value: object = None
@@ -107,7 +107,7 @@ class Token(NamedTuple):
         return quotes + spelled + quotes
 
     def joined(self, spelling, own=str):
-        """Returns what is between the quotes, with a spelling of the value of each placeholder."""
+        """Returns the string between its quotes, with a spelling of the value of each placeholder."""
         return ''.join(own(it.spelled) if it.value is None else spelling(it) for it in self.pieces)
 
     def spelled(self):
@@ -120,7 +120,7 @@ class Token(NamedTuple):
         return ''.join(piece.text if piece.value is None else piece.value for piece in self.pieces)
 
     def has_crlf(self):
-        """Whether a placeholder has a line end of the file, which Python's reader folds."""
+        """Returns whether a placeholder has a line end of the file, which Python's reader folds."""
         return any(piece.has_crlf() for piece in self.pieces)
 
 
@@ -158,12 +158,12 @@ class Maker:
         return re.sub('\n', lambda _: self.rng.choice(self.line_ends), text)
 
     def own(self, kind):
-        """Returns a text outside placeholders, as it is spelled and as it is read."""
+        """Returns a text outside placeholders, in its spelling and as it is read."""
         spelled, text = self.rng.choice(OWN[kind])
         return self.lines(spelled), text
 
     def syntax(self, kind, text):
-        """Yields the characters of a placeholder, as they are spelled and as they are read."""
+        """Yields the characters of a placeholder, in their spelling and as they are read."""
         for at, c in enumerate(text):
             if kind == '"""' and at and self.rng.random() < 0.01:
                 yield self.lines('\\\n '), ''
@@ -173,7 +173,7 @@ class Maker:
                 yield (f'\\u{ord(c):04x}' if self.rng.random() < 0.03 else c.replace('\\', '\\\\')), c
 
     def placeholder(self, kind, depth=2):
-        """Returns a placeholder, or an escape of the language, as a list of such characters and texts."""
+        """Returns a placeholder, or an escape of the template language, as a list of such characters and texts."""
         rng = self.rng
         form = rng.choice(FORMS)
         text = form.replace('%s', rng.choice(NAMES)) if form != '\\' else form + rng.choice('\\${}:')
@@ -192,7 +192,7 @@ class Maker:
         return Piece(spelled, text, filled(text))
 
     def token(self, *kinds):
-        """Returns a string that is read, and filled in, as its pieces are one by one."""
+        """Returns a string that is read and filled in like its pieces one by one."""
         while True:
             kind, count = self.rng.choice(kinds), self.rng.choice((0, 1, 1, 2, 2, 3, 4, 6))
             try:
@@ -268,7 +268,7 @@ def source_of(parts):
     return ''.join(part.spelled() if isinstance(part, Token) else part for part in parts)
 
 
-# What they become
+# Outputs of documents
 
 
 def number(letter, digits):
@@ -292,8 +292,8 @@ def spellings(kind, c, is_crlf):
 
 
 def kept(token, is_crlf):
-    """Returns a pattern of a string whose bytes outside the placeholders stay. A line end, which isn't read,
-    may come before a value at the start of a string of many lines."""
+    """Returns a pattern of a string whose bytes outside the placeholders stay. A line end, which isn't read, may come
+    before a value at the start of a string of many lines."""
     def spelling(piece):
         folded = '(?:\r?\n|(?:\\\\r)?\\\\n)'
         return ''.join(folded if c == '\n' and piece.has_crlf() else spellings(token.kind, c, is_crlf)
@@ -304,21 +304,21 @@ def kept(token, is_crlf):
 
 
 def can_stay(token):
-    """Whether a basic string of many lines can keep its bytes. Beside a value that is empty they may be three
-    quotes, or a backslash and blanks that aren't read."""
+    """Returns whether a basic string of many lines can keep its bytes. Next to an empty value they may be three quotes,
+    or a backslash and blanks that aren't read."""
     spelled = token.joined(lambda piece: ''.join(f'\\U{ord(c):08x}' for c in piece.value))
     starts = ('', '\n') if token.pieces[0].value is not None else ('',)
     return any(string_of(token.kind, token.between(start + spelled)) == token.value() for start in starts)
 
 
 def edges(text):
-    """Returns how many quotes are at the start and at the end."""
+    """Returns the number of quotes at the start and at the end."""
     return len(text) - len(text.lstrip("'")), len(text) - len(text.rstrip("'"))
 
 
 def fits(token, is_crlf):
-    """Whether a string can hold its value in its kind, with all other bytes, or None if both are right: a
-    quote comes beside those that begin or end it."""
+    """Returns whether a string can hold its value in its kind with all other bytes, or None if both answers are right:
+    a quote is next to those that begin or end the string."""
     if token.kind not in UNFIT:
         return token.kind != '"""' or can_stay(token)
     values = ''.join(piece.value or '' for piece in token.pieces)
@@ -330,12 +330,12 @@ def fits(token, is_crlf):
 
 
 def line_ends(spelled):
-    """Returns the line ends that are read of a string of many lines."""
+    """Returns the line ends of a string of many lines that are read."""
     return re.findall('\r?\n', re.sub('^\r?\n', '', spelled))
 
 
 def matched(token, output, at, is_crlf):
-    """Matches in an output the string that a string has to become, or returns None."""
+    """Matches, at an offset of an output, the string that a token has to become. Returns None if there is none."""
     if token.value() == token.text():
         return re.compile(re.escape(token.spelled())).match(output, at)
     is_fit = fits(token, is_crlf)
@@ -348,13 +348,13 @@ def matched(token, output, at, is_crlf):
 
 
 def compare(wanted, came, has_crlf, what):
-    """Fails unless trees are the same, without carriage returns before a newline if some are folded."""
+    """Fails unless trees are equal, without carriage returns before a newline if some are folded."""
     is_same = text_of_tree(came) == text_of_tree(wanted) if has_crlf else came == wanted
     assert is_same, f'{what} is read as {came!r} and not {wanted!r}'
 
 
 def check_output(kind, parts, output):
-    """Checks what a document has become, part by part and as a whole."""
+    """Checks the output of a document, part by part and as a whole."""
     source, at, has_crlf = source_of(parts), 0, False
     for part in parts:
         if isinstance(part, Token):
@@ -374,7 +374,7 @@ def check_output(kind, parts, output):
 
 
 def outputs_of(kind, sources):
-    """Returns what the program makes of documents, in a new folder."""
+    """Returns the program's outputs for documents, from a new folder."""
     folder = tempfile.mkdtemp(dir='.')
     for name, source in (*enumerate(sources), ('end', ENDS[kind]), ('null', VALUES['null'])):
         write(os.path.join(folder, str(name)), source.encode())
@@ -389,7 +389,7 @@ def outputs_of(kind, sources):
 
 
 def check_run(kind, number):
-    """Checks the documents of a run, and fails with some of those that are wrong."""
+    """Checks the documents of a run, and fails with some of the wrong ones."""
     made, wrong = list(documents(kind, number)), []
     head = f'documents of {kind} in run {number} that are wrong, of {CHUNK}: '
     for parts, output in zip(made, outputs_of(kind, list(map(source_of, made)))):
@@ -405,7 +405,7 @@ class Kinds(Subst):
     seed = SEED
 
     def check(self, kind, count):
-        """Checks so many documents."""
+        """Checks this many documents."""
         with ProcessPoolExecutor() as pool:
             list(pool.map(functools.partial(check_run, kind), range(max(1, round(count / CHUNK)))))
 

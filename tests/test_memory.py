@@ -1,16 +1,16 @@
-"""The requests for memory of each call and their bytes, as docs/MEMORY.md has them, and what a call does without.
+"""The requests for memory of each call and their bytes, as in docs/MEMORY.md, and the behaviour of calls without
+memory.
 
 The program subst_memory_tests makes each call between a line 'call: NAME' and a line 'end of call'. Before and after
-it, lines that begin with 'borrowed' show all that the call borrows, and its answer is in the lines in between. With no
-request refused the output has to be the stored one, and the calls, the numbers of their requests and the bytes that
-these ask for have to be those of docs/MEMORY.md. Then the program is run once for each request of each call, which is
-refused in that run alone.
+it, lines that begin with 'borrowed' show all that the call borrows; its answer is in between. With no request refused,
+the output has to be the stored one, and the calls that make requests, the numbers of these and their bytes have to be
+those of docs/MEMORY.md. Then each request of each call is refused in a run of its own.
 
-Each such run has to print the stored output too, but for one thing: a call that is out of memory says so right after
-its end, and shows what it borrows, which has to be as before the call. The same call with memory then has to give its
-answer. A call that makes requests has to be out of memory in at least one run.
+Each such run has to print the stored output too, with one exception: a call that is out of memory reports it right
+after its end, and shows that what it borrows is unchanged. The same call with memory then has to return its answer. A
+call that makes requests has to be out of memory in at least one run.
 
-`python3 -m tests.test_memory` prints the rows of the page for the calls that ask for memory.
+`python3 -m tests.test_memory` prints the rows of the page for the calls that allocate.
 """
 import functools
 import os
@@ -23,18 +23,16 @@ from tests.support import Built, preloading, run
 PROGRAM = 'subst_memory_tests'
 STORED = (CRATES / PROGRAM / 'stdout').read_text(encoding='utf-8').splitlines()
 PAGE = (TOP / 'docs/MEMORY.md').read_text(encoding='utf-8')
-BLOCKS = re.findall(r'^```text\n(.*?)^```$', PAGE, re.MULTILINE | re.DOTALL)
-# Each call of the two blocks, with the number of its requests and the bytes that they ask for, none in the second one.
+BLOCK = re.search(r'^```text\n(.*?)^```$', PAGE, re.MULTILINE | re.DOTALL)[1]
+# Each call that makes requests, with their number and their bytes.
 TABLE = {name: (int(count), int(size)) for name, count, size in
-         re.findall(r'^(.*\S) +(\d+) +(\d+)$', BLOCKS[0], re.MULTILINE)}
-TABLE.update((name, (0, 0)) for name in BLOCKS[1].splitlines())
-# What the library says of a request, and the program of a call.
+         re.findall(r'^(.*\S) +(\d+) +(\d+)$', BLOCK, re.MULTILINE)}
+# Lines of the library about a request, and of the program about a call.
 REQUEST, CALL, END, LENT, OUT_OF_MEMORY = 'request ', 'call: ', 'end of call', 'borrowed', 'out of memory'
 
 
 class Call(NamedTuple):
-    """A call: how many requests come before it, how many it makes, how many bytes these ask for, and which line ends
-    it."""
+    """A call: the number of requests before it, the number of its own, their bytes, and the index of its last line."""
     before: int
     count: int
     size: int
@@ -42,7 +40,7 @@ class Call(NamedTuple):
 
 
 def lines_of(**variables):
-    """Returns the lines that the program prints under the library, to which these variables say what to do."""
+    """Returns the lines of the program under the preloaded library, which these variables control."""
     end = run(PROGRAM, env={**os.environ, **preloading('refuse_memory.c', **variables)})
     assert (end.status, end.errors) == (0, b''), end
     return end.output.decode().splitlines()
@@ -50,7 +48,7 @@ def lines_of(**variables):
 
 @functools.lru_cache(None)
 def calls():
-    """Runs the program with no request refused, and returns what it prints, and each call by its name."""
+    """Runs the program with no request refused. Returns its lines, and each call by its name."""
     found, printed, sizes = {}, [], []
     for line in lines_of(REFUSE_NONE='1'):
         if line.startswith(REQUEST):
@@ -66,7 +64,7 @@ def calls():
 
 
 def out_of_memory(call):
-    """Returns the lines that the program has to print if a call is out of memory."""
+    """Returns the expected lines if a call is out of memory."""
     first = last = call.end - 1
     while first > 0 and STORED[first - 1].startswith(LENT):
         first -= 1
@@ -79,7 +77,7 @@ class Memory(Built):
     programs = (PROGRAM,)
 
     def is_out_of_memory(self, call, request):
-        """Refuses a request of a call, and returns whether the call was out of memory."""
+        """Refuses a request of a call. Returns whether the call was out of memory."""
         lines = lines_of(REFUSE_REQUEST=str(request), REFUSE_REPORT='refused')
         os.remove('refused')
         if lines != STORED:
@@ -90,13 +88,13 @@ class Memory(Built):
         self.assertEqual(calls()[0], STORED)
 
     def test_each_call_makes_the_requests_of_the_page(self):
-        self.assertEqual({name: (call.count, call.size) for name, call in calls()[1].items()}, TABLE)
+        self.assertEqual({name: (it.count, it.size) for name, it in calls()[1].items() if it.count}, TABLE)
 
     def assert_request_is_refused(self, name):
-        """Each request of the call is refused in turn."""
+        """Refuses each request of the call in turn."""
         call = calls()[1][name]
         times = [self.is_out_of_memory(call, call.before + number + 1) for number in range(call.count)]
-        self.assertEqual(any(times), call.count > 0, f'never out of memory with {call.count} requests refused in turn')
+        self.assertTrue(any(times), f'never out of memory with {call.count} requests refused in turn')
 
 
 for call_name in TABLE:

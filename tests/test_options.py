@@ -1,4 +1,4 @@
-"""The options of `subst` that give variables, and change their values."""
+"""The options of `subst` that set variables or change their values."""
 import errno
 import json
 import os
@@ -7,7 +7,7 @@ import subprocess
 from tests.subst import PROGRAM, UNREADABLE, Subst, failed, missing, subst, told, told_without_line, write
 from tests.support import MIB, some_size, with_entries
 
-READ_ONCE = "standard input is read once: '--values -' needs a FILE"
+READ_ONCE = "standard input can be read only once; if values are read from it, name the files to fill in"
 # Arguments of --set, a source, and its output.
 SETS = (
     (['-sA=1'], '$A', '1'),
@@ -31,18 +31,18 @@ VALUES = (b'\xef\xbb\xbfA=1\r\n'
           b'#D=none\r\n'
           b"D='a=b'=\r\r\n"
           b'A=\xc3\xa4')
-# Values files that are refused, with their message.
+# Refused values files, with their message.
 WRONG_VALUES = (
     (b'A=1\nB\nC', told_without_line('values:2:1', "missing '='")),
     (b'\n  A B \r\n', told_without_line('values:2:3', "missing '='")),
     (b'KEY=-----BEGIN KEY-----\nhunter2\n', told_without_line('values:2:1', "missing '='")),
-    (b'KEY=-----BEGIN KEY-----\nhunter+2==\n', told_without_line('values:2:1', 'no template can spell this name')),
-    (b'A B=1', told_without_line('values:1:1', 'no template can spell this name')),
-    (b'my-key=hunter2', told_without_line('values:1:1', 'no template can spell this name')),
-    (b'\tA =1', told_without_line('values:1:2', 'no template can spell this name')),
-    (b'export A=1', told_without_line('values:1:1', 'no template can spell this name')),
-    (b'=1', told_without_line('values:1:1', 'no template can spell this name')),
-    ('\u6f22=1'.encode(), told_without_line('values:1:1', 'no template can spell this name')),
+    (b'KEY=-----BEGIN KEY-----\nhunter+2==\n', told_without_line('values:2:1', 'not a variable name')),
+    (b'A B=1', told_without_line('values:1:1', 'not a variable name')),
+    (b'my-key=hunter2', told_without_line('values:1:1', 'not a variable name')),
+    (b'\tA =1', told_without_line('values:1:2', 'not a variable name')),
+    (b'export A=1', told_without_line('values:1:1', 'not a variable name')),
+    (b'=1', told_without_line('values:1:1', 'not a variable name')),
+    ('\u6f22=1'.encode(), told_without_line('values:1:1', 'not a variable name')),
     (b'A=1\nB=hunter2\xff', told_without_line('values:2:10', 'invalid UTF-8')),
 )
 
@@ -58,7 +58,7 @@ class Variables(Subst):
         for words, number in ((['-sA'], 1), (['--set='], 1), (['-sA=1', '-s', 'hunter2', '-sB'], 2)):
             self.assert_wrong(words, f"no '=' in argument {number} of --set")
         for name in ('', 'a b', 'a-b', '\u00e4', '$A', ' A', 'A '):
-            text = f"no template can spell the name '{name}' of --set"
+            text = f"'{name}' of --set is not a variable name"
             for value in ('hunter2', 'a=b'):
                 self.assert_wrong(['--set', f'{name}={value}'], text)
         for word, value in (('-s', '--set <NAME=VALUE>'), ('--values', '--values <FILE>'), ('--only', '--only <NAMES>'),
@@ -67,7 +67,7 @@ class Variables(Subst):
             self.assert_ends(subst([word]), 2, errors=(text + "For more information, try '--help'.\n").encode())
 
     def test_set_is_shown_without_control_characters(self):
-        self.assert_wrong(['--set', 'a\x1b=1'], "no template can spell the name 'a\\u{1b}' of --set")
+        self.assert_wrong(['--set', 'a\x1b=1'], "'a\\u{1b}' of --set is not a variable name")
 
     def test_values(self):
         write('values', VALUES)
@@ -75,7 +75,7 @@ class Variables(Subst):
             self.assert_done(words, b'[$A][$B][$C][$D]', b'[\xc3\xa4][ "2" # $A \\n\t ][][\'a=b\'=\r]')
         write('empty', b'')
         self.assert_done(['-f', 'empty'], b'${A:d}', b'd')
-        # At the end of the file a line ends as it does before a line feed.
+        # A line ends at the end of the file as it does before a line feed.
         for text in (b'A=1\r', b'A=1\r\n', b'A=1\n', b'A=1'):
             write('one', text)
             self.assert_done(['-f', 'one'], b'[$A]', b'[1]')
@@ -155,7 +155,7 @@ class Variables(Subst):
 
 
 def make_secrets():
-    """A folder as Kubernetes mounts a secret: the names lead through a link to the folder of the day."""
+    """Makes a folder like a mounted secret of Kubernetes: the names lead through a link to the folder of the day."""
     os.makedirs('secrets/..2026')
     os.symlink('..2026', 'secrets/..data')
     for name, value in (('USER', b'ann'), ('PASSWORD', b'hunter2\n'), ('tls.crt', b'\xff')):
@@ -163,7 +163,7 @@ def make_secrets():
         os.symlink(f'..data/{name}', f'secrets/{name}')
 
 
-# Files of a value, and their values.
+# Contents of files of a value, and their values.
 LINE_ENDS = ((b'', b''), (b'a', b'a'), (b'a\n', b'a'), (b'a\r\n', b'a'), (b'a\n\n', b'a\n'), (b'a\r\n\r\n', b'a\r\n'),
              (b'\n', b''), (b'\r\n', b''), (b'\r', b'\r'), (b'a\r', b'a\r'), (b'a\n\r', b'a\n\r'), (b'a\r\r\n', b'a\r'),
              (b'a \n', b'a '))
@@ -191,7 +191,7 @@ class FilesOfValues(Subst):
     def test_set_file_that_is_refused(self):
         for word in ('A', ''):
             self.assert_wrong(['--set-file', word], "no '=' in argument 1 of --set-file")
-        self.assert_wrong(['--set-file=a-b=c'], "no template can spell the name 'a-b' of --set-file")
+        self.assert_wrong(['--set-file=a-b=c'], "'a-b' of --set-file is not a variable name")
         self.assert_failed(['--set-file=A=nothing'], failed('nothing', errno.ENOENT), source=b'a')
         for data in (b'ab\nc\xff', b'ab\nc\xff\n'):
             write('bad', data)
@@ -204,7 +204,7 @@ class FilesOfValues(Subst):
             for words in (['--set-file=A=folder/A'], ['-ffolder'], ['--defaults=folder']):
                 self.assert_done(words, b'[$A]', b'[' + value + b']')
                 self.assert_done([*words, '--keep-line-end'], b'[$A]', b'[' + data + b']')
-        # Nothing but a line end is an empty value.
+        # A lone line end is an empty value.
         write('folder/A', b'\n')
         self.assert_done(['-ffolder', '--no-empty'], b'${A:d}', b'd')
         self.assert_done(['-ffolder', '--no-empty', '--keep-line-end'], b'${A:d}', b'\n')
@@ -228,7 +228,7 @@ class FilesOfValues(Subst):
 
 
 class Defaults(Subst):
-    """Values below all others, and empty ones."""
+    """Default values, and empty values."""
 
     def test_defaults_are_below_all_else(self):
         write('values', b'A=values\nB=values\n')
@@ -248,7 +248,7 @@ class Defaults(Subst):
         for words in (['-fvalues'], ['-sA=', '-sB= ']):
             self.assert_done([*words, '--no-empty'], b'[${A:80}][${B:80}][${A?}]', b'[80][ ][]')
             self.assert_done(words, b'[${A:80}]', b'[]')
-        # Passed over, so that what comes after it counts.
+        # Empty values are skipped, so that later ones are used.
         words = ['-sA=', '-fvalues', '-e', '--default=A=', '--default=B=b']
         self.assert_done(words, b'[$A][$B]', b'[][ ]', env={'A': 'env'})
         self.assert_done(['--no-empty', *words], b'[$A][$B]', b'[env][ ]', env={'A': 'env'})
@@ -278,7 +278,7 @@ class Escapes(Subst):
         self.assert_done(['--escape=sh', "-sA=it's"], b'$A', b"'it'\\''s'")
         self.assert_done(['--escape=sh', '--no-empty', '-sA='], b'${A:d}', b'd')
         self.assert_failed(['--escape=sh', '--set-file=A=-', '--bytes', 'x'], failed('x', errno.ENOENT), source=b'a')
-        self.assert_wrong(['--escape=xml'], '--escape is for json or sh')
+        self.assert_wrong(['--escape=xml'], '--escape must be json or sh')
 
     def test_escape_of_long_values(self):
         value = "'\"" * some_size(MIB)

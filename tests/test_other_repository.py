@@ -1,10 +1,9 @@
-"""The library in a repository of its own, as README.md says, with a program of the examples of README.md, of the map
-and the loader of docs/CALLING.md, and of the examples in the library's comments, which is run unproved.
+"""The library in a repository of its own, as in README.md. A program there runs, unproved, the examples of README.md,
+of the map and the loader of docs/CALLING.md, and of the library's comments.
 
-An example is a block of Rust in a comment `///` of a crate of the library. What it computes is its `output`, of a
-document that is filled in where it stands an `Option`, and its last line is a comment with the text of that. The first
-examples are the functions of README.md, the environment as README.md reads it, and the map and the loader of
-docs/CALLING.md.
+An example is a Rust block in a `///` comment of a crate of the library. It computes an `output`, which is an `Option`
+of a document that is filled in in place, and its last line is a comment with the text of that. The first examples are
+the functions of README.md, the environment as README.md reads it, and the map and the loader of docs/CALLING.md.
 """
 import json
 import pathlib
@@ -16,7 +15,7 @@ from building import TOP, copy_library
 from prove import crates, with_those_below
 from tests.support import Case, ended
 
-# How long `rt try` may take, which does so for half a minute on a machine that does nothing else.
+# The seconds that `rt try` may take. It takes half a minute on an idle machine.
 SECONDS = 600
 HEAD = '''//! The examples of the library, one after the other.
 #![tactic(auto)]
@@ -27,24 +26,24 @@ use std::alloc::AllocError;
 use std::env;
 use subst::{ByteTemplate, Layered, NoEmpty, NoSubstitution, ShellMap, Template, TemplateBuf};
 use subst::{escape, foreign, laws, substitute_bytes, substitute_bytes_into, substitute_bytes_owned, substitute_into};
-use subst::{substitute_owned, toml};
+use subst::{substitute_owned, toml, yaml};
 
 mod guest;
 mod loader;
 
 '''
-# The first lines of `main`, which fill in from the environment as README.md reads it.
+# The first lines of a `main` that expands from the environment, as in README.md.
 FROM_ENVIRONMENT = '''    let alloc = rt.alloc();
     let variables = %s;
     println!(rt; "{}", substitute(alloc, "Hello ${GREETED:world}!", &variables)?)?;
 '''
-# A function that fills in from the map of docs/CALLING.md.
+# A function that expands from the map of docs/CALLING.md.
 FROM_GUEST = '''
 fn from_guest(alloc: Global) -> Result<String, Error> {
     substitute(alloc, "Hello $name!", &Guest { name: "world" })
 }
 '''
-# The imports of the loader of docs/CALLING.md, and what reads servers by README.md and by the loader.
+# The imports of the loader of docs/CALLING.md, and the code that reads servers by README.md and by the loader.
 LOADER = '''//! The loader of docs/CALLING.md.
 
 use serde::DeserializeOwned;
@@ -63,7 +62,7 @@ fn from_loader(alloc: Global, source: &str, environment: &Env) -> Result<String,
     }
 }
 '''
-# A program that lends a template, takes its owner apart, and then uses what was borrowed.
+# A program that borrows from a template, takes its owner apart, and then uses what was borrowed.
 USE_AFTER_TAKING_APART = '''//! Uses a borrowed template after its owner was taken apart.
 #![tactic(auto)]
 
@@ -83,18 +82,20 @@ READ = '''    let server = read_server(alloc, r#"{"host": "${HOST_OF_DB:db}", "p
     let source = "{\\"host\\": \\"$HOST_OF_DB\\",\\n \\"port\\": \\"${PORT_OF_DB}\\"}";
     println!(rt; "{}", from_loader(alloc, source, &variables)?)?;
 '''
-# The type of the errors of the calls of a crate.
-ERRORS = {'subst_json': 'json::Error', 'subst_toml': 'toml::Error'}
+# The error type of the calls of a crate.
+ERRORS = {'subst_json': 'json::Error', 'subst_toml': 'toml::Error', 'subst_yaml': 'yaml::Error'}
+# A crate that `subst` doesn't re-export. Its own tests have its examples.
+READER = 'subst_yaml_reader'
 
 
 def found(path, pattern):
-    """The first part of a page that an expression is for."""
+    """Returns the first part of a page that matches an expression."""
     return re.search(pattern, (TOP / path).read_text(encoding='utf-8'), re.M | re.S)[1]
 
 
 def examples():
-    """Each example in a comment: its crate, its lines, and what it prints."""
-    for crate in with_those_below(['subst'], crates()):
+    """Yields each example in a comment: its crate, its lines, and its output."""
+    for crate in (it for it in with_those_below(['subst'], crates()) if it != READER):
         for path in sorted((TOP / 'crates' / crate / 'src').rglob('*.rt')):
             for block in re.findall(r'^ */// ```rust\n(.*?)^ */// ```$', path.read_text(encoding='utf-8'), re.M | re.S):
                 *lines, printed = [line.strip()[len('/// '):] for line in block.splitlines()]
@@ -102,13 +103,13 @@ def examples():
 
 
 def text_of(printed):
-    """What is printed of an output, which may be written as an `Option`."""
+    """Returns the printed form of an output, which may be written as an `Option`."""
     some = re.fullmatch(r'Some\((".*")\)', printed)
     return json.loads(some[1]) if some else printed
 
 
 def function(number, crate, lines):
-    """The function that an example becomes."""
+    """Returns an example as a function."""
     error = ERRORS.get(crate, 'Error')
     ends = 'Ok(String::from_str(alloc, std::str::from_utf8(&output).unwrap_or("not UTF-8"))?)' \
         if any(word in line for word in ('substitute_bytes', 'Vec::from_slice') for line in lines) else 'Ok(output)'
@@ -128,12 +129,12 @@ def program():
 
 
 def own_map():
-    """The block of docs/CALLING.md with a map."""
+    """Returns the block of docs/CALLING.md with a map."""
     return found('docs/CALLING.md', r'^```rust\n((?:(?!```).)*?^impl(?:(?!```).)*?VariableMap.*?)^```$')
 
 
 def loader():
-    """The block of docs/CALLING.md with a loader, and the type that it returns."""
+    """Returns the block of docs/CALLING.md with a loader, and the type that the loader returns."""
     loaded = re.search(r'^#\[derive\(Drop\)\]\npub enum Loaded.*?^}$',
                        (TOP / 'crates/subst_uses/src/config.rt').read_text(encoding='utf-8'), re.M | re.S)[0]
     return LOADER + loaded + '\n\n' + found('docs/CALLING.md', r'^```rust\n(pub fn load_as.*?)^```$')
@@ -151,8 +152,7 @@ class OtherRepository(Case):
     """A program of another repository."""
 
     def write(self, **modules):
-        """Writes a program of these modules over the library, and returns the options that run something in its
-        folder."""
+        """Writes a program of these modules over the library. Returns the options that run a command in its folder."""
         crate = pathlib.Path('crates/greeting')
         (crate / 'src').mkdir(parents=True)
         lines = copy_library(pathlib.Path('.'))

@@ -1,6 +1,6 @@
-"""What is handed on: tools/install, tools/deb, tools/licences and tools/release.
+"""Releases: tools/install, tools/deb, tools/licences and tools/release.
 
-Packages are looked at, installed and removed by `dpkg`, below a folder that stands for a system, and read by `lintian`.
+`dpkg` inspects, installs and removes packages, below a folder in place of a system, and `lintian` checks them.
 """
 import functools
 import gzip
@@ -22,7 +22,7 @@ from tests.support import SCRATCH, Built, Case, ended, needs, ran
 USAGES = {'install': 'usage: tools/install [--static | --library | --python | --uninstall] PREFIX\n',
           'deb': 'usage: tools/deb FOLDER [subst | libsubst0 | libsubst-dev | python3-subst]..\n',
           'release': 'usage: tools/release [--untested] FOLDER\n', 'wheel': 'usage: tools/wheel FOLDER\n'}
-# The folders of libraries and of modules below /usr, and below another prefix.
+# The folders of libraries and of Python's modules below /usr, and the latter below another prefix.
 DEBIAN_LIBRARIES, PYTHON = 'lib/x86_64-linux-gnu', 'lib/python3/dist-packages'
 
 
@@ -36,8 +36,7 @@ def licences(*words):
 
 
 def copies():
-    """Returns what tools/install puts below a prefix beside the programs and licences: the bytes of each file, by its
-    path."""
+    """Returns the files of tools/install below a prefix besides programs and licences: their bytes by their paths."""
     texts = {'share/bash-completion/completions/subst': completions.bash(),
              'share/zsh/site-functions/_subst': completions.zsh(),
              'share/fish/vendor_completions.d/subst.fish': completions.fish(),
@@ -46,7 +45,7 @@ def copies():
 
 
 def bytes_of(paths):
-    """Returns the bytes of files, by the names that are given to them."""
+    """Returns the bytes of files by other names for them."""
     return {name: pathlib.Path(path).read_bytes() for name, path in paths.items()}
 
 
@@ -54,14 +53,14 @@ class Installing(Compiling):
     """Tests that install and pack."""
 
     def assert_refused(self, command, text, **options):
-        """Fails the test unless a command ends with status 1 and prints this."""
+        """Fails the test unless a command ends with status 1 and this text."""
         end = ended(command, **options)
         self.assertEqual(end.returncode, 1, end.stdout)
         self.assertIn(text, end.stdout)
 
     def assert_files(self, folder, wanted):
-        """Fails the test unless a folder has files of these names alone, each with these bytes, packed or not, if they
-        are given."""
+        """Fails the test unless a folder has exactly these files, each with these bytes, compressed or not, if they are
+        given."""
         files = [path for path in pathlib.Path(folder).rglob('*') if not path.is_dir()]
         found = bytes_of({str(path.relative_to(folder)): path for path in files})
         found.update({path: gzip.decompress(data) for path, data in found.items() if path.endswith('.gz')})
@@ -69,7 +68,7 @@ class Installing(Compiling):
         self.assertFalse([path for path, data in wanted.items() if data not in (None, found[path])], folder)
 
     def assert_programs_run(self, folder):
-        """Fails the test unless the programs in a folder do their work without a loader."""
+        """Fails the test unless the programs in a folder work without a loader."""
         for name in PROGRAMS:
             self.assertNotIn(b'/ld-linux', pathlib.Path(folder, name).read_bytes(), name)
         script = '"$0/subst" --version && printf "Hello \\$name!" | "$0/subst_filter" text name=world'
@@ -79,14 +78,14 @@ class Installing(Compiling):
         self.need_to_compile(CC, '-static')
 
     def need_a_commit(self):
-        """Skips the test unless all of the tree is committed."""
+        """Skips the test unless the whole tree is committed."""
         end = ended(['git', 'status', '--porcelain'], cwd=TOP)
         if end.returncode or end.stdout:
             self.skipTest('the tree has changes that are not committed')
 
 
 class Scripts(Case):
-    """What the scripts say."""
+    """Usage messages of the scripts."""
 
     def test_scripts_refuse_other_arguments(self):
         options = {'install': ('--static', '--library', '--python', '--uninstall'), 'release': ('--untested',)}
@@ -100,7 +99,7 @@ class Scripts(Case):
 
 
 class Installed(Installing, Built):
-    """What is installed and removed."""
+    """Installing and removing."""
     programs = PROGRAMS.values()
 
     def test_install_puts_programs_pages_and_completions_below_a_prefix(self):
@@ -139,18 +138,18 @@ class Installed(Installing, Built):
 
 
 def paragraphs(text):
-    """Returns the paragraphs of a copyright file but the first, each as its fields: the first line, and those that go
-    on."""
+    """Returns the paragraphs of a copyright file without the first, each as its fields: the first line and its
+    continuation."""
     fields = r'^([\w-]+): *(.*\n)((?: .*\n)*)'
     return [{name: (line.strip(), more) for name, line, more in re.findall(fields, f'{it}\n', re.MULTILINE)}
             for it in text.split('\n\n')[1:]]
 
 
 class Licences(Installing):
-    """The licences of what is linked."""
+    """The licences of linked libraries."""
 
     def assert_all_licences(self, text, crates):
-        """Fails the test unless a copyright file has each of the crates once, and a text for each licence."""
+        """Fails the test unless a copyright file has each crate once, and a text for each licence."""
         all_ = paragraphs(text)
         files = ' '.join(it['Files'][0] for it in all_ if 'Files' in it).split()
         self.assertFalse([crate for crate in crates if files.count(f'rattle/{crate}/*') != 1])
@@ -170,7 +169,7 @@ class Licences(Installing):
                             env={**os.environ, 'LIBC_LICENCE': 'none'})
 
     def test_a_licence_without_a_text_is_missed(self):
-        """Of a kit that has one crate, which uses another one."""
+        """Uses a kit with one crate, which uses another one."""
         for name, uses in (('made_up', 'dep below\n'), ('below', '')):
             os.makedirs(f'kit/rattle/{name}')
             os.makedirs(f'kit/rlibs/{name}.rlib')
@@ -201,13 +200,13 @@ def made_packages():
 
 
 def deb(folder, **options):
-    """Makes the packages in a folder, and returns their paths, by their names."""
+    """Makes the packages in a folder. Returns their paths by their names."""
     said = ran([TOP / 'tools/deb', folder], timeout=None, **options)
     return {os.path.basename(path).split('_')[0]: path for path in re.findall(r'^/.*\.deb$', said, re.MULTILINE)}
 
 
 def dpkg(*words):
-    """Runs dpkg as any user may, with the folder `root` as its system, and without what this system leaves out."""
+    """Runs dpkg as any user may, with the folder `root` as its system, and without this system's exclusions."""
     forced = ['--force-not-root', '--force-script-chrootless', '--force-depends', '--path-include=*', '--log=/dev/null']
     path = f"{os.environ['PATH']}:/usr/sbin:/sbin"
     return ran(['dpkg', f"--root={os.path.abspath('root')}", *forced, *words], env={**os.environ, 'PATH': path})
@@ -223,7 +222,7 @@ class DebianPackages(Installing, Built):
         self.need_static_library()
 
     def assert_readable(self, package):
-        """Fails the test unless the files of a package are root's, with the permissions that such files have."""
+        """Fails the test unless the files of a package are root's, with their usual permissions."""
         files = subprocess.run(['dpkg-deb', '--fsys-tarfile', package], check=True, stdout=subprocess.PIPE).stdout
         for file in tarfile.open(fileobj=io.BytesIO(files)):
             mode = 0o777 if file.issym() else 0o755 if file.isdir() or '/bin/' in file.name else 0o644
@@ -290,7 +289,7 @@ class DebianPackages(Installing, Built):
 
 
 class RefusedRelease(Installing):
-    """What tools/release makes nothing of."""
+    """Trees that tools/release refuses."""
 
     def test_release_refuses_what_is_not_committed_or_not_released(self):
         self.need_a_commit()
@@ -306,7 +305,7 @@ class RefusedRelease(Installing):
 
 
 class Release(Installing, Built):
-    """What tools/release makes of a commit."""
+    """The files that tools/release makes of a commit."""
     programs = PROGRAMS.values()
 
     @needs('dpkg-deb')

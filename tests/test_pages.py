@@ -1,9 +1,8 @@
-"""The completions, the pages of the programs, and the examples of the documents, run as they are written.
+"""The completions, the man pages, and the examples of the documents, which are run as they are written.
 
-An example is a block of lines of which those with `$ ` in front are commands, and the others what these print, also on
-standard error: a block `console` in a document, or one between .EX and .EE in a page. All examples of a document run in
-one shell, in a folder that has the files that the document shows, as docs/C.md does, with what tools/install puts below
-PREFIX.
+An example is a block of commands, in lines that begin with `$ `, and of their output, also on standard error: a
+`console` block of a document, or lines between .EX and .EE of a man page. All examples of a document run in one shell,
+in a folder with the files that the document shows, as docs/C.md does, and with the files of tools/install below PREFIX.
 """
 import functools
 import os
@@ -17,7 +16,7 @@ from filled import ROFF, filled
 from tests.installed import prefix
 from tests.support import SECONDS, Built, Case, needs, ran
 
-# What an example of a document prints after each command, so that outputs can be distinguished.
+# A separator after the output of each command.
 MARK = '\x01'
 # A file of a document, named at the beginning of the paragraph before it.
 FILE = re.compile(r'^`(\w+\.\w+)`(?:[^\n]+\n)+\n```(?:c|python)\n(.*?)^```$', re.MULTILINE | re.DOTALL)
@@ -26,7 +25,7 @@ RECIPES = 'docs/ENVSUBST.md'
 
 
 def options():
-    """Returns the options of subst in their source: the letter, if there is one, the long form, and the text."""
+    """Returns the options of subst in their source: the letter, if there is one, the long name, and the help."""
     return {(it.letter, it.name, it.text) for it in completions.options()}
 
 
@@ -35,35 +34,35 @@ def names():
 
 
 def written(shell, path):
-    """Writes the completion for a shell into a file, and returns its path."""
+    """Writes a shell's completion to a file. Returns its path."""
     pathlib.Path(path).write_text(completions.SHELLS[shell](), encoding='utf-8')
     return os.path.abspath(path)
 
 
 def offered_by_bash(words):
-    """Returns what is offered in bash for the last of its arguments. If nothing is, bash offers files, if allowed."""
+    """Returns the offers of bash for the last of these arguments. If there is none, bash offers files, if allowed."""
     script = '. "$0"; compopt() { printf "%s " "$@"; }; COMP_WORDS=("$@"); COMP_CWORD=$(($# - 1)); _subst; ' \
         'printf "%s " "${COMPREPLY[@]}"'
     return ran(['bash', '-c', script, written('bash', 'subst.bash'), 'subst', *words.split()]).split()
 
 
 def offered_by_fish(words):
-    """Returns what is offered in fish for the last argument of a command line, without the texts."""
+    """Returns the offers of fish for the last argument of a command line, without their help."""
     script = f"source {written('fish', 'subst.fish')}; complete -C 'subst {words}'"
     printed = ran(['fish', '-c', script], env={**os.environ, 'HOME': os.getcwd()})
     return [line.split('\t')[0] for line in printed.splitlines()]
 
 
 class Completions(Case):
-    """What completes the arguments of subst."""
+    """Completions of the arguments of subst."""
 
     def assert_offers(self, offered, *pairs):
-        """Fails the test unless this is offered after these arguments."""
+        """Fails the test unless these are the offers after these arguments."""
         for words, wanted in pairs:
             self.assertEqual(offered(words), wanted, words)
 
     def test_completions_have_all_options(self):
-        """In quoted texts, in which quotes are escaped."""
+        """Options are in quoted texts, in which quotes are escaped."""
         for shell, line in (('zsh', r"(?:\{-(\w)\+?,)?--([\w-]+)=?(?:\}')?\[(.*)\]"),
                             ('fish', r"complete -c subst(?: -s (\w))? -l ([\w-]+).* -d '(.*)'")):
             text = completions.SHELLS[shell]().replace(r"'\''", "'").replace(r"\'", "'")
@@ -100,7 +99,7 @@ class Completions(Case):
 
 
 class Pages(Case):
-    """The pages of the programs."""
+    """The man pages of the programs."""
 
     def assert_no_warnings(self, *command):
         """Fails the test if a program prints anything about a page."""
@@ -126,7 +125,7 @@ class Pages(Case):
 
 
 def examples(path):
-    """Returns the commands of a document, each with what it has to print."""
+    """Returns the commands of a document, each with its expected output."""
     text = (TOP / path).read_text(encoding='utf-8')
     if path.endswith('.in'):
         meant = {written: character for character, written in ROFF.items()}
@@ -151,7 +150,7 @@ class Examples(Built):
         self.assertEqual(set(re.findall(line, printed, re.MULTILINE)), options())
 
     def assert_prints(self, path, shell='bash'):
-        """Fails the test unless the examples of a document print what is written."""
+        """Fails the test unless the examples of a document print the expected output."""
         for name, text in FILE.findall((TOP / path).read_text(encoding='utf-8')):
             pathlib.Path(name).write_text(text, encoding='utf-8')
             self.need_to_run('cc', '--version')

@@ -1,5 +1,5 @@
 """The package for Python over the library, as tools/install puts them below a prefix, and as pip installs the wheel
-into a new environment, if Python can make one. Over each, the tests of python/test_subst.py are run.
+into a new environment, if Python can make one. The tests of python/test_subst.py are run over each.
 """
 import importlib.util
 import os
@@ -17,12 +17,12 @@ GREETING = 'import subst; print(subst.__file__, subst.fill_in("Hello $name!", {"
 
 
 def wheel(folder):
-    """Makes the wheel in a folder, and returns its path."""
+    """Makes the wheel in a folder. Returns its path."""
     return pathlib.Path(ran([TOP / 'tools/wheel', folder], timeout=None).splitlines()[-1])
 
 
 class PythonLibrary(Built):
-    """The package, as it is installed."""
+    """The installed package."""
 
     def assert_passes(self, python, folder, **variables):
         """Fails the test unless Python finds the package in a folder, and all of its tests pass."""

@@ -1,11 +1,11 @@
-"""Random documents, over which `subst` runs: 100,000, unless COUNT gives another number.
+"""Random documents, as inputs of `subst`: 100,000, unless COUNT sets another number.
 
-Half of the documents are JSON, and half TOML, small ones but for a few that are deep or wide, with strings spelled in
-all ways, comments and white space, equal keys, and numbers and dates in all forms. Their strings are templates. What
-`subst` gives has the same bytes round the strings and in those that stay, and each other string is what the rules say;
-as a whole it is read by Python's readers as the document with its strings filled in. The program `subst_vectors`
-fills in each document by its tree and where it stands. Then a fault is put at one place in each, and `subst --check`
-reports that one alone, at its line and column. The seed is fixed, unless SEED gives another; a failure names it with the
+Half of the documents are JSON, and half TOML: small ones, and a few that are deep or wide, with strings in all
+spellings, comments and white space, equal keys, and numbers and dates in all forms. Their strings are templates. The
+output of `subst` has the same bytes around the strings and in those that stay; each other string is what the rules say.
+As a whole, Python's readers read it as the document with its strings filled in. The program `subst_vectors` fills in
+each document by its tree and in place. Then each document gets a fault at one place, and `subst --check` has to report
+this one alone, at its line and column. The seed is fixed, unless SEED sets another; a failure names it with the
 document.
 """
 import functools
@@ -23,9 +23,9 @@ from tests.vectors import encode, pairs_column, read_document, text_of_tree
 
 SEED = os.environ.get('SEED', '1')
 COUNT = int(os.environ.get('COUNT', 100000))
-# How many documents one run of the program has.
+# How many documents a run has.
 CHUNK = 1000
-# How many spellings of strings there are to make documents from.
+# How many spellings of strings the documents are made from.
 TOKENS = 3000
 VALUE = '$a"\\\n\u00e9'
 # Each fault, with the index of its first character, and its text.
@@ -41,21 +41,21 @@ FAULTS = (
 
 # Strings
 
-# Where a fault can be put into a string, by how the string is spelled, and where its token begins and ends.
+# Marks where a fault can be put into a string, by the string's quotes, and marks of the ends of its token.
 IN_JSON, IN_BASIC, IN_LITERAL = '\ufdd0\ufdd1\ufdd2'
 MARK = re.compile('[\ufdd0-\ufdd2]')
 BEGIN, END = '\ufdd6\ufdd7'
 NOT_SOURCE = re.compile('[\ufdd0-\ufdd2\ufdd6\ufdd7]')
 TOKEN = re.compile(f'{BEGIN}(.*?){END}', re.DOTALL)
-# A string as a writer spells it.
+# A string in the spelling of a writer.
 STRING = re.compile('"""(?:[^\\\\]|\\\\.)*?"{3,5}(?!")|\'{3}.*?\'{3,5}(?!\')|"(?:[^"\\\\]|\\\\.)*"|\'[^\']*\'', re.DOTALL)
 NEW_ESCAPE = re.compile(r'\\(x[0-9A-Fa-f]{2}|.)', re.DOTALL)
-# What is there for the program, and what for Python's reader, which knows no TOML 1.1.
+# A text for the program, and another one for Python's reader, which doesn't know TOML 1.1.
 EITHER = re.compile('\ufdd3(.*?)\ufdd4(.*?)\ufdd5', re.DOTALL)
 PLAIN = 'abz09 _-.,:;#=[]()/?~\u00e9\u0416\u20ac\u4e2d\U0001f600\u200b'
-# Templates, to each of which any other can be joined.
+# Templates that can be joined with any other.
 PARTS = (*PLAIN, *PLAIN, '${a}', '${a:b}', '$a-', '${none:c}', '${none?}', '{}', '\\$', '\\\\', '\\}', '\\:')
-# At the ends of how many bytes and units they take, and others.
+# Characters at the limits of lengths in bytes and units, and others.
 SPELLED_BY_NUMBER = 'a"\x00\x1f\x1b\x7f\x80\u07ff\u0800\u20ac\ud7ff\ue000\u2028\uffff\U00010000\U0010ffff'
 ESCAPES = {'"': '"', '\\': '\\', '\b': 'b', '\f': 'f', '\n': 'n', '\r': 'r', '\t': 't'}
 
@@ -77,12 +77,12 @@ def cased(rng, digits):
 
 
 def is_raw(c, others=''):
-    """Whether a character may be in a string as it is."""
+    """Returns whether a string may have a character unescaped."""
     return c in PLAIN or c in others or (' ' <= c < '\x7f' and c not in '"\\')
 
 
 def in_json(rng, c):
-    """A spelling of a character."""
+    """Returns a spelling of a character."""
     units = c.encode('utf-16-be').hex()
     ways = [''.join('\\u' + cased(rng, units[at:at + 4]) for at in range(0, len(units), 4))]
     if c in ESCAPES or c == '/':
@@ -114,14 +114,14 @@ def spelled(rng, mark, text):
 
 
 def some_parts(rng, mark, *pools):
-    """Parts of a string as pairs, each of a spelling and what it spells; those of the pools are such pairs."""
+    """Returns parts of a string as pairs of a spelling and a text. The pools have such pairs."""
     others = '"' if mark == IN_LITERAL else '"\'' + SPELLED_BY_NUMBER + ''.join(ESCAPES).replace('\\', '')
     made = [rng.choice(rng.choice((PARTS, PARTS, others, *pools))) for _ in range(rng.choice((0, 1, 1, 2, 2, 3, 4)))]
     return [part if isinstance(part, tuple) else (spelled(rng, mark, part), part) for part in made]
 
 
 def token_of(quotes, mark, parts):
-    """The spelling of a string with its marks, and the string."""
+    """Returns the spelling of a string with its marks, and the string."""
     spelling = mark.join([quotes, *(spelling for spelling, _ in parts), quotes])
     return BEGIN + spelling + END, ''.join(text for _, text in parts)
 
@@ -142,13 +142,13 @@ def json_token(rng):
 
 
 def json_list(rng, brackets, texts):
-    """Texts between brackets, with commas and white space."""
+    """Returns texts between brackets, with commas and white space."""
     spaced = ','.join(rng.choice(JSON_SPACE) + text + rng.choice(JSON_SPACE) for text in texts)
     return brackets[0] + (spaced or rng.choice(JSON_SPACE)) + brackets[1]
 
 
 def json_object(rng, keys, values):
-    """An object with these values, under keys of which some are equal."""
+    """Returns an object with these values, some under equal keys."""
     return json_list(rng, '{}', [
         rng.choice(keys) + rng.choice(JSON_SPACE) + ':' + rng.choice(JSON_SPACE) + value for value in values])
 
@@ -164,7 +164,7 @@ def json_value(rng, tokens, keys, depth):
 def json_documents(rng, count):
     made = [json_token(rng) for _ in range(TOKENS)]
     tokens = [token for token, _ in made]
-    # Few keys, so that some come twice, and in another spelling.
+    # There are few keys, so that some come twice, and in other spellings.
     keys = [(without_marks(token), key) for token, key in made]
     keys = [token for token, _ in [it for it in keys if len(it[1]) == 1][:60] + keys[:20]]
     for number in range(count):
@@ -196,7 +196,7 @@ def multi_line_parts(rng, quote, mark):
     parts = [(rng.choice(('', '', '\n', '\r\n')), '')]
     for part in some_parts(rng, mark, *pools):
         before = parts[-1]
-        # Three quotes would end the string, what is blank after a backslash at the end of a line is left out, and so is
+        # Here three quotes would end the string. Blanks after a backslash at the end of a line are dropped, and so is
         # the first newline.
         is_blank = not before[1] and part[0].strip(' \t\r\n') == ''
         if is_blank or part[0][0] == quote == before[0][:1]:
@@ -213,7 +213,7 @@ def toml_token(rng):
 
 
 def toml_keys(rng, made):
-    """Keys, each with some spellings: bare ones, and those that are quoted in one line."""
+    """Returns keys, each with several spellings: bare ones, and strings of one line."""
     keys = {key: [key, f'"{key}"', f"'{key}'", f'"\\u{ord(key[0]):04x}{key[1:]}"'] for key in BARE}
     for token, key in made:
         if not without_marks(token).startswith(('"""', "'''")):
@@ -233,7 +233,7 @@ class Toml:
         self.names = list(self.keys)
 
     def dotted(self, path):
-        """A key of these parts."""
+        """Returns a dotted key of these parts."""
         rng = self.rng
         texts = [rng.choice(self.keys[key]) for key in path]
         dots = [rng.choice(('.', '.', ' . ', '.\t')) for _ in texts[1:]]
@@ -246,12 +246,12 @@ class Toml:
         return self.array(depth, self.rng.randrange(4)) if pick < 0.85 else self.inline(depth)
 
     def space(self, brackets):
-        """White space and comments between brackets: between braces these are of TOML 1.1."""
+        """Returns white space and comments between brackets. Between braces these are of TOML 1.1."""
         text = self.rng.choice(IN_ARRAY)
         return either(text, '') if brackets == '{}' else text
 
     def between(self, brackets, texts):
-        """Texts between brackets, with commas, white space and comments."""
+        """Returns texts between brackets, with commas, white space and comments."""
         spaced = [self.space(brackets) + text + self.space(brackets) for text in texts]
         comma = (',' if brackets == '[]' else either(',', '')) if texts and self.rng.random() < 0.3 else ''
         return brackets[0] + ','.join(spaced) + comma + self.space(brackets) + brackets[1]
@@ -267,7 +267,7 @@ class Toml:
         return self.dotted(path) + rng.choice(IN_LINE) + '=' + rng.choice(IN_LINE) + self.value(depth)
 
     def pairs(self, names, depth):
-        """Pairs under these names, some of them with dots: of each such name one or two, in any order."""
+        """Returns pairs under these names. Some names are dotted: they have one or two pairs each, in any order."""
         paths = []
         for name in names:
             below = self.rng.sample(self.names, self.rng.choice((0, 0, 0, 1, 2)))
@@ -276,7 +276,7 @@ class Toml:
         return [self.pair(path, depth) for path in paths]
 
     def section(self, header, names):
-        """A header, with pairs under it."""
+        """Returns a header with pairs under it."""
         rng = self.rng
         return ''.join(rng.choice(IN_LINE) + line + rng.choice(LINE_ENDS)
                        for line in [*([header] if header else []), *self.pairs(names, 2)])
@@ -285,7 +285,7 @@ class Toml:
         return brackets + self.rng.choice(IN_LINE) + self.dotted(path) + self.rng.choice(IN_LINE) + ']' * len(brackets)
 
     def table(self, path, depth):
-        """The sections of a table and of those below it, which may come before it, and between those of others."""
+        """Returns the sections of a table and its children, which may come before it, and between those of others."""
         names = self.rng.sample(self.names, self.rng.randrange(1, 4))
         pairs, below = names[:1], names[1:] if depth else []
         own = self.section(path and self.header(path, '['), pairs)
@@ -297,7 +297,7 @@ class Toml:
         return self.table(path, depth) if self.rng.random() < 0.6 else self.tables(path, depth)
 
     def tables(self, path, depth):
-        """The sections of an array of tables, each element's own before those below it."""
+        """Returns the sections of an array of tables, each element's own before those below it."""
         sections = []
         for _ in range(self.rng.randrange(1, 4)):
             names = self.rng.sample(self.names, self.rng.randrange(0, 3))
@@ -306,7 +306,7 @@ class Toml:
         return sections
 
     def merged(self, blocks):
-        """All sections of some blocks, those of each in their order."""
+        """Merges the sections of blocks, and keeps the order of each block."""
         left, sections = [block[::-1] for block in blocks], []
         while left := [block for block in left if block]:
             sections.append(self.rng.choice(left).pop())
@@ -326,7 +326,7 @@ def toml_documents(rng, count):
     return (maker.document(number) for number in range(count))
 
 
-# Each kind of documents: how they are made, and a document that differs from all of them by what it gives.
+# Each kind of document: its maker, and a document with another output than all of these.
 KINDS = {
     'json': (json_documents, '"the end of a document"\n'),
     'toml': (toml_documents, 'the = "end of a document"\n'),
@@ -337,18 +337,18 @@ KINDS = {
 
 
 def width(c):
-    """How many columns a character takes."""
+    """Returns the columns of a character."""
     return 0 if c in '\u200b\ufeff' else 2 if unicodedata.east_asian_width(c) in 'WF' else 1
 
 
 def place(before):
-    """The line and the column after a text."""
+    """Returns the line and the column after a text."""
     lines = re.split('\r\n|\r|\n', before)
     return f'{len(lines)}:{1 + sum(map(width, lines[-1]))}'
 
 
 def with_fault(rng, text):
-    """A document with a fault in one of its strings, with its position and its text, or None where it has none."""
+    """Returns a document with a fault in one string, the fault's position and its text, or None without a string."""
     marks = list(MARK.finditer(text))
     if not marks:
         return None
@@ -374,7 +374,7 @@ def subst(folder, kind, words):
 
 
 def outputs_of(folder, kind, texts):
-    """What the program gives for documents."""
+    """Returns the program's outputs for documents."""
     end_of_document = KINDS[kind][1]
     write_files(folder, [without_marks(for_program(text)) for text in texts])
     with open(os.path.join(folder, 'end'), 'w', encoding='utf-8') as file:
@@ -391,12 +391,12 @@ def filled(tree):
 
 
 def string_of(kind, token):
-    """The string that a token spells, as Python's reader has it."""
+    """Returns the string that a token spells, by Python's reader."""
     return read_document('json', token) if kind == 'json' else read_document('toml', f's = {token}')['s']
 
 
 def folded(string):
-    """The string with each end of a line as one character."""
+    """Returns the string with one newline for each line end."""
     return re.sub('\r+\n', '\n', string)
 
 
@@ -409,8 +409,8 @@ def known_escapes(token):
 
 
 def spliced(kind, text, output):
-    """Checks that an output has the bytes of a document, with another token for each string that isn't what it gives.
-    Returns it as Python's reader can read it."""
+    """Checks that an output has the bytes of a document, except the tokens of strings that change. Returns it as
+    Python's reader can read it."""
     at, readable = 0, []
     for number, piece in enumerate(TOKEN.split(text)):
         wanted, known = (without_marks(of(piece)) for of in (for_program, for_python))
@@ -428,7 +428,7 @@ def spliced(kind, text, output):
 
 
 def check_output(kind, text, output):
-    """Checks what a document gives, by its strings and as a whole."""
+    """Checks the output of a document, by its strings and as a whole."""
     try:
         output = spliced(kind, text, output)
         wanted = filled(read_document(kind, without_marks(for_python(text))))
@@ -451,7 +451,7 @@ def check_in_every_way(file, kind, texts, outputs):
 
 
 def check_faults(folder, kind, documents):
-    """Checks the positions that are reported of the faults of documents."""
+    """Checks the reported positions of faults of documents."""
     write_files(folder, [text for text, _, _ in documents])
     end = subst(folder, kind, ['--check', *map(str, range(len(documents)))])
     assert_ends(end._replace(errors=b''), 1)
@@ -484,7 +484,7 @@ class Documents(Built):
     seed = SEED
 
     def check(self, kind):
-        """Checks the documents of a kind, of which there are so many runs."""
+        """Checks the documents of a kind, run by run."""
         with ProcessPoolExecutor() as pool:
             list(pool.map(functools.partial(check_chunk, kind), range(max(1, round(COUNT / CHUNK / len(KINDS))))))
 

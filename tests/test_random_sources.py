@@ -1,11 +1,11 @@
-"""Answers to random sources: a million, unless COUNT gives another number.
+"""Answers to random sources: a million, unless COUNT sets another number.
 
-Half of the sources are of the grammar, and half are damaged at one place. What the few lines of tests/rules.py say of
-each, which are written from the rules of the language, is in rows as in crates/subst_vectors/data: the output, or the
-fault and its position, the lists of variables and of those that are missing, and of a text the answer to the JSON
-document of this one string. The program `subst_vectors` runs each row in every way, and the installed library each
-source from Python. Some are then given to `subst_filter` and `subst`, also many as one. Before any proof `rt try` runs
-the first program over the rows of some sources. The seed is fixed, unless SEED gives another; each failure names it.
+Half of the sources are of the grammar, and half are damaged at one place. Their answers by tests/rules.py, which is
+written from the rules of the language, are in rows as in crates/subst_vectors/data: the output, or the fault and its
+position; the lists of variables and of missing ones; and of a text the answer to the JSON document of this one string.
+The program `subst_vectors` runs each row in every way, and Python each source over the installed library.
+`subst_filter` and `subst` run some, also many as one. Before any proof `rt try` runs the first program over the rows of
+some sources. The seed is fixed, unless SEED sets another; each failure names it.
 """
 import functools
 import itertools
@@ -22,22 +22,22 @@ from tests.vectors import decode, encode, pairs_column, ruled_answer, ruled_list
 
 SEED = os.environ.get('SEED', '1')
 COUNT = int(os.environ.get('COUNT', 1000000))
-# How many sources there are in one file of rows.
+# How many sources a file of rows has.
 CHUNK = 20000
-# How many sources the programs that people run are given.
+# How many sources the other programs run.
 RUN = 300
-# How many pieces there are to join sources from, two or three in each; as many again are short ones.
+# How many pieces sources are joined from, two or three in each; as many again are short ones.
 PIECES = 1000
-# How many sources are run by `rt try`, which takes some milliseconds for each, and the seconds that it may take.
+# How many sources `rt try` runs, which takes some milliseconds for each, and the seconds that it may take.
 TRIED, TRY_SECONDS = 6000, 600
 
 NAMES = ('a', 'b', 'c', 'd', '9', '_', 'a1', 'none', 'none_2')
-# The variables that sources are filled in from: no value of a name that begins with `none`.
+# The variables of sources. No name begins with `none`.
 VARIABLES = {'a': '1', 'b': '', 'c': '$a\\}', 'd': '${', '9': 'two\nlines', '_': '=', 'a1': ':'}
 TEXTS, BYTES = ('\u00e9', '\u2764', '\U0001f600', '\u200b'), ('\xe9', '\xff', '\xc3', '\x9f')
 PLAIN = ('', ' ', 'a', 'Z', '0', '_', '-', '\n', ':', '?', '{', '}', '\0', '\r\n', 'word ')
 ESCAPES = ('\\\\', '\\$', '\\{', '\\}', '\\:')
-# What comes into a source where it is damaged; with nothing a character is taken out.
+# Insertions that damage a source; an empty one removes a character.
 DAMAGE = ('', '', '', '$', '$', '${', '${a:', '{', '{', '}', '}', '\\', '\\', ':', '?', '-', 'a', '\n')
 
 
@@ -45,13 +45,13 @@ DAMAGE = ('', '', '', '$', '$', '${', '${a:', '{', '{', '}', '}', '\\', '\\', ':
 
 
 def is_balanced(text):
-    """Whether each brace has its other one, but for those that are escaped."""
+    """Returns whether braces are balanced, without those that are escaped."""
     depths = [0, *itertools.accumulate({'{': 1, '}': -1}.get(c, 0) for c in re.sub(r'\\.', '', text))]
     return min(depths) == depths[-1] == 0
 
 
 def some_pieces(rng, characters):
-    """Pieces that are templates by themselves: short ones, and defaults that are made of smaller pieces."""
+    """Returns pieces that are templates by themselves: short ones, and defaults that are made of smaller pieces."""
     short = [*PLAIN, *characters, *ESCAPES, *(f'${name}-' for name in NAMES), *(f'${{{name}}}' for name in NAMES),
              *(f'${{{name}?}}' for name in NAMES)]
     pieces = list(short)
@@ -70,7 +70,7 @@ def sources_of_grammar(rng, characters, count):
 
 
 def damaged_sources(rng, characters, count):
-    """Such sources, each damaged at one place."""
+    """Returns such sources, each damaged at one place."""
     damage = DAMAGE + characters
 
     def damaged(source):
@@ -80,7 +80,7 @@ def damaged_sources(rng, characters, count):
     return [damaged(source) for source in sources_of_grammar(rng, characters, count)]
 
 
-# Each way to make sources, with their encoding and special characters, and how many of ten it makes.
+# Each maker of sources, with their encoding and special characters, and its share in ten.
 MAKES = {
     'texts_of_the_grammar': (sources_of_grammar, 'utf-8', TEXTS, 4),
     'damaged_texts': (damaged_sources, 'utf-8', TEXTS, 4),
@@ -90,7 +90,7 @@ MAKES = {
 
 
 def some_sources(name, number, count=CHUNK):
-    """The sources of one file, and the variables that they are filled in from."""
+    """Returns the sources of one file, and their variables."""
     make, encoding, characters, _ = MAKES[name]
     variables = {key.encode(): value.encode(encoding) for key, value in VARIABLES.items()}
     variables[b'd'] = characters[0].encode(encoding)
@@ -102,18 +102,18 @@ def some_sources(name, number, count=CHUNK):
 
 
 def json_column(text):
-    """The JSON document of this one string."""
+    """Returns the JSON document of this one string."""
     return encode(json.dumps([text], ensure_ascii=False, separators=(',', ':')).encode())
 
 
 def answers_by_the_rules(source, variables):
-    """The columns of the answer, and of the lists, which only a template has."""
+    """Returns the columns of the answer, and of the lists, which only a template has."""
     answer = ruled_answer(source, variables)
     return answer, ruled_lists(source, variables) if answer[0] == 'ok' or answer[1] == 'NoSuchVariable' else None
 
 
 def rows_of(source, pairs, answer, listed, is_text):
-    """The rows of a source, as the rules say."""
+    """Yields the rows of a source by the rules."""
     column = encode(source)
     yield 'bytes', column, pairs, *answer
     if listed:
@@ -124,7 +124,7 @@ def rows_of(source, pairs, answer, listed, is_text):
 
 
 def write_rows(file, sources, variables, answers):
-    """Writes the rows of sources to a file, and returns what `subst_vectors` prints where they hold."""
+    """Writes the rows of sources to a file. Returns the output of `subst_vectors` if they hold."""
     is_text = MAKES[file.partition('.')[0]][1] == 'utf-8'
     pairs = pairs_column(variables)
     rows = [row for source, answer in zip(sources, answers) for row in rows_of(source, pairs, *answer, is_text)]
@@ -137,13 +137,13 @@ def write_rows(file, sources, variables, answers):
 
 
 def expect_same(name, source, came, wanted):
-    """Fails unless the first columns that came are these."""
+    """Fails unless the first columns of an answer are these."""
     assert came[:max(2, len(wanted))] == wanted, \
         f'{name}, source {encode(source)}\n    gives   {came}\n    and not {wanted}'
 
 
 def compare_file(name, number):
-    """Compares the answers to the sources of one file, of the program and of the library, with the rules."""
+    """Compares the program's and the library's answers to the sources of one file with the rules."""
     sources, variables = some_sources(name, number)
     answers = [answers_by_the_rules(source, variables) for source in sources]
     file = f'{name}.{number}.tsv'
@@ -158,7 +158,7 @@ def compare_file(name, number):
 
 
 class Unproved(Tried):
-    """Sources whose rows the program runs as `rt try` runs it."""
+    """Sources whose rows the program runs under `rt try`."""
     seed = SEED
 
     def test_6000_sources_by_rt_try(self):
@@ -176,7 +176,7 @@ class Unproved(Tried):
 
 
 class Sources(Built):
-    """Sources that are given to the library and to all programs."""
+    """Sources for the library and all programs."""
     programs = 'subst_filter', 'subst_cli', 'subst_vectors'
     seed = SEED
 
@@ -186,7 +186,7 @@ class Sources(Built):
         cls.module = installed.module()
 
     def compare(self, name):
-        """Compares the answers to the sources of the files of a name, of which there are so many."""
+        """Compares the answers to the sources of all files of a name."""
         files = max(1, round(COUNT * MAKES[name][3] / 10 / CHUNK))
         with ProcessPoolExecutor() as pool:
             list(pool.map(functools.partial(compare_file, name), range(files)))
@@ -204,7 +204,7 @@ class Sources(Built):
         self.compare('damaged_bytes')
 
     def test_programs_end_as_the_library_says(self):
-        """The filter, with each first argument, and `subst` on some texts, half of them damaged."""
+        """The filter with each first argument, and `subst` on some texts, half of them damaged."""
         for name in ('texts_of_the_grammar', 'damaged_texts'):
             sources, variables = some_sources(name, 'run', RUN // 2)
             texts = {name.decode(): value.decode() for name, value in variables.items()}
@@ -218,7 +218,7 @@ class Sources(Built):
                     self.assert_subst_ends(source, variables, output, error)
 
     def test_programs_fill_in_large_texts(self):
-        """Many texts at once, again and again up to a size that is drawn."""
+        """Many texts in one, repeated up to a random size."""
         sources, variables = some_sources('texts_of_the_grammar', 'large')
         variables.update({b'none': b'$a', b'none_2': b''})
         source, times = b''.join(sources), some_size(1, 100)
@@ -234,7 +234,7 @@ class Sources(Built):
             self.assert_ends(end, 1 if error else 0, output, errors.encode())
 
     def assert_subst_ends(self, source, variables, output, error):
-        """Of the messages the first line is compared, which has the position and the text of the first fault."""
+        """Only the first line of the messages is compared: the position and the text of the first fault."""
         words = [word for name, value in variables.items() for word in (b'-s', name + b'=' + value)]
         end = run('subst_cli', words, source, name='subst')
         first = told_without_line(f'<stdin>:{error.line}:{error.column}', as_told(error.message)) if error else b''

@@ -1,32 +1,32 @@
-"""What `subst` takes as variables, in bytes, texts and documents."""
+"""Variables of `subst` in bytes, texts and documents."""
 import json
 import os
 
 from faults import missing_brace, unexpected
-from tests.subst import PROGRAM, UNREADABLE, Subst, in_each_form, missing, read, subst, told, toml_of, write
+from tests.subst import NO_NAME, PROGRAM, UNREADABLE, Subst, in_each_form, missing, read, subst, told, toml_of, write
 from tests.support import run_with_hints
 
-# Sources that aren't UTF-8, with the position of the first byte that isn't, and its line.
+# Sources that aren't UTF-8, with the position of the first invalid byte, and its line.
 NOT_UTF8 = (
     (b'\xff', '1:1', '\ufffd', '^'),
     (b'$\nab\xe2\x82', '2:3', 'ab\ufffd', '  ^'),
     (b'\xc3\xa4\xed\xa0\x80.', '1:2', '\u00e4\ufffd\ufffd\ufffd.', ' ^'),
 )
-# A JSON document, and what it gives where A is a quote, a line feed and a backslash.
+# A JSON document, and its output if A is a quote, a line feed and a backslash.
 JSON = (b'{ "$A" : "$A",\r\n\t"b":[1.50, -0, 1E30,"\\u0024A",null ],"b": "\\/\\u0041", "c":{"a":["${A}\\n"]}}\r\n')
 FILLED_JSON = (b'{ "$A" : "\\"\\n\\\\",\r\n\t"b":[1.50, -0, 1E30,"\\"\\n\\\\",null ],"b": "\\/\\u0041", '
                b'"c":{"a":["\\"\\n\\\\\\n"]}}\r\n')
 # Texts that are no documents, with their fault.
 NO_JSON = (
-    (b'{"a": "$x",}', told('<stdin>:1:12', 'a comma before the end', '{"a": "$x",}', ' ' * 11 + '^')),
+    (b'{"a": "$x",}', told('<stdin>:1:12', 'a trailing comma', '{"a": "$x",}', ' ' * 11 + '^')),
     (b'{"a": 1,\n "b" 2}', told('<stdin>:2:6', 'invalid JSON', ' "b" 2}', ' ' * 5 + '^')),
     (b'', told('<stdin>:1:1', 'EOF while parsing', '', '^')),
 )
-# Texts of one line that aren't JSON, with the column of what is wrong and what that is. The column of a comma before
-# the end is that of the bracket after it.
+# Texts of one line that aren't JSON, with the column and the text of the error. The error of a trailing comma is
+# at the bracket after it.
 MISTAKES = (
-    ('[1,]', 4, 'a comma before the end'),
-    ('[[1 , ], "$x"]', 7, 'a comma before the end'),
+    ('[1,]', 4, 'a trailing comma'),
+    ('[[1 , ], "$x"]', 7, 'a trailing comma'),
     ('// x', 1, 'a comment'),
     ('["$x", /* x */ 2]', 8, 'a comment'),
     ('{ /* x */ "a": 1}', 3, 'a comment'),
@@ -37,9 +37,9 @@ MISTAKES = (
     ('["$x"]]', 7, 'a second document'),
     ('"a" "\\ud800"', 5, 'a second document'),
     ('[1} ]', 5, 'invalid JSON'),
-    ('["\\ud800\\n"]', 3, 'half of a surrogate pair'),
-    ('["ab\\\\\\ud83d\\ude00 \\uDC00x"]', 20, 'half of a surrogate pair'),
-    ('{"\\uDbff\\uDBff": 1}', 3, 'half of a surrogate pair'),
+    ('["\\ud800\\n"]', 3, 'a lone surrogate'),
+    ('["ab\\\\\\ud83d\\ude00 \\uDC00x"]', 20, 'a lone surrogate'),
+    ('{"\\uDbff\\uDBff": 1}', 3, 'a lone surrogate'),
     ('["\\ud8zz"]', 2, 'invalid JSON'),
     ('{"a": $x}', 7, 'a variable outside a string'),
     ('{$x: 1}', 2, 'a variable outside a string'),
@@ -49,7 +49,7 @@ MISTAKES = (
     ('[1e999,]', 8, 'number out of range'),
 )
 NO_VALUE = 'invalid value, expected a string, number, boolean, date-time, array or inline table'
-# TOML documents whose last line isn't read, with the column and what is said of it, and whether there is a hint.
+# TOML documents with an error in the last line, the column and the text of the error, and whether there is a hint.
 UNQUOTED = (
     ('a = $x', 5, NO_VALUE, True),
     ('# $x\na = [1, ${x}]', 9, NO_VALUE, True),
@@ -64,16 +64,30 @@ NO_TOML = (
     (b'\n$a = 1', told('<stdin>:2:1', 'invalid key, expected letters, numbers, `-`, `_` or a quoted key', '$a = 1',
                        '^')),
 )
-# A TOML document, and what it gives where A is 1.
+# A TOML document, and its output if A is 1.
 TOML = (b'# "$A"\r\nb   =\t\'$A\' # $A\r\n"$A" = +1_000\n[t]\nd = 1979-05-27\nn = ["${A}", 1.50,\n  """\n$A""",]\n'
         b'\'a\' = """\nb\\\n  c"""\n')
 FILLED_TOML = (b'# "$A"\r\nb   =\t\'1\' # $A\r\n"$A" = +1_000\n[t]\nd = 1979-05-27\nn = ["1", 1.50,\n  """\n1""",]\n'
                b'\'a\' = """\nb\\\n  c"""\n')
+# Texts that aren't YAML, with their fault.
+NO_YAML = (
+    (b'a:\n  b: $x\n\tc: 2\n', told('<stdin>:3:1', 'invalid YAML: a tab in the indentation', ' c: 2', '^')),
+    (b'a: {{ .x }}\n', told('<stdin>:1:5', "invalid YAML: a collection as a key isn't supported; is this a Helm or "
+                            'Jinja template?', 'a: {{ .x }}', '    ^')),
+    (b'a: "$x\n', told('<stdin>:1:4', "invalid YAML: a missing closing quote", 'a: "$x', '   ^')),
+    (b'- a: b: c\n', told('<stdin>:1:6', 'invalid YAML: a key or an item in place of a value; quote a value with '
+                          "': '", '- a: b: c', '     ^')),
+)
+# A file of YAML documents, and its output if A is "b: c".
+YAML = (b'# "$A"\r\nb  :\t$A # $A\r\n"$A": &a !t \'$A\'\r\nc:\r\n- "$A"\r\n- *a\r\n- |  # $A\r\n  x $A\r\n'
+        b'--- {$A: [ $A,\r\n1.50 ]}\r\n')
+FILLED_YAML = (b'# "$A"\r\nb  :\t"b: c" # $A\r\n"$A": &a !t \'b: c\'\r\nc:\r\n- "b: c"\r\n- *a\r\n- |  # $A\r\n'
+               b'  x b: c\r\n--- {$A: [ "b: c",\r\n1.50 ]}\r\n')
 ALL = b'$A ${A} \\$A \\. $B ${B} ${A:x} ${A?} $AB $1 $$ ${ $(A) $'
 
 
 class Forms(Subst):
-    """Options that say what a source is."""
+    """Options for the kind of a source."""
 
     def test_bytes(self):
         plain = bytes(byte for byte in range(256) if byte not in b'\\$')
@@ -85,8 +99,8 @@ class Forms(Subst):
 
     def test_text_that_is_not_utf8(self):
         for source, place, line, carets in NOT_UTF8:
-            for words in ([], ['--only=A'], ['--envsubst'], ['--json'], ['--toml'], ['--names'], ['--check']):
-                self.assert_refused(words, source, told(f'<stdin>:{place}', 'invalid UTF-8', line, carets))
+            for words in ('', '--only=A', '--envsubst', '--json', '--toml', '--yaml', '--names', '--check'):
+                self.assert_refused(words.split(), source, told(f'<stdin>:{place}', 'invalid UTF-8', line, carets))
 
     def test_json(self):
         self.assert_done(['--json', '-sA="\n\\'], JSON, FILLED_JSON)
@@ -99,7 +113,8 @@ class Forms(Subst):
 
     def test_placeholders_of_strings_that_are_nested(self):
         for option, text in (('--json', b'{"a":{"b":["$S ${H}",{"c":"$H"}]}}'),
-                             ('--toml', b'[t.u]\na = [["$S ${H}"], {b.c = "$H"}]\n')):
+                             ('--toml', b'[t.u]\na = [["$S ${H}"], {b.c = "$H"}]\n'),
+                             ('--yaml', b't:\n  u:\n  - - $S ${H}\n    - {b: "$H", c: [$H]}\n')):
             only = text.replace(b'${H}', b'h').replace(b'$H', b'h')
             self.assert_done([option, '--only=H', '-sH=h', '-sS=s'], text, only)
             for words in ([], ['--envsubst']):
@@ -111,7 +126,7 @@ class Forms(Subst):
                             missing('x', '<stdin>:2:17', line, '                ^', '/a'),
                             told('<stdin>:2:37', f'/b~1~0/1: {missing_brace()}', line, ' ' * 36 + '^'),
                             missing('x', '<stdin>:2:55', line, ' ' * 54 + '^', '/c/'))
-        # Of a key that is there twice, each string is filled in.
+        # If a key occurs twice, both strings are filled in.
         line = '{"a": "$x", "a": "$y"}'
         self.assert_refused(['--json'], line.encode(), missing('x', '<stdin>:1:9', line, ' ' * 8 + '^', '/a'),
                             missing('y', '<stdin>:1:20', line, ' ' * 19 + '^', '/a'))
@@ -124,10 +139,10 @@ class Forms(Subst):
         self.assert_refused(['--json'], b'"$x"', missing('x', '<stdin>:1:3', '"$x"', '  ^'))
 
     def test_texts_that_are_no_documents(self):
-        for option, rows in (('--json', NO_JSON), ('--toml', NO_TOML)):
+        for option, rows in (('--json', NO_JSON), ('--toml', NO_TOML), ('--yaml', NO_YAML)):
             for source, message in rows:
-                self.assert_refused([option], source, message)
-                self.assert_refused([option, '--names'], source, message)
+                for words in ([], ['--names'], ['--check']):
+                    self.assert_refused([option, *words], source, message)
 
     def test_mistakes_in_json(self):
         for line, column, what in MISTAKES:
@@ -136,7 +151,7 @@ class Forms(Subst):
                 self.assert_refused(['--json', *words], b'\n' + line.encode() + b'\n', message)
         write('a', b'[1,]')
         for words in (['-i', 'a'], ['-o', 'b', 'a'], ['-O', 'c', 'a']):
-            self.assert_refused(['--json', *words], b'', told('a:1:4', 'a comma before the end', '[1,]', '   ^'))
+            self.assert_refused(['--json', *words], b'', told('a:1:4', 'a trailing comma', '[1,]', '   ^'))
         self.assertEqual((read('a'), os.listdir()), (b'[1,]', ['a']))
 
     def test_depth_of_documents(self):
@@ -145,8 +160,8 @@ class Forms(Subst):
             self.assert_done([option, '-sA=1'], text.encode(), text.replace('$A', '1').encode())
             end = subst([option], (start + '[' * (levels + 1) + ']' * (levels + 1)).encode())
             self.assertEqual((end.status, end.output), (1, b''))
-            self.assertIn(f':1:{len(start) + levels + 1}: error: nested deeper than {levels}\n'.encode(), end.errors)
-        # Brackets of strings are none.
+            self.assertIn(f':1:{len(start) + levels + 1}: error: nested deeper than {levels} levels\n'.encode(), end.errors)
+        # Brackets in strings don't count.
         self.assert_done(['--json'], text := b'["' + b'[' * 200 + b'\\"{"]', text)
 
     def test_variable_outside_a_string_of_toml(self):
@@ -165,7 +180,7 @@ class Forms(Subst):
         self.assert_done(['--json', '-sA=1'], mark + b'{"a": "$A"}\n', mark + b'{"a": "1"}\n')
         self.assert_done(['--json', '--names'], mark + b'\n["$A"]', b'A\t<stdin>:2:4\trequired\n')
         self.assert_refused(['--json'], mark + b'[\n"$A"]', missing('A', '<stdin>:2:3', '"$A"]', '  ^', '/0'))
-        self.assert_refused(['--json'], mark + b'[\n1,]', told('<stdin>:2:3', 'a comma before the end', '1,]', '  ^'))
+        self.assert_refused(['--json'], mark + b'[\n1,]', told('<stdin>:2:3', 'a trailing comma', '1,]', '  ^'))
         self.assert_refused(['--json'], mark + b'["\xff"]', told('<stdin>:1:3', 'invalid UTF-8', '["\ufffd"]', '  ^'))
 
     def test_toml(self):
@@ -178,6 +193,46 @@ class Forms(Subst):
         self.assert_refused(['--toml'], '\n'.join(lines).encode(),
                             missing('x', '<stdin>:2:11', lines[1], '          ^', 'a.b."k k"'),
                             missing('y', '<stdin>:4:19', lines[3], '                  ^', 't[0].x[1]'))
+
+    def test_yaml(self):
+        self.assert_done(['--yaml', '-sA=b: c'], YAML, FILLED_YAML)
+        self.assert_done(['--yaml', '--envsubst', '-sA=1'], b"a: '\\$A$1'\n", b"a: '\\1$1'\n")
+        self.assert_done(['--yaml', '--shell', '-sA=1'], b'a: ${A:+$$x}${B:-y}\n', b'a: $xy\n')
+        self.assert_done(['--yaml', '--known', '-sA=1'], b'a: $A $B\n', b'a: 1 $B\n')
+        self.assert_done(['--yaml', '--only=A', '-sA=1', '-sB=2'], b'a: $A $B\n', b'a: 1 $B\n')
+        self.assert_done(['--yaml', '--escape=json', '-sA="'], b'a: "$A"\n', b'a: "\\\\\\""\n')
+        for text in (b'', b'# $A', b'a:', b'- $A:\n'):
+            self.assert_done(['--yaml', '-sA=1'], text, text)
+        self.assert_done(['--yaml', '--check', '-sA=1'], YAML)
+
+    def test_yaml_with_a_byte_order_mark(self):
+        mark = b'\xef\xbb\xbf'
+        self.assert_done(['--yaml', '-sA=1'], mark + b'a: $A\n', mark + b'a: 1\n')
+        self.assert_done(['--yaml', '--names'], mark + b'\n- $A', b'A\t<stdin>:2:4\trequired\n')
+        self.assert_refused(['--yaml'], mark + b'- $A', missing('A', '<stdin>:1:4', '- $A', '   ^', '[0]'))
+        self.assert_refused(['--yaml'], mark + b'- "\xff"', told('<stdin>:1:4', 'invalid UTF-8', '- "\ufffd"', '   ^'))
+        # A mark after the start is a character that not every reader accepts.
+        what = 'invalid YAML: a character that some YAML readers reject'
+        self.assert_refused(['--yaml'], b'a: ' + mark, told('<stdin>:1:4', what, 'a: \\u{feff}', '   ' + 8 * '^'))
+
+    def test_faults_of_yaml(self):
+        """Each fault is at its own position, within its value."""
+        lines = ('a:', '  k k: $x', '- b', '--- # 2', '"c d":', '- - "e"', '  - {f: [g, \'$y $z\']}')
+        self.assert_refused(['--yaml'], '\n'.join(lines[:2] + lines[3:]).encode(),
+                            missing('x', '<stdin>:2:9', lines[1], '        ^', 'a.k k'),
+                            missing('y', '<stdin>:6:15', lines[6], '              ^', '2:"c d"[0][1].f[1]'),
+                            missing('z', '<stdin>:6:18', lines[6], '                 ^', '2:"c d"[0][1].f[1]'))
+        message = told('<stdin>:1:4', f'a: {NO_NAME}', 'a: $', '   ^')
+        for words in ([], ['--names'], ['--check']):
+            self.assert_refused(['--yaml', *words], b'a: $', message)
+        self.assert_refused(['--yaml'], b'$x', missing('x', '<stdin>:1:2', '$x', ' ^'))
+        write('good.yaml', b'- $A\n')
+        write('bad.yaml', b'- $B\n')
+        refused = missing('B', 'bad.yaml:1:4', '- $B', '   ^', '[0]')
+        for words in (['-i'], ['-Oout']):
+            self.assert_refused(['--yaml', '-sA=x: y', *words, 'bad.yaml', 'good.yaml'], b'', refused)
+        self.assertEqual((read('bad.yaml'), read('good.yaml'), read('out/good.yaml')),
+                         (b'- $B\n', b'- "x: y"\n', b'- "x: y"\n'))
 
     def test_only(self):
         taken = b'1 1 \\1 \\. $B ${B} 1 1 $AB $1 $$ ${ $(A) $'
@@ -192,7 +247,7 @@ class Forms(Subst):
         self.assert_done(['--only=', '--only=A', *variables], ALL, taken)
         self.assert_done(['--only=1', '-s1=x'], b'$1 ${1} $12', b'x x $12')
         for name in ('a-b', '$', '${}', '${A', '$A}', '{A}', '\u00e4', '$$A'):
-            self.assert_wrong(['--only', f'A,{name}'], f"no template can spell the name '{name}' of --only")
+            self.assert_wrong(['--only', f'A,{name}'], f"'{name}' of --only is not a variable name")
 
     def test_envsubst(self):
         taken = b'1 1 \\1 \\. 2 2 ${A:x} ${A?} 3 $1 $$ ${ $(A) $'
@@ -241,10 +296,10 @@ class ChosenNames(Subst):
         for words in ([], ['--json']):
             self.assert_wrong(['--optional', *words], '--optional needs --envsubst, --shell, --only or --known')
         for words in ([], ['--shell'], ['--envsubst'], ['--only=A'], ['--known']):
-            self.assert_wrong(['--optional', '--strict', *words], '--strict and --optional exclude each other')
+            self.assert_wrong(['--optional', '--strict', *words], "--strict can't be used with --optional")
 
     def test_strict(self):
-        """With `--shell`; elsewhere that is so without it."""
+        """With `--shell`; elsewhere an unset variable is an error without it."""
         fault = missing('B', '<stdin>:1:10', '$A ${A} $B', ' ' * 9 + '^')
         for words in (['--shell'], ['--compose', '--only=A,B'], ['--envsubst'], ['--only=A,B'], []):
             self.assert_refused([*words, '--strict', '-sA=1'], b'$A ${A} $B', fault)
@@ -263,7 +318,7 @@ class ChosenNames(Subst):
         self.assert_done(['--only=A,B', '--names'], b'$A? ${B?}',
                          b'A\t<stdin>:1:2\trequired\nB\t<stdin>:1:7\toptional\n')
         for name in ('*', '$*', '${*}', '*A', 'A**', 'A*B', 'A-*', '$A*}', '\u00e4*'):
-            self.assert_wrong(['--only', f'A,{name}'], f"no template can spell the name '{name}' of --only")
+            self.assert_wrong(['--only', f'A,{name}'], f"'{name}' of --only is not a variable name")
 
     def test_options_that_need_variables(self):
         write('file', b'$A')
@@ -273,7 +328,7 @@ class ChosenNames(Subst):
                    ['--defaults=empty'])
         for option, more in (('--known', []), ('--known', ['--envsubst']), ('--known', ['--optional']), ('--shell', []),
                              ('--compose', []), ('--shell', ['--only=A']), ('--optional', ['--envsubst']), ('--optional', ['--only=A'])):
-            text = f"{option} needs variables; '-e' takes the environment's"
+            text = f"{option} needs variables; use -e for the environment's"
             for words in ([], ['-o', 'new'], ['-O', 'new'], ['-i'], ['--check'], ['--no-empty'], ['--json'],
                           ['--no-empty', '--escape=sh']):
                 self.assert_wrong([option, *more, *words, 'file'], text)
@@ -288,7 +343,7 @@ class ChosenNames(Subst):
 
 
 def splits(text):
-    """The parts of a text, of which each variable `$N..` is one."""
+    """Splits a text. Each part `$N..` is a variable."""
     parts = text.split('$N')
     found = parts[:1]
     for part in parts[1:]:
@@ -306,7 +361,7 @@ def mapped(change, tree):
 
 
 class Unchanged(Subst):
-    """What must not be filled in, and not come out."""
+    """Text that must stay as it is, and text that must not be in an output."""
 
     def test_values_are_never_templates(self):
         for words, source in in_each_form('$A ${A} ${x:$A}'):
@@ -331,7 +386,7 @@ class Unchanged(Subst):
                                 f'{words} {text}')
 
     def test_names_that_are_not_listed_stay(self):
-        """However deep a string is, however long, and however many members, items and tables are before it."""
+        """At any depth, at any length, and after any number of members, items and tables."""
         long = 'x' * 2000
         names = {f'N{number}': f'v{number}' for number in range(100)}
         strings = [f'{long}$S ${{H}}{long}', *(f'$N{number}$S' for number in range(100))]

@@ -1,4 +1,4 @@
-"""Sources, values and lists past the size of each buffer."""
+"""Sources, values and lists that are larger than each buffer."""
 import json
 
 from faults import no_such_variable

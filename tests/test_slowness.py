@@ -1,9 +1,9 @@
-"""What the built programs, and calls of the library from Python, take for n of something, and for eight times as many.
+"""Times of built programs, and of calls of the library from Python, for n of something and for eight times as many.
 
-Each work takes less than 24 times as much processor time for 8n as for n: where the time grows with the square of n,
-it is 64 times as much. Contracts bound the reads and the turns of a loop, and nothing else here. Of some runs the least
-time counts, and where it is too much, of more runs. Less than 10 ms for 8n is never too much, since the square of 8n,
-which is 32,000 or more, is more steps than that.
+Each run takes less than 24 times as much processor time for 8n as for n; quadratic time would be 64 times as much.
+Contracts bound only the reads and the turns of a loop. The least time of some runs is compared, and if it is too much,
+of more runs. Less than 10 ms for 8n is never too much, since the square of 8n, which is 32,000 or more, is more steps
+than that.
 """
 import operator
 import re
@@ -14,13 +14,13 @@ from typing import Callable, NamedTuple
 from tests import installed
 from tests.support import KIB, MIB, Built, file_of, run
 
-# How often each work is done at a time, how often at most, how many times as much is done, how many times as long that
-# may take, and the seconds that it may take at any rate.
+# How often each run is timed at once and at most, the factor of its size, the greatest factor of its time, and the
+# seconds that are always allowed.
 RUNS, MOST_RUNS, MORE, MOST, LEAST = 3, 12, 8, 24, 0.01
 
 
 class Run(NamedTuple):
-    """A run of a program over a source, and its output, or how many faults it reports."""
+    """A run of a program over a source, and its output, or the number of faults in its report."""
     program: str
     words: list
     source: bytes
@@ -28,7 +28,7 @@ class Run(NamedTuple):
     faults: int = 0
 
     def seconds(self, _):
-        """The processor time of the run, which fails the test if it ended early: then it is fast."""
+        """Returns the processor time of the run. Fails if the run ended early, as it is fast then."""
         with file_of(self.source) as source:
             before = resource.getrusage(resource.RUSAGE_CHILDREN)
             ended = run(self.program, self.words, stdin=source)
@@ -40,7 +40,7 @@ class Run(NamedTuple):
 
 
 class Call(NamedTuple):
-    """A call of the module over the library, and what it returns, or the position of its fault."""
+    """A call of the module over the library, and its result, or the position of its fault."""
     call: Callable
     wanted: object
 
@@ -80,12 +80,12 @@ def source_of(count, form='${{{}}}'):
 
 
 def fill_in_names(count, program, *words):
-    """Each name is filled in eight times."""
+    """Returns a run in which each name is used eight times."""
     return Run(program, words, 8 * source_of(count).encode(), 8 * count * b'1')
 
 
 def names_in(source):
-    """The names of a source, which are all in braces and required, as the library lists them."""
+    """Returns the variables of a source, all in braces and required, as the library lists them."""
     return [(0, it[1], it.start(1)) for it in re.finditer(r'{(\w+)}', source)]
 
 
@@ -95,13 +95,13 @@ def print_names(source, *words):
 
 
 def numbered(count, document, member):
-    """A document with so many members, each with its number."""
+    """Returns a document with this many numbered members."""
     return document % b''.join(member % number for number in range(count))
 
 
 # A string of a document.
 STRING = '"${{{}}}",'
-# Each work, with its n, and what does so many of it.
+# Each run, with its n.
 WORKS = {
     'fault after a line': (4 * MIB, lambda n: check(n * b'a' + b'$')),
     'fault after lines': (4 * MIB, lambda n: check(n * b'a\n' + b'$')),
@@ -160,16 +160,18 @@ WORKS = {
                                                        wanted=4 * n + 2)),
     'call for toml': (10000, lambda n: call('fill_in_toml', f'a = [{source_of(n, STRING)}]', values(n),
                                             wanted='a = [' + n * '"1",' + ']')),
+    'call for yaml': (10000, lambda n: call('fill_in_yaml', source_of(n, '- ${{{}}}\n'), values(n), wanted=n * '- 1\n')),
+    'call for a fault of yaml': (20000, lambda n: call('fill_in_yaml', n * '- a\n' + '- $', {}, wanted=4 * n + 2)),
 }
 
 
 def time_of(it, module):
-    """The least processor time of some runs, in seconds."""
+    """Returns the least processor time of some runs, in seconds."""
     return min(it.seconds(module) for _ in range(RUNS))
 
 
 class Slowness(Built):
-    """Works that take at most so many times as long for more."""
+    """Runs that take at most a fixed multiple of the time for more."""
     programs = 'subst_filter', 'subst_cli'
 
     def test_works_grow_little(self):

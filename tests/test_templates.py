@@ -10,7 +10,7 @@ TEMPLATES = TOP / 'tests/data/templates'
 
 
 def variables():
-    """The variables of the templates, by their names."""
+    """Returns the variables of the templates, by their names."""
     lines = (TEMPLATES / 'variables.env').read_text(encoding='utf-8').splitlines()
     return dict(line.split('=', 1) for line in lines if line and not line.startswith('#'))
 
@@ -23,8 +23,8 @@ def templates():
 
 
 def places_of(name, text):
-    """The lines and columns of the name of a variable in a text, as envsubst finds it. No line has a character before
-    it that isn't one column wide."""
+    """Returns the lines and columns of a variable's name in a text, as envsubst finds it. In its line, every character
+    before it is one column wide."""
     found = re.finditer(rf'\$(?:{name}(?!\w)|\{{{name}\}})', text, re.ASCII)
     starts = [text.index(name, match.start()) for match in found]
     return [(text.count('\n', 0, at) + 1, at - text.rfind('\n', 0, at)) for at in starts]
@@ -68,14 +68,14 @@ class Templates(Subst):
                                  'Environment="PRICE=US$$ 5" "ROOT=/srv/${APP_NAME}"', ' ' * 21 + '^'), cwd=TEMPLATES)
 
 
-# What is said of the forms that are refused, and texts that have one.
+# The messages of refused forms, and texts with each.
 NO_SHELL = (
-    ("`=` assigns, which isn't done here; for a default write `${NAME:-default}`", ('${B=x}', 'a ${B:=x}')),
-    ("patterns aren't matched here; give a variable that has the result", ('${A#x}', '${A%x}', '$A ${A/x/y}')),
-    ("`:` takes a part of a value, which isn't done here; for a default write `${NAME:-default}`", ('${A:1:2}', '${A:x}')),
-    ("`${` without a name; for a dollar write `$$`", ('${}', '$A ${#A}', '$$${1}', '${!A}')),
-    ("this operator isn't known; for a dollar write `$$`", ('${A!}', '${A^}', '${A,,}', '${A@Q}', '${A }')),
-    ('a variable without its closing brace; write `}` after it', ('a ${A', '${A:-x', '${A:?m', '${B-${A}')),
+    ("`=` assigns, which isn't supported; write `${NAME:-default}` for a default", ('${B=x}', 'a ${B:=x}')),
+    ("patterns aren't supported; set a variable to the result", ('${A#x}', '${A%x}', '$A ${A/x/y}')),
+    ("`:` takes a substring, which isn't supported; write `${NAME:-default}` for a default", ('${A:1:2}', '${A:x}')),
+    ("`${` without a name; write `$$` for a dollar", ('${}', '$A ${#A}', '$$${1}', '${!A}')),
+    ("an unknown operator; write `$$` for a dollar", ('${A!}', '${A^}', '${A,,}', '${A@Q}', '${A }')),
+    ('a variable without a closing brace; write `}` after it', ('a ${A', '${A:-x', '${A:?m', '${B-${A}')),
 )
 
 
@@ -90,7 +90,7 @@ class Shell(Subst):
                              b'[" \\"x\\"", {"$$A": "$A"}]', env={})
 
     def test_compose_file(self):
-        """What Docker Compose's rules give was worked out by hand."""
+        """The output by Docker Compose's rules was worked out by hand."""
         template = TEMPLATES / 'compose.yml'
         values = {'TAG': '', 'WEB_PORT': '80', 'NAME': 'web-1', 'PG_VERSION': '16', 'DB_PASSWORD': 'p$ss:-}word',
                   'ENVIRONMENT': 'prod'}
@@ -109,7 +109,7 @@ class Shell(Subst):
                 message = told(f'<stdin>:1:{column}', what, text, ' ' * (column - 1) + '^')
                 for words in ([], ['--bytes'], ['--names'], ['--strict']):
                     self.assert_refused(['--shell', '-sA=1', *words], text.encode(), message)
-        what = 'an opening brace in a default; give a variable that has the text'
+        what = 'an opening brace in a default; use a chosen variable instead, as in `${NAME:$OTHER}`'
         self.assert_refused(['--only=B', '-sB=1'], b'$ ${B:{}}', told('<stdin>:1:7', what, '$ ${B:{}}', ' ' * 6 + '^'))
 
     def test_faults_of_a_shell(self):
@@ -126,7 +126,7 @@ class Shell(Subst):
                          b'C\t<stdin>:1:11\toptional\nD\t<stdin>:1:16\trequired\nE\t<stdin>:1:25\toptional\n')
 
     def test_messages(self):
-        """Of a variable that isn't set, and of one that is empty."""
+        """Messages about an unset and about an empty variable."""
         unset = no_such_variable('A')
         for text, as_told in (('must be set', ': must be set'), ('', ''), (' {}: $B', ':  {}: 1'),
                               ('\t\x1b', ':  \\u{1b}')):

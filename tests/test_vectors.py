@@ -1,9 +1,9 @@
-"""What people get for each row of crates/subst_vectors/data, in each column.
+"""Answers to each row of crates/subst_vectors/data, in each column.
 
-The program `subst_vectors` runs each row in every way, here unproved. The library for C is called through the module
-for Python, both as they are installed: each row of bytes and of lists, and those that are texts once more as texts. The
-program `subst` fills in each document; what it prints is the row's text, or is read back by Python's readers. The rows
-are compared with tests/rules.py too. Of a row that differs is said what came in place of its answer.
+The program `subst_vectors` runs each row in every way, here unproved. The installed module for Python calls the
+installed library for C with each row of bytes and of lists, and with each that is a text once more as a text. The
+program `subst` fills in each document; its output is the row's text, or Python's readers read it back. The rows are
+compared with tests/rules.py too. For a row that differs, the other answer is printed.
 """
 import functools
 from concurrent.futures import ThreadPoolExecutor
@@ -15,23 +15,23 @@ from tests.vectors import (decode, encode, is_text, read_document, rows, ruled_a
                            text_of_tree, tree_of_row)
 
 FILES = ('answers.tsv', 'rows.tsv', 'variables.tsv')
-# How many rows that differ are printed of a test.
+# The most differing rows that a test prints.
 MOST_PRINTED = 20
-# Two columns of a fault.
+# The columns of a fault's expectation and of its text.
 EXPECTED, DISPLAY = 4, 5
-# What may come after a name in braces, as the Rust crate says it.
+# The Rust crate's words for what may follow a name in braces.
 AFTER_NAME_IN_RUST = "a closing brace ('}') or colon (':')"
 
 
 def rows_of(name):
-    """The rows of a file, those of the Rust crate in this library's words."""
+    """Yields the rows of a file, with the Rust crate's words replaced by this library's."""
     words = AFTER_NAME_IN_RUST, faults.expected_after_name()
     for row in rows(name):
         yield row._replace(answer=[column.replace(*words) if at in (EXPECTED, DISPLAY) else column
                                    for at, column in enumerate(row.answer)])
 
 
-# What comes for a row, as columns of its answer
+# Answers to a row, as columns
 
 
 def by_bytes(module, row):
@@ -49,7 +49,7 @@ def texts_of(row):
 
 
 def in_place_by_library(module, row):
-    """Of a fault the case alone, which the row has in its string, and the library in the document."""
+    """Returns the library's answer; for a fault its case, as its position is in a string in the row."""
     kind = row.kind.partition('_')[0]
     try:
         text = getattr(module, f'fill_in_{kind}')(row.source.decode(), texts_of(row))
@@ -61,7 +61,7 @@ def in_place_by_library(module, row):
 
 
 def by_the_rules(row):
-    """Of a fault the case and the position alone. Of a document that can't be read there are no rules."""
+    """Returns the answer by the rules; for a fault its case and position. They don't cover unreadable documents."""
     if row.kind == 'bytes':
         return ruled_answer(row.source, row.variables)
     if row.kind == 'lists':
@@ -76,13 +76,13 @@ def by_the_rules(row):
 
 
 def of_tree(row, tree):
-    """The answer that is a tree."""
+    """Returns the answer for a tree."""
     is_same = row.answer[0] == 'ok' and text_of_tree(tree) == text_of_tree(tree_of_row(row))
     return row.answer if is_same else ['ok', repr(tree)]
 
 
 def by_subst(row):
-    """Of a fault the text has to be among those of the faults of all strings."""
+    """Returns the program's answer. A fault's text has to be among those of all strings."""
     words = [word for name, value in row.variables.items() for word in (b'-s', name + b'=' + value)]
     kind, _, of_text = row.kind.partition('_')
     end = run('subst_cli', [f'--{kind}', *words], row.source, name='subst')
@@ -107,13 +107,13 @@ def is_text_of_library(row):
 
 
 def is_in_place(row):
-    # Of TOML the rows have the first fault of the tree, and the library the first of the text.
+    # For TOML the rows have the first fault of the tree, and the library the first of the text.
     is_picked = row.kind in ('json_text', 'toml_text') and (row.kind, row.answer[0]) != ('toml_text', 'fault')
     return is_picked and is_text(row)
 
 
 def is_json_of_subst(row):
-    # The program passes over a byte order mark, which the reader of JSON refuses.
+    # The program skips a byte order mark, which the reader of JSON refuses.
     return row.kind.startswith('json') and row.source[:3] != b'\xef\xbb\xbf'
 
 
@@ -121,7 +121,7 @@ class Rows(Case):
     """Tests of all rows."""
 
     def compare(self, is_picked, came_for):
-        """Fails the test unless for each row that is picked came its answer, or how that begins."""
+        """Fails the test unless each picked row has this answer, or the answer begins with it."""
         for name in FILES:
             picked, wrong = list(filter(is_picked, rows_of(name))), []
             for row in picked:
@@ -134,7 +134,7 @@ class Rows(Case):
 
 
 class ByTheRules(Rows):
-    """What tests/rules.py says of them."""
+    """Rows by tests/rules.py."""
 
     def test_bytes_and_lists_by_the_rules(self):
         self.compare(is_of_library, by_the_rules)
@@ -147,7 +147,7 @@ class ByTheRules(Rows):
 
 
 class ByTheLibrary(Rows, Built):
-    """What the library for C returns, through the module for Python."""
+    """Rows by the library for C, through the module for Python."""
 
     @classmethod
     def setUpClass(cls):
@@ -165,7 +165,7 @@ class ByTheLibrary(Rows, Built):
 
 
 class BySubst(Rows, Built):
-    """What the program `subst` prints."""
+    """Rows by the program `subst`."""
     programs = 'subst_cli',
 
     def test_json_by_subst(self):
@@ -175,7 +175,7 @@ class BySubst(Rows, Built):
         self.compare(lambda row: row.kind.startswith('toml'), by_subst)
 
 
-# What `rt try` runs, each with its crate: the program over all rows, and the functions that are tests.
+# Runs of `rt try`, each with its crate: the program over all rows, and the functions that are tests.
 TRIED = {
     'rows': ('subst_vectors', '--seconds', '300', '--', *(f'data/{name}' for name in FILES)),
     'functions of subst_tests': ('subst_tests', '--seconds', '600', '--test'),
@@ -184,7 +184,7 @@ TRIED = {
 
 
 class Unproved(Tried):
-    """What `rt try` prints, of runs side by side."""
+    """Runs of `rt try`, side by side."""
 
     @classmethod
     def setUpClass(cls):

@@ -1,8 +1,10 @@
 """YAML filled in by the library, read back by PyYAML.
 
 The documents of tests/data/yaml are filled in with their names and values, and once more with hostile values in place
-of some of their scalars. PyYAML reads what comes of each as it reads the source, but for those values, and all bytes
-outside of scalars are the same. The program `subst_yaml_filled` fills them in, unproved. Without PyYAML no test runs.
+of some of their scalars. PyYAML has to read each output as it reads the source, but for those values, and all bytes
+outside of scalars stay. The program `subst_yaml_filled` fills them in, unproved. Built, it also fills in random
+documents, and damaged ones, which are refused with a line if they aren't filled in: COUNT sets their number. The
+command has to have the same outputs. Without PyYAML none of these tests runs.
 """
 import contextlib
 import itertools
@@ -12,10 +14,12 @@ import random
 import re
 import subprocess
 import unittest
+from concurrent.futures import ProcessPoolExecutor
 from typing import NamedTuple
 
+from tests.subst import Subst, subst
 from tests.support import CRATES, SEED, TOP, Built, Tried, run
-from tests.test_yaml_reader import Maker
+from tests.test_yaml_reader import MOST_PRINTED, Maker, may_be_refused
 
 try:
     import yaml
@@ -26,18 +30,20 @@ DATA = TOP / 'tests' / 'data'
 PROGRAM = 'subst_yaml_filled'
 # How many random documents are filled in.
 RANDOM = int(os.environ.get('COUNT', 20000))
-# How many times each document is filled in with hostile values, and how many of its scalars have one.
+# How often each document is filled in with hostile values, and the share of its scalars that get one.
 TIMES, SHARE = int(os.environ.get('COUNT', 12)), 0.5
-# How many documents the program is given at once.
+# How many damaged documents, and documents of tokens, are filled in.
+DAMAGED = int(os.environ.get('COUNT', 4000))
+# How many documents a run of the program has.
 CHUNK = 400
-# How long the program may run, in seconds.
+# The most seconds of a run.
 SECONDS = 600
-# A variable that stands for a scalar, and how it begins in a document.
+# The beginning of a variable that replaces a scalar.
 HOSTILE = 'HOSTILE_'
 
 
 class Filling(NamedTuple):
-    """A document, how its variables are written, the names of those that are chosen, and their values."""
+    """A document, the forms of its variables, the chosen names, and their values."""
     text: str
     written: str
     names: tuple
@@ -45,7 +51,7 @@ class Filling(NamedTuple):
 
 
 class Came(NamedTuple):
-    """What came of a document: `filled`, `unconfirmed`, `yaml` or `subst`, and its text or the message."""
+    """The outcome for a document: `filled`, `unconfirmed`, `yaml` or `subst`, and its text or the message."""
     kind: str
     text: str
 
@@ -54,12 +60,12 @@ class Came(NamedTuple):
 
 
 def spelled(value):
-    """A value, in which control characters, `%`, `=` and `,` are %XX."""
+    """Returns a value with %XX for control characters, `%`, `=` and `,`."""
     return ''.join(f'%{ord(c):02X}' if ord(c) < 32 or c in '%=,' else c for c in value)
 
 
 def case_of(filling):
-    """A document, as the program reads it."""
+    """Returns a document in the form that the program reads."""
     lines = [name + '=' + spelled(filling.values[name]) if name in filling.values else name for name in filling.names]
     text = filling.text.encode()
     head = f'{len(text)} {filling.written} {len(lines)}\n' + ''.join(line + '\n' for line in lines)
@@ -67,7 +73,7 @@ def case_of(filling):
 
 
 def outcomes(data):
-    """What came of the documents of a file."""
+    """Yields the outcomes for the documents of a file."""
     while head := re.match(rb'(filled|unconfirmed|yaml|subst) (\d+)\n', data):
         kind, length = head.groups()
         start = len(kind) + len(length) + 2
@@ -77,7 +83,7 @@ def outcomes(data):
 
 
 def came_of(fillings, name):
-    """What comes of documents, which are written to files of this name, some at once."""
+    """Returns the outcomes for documents, which are written to files of this name, several in each."""
     return [one for at in range(0, len(fillings), CHUNK) for one in tried(fillings[at:at + CHUNK], name)]
 
 
@@ -87,7 +93,7 @@ def write(fillings, name):
 
 
 def tried(fillings, name):
-    """What comes of documents by the program as `rt try` runs it."""
+    """Returns the outcomes for documents by the program under `rt try`."""
     write(fillings, name)
     command = ['rt', 'try', '--seconds', str(SECONDS), '--data', f'{name}={os.path.abspath(name)}', '--', name]
     end = subprocess.run(command, cwd=CRATES / PROGRAM, stdin=subprocess.DEVNULL, capture_output=True, check=False)
@@ -96,7 +102,7 @@ def tried(fillings, name):
 
 
 def built(fillings, name):
-    """What comes of documents by the program as it is built."""
+    """Returns the outcomes for documents by the built program."""
     write(fillings, name)
     return outcomes_of(fillings, run(PROGRAM, [name]).output)
 
@@ -107,11 +113,11 @@ def outcomes_of(fillings, output):
     return came
 
 
-# What a document is, without our reader
+# Documents, without our reader
 
 
 def events_of(text):
-    """The events of a text, by PyYAML. A scalar has its offsets, which are the same if it is empty."""
+    """Returns the events of a text, by PyYAML. Scalars have their offsets, which are equal if a scalar is empty."""
     events = list(yaml.parse(text, Loader=yaml.CSafeLoader))
     tokens = [token for token in yaml.scan(text, Loader=yaml.CSafeLoader) if isinstance(token, yaml.ScalarToken)]
     for event in events:
@@ -127,7 +133,7 @@ def is_value(event):
 
 
 def told(event, value=None):
-    """What an event says, without its position and its style, and with another value for a scalar."""
+    """Returns the content of an event without its position and its style, with another value of a scalar."""
     names = 'anchor', 'tag', 'explicit', 'value'
     says = {name: getattr(event, name) for name in names if hasattr(event, name)}
     if is_value(event):
@@ -136,14 +142,8 @@ def told(event, value=None):
     return type(event).__name__, says
 
 
-def has_string(text, event):
-    """Whether a scalar is on one line, or after '|' with some text, so that it is filled in."""
-    token = text[event.start:event.end]
-    return event.value.strip() if event.style == '|' else event.style != '>' and '\n' not in token
-
-
 def values_of(events):
-    """Of each event whether it is a scalar that is a value: of a mapping, a sequence or a document."""
+    """Returns for each event whether it is a scalar that is a value: of a mapping, a sequence or a document."""
     found, open_collections = [], []
     for event in events:
         in_mapping = open_collections and open_collections[-1][0]
@@ -159,19 +159,23 @@ def values_of(events):
 
 
 def around(text, event):
-    """Where a scalar ends, and what comes after it as a part of it: of a block, what is in the line of its header. A
-    block ends after its last line with text, unless it keeps the others."""
+    """Returns the end of a scalar, and a part of it that stays: of a block, the rest of its header line. A block ends
+    after its last line of text, also of blanks past its indentation, unless it keeps the lines after that."""
     start, end = event.start, event.end
     if event.style not in ('|', '>'):
         return end, ''
     sign, rest, lines = re.match(r'[|>]([-+0-9]*)([^\n]*\n?)(.*)', text[start:end], re.DOTALL).groups()
     if '+' in sign:
         return (end if text[end:].strip() else len(text)), rest
-    return start + 1 + len(sign) + len(rest) + len(re.match(r'(?:.*\S[^\n]*\n?)?', lines, re.DOTALL)[0]), rest
+    first = re.search(r'^( *)[^ \r\n]|\Z', lines, re.MULTILINE)[1] or ''
+    # With a digit the first line may begin with spaces past the indentation, which are a part of the value.
+    margin = first[len(re.search(r'^( *)[^ \n]|\Z', event.value, re.MULTILINE)[1] or ''):]
+    body = re.match(r'(?:.*(?:\S|(?:\A|(?<=\n))%s[ \t])[^\n]*\n?)?' % margin, lines, re.DOTALL)[0]
+    return start + 1 + len(sign) + len(rest) + len(body), rest
 
 
 def outside(text, events, found):
-    """The parts of a text outside of the scalars that are values."""
+    """Returns the parts of a text outside of the scalars that are values."""
     parts, done, kept = [], 0, ''
     for event, is_one in zip(events, found):
         if is_one and event.start < event.end:
@@ -189,7 +193,7 @@ def value_in(entry):
 
 
 def rows():
-    """The documents, with their names and values."""
+    """Yields the documents, with their names and values."""
     for line in (DATA / 'yaml' / 'names.tsv').read_text().splitlines():
         if line and not line.startswith('#'):
             file, written, names, values = line.split('\t')
@@ -205,42 +209,53 @@ def hostile_values():
 
 
 def with_hostile(text, some, values):
-    """A document in which some scalars are a variable, and the value that each of them has then, by its index."""
+    """Returns a document with variables in some scalars, and the values of these scalars then, by index."""
     events = events_of(text)
-    parts, done, given, expected = [], 0, {}, {}
+    parts, done, given, names = [], 0, {}, {}
     for index, (event, is_one) in enumerate(zip(events, values_of(events))):
         start, end = event.start, event.end
-        if not is_one or start == end or some.random() > SHARE or not has_string(text, event):
+        is_empty = event.style in ('|', '>') and not event.value.strip() if is_one else True
+        # libyaml reads a scalar right after the name of its anchor, if it begins with a colon.
+        is_joined = re.match(r'[\w-]', text[start - 1:start])
+        if is_empty or is_joined or start == end or some.random() > SHARE:
             continue
-        name, value = f'{HOSTILE}{len(given)}', some.choice(values)
-        # In brackets no braces can be in unquoted text.
-        form = some.choice(('$%s', '$%s/b', 'a $%s', 'a $%s b') if event.style == '' else ('${%s}', 'a${%s}b', 'a $%s'))
-        variable = form % name
-        token, old, new = in_style(event, text[start:end], variable)
-        given[name] = value
-        filled = new.replace('${' + name + '}', value).replace('$' + name, value)
-        expected[index] = event.value.replace(old, filled, 1) if old else filled
-        parts += [text[done:start], token]
+        name = names[index] = f'{HOSTILE}{len(given)}'
+        given[name] = some.choice(values)
+        parts += [text[done:start], with_variable(event.style, text[start:end], name, some)]
         done = end
-    return Filling(''.join(parts) + text[done:], 'envsubst', tuple(given), given), expected
+    filling = Filling(''.join(parts) + text[done:], 'envsubst', tuple(given), given)
+    read = events_of(filling.text)
+    return filling, {index: replaced(read[index].value, name, given[name]) for index, name in names.items()}
 
 
-def in_style(event, token, variable):
-    """A token of this text in the style of another one, and what of its value the text is in place of. Of a block it is
-    in place of the first line with text."""
-    if event.style in ("'", '"'):
-        return event.style + variable + event.style, event.value, variable
-    if event.style != '|':
-        return variable, event.value, variable
-    head, spaces, line, rest = re.match(r'([^\n]*\n\s*?)( *)(\S[^\r\n]*)(.*)', token, re.DOTALL).groups()
-    return head + spaces + variable + rest, line, variable
+def replaced(text, name, value):
+    return text.replace('${' + name + '}', value).replace('$' + name, value)
+
+
+def with_variable(style, token, name, some):
+    """Returns a token with a variable: in place of its text, or in several lines before the words of one of them."""
+    quote = style if style in ("'", '"') else ''
+    if style in ('|', '>') or '\n' in token and some.random() < 0.8:
+        head, body = re.match(r'([|>][^\n]*\n)(.*)', token, re.DOTALL).groups() if not quote and style else ('', token)
+        lines = re.split(r'(?<=\n)', body[len(quote):len(body) - len(quote)])
+        # libyaml counts less indented comments after a block to it.
+        margins = {index: len(line) - len(line.lstrip(' ')) for index, line in enumerate(lines) if line.strip()} or {0: 0}
+        index = some.choice([index for index in margins if not head or margins[index] >= margins[min(margins)]])
+        blanks, words = re.match(r'([ \t]*)(.*)', lines[index], re.DOTALL).groups()
+        # Before the white space at the end of a line between double quotes there may be an escape.
+        after = words if style == '"' or some.random() < 0.5 else words[len(words.rstrip()):]
+        lines[index] = blanks + some.choice(('${%s}', 'x${%s}', '${%s} ', '${%s} b')) % name + after
+        return head + quote + ''.join(lines) + quote
+    # Unquoted text in brackets has no braces.
+    forms = ('${%s}', 'a${%s}b', 'a $%s') if quote else ('$%s', '$%s/b', 'a $%s', 'a $%s b')
+    return quote + some.choice(forms) % name + quote
 
 
 class Compared:
     """Texts that are filled in, compared with their sources."""
 
     def assert_filled(self, source, output, expected=None):
-        """The output has the events of the source, with these values at some of them, and the bytes around them."""
+        """Fails unless the output has the source's events, with these values at some, and the bytes around them."""
         before, after = events_of(source), events_of(output)
         found = values_of(before)
         self.assertEqual(len(before), len(after))
@@ -266,17 +281,17 @@ class Documents(Compared, Tried):
 
     def test_hostile_values_stay_in_their_scalars(self):
         some, values = random.Random(self.seed), list(hostile_values())
-        cases = [(file, filling.text, *with_hostile(filling.text, some, values))
+        cases = [(file, *with_hostile(filling.text, some, values))
                  for _, (file, filling) in itertools.product(range(TIMES), list(rows()))]
-        for (file, source, _, expected), came in zip(cases, came_of([case[2] for case in cases], 'hostile')):
+        for (file, filling, expected), came in zip(cases, came_of([case[1] for case in cases], 'hostile')):
             with self.subTest(file, seed=self.seed):
                 self.assertEqual(came.kind, 'filled', came.text)
-                self.assert_filled(source, came.text, expected)
+                self.assert_filled(filling.text, came.text, expected)
 
 
 @unittest.skipUnless(yaml, 'no PyYAML')
 class Random(Compared, Built):
-    """Random documents that libyaml takes, with hostile values at some scalars. Some are refused for their layout."""
+    """Random documents that libyaml reads, with hostile values at some scalars. Some are refused for their layout."""
     programs = PROGRAM,
     seed = SEED
 
@@ -285,16 +300,113 @@ class Random(Compared, Built):
         maker = Maker(some)
         for _ in range(RANDOM):
             with contextlib.suppress(yaml.YAMLError):
-                text = maker.structured()
-                yield text, *with_hostile(text, some, values)
+                yield with_hostile(maker.structured(), some, values)
 
     def test_hostile_values_stay_in_their_scalars(self):
         filled = 0
         cases = list(self.cases())
-        for (source, filling, expected), came in zip(cases, built([case[1] for case in cases], 'random')):
+        for (filling, expected), came in zip(cases, built([case[0] for case in cases], 'random')):
             with self.subTest(filling.text, values=filling.values, seed=self.seed):
                 self.assertIn(came.kind, ('filled', 'yaml'), came.text)
                 if came.kind == 'filled':
-                    self.assert_filled(source, came.text, expected)
+                    self.assert_filled(filling.text, came.text, expected)
                     filled += 1
         self.assertGreater(5 * filled, RANDOM)
+
+
+# Damaged documents
+
+# The message about a refused document.
+REFUSED = re.compile(r'line ([1-9]\d*): (\S.*)')
+
+
+class Attempt(NamedTuple):
+    """A document, how it is filled in, and the expected values of its scalars; None if libyaml refuses it."""
+    source: str
+    filling: Filling
+    expected: dict
+
+
+def attempt(text, some, values):
+    """Returns a document with hostile values at some scalars if libyaml reads it, or else with one for `$X`."""
+    try:
+        return Attempt(text, *with_hostile(text, some, values))
+    except yaml.YAMLError:
+        return Attempt(text, Filling(text, 'envsubst', ('X',), {'X': some.choice(values)}), None)
+
+
+class Chunk(Compared, unittest.TestCase):
+    """A chunk of damaged documents, and of documents of tokens. Its number seeds its random numbers."""
+
+    def __init__(self, number):
+        super().__init__('assert_right')
+        some, values = random.Random(f'{SEED} {number}'), list(hostile_values())
+        maker = Maker(some)
+        count = min(CHUNK, DAMAGED - number * CHUNK)
+        texts = [maker.pick(maker.damaged, maker.damaged, maker.tokens)() for _ in range(count)]
+        # PyYAML doesn't count a byte order mark, which the command skips.
+        self.attempts = [attempt(text.lstrip('\ufeff'), some, values) for text in texts]
+        self.came = built([one.filling for one in self.attempts], f'damaged-{number}')
+
+    def assert_right(self, source, filling, expected, came):
+        """Fails unless a document is filled in, or refused with a line, for a reason for which libyaml may read it."""
+        if came.kind == 'filled':
+            self.assertIsNotNone(expected, 'libyaml refuses it')
+            return self.assert_filled(filling.text, came.text, expected)
+        refused = REFUSED.fullmatch(came.text)
+        self.assertEqual((came.kind, refused is not None), ('yaml', True))
+        self.assertLessEqual(int(refused[1]), filling.text.count('\n') + 1)
+        if expected is not None:
+            self.assertTrue(may_be_refused(filling.text, *refused.groups()), refused[2])
+
+    def differences(self):
+        for one, came in zip(self.attempts, self.came):
+            try:
+                self.assert_right(*one, came)
+            except (AssertionError, yaml.YAMLError) as difference:
+                yield f'{one.source!r} as {one.filling.text!r} with {one.filling.values!r}: {came}: {difference}'
+
+
+def damaged(number):
+    """Returns how many documents of a chunk are filled in, and the differences of others."""
+    chunk = Chunk(number)
+    return sum(came.kind == 'filled' for came in chunk.came), list(chunk.differences())
+
+
+@unittest.skipUnless(yaml, 'no PyYAML')
+class Damaged(Built):
+    """Documents that are damaged or made of tokens, most of which aren't YAML. Those that are read are filled in with
+    hostile values at some scalars; all others are refused."""
+    programs = PROGRAM,
+    seed = SEED
+
+    def test_each_is_filled_in_or_refused(self):
+        with ProcessPoolExecutor() as pool:
+            chunks = list(pool.map(damaged, range((DAMAGED + CHUNK - 1) // CHUNK)))
+        wrong = [one for _, found in chunks for one in found]
+        self.assertFalse(wrong, '\n'.join([f'SEED={SEED}, {len(wrong)} differ', *wrong[:MOST_PRINTED]]))
+        # Enough documents have to be filled in.
+        self.assertGreater(10 * sum(filled for filled, _ in chunks), DAMAGED)
+
+
+# The command
+
+# The options for the forms of variables.
+FORMS = {'own': [], 'envsubst': ['--envsubst'], 'shell': ['--shell']}
+
+
+class Command(Subst):
+    """The documents of tests/data/yaml, by the command."""
+    programs = 'subst_cli', PROGRAM
+
+    def test_each_is_filled_in_as_by_the_library(self):
+        documents = list(rows())
+        for (file, filling), came in zip(documents, built([filling for _, filling in documents], 'documents')):
+            with self.subTest(file):
+                data = (DATA / 'yaml' / file).read_bytes()
+                values = [word for name, value in filling.values.items() for word in ('-s', f'{name}={value}')]
+                words = ['--yaml', *FORMS[filling.written], '--only', ','.join(filling.names), *values]
+                self.assertEqual(came.kind, 'filled', came.text)
+                # A byte order mark stays.
+                mark = data[:len(data) - len(filling.text.encode())]
+                self.assert_ends(subst(words, data), 0, mark + came.text.encode())

@@ -1,10 +1,10 @@
-"""The reader of YAML beside libyaml: random documents, 100,000 unless COUNT gives another number, and texts of tests/data.
+"""The reader of YAML beside libyaml: random documents, 100,000 unless COUNT sets another number, and texts of
+tests/data.
 
-A document is structured, structured and then damaged, or made of tokens. What the program `subst_yaml_events` prints of
-one is a tree with spans. libyaml has to read the same collections, keys and values, in the same styles and at the same
-places, and the same texts where a value is printed. A document that is refused and that libyaml takes is refused for a
-reason that says what isn't taken. The seed is fixed, unless SEED gives another; a failure names it with the document.
-Skipped without PyYAML and its libyaml.
+A document is structured, structured and then damaged, or made of tokens. The program `subst_yaml_events` prints its
+tree, with spans. libyaml has to read the same collections, keys and values, in the same styles and at the same places,
+and the same texts where a value is printed. One that libyaml reads may be refused, for a listed reason. The seed is
+fixed, unless SEED sets another; a failure names it with the document. Skipped without PyYAML and its libyaml.
 """
 import collections
 import os
@@ -25,39 +25,37 @@ except ImportError:
 
 SEED = os.environ.get('SEED', '1')
 COUNT = int(os.environ.get('COUNT', 100000))
-# How many documents one run of the program has.
+# How many documents a run of the program has.
 CHUNK = 2000
 MOST_PRINTED = 10
-# The reasons for which a document may be refused that libyaml takes.
+# Reasons for refusing a document that libyaml reads.
 LAXER = (
     'a tab in the indentation',
-    'a value over lines in brackets needs quotes',
+    'a value over several lines in brackets; quote it',
     'text after a value',
-    "a key after '?' isn't read",
-    "a value without a key isn't read",
-    "a collection as a key isn't read (a template of Helm or Jinja?)",
-    "a key over lines or of more than 1,024 bytes isn't read",
-    "a directive isn't read, nor a value that begins with '%'",
-    "a name that isn't read",
-    "text after '|' or '>', or one that is a whole document",
-    "a line of spaces alone before the text after '|' or '>'",
-    'a value that begins with this character needs quotes',
-    'a character that not every reader takes',
-    "a carriage return without a line feed isn't read as a line end",
-    # An anchor alone as a key in brackets, and `|` at the column of its key.
-    "a bracket that isn't closed, or a bracket or comma where none can be",
-    'no key or item of the collection that goes on here',
+    "a key after '?' isn't supported",
+    "a value without a key isn't supported",
+    "a collection as a key isn't supported; is this a Helm or Jinja template?",
+    "a key over several lines or of more than 1,024 bytes isn't supported",
+    "a directive isn't supported, nor a value that begins with '%'",
+    "an unsupported name of an anchor, alias or tag",
+    "text after '|' or '>', or a whole document in this style",
+    "a line of spaces before the first line of text after '|' or '>'",
+    "a value can't begin with this character; quote it",
+    'a character that some YAML readers reject',
+    "a carriage return without a line feed",
+    # A lone anchor as a key in brackets, and `|` at the column of its key.
+    "a missing closing bracket, or a bracket or comma out of place",
+    'not a key or an item of the collection at this indentation',
 )
 
-# Trees: a list of `document`, `[`, `{`, `)` and scalars, so that both readers' are compared as lists.
+# Trees: lists of `document`, `[`, `{`, `)` and scalars, so that both readers' are compared as lists.
 
-# The styles whose scalars have a value if they are on one line.
-ONE_LINE = 'plain', 'single', 'double'
 STYLES = {'plain': '', 'single': "'", 'double': '"', 'literal': '|', 'folded': '>', 'alias': '*'}
 
 
 class Scalar(NamedTuple):
-    """A scalar or an alias: its style, the offsets of its bytes, and its text, of an alias the name, if it is known."""
+    """A scalar or an alias: its style, its byte offsets, and its text, or of an alias the name, if it is known."""
     style: str
     start: int
     end: int
@@ -68,7 +66,7 @@ NULL = Scalar('', 0, 0)
 
 
 class Tree:
-    """The tree that lines of events are."""
+    """The tree of lines of events."""
 
     def __init__(self, source, lines):
         self.source, self.nodes, self.blocks, self.brackets = source, [], [], 0
@@ -80,7 +78,7 @@ class Tree:
         self.close_to(0)
 
     def take(self):
-        """A value comes, or the entry has none."""
+        """Returns whether a value is due, after which none is."""
         is_due, self.is_due = self.is_due, False
         return is_due
 
@@ -124,8 +122,7 @@ class Tree:
     def value(self, style, start, end, in_flow, _, value=''):
         assert in_flow == ('true' if self.brackets else 'false'), 'a value elsewhere'
         assert self.brackets or self.take(), 'a value where none is due'
-        is_known = style == 'literal' or style in ONE_LINE and b'\n' not in self.source[int(start):int(end)]
-        assert is_known == (value != '-'), 'a value that is known, or is not'
+        assert (style == 'alias') == (value == '-'), 'a value that is known, or is not'
         self.scalar(style, start, end, value)
 
     def open(self, kind):
@@ -145,7 +142,7 @@ class Tree:
 
 
 class Offsets:
-    """The offsets of bytes at characters of a text."""
+    """The byte offsets of the characters of a text."""
 
     def __init__(self, text):
         self.offsets = [0]
@@ -157,7 +154,7 @@ class Offsets:
 
 
 def read_by_libyaml(text):
-    """What libyaml reads, or None if it refuses the text. Its scalars begin at their anchors and tags."""
+    """Returns libyaml's tree, or None if it refuses the text. Its scalars begin at their anchors and tags."""
     opened = {yaml.SequenceStartEvent: '[', yaml.MappingStartEvent: '{', yaml.DocumentStartEvent: 'document',
               yaml.SequenceEndEvent: ')', yaml.MappingEndEvent: ')'}
     offsets, nodes = Offsets(text), []
@@ -176,7 +173,7 @@ def read_by_libyaml(text):
 
 
 def is_same(source, ours, theirs):
-    """Whether two nodes are the same. What libyaml counts to block scalars past their last line isn't compared."""
+    """Returns whether two nodes are equal, but for lines that libyaml adds to block scalars after their last."""
     if isinstance(ours, str) or isinstance(theirs, str):
         return ours == theirs
     if ours == NULL:
@@ -188,15 +185,21 @@ def is_same(source, ours, theirs):
     return ours.style == theirs.style and is_text and starts_same and ends_same
 
 
+def may_be_refused(text, line, reason):
+    """Whether a text that libyaml takes may be refused for a reason at a line, or by its directive: these are read
+    before the first document alone."""
+    return reason in LAXER or text.split('\n')[int(line) - 1].startswith('%YAML')
+
+
 def difference(text, lines):
-    """What differs between what is printed of a document and what libyaml reads, or None."""
+    """Returns the difference between the printed tree of a document and libyaml's, or None."""
     theirs, last = read_by_libyaml(text), lines.pop()
+    source = text.encode()
     if last != 'end':
-        reason = last.split(' ', 4)[4]
-        return None if theirs is None or reason in LAXER else f'refused: {reason}'
+        _, _, _, line, reason = last.split(' ', 4)
+        return None if theirs is None or may_be_refused(text, line, reason) else f'refused: {reason}'
     if theirs is None:
         return 'libyaml refuses it'
-    source = text.encode()
     ours = Tree(source, lines).nodes
     is_all = len(ours) == len(theirs) and all(is_same(source, *nodes) for nodes in zip(ours, theirs))
     return None if is_all else f'read as {ours}, and by libyaml as {theirs}'
@@ -207,19 +210,25 @@ def difference(text, lines):
 VALUES = ('a', 'b c', '$X', 'x-y', 'http://h:80/', '1', 'a#b', 'a:b', '\u00e9', '-x', '?y', ':z', '~', "it's", 'a, b', 'x {y}')
 SINGLE = ('a', "it''s", 'a b', '', 'x: y', '# z')
 DOUBLE = ('a', '\\n', '\\x41', '\\u00e9', 'x\\"y', '', 'a: b', '\\\\')
-OVER_LINES = ('a\n b', 'a\n\n  b', 'a \n\tb')
+OVER_LINES = ('a\n b', 'a\n\n  b', 'a \n\tb', ' a \t\n \n\n  b ', '\n a', 'a\n', ' \n\n ', '\n  # a\n - b: c')
+ESCAPED_LINES = ('a \\\n  b', 'a\\\n\n b', 'a\\ \n b', 'a\\t\n \\  b', 'a\n \\\n  \\ b', '\\\n \\\n\n\n b\\\\\n c', 'a\\x20\n')
 PROPERTIES = (*12 * ('',), '&a ', '!t ', '!!str ', '&a !t ', '!t &a ', '!a/b.c:d ')
 ENDS = ('', ' # c', '  ')
+# Directives, and what they are written with where they are read or not.
+DIRECTIVES = (
+    *3 * ('%YAML 1.1\n', '%YAML 1.2\n', '%YAML 1.1 # c\n', '# c\n\n%YAML 1.2\t\n\n # d\n'), '%YAML 1.3\n', '%YAML  1.1\n',
+    ' %YAML 1.1\n', '%YAML 1.1#c\n', '%YAML 1.1\n%YAML 1.1\n', '%TAG !e! t:\n', '%YAML 1.1\n ', '%YAML 1.1\n...\n', '%a\n')
 TOKENS = (
     'a', 'b', 'k', '- ', '-', ': ', ':', '? ', '[', ']', '{', '}', ', ', ',', *4 * ('\n',), '\n  ', '\n ', '\n    ', '"x"',
     "'y'", '"', "'", '#', ' # c', '|', '>', '|-', '>+', '|2', '&a ', '*a', '!t ', '!!s ', '---', '...', '\n---', '\n...\n',
     '---\n', '%', ' ', '  ', '\t', '\u00e9', '$X', '\\', '\\n', '\\x41', '\\z', '<<', '~', '@', '`', '\r\n', '\n- ', '\n  - ',
+    '%YAML 1.1\n', '%YAML 1.2 # c\n---\n', '\n%YAML 1.1\n--- ', '%YAML 1.',
     'k: ', '\nk: ', '\n  k: ', 'a: b', '"q": ', '|\n  x\n', '>\n   y\n', '\n\n', ' #', '=', '!', '&', '*', '%a\n', '? a',
     '{{ x }}', '[a, b]', '{a: b}', '- - ', '\ufeff', '\u2028', "''", '\\\n', '-x', '?x', ':x', '\\ud800', '&a\n', '!t\n')
 
 
 class Maker:
-    """A maker of documents."""
+    """A maker of random documents."""
 
     def __init__(self, rng):
         self.rng = rng
@@ -232,16 +241,17 @@ class Maker:
         if kind < 5:
             return self.plain(indent, in_flow, is_key)
         if kind < 9:
-            quote, texts = self.pick(("'", SINGLE), ('"', DOUBLE))
-            return quote + self.rng.choice(texts if is_key else (*texts, *OVER_LINES)) + quote
+            quote, texts, lines = self.pick(("'", SINGLE, OVER_LINES), ('"', DOUBLE, OVER_LINES + ESCAPED_LINES))
+            return quote + self.rng.choice(texts if is_key else (*texts, *lines)) + quote
         return '*a ' if is_key else '*a'
 
     def plain(self, indent, in_flow, is_key):
         text = self.rng.choice(VALUES)
         if in_flow:
             return 'p' if text[0] in '-?:' or set(text) & set(',[]{}') else text
-        if not is_key and self.rng.random() < 0.2:
-            text += '\n' + ' ' * (indent + self.rng.randrange(3)) + self.rng.choice(VALUES)
+        while not is_key and self.rng.random() < 0.25:
+            text += self.pick('\n', ' \t\n', '\n\n', '\n \n\n') + ' ' * (indent + self.rng.randrange(3))
+            text += self.rng.choice(VALUES)
         return text
 
     def in_brackets(self, depth, indent):
@@ -260,18 +270,19 @@ class Maker:
         return properties + brackets[0] + space + ', '.join(members) + self.pick('', ' ', ',') + space + brackets[1]
 
     def lines(self, column):
-        """A block scalar in a collection at a column, with its header."""
+        """Returns a block scalar in a collection at a column, with its header."""
         indent = column + self.rng.randrange(1, 4)
         digit = str(indent - column) if self.rng.random() < 0.2 else ''
         head = self.pick('|', '>') + digit + self.pick('', '', '-', '+') + self.rng.choice(ENDS)
-        rows = [self.pick(' ' * indent + 'x', ' ' * indent + ' y', '', ' ' * indent + '$X # z', ' ' * indent, ' ' * (indent - 1))
-                for _ in range(self.rng.randrange(4))]
+        margin = ' ' * indent
+        texts = 'x', 'x', ' y', '\ty ', '$X # z', '', '  '
+        rows = [self.pick(*(margin + text for text in texts), '', '', margin[1:]) for _ in range(self.rng.randrange(7))]
         if rows and self.rng.random() < 0.9:
             rows[0] = rows[0] if rows[0].strip() else ' ' * indent + 'w'
         return head + '\n' + ''.join(row + '\n' for row in rows)
 
     def value(self, depth, column):
-        """What comes after the mark of an item or the colon of a key at a column, to the end of its last line."""
+        """Returns the text after the mark of an item or the colon of a key at a column, to the end of its last line."""
         kind, indent = self.rng.randrange(12), column + self.rng.randrange(1, 3)
         properties = ' ' + self.rng.choice(PROPERTIES)
         if kind < 5:
@@ -301,7 +312,9 @@ class Maker:
     def structured(self):
         documents = [self.block(3, self.pick(0, 0, 0, 2)) if self.rng.random() < 0.9 else self.scalar(0) + '\n'
                      for _ in range(self.pick(1, 1, 1, 2))]
-        text = self.pick('', '', '---\n', '# c\n') + self.pick('---\n', '...\n---\n', '--- # x\n').join(documents)
+        between = self.pick('---\n', '...\n---\n', '--- # x\n', '...\n%YAML 1.1\n---\n')
+        directive = self.rng.choice(DIRECTIVES) + self.pick('---\n', '---\n', '--- # c\n', '')
+        text = self.pick('', '', '---\n', '# c\n', directive) + between.join(documents)
         return self.pick(*8 * (text,), text.replace('\n', '\r\n'), text.rstrip('\n'))
 
     def damaged(self):
@@ -320,7 +333,7 @@ class Maker:
 
 
 def differences(texts):
-    """Runs the program over documents. Returns how many it takes, and the differences."""
+    """Runs the program over documents. Returns how many it reads, and the differences."""
     path, taken, found = pathlib.Path(f'documents-{os.getpid()}'), 0, []
     path.write_bytes(b''.join(b'%d\n%b' % (len(text.encode()), text.encode()) for text in texts))
     end = run('subst_yaml_events', [str(path)])
@@ -341,17 +354,19 @@ def differences_of_chunk(number):
     return differences([maker.document() for _ in range(min(CHUNK, COUNT - number * CHUNK))])
 
 
-# Texts that are made of many of something: what is before, what is repeated, and what is after.
+# Texts with many of something: the start, the repeated part, and the end.
 SLOW = (
     ('', '{a: ', ''), ('', '[', ''), ('', '[a: ', ''), ('', '{"a" : ', ''), ('', '- ', ''), ('', 'a: b\n', ''), ('a:', '\n', 'b'),
     ('', '# c\n', ''), ('"', 'a\n', '"'), ("'", "''", "'"), ('', 'a ', ''), ('', 'a\n', ''), ('a: |\n', ' b\n', ''),
     ('a: |\n b\n', '\n', ''), ('a: |+\n', '\n', 'b: c'), ('', ' ', 'a'), ('[', '*a, ', ']'), ('[', "'a': b, ", ']'),
     ('{', 'a, ', '}'), ('[', 'a,\n', ']'), ('', '---\n', ''), ('', 'a: [b]\n', ''), ('', '- - a\n', ''), ('"', '\\n', '"'),
+    ("a: '", 'b\n ', "'"), ("a: '", ' ', "'"), ('a: "', 'b \\\n ', '"'), ('a: "', '\n', '"'), ('a: >\n', ' b\n  c\n', ''),
+    ('a: >+\n b\n', '\n', ''),
 )
 
 
 def seconds(path, text):
-    """The processor time of the program over a text, the least of some runs."""
+    """Returns the least processor time of some runs of the program over a text."""
     path.write_bytes(b'%d\n%b' % (len(text), text.encode()))
     times = []
     for _ in range(3):
@@ -363,7 +378,7 @@ def seconds(path, text):
 
 
 class Slowness(Built):
-    """What eight times as much of something takes: less than 24 times as long."""
+    """Eight times as much of something takes less than 24 times as long."""
     programs = 'subst_yaml_events',
 
     def test_time_grows_with_the_text(self):
@@ -375,7 +390,7 @@ class Slowness(Built):
 
 @unittest.skipIf(CLoader is None, 'not installed: PyYAML with libyaml')
 class BesideLibyaml(Built):
-    """What libyaml reads of the same texts."""
+    """Texts that both readers read."""
     programs = 'subst_yaml_events',
     seed = SEED
 
@@ -386,7 +401,7 @@ class BesideLibyaml(Built):
         with ProcessPoolExecutor() as pool:
             chunks = list(pool.map(differences_of_chunk, range((COUNT + CHUNK - 1) // CHUNK)))
         self.assert_none([one for _, found in chunks for one in found])
-        # So that what is compared is more than that nothing is taken.
+        # Enough documents have to be read.
         self.assertGreater(5 * sum(taken for taken, _ in chunks), COUNT)
 
     def test_texts_of_the_data(self):

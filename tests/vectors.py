@@ -1,5 +1,5 @@
-"""The rows of crates/subst_vectors/data, whose README.md has their form: reading and writing them, and what the rules
-of the language say of them. Documents are read by Python's readers.
+"""The rows of crates/subst_vectors/data, in the form of its README.md: reading and writing them, and their answers by
+the rules of the language. Documents are read by Python's readers.
 """
 import json
 import math
@@ -17,15 +17,15 @@ except ImportError:  # before Python 3.11
     tomllib = None
 
 DATA = CRATES / 'subst_vectors' / 'data'
-# What can't be in a column as it is. A byte that isn't of UTF-8 is read as a lone surrogate.
+# Characters that a column escapes. A byte outside of UTF-8 is read as a lone surrogate.
 SPECIAL = re.compile('[\x00-\x1f\x7f%\udc80-\udcff]')
 SPECIAL_IN_PAIRS = re.compile('[\x00-\x1f\x7f%,=\udc80-\udcff]')
-# A second that Python's reader of TOML refuses; read as the one before it, everywhere.
+# A leap second, which Python's reader of TOML refuses. It is read as the second before it, everywhere.
 LEAP_SECOND = re.compile('([0-9]{2}:[0-9]{2}):60')
 
 
 class Row(NamedTuple):
-    """A row: where it is, its text, its kind, source and variables, and its other columns."""
+    """A row: its place, its text, its kind, source and variables, and its other columns."""
     place: str
     line: str
     kind: str
@@ -35,7 +35,7 @@ class Row(NamedTuple):
 
 
 def encode(data, special=SPECIAL):
-    """The column of these bytes."""
+    """Returns the column of these bytes."""
     if data == b'-':
         return '%2D'
     text = data.decode('utf-8', 'surrogateescape')
@@ -56,7 +56,7 @@ def variables_of(column):
 
 
 def rows(name):
-    """The rows of a file of the data."""
+    """Yields the rows of a file of the data."""
     for number, line in enumerate((DATA / name).read_text(encoding='utf-8').split('\n'), 1):
         if line and not line.startswith('#'):
             kind, source, pairs, *answer = line.split('\t')
@@ -64,7 +64,7 @@ def rows(name):
 
 
 def is_text(row):
-    """Whether the source and all values are UTF-8."""
+    """Returns whether the source and all values are UTF-8."""
     try:
         b' '.join([row.source, *row.variables.values()]).decode()
     except UnicodeDecodeError:
@@ -73,7 +73,7 @@ def is_text(row):
 
 
 def character_column(data):
-    """The column of a character, or of a byte that begins none."""
+    """Returns the column of a character, or of a byte that begins none."""
     try:
         return f'c{ord(data.decode()):X}'
     except UnicodeDecodeError:
@@ -84,11 +84,11 @@ def list_column(entries):
     return b','.join(entries).decode() or '-'
 
 
-# What the rules say
+# Answers by the rules
 
 
 def ruled_answer(source, variables):
-    """The first columns of the answer to a source."""
+    """Returns the first columns of the answer to a source."""
     try:
         return ['ok', encode(b''.join(rules.values(rules.template(source), variables)))]
     except rules.Refused as refused:
@@ -101,7 +101,7 @@ def ruled_fault(refused):
 
 
 def ruled_lists(source, variables):
-    """The columns of the lists of a template."""
+    """Returns the columns of the lists of a template."""
     items = rules.template(source)
     return [list_column(rules.variable_entries(items)), list_column(rules.missing_entries(items, variables))]
 
@@ -110,7 +110,7 @@ def ruled_lists(source, variables):
 
 
 def read_document(kind, text):
-    """The tree of a document. A float that JSON doesn't have is nothing, as in a row."""
+    """Returns the tree of a document. A float that JSON doesn't have is None, as in a row."""
     text = LEAP_SECOND.sub(r'\1:59', text)
     if kind == 'json':
         return json.loads(text)
@@ -125,13 +125,13 @@ def finite(text):
 
 
 def tree_of_row(row):
-    """The tree that the row of a document has as output."""
+    """Returns the tree in the output column of a document's row."""
     tree = read_document('json', decode(row.answer[1]).decode())
     return with_dates(tree) if row.kind == 'toml' else tree
 
 
 def with_dates(tree):
-    """A tree in which dates are what Python's reader reads, in place of their arrays."""
+    """Returns a tree with the dates of Python's reader in place of their arrays."""
     if isinstance(tree, list):
         if tree[:2] == ['date', None]:
             return read_document('toml', f'date = {tree[2]}')['date']
@@ -140,6 +140,6 @@ def with_dates(tree):
 
 
 def text_of_tree(tree):
-    """The text by which trees are compared. Python's reader of TOML makes one newline of two characters, so carriage
-    returns before a newline don't count."""
+    """Returns a text by which trees are compared. Python's reader of TOML makes one newline of two characters, so
+    carriage returns before a newline are dropped."""
     return re.sub(r'(?:\\r)+\\n', r'\\n', json.dumps(tree, default=str, sort_keys=True))
