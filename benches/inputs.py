@@ -1,8 +1,8 @@
 #!/usr/bin/env python3
-"""inputs.py [FOLDER]   Makes the inputs of the benches, each a source and the variables that fill it in.
+"""inputs.py [FOLDER]   Makes the inputs of the benches, each a source and its variables.
 
-Compares each with its sum in inputs.tsv, where the Rust crate's instructions for it are too. With a folder, writes
-NAME.src and NAME.vars, lines NAME=VALUE, of each into it. README.md says what the inputs are.
+Compares each with its sum in inputs.tsv, which also has the Rust crate's instructions for it. With a folder, writes
+NAME.src and NAME.vars, lines NAME=VALUE, of each into it. README.md describes the inputs.
 """
 import functools
 import hashlib
@@ -21,7 +21,7 @@ ESCAPES = [r"\$", r"\\", r"\{", r"\}", r"\:", "a", "bc", " "]
 DEPTHS = (1_000, 10_000, 100_000, 1_000_000)
 GAPS = (16, 40, 60, 70, 100, 130, 200, 400, 1000, 4000)
 
-# The names of the usual variables, and a name that isn't among them.
+# The names of the usual variables, and another name.
 NAMES = ["HOST", "PORT", "USER_NAME", "DB", "REGION", "TOKEN", *(f"VAR_{number:02}" for number in range(20))]
 MISSING = "MISSING_X"
 
@@ -39,30 +39,30 @@ timeout = 30
 
 
 class Input(NamedTuple):
-    """A source, and the variables that fill it in, in their order."""
+    """A source, and its variables in order."""
 
     source: bytes
     variables: dict
 
     def lines(self):
-        """The variables, in lines NAME=VALUE."""
+        """Returns the variables, in lines NAME=VALUE."""
         return "".join(f"{name}={value}\n" for name, value in self.variables.items()).encode()
 
     def sum(self):
-        """A sum that differs where these bytes do."""
+        """Returns a sum over these bytes."""
         return hashlib.sha256(self.source + b"\0" + self.lines()).hexdigest()[:16]
 
 
-# What inputs are made of.
+# Parts of inputs.
 
 
 def drawn(rng, alphabet, length):
-    """This many letters of an alphabet."""
+    """Returns this many random letters of an alphabet."""
     return "".join(rng.choice(alphabet) for _ in range(length))
 
 
 def reaching(length, piece, size=len):
-    """Pieces, up to the one with which they have this length."""
+    """Returns joined pieces, up to the one that reaches this length."""
     taken = []
     while length > 0:
         taken.append(piece())
@@ -71,7 +71,7 @@ def reaching(length, piece, size=len):
 
 
 def either_form(rng):
-    """The form of a placeholder, with braces or without."""
+    """Returns the form of a placeholder, with braces or without, at random."""
     return "${%s}" if rng.random() < 0.5 else "$%s"
 
 
@@ -80,12 +80,12 @@ def in_default_of(name, text):
 
 
 def nested_defaults(depth):
-    """So many defaults of one variable, each in the one before."""
+    """Returns this many nested defaults of one variable."""
     return "${a:" * depth + "x" + "}" * depth
 
 
 def words_in_lines(rng, words):
-    """Words without end, and a line end after each with which a line has 72 columns."""
+    """Yields words without end, with a line end after the word that reaches column 72."""
     column = 0
     while True:
         word = rng.choice(words)
@@ -99,17 +99,17 @@ def prose(rng, words, length):
 
 
 def prose_around(rng, words, placeholder):
-    """1 MiB of prose, with a placeholder after each 34 to 49 bytes."""
+    """Returns 1 MiB of prose, with a placeholder after each 34 to 49 bytes."""
     return reaching(MIB, lambda: prose(rng, words, rng.randrange(34, 50)) + placeholder() + " ")
 
 
 def filler(rng, length):
-    """Words of 2 to 8 letters, with blanks between them."""
+    """Returns words of 2 to 8 letters, separated by blanks."""
     return reaching(length, lambda: drawn(rng, SMALL, rng.randrange(2, 9)) + " ")[:length]
 
 
 def some_names(rng, count, shortest=7, longest=14):
-    """So many different names, sorted."""
+    """Returns this many different names, sorted."""
     names = set()
     while len(names) < count:
         names.add("N" + drawn(rng, CAPITALS, rng.randrange(shortest - 1, longest)))
@@ -117,7 +117,7 @@ def some_names(rng, count, shortest=7, longest=14):
 
 
 def pieces_around(rng, names, placeholder, length=MIB, size=50):
-    """Pieces of this size up to this length, each of a placeholder of one of these names and filler."""
+    """Returns pieces of this size up to this length, each of a placeholder of one of these names and filler."""
 
     def piece():
         begin = placeholder(rng.choice(names)) + " "
@@ -127,7 +127,7 @@ def pieces_around(rng, names, placeholder, length=MIB, size=50):
 
 
 def wide_characters(rng, first, count):
-    """1 MiB of blanks and of so many characters from the first on, with one of the usual variables after each 40."""
+    """Returns 1 MiB of blanks and of this many characters from the first on, with a usual variable after each 40."""
 
     def piece():
         wide = (chr(first + rng.randrange(count)) if rng.random() < 0.85 else " " for _ in range(40))
@@ -136,7 +136,7 @@ def wide_characters(rng, first, count):
     return reaching(MIB, piece, lambda piece: len(piece.encode()))
 
 
-# All inputs: names and sources, and the variables where they aren't the usual ones. Each draws after those before it.
+# All inputs: names, sources, and variables other than the usual ones. Each draws random numbers after those before it.
 
 
 def fixed():
@@ -163,7 +163,7 @@ def of_prose(rng):
     filled = prose_around(rng, words, lambda: either_form(rng) % rng.choice(NAMES))
     yield "variables", filled
     yield "default_variables", in_default_of(MISSING, filled)
-    # An input that isn't kept: what follows was drawn after it.
+    # This input is dropped, but those below were drawn after it.
     prose_around(rng, words, lambda: "${%s}" % rng.choice(NAMES))
     plain = prose(rng, words, MIB)
     yield "plain", 16 * plain
@@ -206,7 +206,7 @@ def drawn_last(rng):
 
 @functools.lru_cache(None)
 def every():
-    """The inputs, by their names."""
+    """Returns the inputs by their names."""
     rng, later = random.Random(20261122), random.Random(11)
     usual = {name: drawn(rng, VALUES, rng.randrange(4, 24)) for name in NAMES}
     made = itertools.chain(fixed(), of_prose(rng), of_names(later), drawn_last(later))
@@ -214,7 +214,7 @@ def every():
 
 
 def repeated(name, length):
-    """An input whose source is that of another, again and again up to this length; less a last backslash that has
+    """Returns an input with the source of another, repeated up to this length, without a last backslash that has
     nothing to escape there."""
     made = every()[name]
     source = (made.source * (length // len(made.source) + 1))[:length]
@@ -224,8 +224,8 @@ def repeated(name, length):
 
 @functools.lru_cache(None)
 def figures():
-    """The sum of each input, and the Rust crate's instructions for it by the work, with the limit, those of a search for
-    each special byte and one copy of the output."""
+    """Returns the sum of each input, and the Rust crate's instructions for it by the work, with the limit: those of a
+    search for each special byte and one copy of the output."""
     found = {}
     for line in TABLE.read_text(encoding="utf-8").splitlines():
         if not line.startswith("#"):
@@ -235,7 +235,7 @@ def figures():
     return found
 
 
-# Sources that are made to be slow: each a function of its size, with the status that the filter ends with.
+# Sources that are made to be slow: each a function of its size, with the filter's exit status.
 
 HOSTILE = {
     "nested defaults": (nested_defaults, 0),
@@ -249,21 +249,21 @@ HOSTILE = {
 }
 
 
-# Documents, for each of which the Rust crate's instructions are known.
+# Documents for which the Rust crate's instructions are known.
 
 
 def toml_text(objects):
-    """An array of tables. Keys are letters, and strings have nothing that TOML escapes, so JSON's quoting will do."""
+    """Returns an array of tables. Keys are letters, and no string needs TOML's escapes, so JSON's quoting will do."""
     return "\n".join("[[table]]\n" + "".join(f"{key} = {json.dumps(value)}\n" for key, value in members.items())
                      for members in objects)
 
 
-# The text of a list of objects, the bytes to have, and the instructions.
+# The text of a list of objects, its length in bytes, and the instructions.
 DOCUMENTS = {"json": (json.dumps, 5_800_000, 257_000_000), "toml": (toml_text, 3_700_000, 172_800_000)}
 
 
 def some_value(rng, names):
-    """A number, a word, or words with a variable in them."""
+    """Returns a number, a word, or words with a variable in them."""
     which = rng.random()
     if which < 0.3:
         return rng.randrange(100_000)
@@ -272,7 +272,7 @@ def some_value(rng, names):
 
 
 def document(kind, length=None):
-    """A document: objects with ten members each, up to the bytes that it has, or up to this length."""
+    """Returns a document of objects with ten members each, of its length in bytes, or of this length."""
     rng, (text_of, size, _) = random.Random(7), DOCUMENTS[kind]
     size = length or size
     names = [f"NAME_{number}" for number in range(300)]

@@ -1,7 +1,7 @@
 /* measure INPUT PROGRAM ARG ..   Runs a program from a file to /dev/null, without messages, and prints how it ended.
  *
- * Prints its status, the microseconds from before its start to after its end, and the KiB of memory that it had at
- * most. A script can't measure the last: a program that it starts counts the memory of the script as its own.
+ * Prints its status, the microseconds from before its start to after its end, and its peak memory in KiB. A script
+ * can't measure the last: a program that it starts counts the memory of the script as its own.
  */
 #define _GNU_SOURCE
 #include <fcntl.h>

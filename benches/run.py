@@ -2,9 +2,9 @@
 """run.py [--runs N] [--only WORD] [--write] [TABLE ..]   Times the programs and counts the instructions of the library.
 
 Prints these tables of RESULTS.md, or all, as Markdown: times, process, programs, texts, letters, growth, hostile, json,
-toml and, as SVG, chart. README.md says what is in them. With --only, of the inputs in inputs.py only those with this
-word in their titles or as their name, and the empty one; with --write, the tables are put into RESULTS.md and the chart
-into chart.svg.
+toml and, as SVG, chart. README.md describes them. With --only, uses only those inputs of inputs.py that have this word
+in their titles or as their name, and the empty one. With --write, puts the tables into RESULTS.md and the chart into
+chart.svg.
 """
 import argparse
 import contextlib
@@ -31,13 +31,13 @@ HERE = Path(__file__).resolve().parent
 RESULTS, CHART = HERE / "RESULTS.md", HERE / "chart.svg"
 OURS, BENCH = "subst_filter", "subst_bench"
 OTHERS = ("cat", "envsubst", "perl", "string.Template")
-# The programs that have placeholders alone.
+# The programs that support only placeholders.
 SIMPLE = ("envsubst", "perl", "string.Template")
-# The works of the library: to parse, to expand, and to do both at once.
+# The works of the library: to parse, to expand, and both.
 WORKS = ("parse", "expand", "both")
-# The system takes arguments of a quarter of the stack that a program may have: enough for those of 100,000 variables.
+# A quarter of a program's stack limit may be arguments: enough for those of 100,000 variables.
 STACK = 16 * MIB
-# What is made for the runs.
+# The folder of files for the runs.
 SCRATCH = tempfile.TemporaryDirectory()
 FOLDER = Path(SCRATCH.name)
 
@@ -48,7 +48,7 @@ PYTHON = "import os, string, sys; sys.stdout.write(string.Template(sys.stdin.rea
 
 
 class Workload(NamedTuple):
-    """An input of inputs.py, and the programs to which it means the same as to ours: their outputs have to be equal."""
+    """An input of inputs.py, and the programs for which it means the same: their outputs have to equal ours."""
 
     title: str
     name: str
@@ -66,11 +66,11 @@ class Workload(NamedTuple):
 
     @property
     def rust(self):
-        """What the Rust crate takes for these very bytes, by the work, where it is known."""
+        """The Rust crate's instructions for these very bytes, by the work, if they are known."""
         return inputs.figures()[self.name][1] if self.length is None else {}
 
 
-# What all programs that can are timed on.
+# Inputs on which all programs that support them are timed.
 INPUTS = (
     Workload("empty", "s0", ("cat", *SIMPLE)),
     Workload("20 bytes, two variables", "s20", SIMPLE),
@@ -85,7 +85,7 @@ INPUTS = (
     Workload("variables in a default, 1 MiB", "default_variables"),
 )
 
-# What is counted in process alone, beside all of those.
+# More inputs that are counted only in process.
 IN_PROCESS = (
     Workload("10 bytes, plain", "s10plain"),
     Workload("50 bytes, plain", "s50plain"),
@@ -109,11 +109,11 @@ IN_PROCESS = (
     Workload("Cyrillic, 1 MiB", "cyrillic"),
     Workload("Chinese, 1 MiB", "chinese"),
 )
-# What is filled in as bytes and as a text, and what is expanded into one buffer too.
+# Inputs that are expanded as bytes and as a text, and inputs that are also expanded into one buffer.
 TEXTS, LETTERS = ("variables", "plain", "cyrillic", "chinese"), ("configuration", "letter4k")
 
 
-# Workloads that grow, each with its size.
+# Growing workloads, each with its size.
 FAMILIES = (
     [(depth, Workload(f"nested defaults, {depth:,} deep", f"depth{depth}")) for depth in inputs.DEPTHS],
     [(count, Workload(f"variables, 1 MiB, {count:,} arguments", f"names{count}")) for count in (10, 1_000, 100_000)],
@@ -129,7 +129,7 @@ LONGEST, FIRST, OTHER = 380, "#2c7a4b", "#9aa5ad"
 
 
 class Run(NamedTuple):
-    """What is run: a command line, in this environment, on this file as its input."""
+    """A run: a command line, its environment, and the file of its input."""
 
     command: list
     environment: dict
@@ -138,15 +138,15 @@ class Run(NamedTuple):
 
 @functools.lru_cache(None)
 def program(crate):
-    """The path of a program of ours, proved and built where its sources have changed."""
+    """Returns the path of a program of ours, proved and built if its sources have changed."""
     with contextlib.redirect_stdout(sys.stderr):
         return str(path_of(crate)) if build(crate) else sys.exit(f"{crate} isn't built")
 
 
 @functools.lru_cache(None)
 def bench_program():
-    """The path of the program that works in process, proved and built in a repository of its own beside copies of the
-    library's crates, from which `rt` takes what it keeps of those here."""
+    """Returns the path of the program that works in process. It is proved and built in a repository of its own beside
+    copies of the library's crates, for which `rt` reuses what it keeps of those here."""
     library, crate = copy_library(FOLDER), FOLDER / "crates" / BENCH
     (crate / "src").mkdir(parents=True)
     shutil.copy(HERE / f"{BENCH}.rt.in", crate / "src/main.rt")
@@ -157,14 +157,14 @@ def bench_program():
 
 @functools.lru_cache(None)
 def measure_program():
-    """The path of the program that measures one run."""
+    """Returns the path of the program that measures one run."""
     command = [os.environ.get("CC") or "cc", "-O2", "-Wall", "-Wextra", "-Werror", "-o", FOLDER / "measure"]
     subprocess.run([*command, HERE / "measure.c"], check=True)
     return FOLDER / "measure"
 
 
 def run_on(source, *command, **variables):
-    """A run on these bytes, which stay in a file until the next ones."""
+    """Returns a run on these bytes, which stay in a file until the next ones."""
     path = FOLDER / "source"
     path.write_bytes(source)
     return Run(list(command), {"PATH": os.environ["PATH"], "LC_ALL": "C", **variables}, path)
@@ -175,7 +175,7 @@ def words(workload):
 
 
 def run_of(workload, name):
-    """The run of a program on a workload, or None where it isn't installed or has other rules."""
+    """Returns the run of a program on a workload, or None if it isn't installed or has other rules."""
     source, variables = workload.input
     if name == OURS and workload.word != "env":
         return run_on(source, program(OURS), workload.word, *words(workload))
@@ -192,7 +192,7 @@ def run_of(workload, name):
 
 
 def bench(workload, work, rounds):
-    """The run that does the work on the workload in process, so many times."""
+    """Returns the run that does the work on the workload in process, this many times."""
     return run_on(workload.input.source, bench_program(), work, str(rounds), *words(workload))
 
 
@@ -200,14 +200,14 @@ def bench(workload, work, rounds):
 
 
 def output_of(run):
-    """What a run writes, or what our program says of a source that it refuses."""
+    """Returns the output of a run, or our program's message if it refuses the source."""
     with open(run.source, "rb") as stdin:
         ran = subprocess.run(run.command, env=run.environment, stdin=stdin, capture_output=True, check=False)
     return ran.stdout if ran.returncode == 0 else ran.stderr.removeprefix(b"subst: ").rstrip(b"\n")
 
 
 def measured(run, status=0):
-    """The milliseconds of a run, start-up included, and the most KiB of memory that it had."""
+    """Returns the milliseconds of a run, start-up included, and its peak memory in KiB."""
     command = [measure_program(), run.source, *run.command]
     ended, time, memory = map(int, subprocess.run(command, env=run.environment, stdout=subprocess.PIPE, check=True)
                               .stdout.split())
@@ -218,8 +218,8 @@ def measured(run, status=0):
 
 @functools.lru_cache(None)
 def times(workload, runs, others=()):
-    """The least time of our program and of others that can do the workload, since other work on the machine only adds.
-    The programs take turns."""
+    """Returns the least time of our program and of others that support the workload, since other load only adds. The
+    programs take turns."""
     able = {name: run for name in (OURS, *others) if (run := run_of(workload, name))}
     for name in workload.same:
         if name in able and output_of(able[name]) != output_of(able[OURS]):
@@ -229,7 +229,7 @@ def times(workload, runs, others=()):
 
 
 def under_valgrind(run, pattern, *options):
-    """The number in what valgrind says of a run."""
+    """Returns the number in valgrind's report about a run."""
     with open(run.source, "rb") as stdin:
         ran = subprocess.run(["valgrind", *options, *run.command], env=run.environment, stdin=stdin, check=True,
                              stdout=subprocess.DEVNULL, stderr=subprocess.PIPE)
@@ -237,21 +237,21 @@ def under_valgrind(run, pattern, *options):
 
 
 def instructions(run):
-    """How many instructions a run takes, by callgrind, start-up included."""
+    """Returns the instructions of a run, by callgrind, start-up included."""
     return under_valgrind(run, rb"Collected : (\d+)", "--tool=callgrind", f"--callgrind-out-file={os.devnull}")
 
 
 @functools.lru_cache(None)
 def instructions_of(workload, name):
-    """How many instructions a program takes for a workload, where it can do it."""
+    """Returns the instructions of a program for a workload, or None if it doesn't support it."""
     run = run_of(workload, name)
     return run and instructions(run)
 
 
 @functools.lru_cache(None)
 def counted(workload, work):
-    """How many instructions the library takes for a work of the workload, after which the same length has to come out as
-    of our program: what a run takes more than one without rounds, by their number."""
+    """Returns the instructions of the library for a work of the workload: those that a run takes more than one without
+    rounds, by the number of rounds. Exits unless the output has the same length as our program's."""
     length = len(workload.input.source if work == "parse" else output_of(run_of(workload, OURS)))
     if int(output_of(bench(workload, work, 1))) != length:
         sys.exit(f"{workload.title}: in process something else comes out")
@@ -260,16 +260,16 @@ def counted(workload, work):
 
 
 def requests(workload, work):
-    """How many requests for memory 1,000 rounds make."""
+    """Returns how many requests for memory 1,000 rounds make."""
     made = [under_valgrind(bench(workload, work, rounds), rb"total heap usage: ([\d,]+) allocs") for rounds in (1000, 0)]
     return made[0] - made[1]
 
 
-# Tables. Each takes the options, and gives its title, its columns and its rows.
+# Tables. Each takes the options, and returns its title, its columns and its rows.
 
 
 def amount(count):
-    """A number of instructions, in few digits."""
+    """Returns a number of instructions, in few digits."""
     if count is None:
         return ""
     if count < 1e5:
@@ -282,7 +282,7 @@ def ratio(count, other):
 
 
 def two(first, second):
-    """Two counts, and the second by the first."""
+    """Returns two counts, and the second divided by the first."""
     return [amount(first), amount(second), ratio(second, first)]
 
 
@@ -359,18 +359,18 @@ def table_of_letters(options):
 
 
 def measures(workload, options):
-    """The milliseconds of our program, its instructions, and those in process."""
+    """Returns the milliseconds of our program, its instructions, and those in process."""
     return times(workload, options.runs)[OURS], instructions_of(workload, OURS), counted(workload, "both")
 
 
 def slope(size, value, later_size, later_value):
-    """The exponent by which a value grows with a size, between two of each."""
+    """Returns the exponent by which a value grows with a size, between two of each."""
     is_known = min(value, later_value) > 0
     return f"{math.log(later_value / value) / math.log(later_size / size):.2f}" if is_known else ""
 
 
 def rows_of_growth(family, options):
-    """A row for each size of a family: each measure, and its slope from the row before, without start-up."""
+    """Returns a row for each size of a family: each measure, and its slope from the row before, without start-up."""
     time, count, _ = measures(INPUTS[0], options)
     size, before = 1, (0, 0, 0)
     for later_size, workload in family:
@@ -443,7 +443,7 @@ TABLES = {
 
 
 def bars(top, title, values):
-    """Bars of values by their names below a title, as SVG, and where they end."""
+    """Returns bars of values by their names below a title, as SVG, and their end."""
     drawn = [f'<text x="12" y="{top + 26}" font-weight="bold">{title}</text>']
     for row, (name, value) in enumerate(values.items()):
         y, width = top + 46 + 22 * row, max(2, round(LONGEST * value / max(values.values())))
@@ -454,7 +454,7 @@ def bars(top, title, values):
 
 
 def chart(options):
-    """What one input takes our program and others, and the library and the Rust crate, as SVG."""
+    """Returns the figures of one input for our program and others, and for the library and the Rust crate, as SVG."""
     workload, = named(options, ["variables"])
     least = times(workload, options.runs, OTHERS)
     in_process = {"subst": counted(workload, "both") / 1e6, "the Rust crate": workload.rust["both"] / 1e6}
@@ -467,7 +467,7 @@ def chart(options):
 
 
 def written(title, columns, rows):
-    """A table as Markdown."""
+    """Returns a table as Markdown."""
     lines = ["| " + " | ".join(row) + " |" for row in [columns, *rows]]
     lines.insert(1, "|---" + "|---:" * (len(columns) - 1) + "|")
     return textwrap.fill(title, 120) + "\n\n" + "\n".join(lines) + "\n"
@@ -477,14 +477,14 @@ WRITES = {name: lambda options, table=table: written(*table(options)) for name, 
 
 
 def put_into_results(name, text):
-    """Puts a table between two lines of RESULTS.md that name it."""
+    """Puts a table between the two lines of RESULTS.md that name it."""
     begin, end = f"<!-- {name} -->\n", f"<!-- end of {name} -->\n"
     before, rest = RESULTS.read_text(encoding="utf-8").split(begin)
     RESULTS.write_text(f"{before}{begin}\n{text}\n{end}{rest.split(end)[1]}", encoding="utf-8")
 
 
 def make_room_for_words():
-    """Lets the programs that are run have as many arguments as the largest input needs."""
+    """Raises the stack limit, so that programs may have as many arguments as the largest input needs."""
     soft, hard = resource.getrlimit(resource.RLIMIT_STACK)
     if soft != resource.RLIM_INFINITY and soft < STACK:
         resource.setrlimit(resource.RLIMIT_STACK, (STACK, hard))

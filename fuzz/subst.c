@@ -1,10 +1,10 @@
-/* A target of libFuzzer that holds each call of subst.h to what is said there.
+/* A target of libFuzzer that tests each call of subst.h against the header's promises.
  *
- * An input is a length of a buffer, a number of pairs, for each pair the lengths of its name and its value, these words,
- * and then the source. What a call writes has guards around it, since sanitizers don't see the library's own writes.
- * A call that is out of memory has written nothing, and is made again. With -DSTANDALONE a main is added, for other
- * compilers, that tries each file that is named, and counts these calls. In texts.h, which tools/faults.py prints, are
- * the beginnings of the texts of faults, by their kinds.
+ * An input is the length of a buffer, the number of pairs, for each pair the lengths of its name and its value, these
+ * words, and then the source. A call's outputs have guards around them, since sanitizers don't see the library's own
+ * writes. A call that is out of memory must have written nothing, and is made again. With -DSTANDALONE, for other
+ * compilers, there is a main that tries each named file, and counts the calls that were out of memory. texts.h, which
+ * tools/faults.py prints, has the beginnings of the texts of faults, by their kinds.
  */
 #include "subst.h"
 #include "texts.h"
@@ -15,10 +15,10 @@
 #include <string.h>
 #include <unistd.h>
 
-/* More than 16 pairs are looked up in another way than fewer. */
+/* More than 16 pairs may be looked up by an index. */
 enum { MOST_PAIRS = 24, MOST_WORDS = 2 * MOST_PAIRS + 1, ROOMS = 5, GUARD = 32, UNTOUCHED = 0xA5, UNTOLD = 77 };
 
-/* What is passed to the calls: copies of the input's own, of their exact size. */
+/* The arguments of calls: copies from the input, of their exact size. */
 struct input {
     /* the names and values, in turn, and then the source */
     uint8_t *words[MOST_WORDS];
@@ -32,34 +32,34 @@ struct input {
     size_t *ends;
     size_t ends_len;
     struct subst_style style;
-    /* the length of a buffer to try beside those that the result gives */
+    /* a length of a buffer to try besides those of the answer */
     size_t buffer_len;
 };
 
-/* What a call gave, or what it has to give: items with SUBST_DONE, and a fault with SUBST_REFUSED. */
+/* The answer of a call, or the expected one: items with SUBST_DONE, and a fault with SUBST_REFUSED. */
 struct answer {
     uint32_t result;
     size_t needed;
     struct subst_fault fault;
     size_t row;
     uint8_t *items;
-    /* what is given back to free the items */
+    /* the block to free */
     uint8_t *block;
 };
 
 static const struct answer NOTHING = {SUBST_DONE, 0, {UNTOLD, UNTOLD, UNTOLD}, UNTOLD, NULL, NULL};
 static const struct answer NO_TEXT = {SUBST_NOT_UTF8, 0, {UNTOLD, UNTOLD, UNTOLD}, UNTOLD, NULL, NULL};
 
-/* The variables that an answer has as items. */
+/* The items of an answer as variables. */
 #define VARIABLES(answer) ((const struct subst_variable *)(const void *)(answer)->items)
-/* Whether two variables, or two faults, are the same. */
+/* Returns whether two variables, or two faults, are equal. */
 #define IS_SAME(a, b) ((a)->kind == (b)->kind && (a)->position == (b)->position && (a)->length == (b)->length)
 
-/* The input that is tried. */
+/* The input in use. */
 static const uint8_t *tried;
 static size_t tried_len;
 
-/* Fails with the expectation, and with the input in hexadecimal. */
+/* Fails with the unmet expectation, and with the input in hexadecimal. */
 #define EXPECT(fact) ((fact) ? (void)0 : fail(#fact, __func__, __LINE__))
 
 static void fail(const char *fact, const char *where, int line)
@@ -74,7 +74,7 @@ static void fail(const char *fact, const char *where, int line)
 
 /* Memory */
 
-/* Resizes a block, or takes a new one for NULL. A request may be refused once. */
+/* Resizes a block, or allocates one for NULL. A request may be refused once. */
 static void *resized(void *block, size_t size)
 {
     void *made = realloc(block, size > 0 ? size : 1);
@@ -98,7 +98,7 @@ static uint8_t *copy_of(const void *bytes, size_t length)
     return copy;
 }
 
-/* A buffer of this size with guards before and after it. */
+/* Returns a buffer of this size with guards before and after it. */
 static uint8_t *guarded(size_t size)
 {
     uint8_t *block = taken(size + 2 * GUARD);
@@ -106,7 +106,7 @@ static uint8_t *guarded(size_t size)
     return block;
 }
 
-/* Whether the guards of a buffer are untouched, and its bytes from here on. */
+/* Returns whether the guards of a buffer are untouched, and its bytes from an index on. */
 static int is_untouched(const uint8_t *block, size_t from, size_t size)
 {
     size_t i;
@@ -116,7 +116,7 @@ static int is_untouched(const uint8_t *block, size_t from, size_t size)
     return 1;
 }
 
-/* What the language says of a source, as far as it is seen without reading placeholders */
+/* Properties of sources that need no parsing of placeholders */
 
 static int is_name_byte(uint8_t b)
 {
@@ -150,7 +150,7 @@ static int are_texts(const struct input *input)
     return is_utf8(input->source, input->source_len);
 }
 
-/* The first pair of a name of the source, or NULL. */
+/* Returns the first pair with a name of the source, or NULL. */
 static const struct subst_pair *pair_of(const struct input *input, size_t position, size_t length)
 {
     size_t i;
@@ -161,7 +161,7 @@ static const struct subst_pair *pair_of(const struct input *input, size_t positi
     return NULL;
 }
 
-/* Whether a whole name, after a dollar or a brace, is here. */
+/* Returns whether a whole name, after a dollar or a brace, is here. */
 static int is_name_at(const struct input *input, size_t position, size_t length)
 {
     const uint8_t *source = input->source;
@@ -181,7 +181,7 @@ static int is_template(const struct answer *answer)
     return answer->result == SUBST_DONE || answer->fault.kind == SUBST_NO_SUCH_VARIABLE;
 }
 
-/* A fault is within the source, and begins with what its kind says. */
+/* Fails unless a fault is within the source, and begins as its kind requires. */
 static void expect_within(const struct input *input, const struct subst_fault *fault)
 {
     uint8_t first;
@@ -215,7 +215,7 @@ static void expect_within(const struct input *input, const struct subst_fault *f
 struct call {
     uint32_t (*make)(const struct input *input, void *buffer, size_t buffer_len, struct answer *told);
     size_t item;
-    /* whether it writes straight into the buffer, which may then have anything without SUBST_DONE */
+    /* whether it writes straight into the buffer, which is then unspecified without SUBST_DONE */
     int is_straight;
 };
 
@@ -239,8 +239,10 @@ CALL(variables, struct subst_variable, 0, SOURCE, buffer, buffer_len, &told->nee
 CALL(missing, struct subst_variable, 0, SOURCE, PAIRS, buffer, buffer_len, &told->needed, &told->fault)
 CALL(json, uint8_t, 0, SOURCE, PAIRS, buffer, buffer_len, &told->needed, &told->fault)
 CALL(toml, uint8_t, 0, SOURCE, PAIRS, buffer, buffer_len, &told->needed, &told->fault)
+CALL(yaml, uint8_t, 0, SOURCE, PAIRS, buffer, buffer_len, &told->needed, &told->fault)
 CALL(json_fault_text, uint8_t, 0, SOURCE, PAIRS, buffer, buffer_len, &told->needed)
 CALL(toml_fault_text, uint8_t, 0, SOURCE, PAIRS, buffer, buffer_len, &told->needed)
+CALL(yaml_fault_text, uint8_t, 0, SOURCE, PAIRS, buffer, buffer_len, &told->needed)
 CALL(fault_text, uint8_t, 0, SOURCE, PAIRS, buffer, buffer_len, &told->needed)
 CALL(fault_highlighting, uint8_t, 0, SOURCE, PAIRS, buffer, buffer_len, &told->needed)
 CALL(from_envsubst, uint8_t, 0, SOURCE, SUBST_OPTIONAL, buffer, buffer_len, &told->needed)
@@ -248,11 +250,11 @@ CALL(with_only, uint8_t, 0, SOURCE, PAIRS, SUBST_REQUIRED, buffer, buffer_len, &
 CALL(from_shell, uint8_t, 0, SOURCE, buffer, buffer_len, &told->needed, &told->fault.kind, &told->fault.position)
 CALL(shell_form_text, uint8_t, 0, (uint32_t)input->buffer_len, buffer, buffer_len, &told->needed)
 
-/* What the last call by a style reported, and what one reports that isn't refused. */
+/* The report of the last call by a style, and its value if nothing is reported. */
 static struct subst_style_fault reported;
 static const struct subst_style_fault UNREPORTED = {UNTOLD, UNTOLD, UNTOLD, UNTOLD, UNTOLD, UNTOLD};
 
-/* The result of a call by a style, which reports only with SUBST_REFUSED. */
+/* Returns the result of a call by a style, which reports only with SUBST_REFUSED. */
 static uint32_t result_of(uint32_t result, struct answer *told)
 {
     if (result == SUBST_REFUSED) {
@@ -276,10 +278,10 @@ static uint32_t result_of(uint32_t result, struct answer *told)
 CALL_BY_STYLE(bytes_by_style)
 CALL_BY_STYLE(text_by_style)
 
-/* How many calls were out of memory. */
+/* The number of calls that were out of memory. */
 static unsigned long times_out_of_memory;
 
-/* Whether a call was out of memory, which has to have written nothing, and is to be made again. */
+/* Returns whether a call was out of memory. It must have written nothing, and has to be made again. */
 static int is_out_of_memory(const struct input *input, const struct answer *told, size_t size)
 {
     if (told->result != SUBST_OUT_OF_MEMORY)
@@ -292,8 +294,8 @@ static int is_out_of_memory(const struct input *input, const struct answer *told
     return 1;
 }
 
-/* Makes a call in a buffer of this length, and holds it to what it writes with which result. One that writes straight into
- * the buffer leaves it as it was where the source is no template or no text. */
+/* Makes a call in a buffer of this length. Fails if it writes what its result doesn't allow. A call that writes
+ * straight into the buffer leaves it unchanged if the source is no template or no text. */
 static struct answer asked(const struct call *call, const struct input *input, size_t buffer_len)
 {
     struct answer told = NOTHING;
@@ -328,7 +330,7 @@ static int has_items_of(const struct answer *told, const struct answer *wanted, 
     return 1;
 }
 
-/* Makes a call in a buffer of this length, which has to give this answer, or as much as needs a longer buffer. */
+/* Makes a call in a buffer of this length. Fails unless it has this answer, or is too small for it. */
 static uint32_t expect(const struct call *call, const struct input *input, const struct answer *wanted, size_t buffer_len)
 {
     struct answer told = asked(call, input, buffer_len);
@@ -341,7 +343,7 @@ static uint32_t expect(const struct call *call, const struct input *input, const
     return told.result;
 }
 
-/* What a call gives. */
+/* Returns the answer of a call. */
 static struct answer answer_of(const struct call *call, const struct input *input)
 {
     struct answer none = asked(call, input, 0), answer = asked(call, input, none.needed);
@@ -353,7 +355,7 @@ static struct answer answer_of(const struct call *call, const struct input *inpu
     return answer;
 }
 
-/* Rooms to try for so many items: none, one too small, an exact one, a larger one, and one that the input says. */
+/* Returns lengths of buffers for this many items: none, one too few, exact, more, and one from the input. */
 static void buffers_for(size_t lengths[ROOMS], const struct input *input, size_t needed)
 {
     lengths[0] = 0;
@@ -371,7 +373,7 @@ static void expect_in_buffers(const struct call *call, const struct input *input
         expect(call, input, wanted, lengths[i]);
 }
 
-/* The answer of a call, in each buffer. */
+/* Returns the answer of a call, after tries in each buffer. */
 static struct answer held(const struct call *call, const struct input *input)
 {
     struct answer answer = answer_of(call, input);
@@ -379,7 +381,7 @@ static struct answer held(const struct call *call, const struct input *input)
     return answer;
 }
 
-/* All calls that fill in a source agree, but that those of texts refuse what is no text. */
+/* Fails unless all calls that expand a source agree. Those of texts refuse a source or a value that isn't UTF-8. */
 static void try_filling(const struct input *input, const struct answer *answer)
 {
     const struct answer *of_text = are_texts(input) ? answer : &NO_TEXT;
@@ -391,7 +393,7 @@ static void try_filling(const struct input *input, const struct answer *answer)
         EXPECT(is_utf8(answer->items, answer->needed));
 }
 
-/* What subst_check returns, once it has memory. */
+/* Returns the result of subst_check, once it has memory. */
 static uint32_t checked(const uint8_t *source, size_t source_len, struct subst_fault *fault)
 {
     uint32_t result = subst_check(source, source_len, fault);
@@ -402,7 +404,7 @@ static uint32_t checked(const uint8_t *source, size_t source_len, struct subst_f
     return checked(source, source_len, fault);
 }
 
-/* A source is a template unless it is refused for another fault than a missing variable. */
+/* Fails unless subst_check accepts each template, and refuses all else with the fault. */
 static void try_check(const struct input *input, const struct answer *answer)
 {
     struct subst_fault fault = NOTHING.fault;
@@ -411,7 +413,7 @@ static void try_check(const struct input *input, const struct answer *answer)
     EXPECT(IS_SAME(&fault, is_template(answer) ? &NOTHING.fault : &answer->fault));
 }
 
-/* A backslash before each byte that has a meaning takes it away. */
+/* Fails unless backslashes take away the meaning of all special bytes. */
 static void try_escaped(const struct input *input)
 {
     struct input escaped = *input;
@@ -432,7 +434,7 @@ static void try_escaped(const struct input *input)
     free(source);
 }
 
-/* A template for a text is a template that misses no variable, since all are optional, or pairs name them. */
+/* Fails unless a translated text is a template without missing variables: all are optional, or pairs name them. */
 static void try_translated(const struct call *call, const struct input *input)
 {
     struct answer translated = held(call, input), missing;
@@ -446,7 +448,7 @@ static void try_translated(const struct call *call, const struct input *input)
     free(translated.block);
 }
 
-/* A text of a shell gives a template, or has a form that has none. The numbers of forms have texts, and no others. */
+/* Fails unless a text of a shell has a template, or a form without one. Only the numbers of forms have texts. */
 static void try_shell(const struct input *input)
 {
     struct answer none = asked(&call_from_shell, input, 0), answer = asked(&call_from_shell, input, none.needed);
@@ -467,8 +469,8 @@ static void try_shell(const struct input *input)
     free(said.block);
 }
 
-/* A form begins with a dollar or a brace. A variable that is missing has a name, and no value, or no byte of one. Its message
- * is between its question mark and a closing brace. */
+/* Fails unless the span is right: a form begins with a dollar or a brace; a missing variable has a name, and no value
+ * or an empty one; a message is between a question mark and a closing brace. */
 static void expect_style_fault(const struct input *input, const struct subst_style_fault *fault)
 {
     const uint8_t *source = input->source;
@@ -491,7 +493,7 @@ static void expect_style_fault(const struct input *input, const struct subst_sty
         EXPECT(end == 0);
 }
 
-/* Filling in by a style is refused for the form that has no template, and gives what the template gives. */
+/* Fails unless an expansion by a style is refused as the translation is, or has the output of the template. */
 static void expect_as_template(const struct call *translate, const struct input *input, const struct answer *answer)
 {
     struct answer none = asked(translate, input, 0), translated = asked(translate, input, none.needed), filled;
@@ -511,7 +513,7 @@ static void expect_as_template(const struct call *translate, const struct input 
     free(translated.block);
 }
 
-/* Whether a pair has an empty value. */
+/* Returns whether a pair has an empty value. */
 static int has_empty_value(const struct input *input)
 {
     size_t i;
@@ -538,7 +540,7 @@ static void try_style(const struct input *input)
     free(answer.block);
 }
 
-/* All forms with all choices of names, by the first half of the pairs. A number that no style has is refused. */
+/* Tries all forms with all choices of names; the first half of the pairs are the names. Other numbers are refused. */
 static void try_styles(const struct input *given)
 {
     static const struct answer NO_STYLE = {SUBST_NO_SUCH_STYLE, 0, {UNTOLD, UNTOLD, UNTOLD}, UNTOLD, NULL, NULL};
@@ -558,7 +560,7 @@ static void try_styles(const struct input *given)
     expect(&call_text_by_style, &input, are_texts(&input) ? &NO_STYLE : &NO_TEXT, input.buffer_len);
 }
 
-/* A document is filled in, or refused at a place in it, and what is said of it is empty unless it is refused. */
+/* Fails unless a document is filled in, or refused with a span in it. It has a fault's text only if it is refused. */
 static void try_document(const struct call *fill_in, const struct call *say, const struct input *input)
 {
     struct answer none = asked(fill_in, input, 0), answer = asked(fill_in, input, none.needed), said = held(say, input);
@@ -579,8 +581,8 @@ static void try_document(const struct call *fill_in, const struct call *say, con
 
 /* Rows */
 
-/* What subst_bytes_each has to give: the outputs of the rows, one after the other, and where each ends, or the fault of
- * the first that is refused. A source that is no template is refused with the index 0, also where there is no row. */
+/* Returns the expected answer of subst_bytes_each: the outputs of the rows in order, and their ends, or the fault of
+ * the first refused row. A source that is no template is refused with the index 0, also without rows. */
 static struct answer answer_of_rows(const struct input *input, const struct answer *answer, size_t *ends)
 {
     struct answer all = NOTHING;
@@ -624,7 +626,7 @@ static void expect_rows(const struct input *rows, const struct answer *wanted, c
     free(block);
 }
 
-/* No row, one, and as many as there are ways to leave out pairs in front, in buffers and with ends of each length. */
+/* Tries no row, one, and one for each number of pairs left out in front, in buffers and with ends of each length. */
 static void try_rows(const struct input *given, const struct answer *answer)
 {
     size_t counts[] = {0, 1, given->pairs_len + 1}, lengths[ROOMS], ends[MOST_PAIRS + 1], i, j;
@@ -651,7 +653,7 @@ static void try_rows(const struct input *given, const struct answer *answer)
 
 /* Lists */
 
-/* Variables are names of the source, in its order, with what comes after each. */
+/* Fails unless the variables are names of the source, in order, with the text of their kinds after them. */
 static void expect_variables(const struct input *input, const struct answer *list)
 {
     const struct subst_variable *variable = VARIABLES(list);
@@ -665,8 +667,8 @@ static void expect_variables(const struct input *input, const struct answer *lis
     }
 }
 
-/* Those that are missing are required variables that no pair names. There is none exactly where the source gives bytes,
- * and else the first one is the one that the fault reports. */
+/* Fails unless missing variables are required ones that no pair names. None is missing exactly if the source has an
+ * output; otherwise the fault is for the first one. */
 static void expect_missing(const struct input *input, const struct answer *variables, const struct answer *missing,
                            const struct answer *answer)
 {
@@ -683,7 +685,7 @@ static void expect_missing(const struct input *input, const struct answer *varia
     }
 }
 
-/* The answer goes on with these bytes. Returns the index after them. */
+/* Fails unless the answer continues with these bytes. Returns the index after them. */
 static size_t after_part(const struct answer *answer, size_t at, const uint8_t *bytes, size_t length)
 {
     EXPECT(at <= answer->needed && length <= answer->needed - at);
@@ -691,7 +693,7 @@ static size_t after_part(const struct answer *answer, size_t at, const uint8_t *
     return at + length;
 }
 
-/* Without a backslash and a default, a source gives its text, with the first value of each name in its place. */
+/* Fails unless a source without a backslash and a default has its text as output, with the first value of each name. */
 static void expect_values(const struct input *input, const struct answer *variables, const struct answer *answer)
 {
     const struct subst_variable *variable = VARIABLES(variables), *end = variable + variables->needed;
@@ -712,7 +714,7 @@ static void expect_values(const struct input *input, const struct answer *variab
     EXPECT(after_part(answer, given, input->source + at, input->source_len - at) == answer->needed);
 }
 
-/* A source that is no template has no list. */
+/* Tries the lists. A source that is no template has none. */
 static void try_lists(const struct input *input, const struct answer *answer)
 {
     struct answer variables, missing;
@@ -731,7 +733,7 @@ static void try_lists(const struct input *input, const struct answer *answer)
     free(missing.block);
 }
 
-/* What is said of a fault */
+/* Texts of faults */
 
 static int begins_with(const struct answer *text, const char *start)
 {
@@ -751,7 +753,7 @@ static void try_text(const struct input *input, const struct answer *answer)
     free(text.block);
 }
 
-/* Two lines, each with two blanks in front, of which the second has blanks and then carets. */
+/* Fails unless there are two lines with two blanks in front, the second of more blanks and then carets. */
 static void expect_underlined(const struct answer *text)
 {
     const uint8_t *at = text->items, *end = at + text->needed;
@@ -779,8 +781,8 @@ static void try_highlighting(const struct input *input, const struct answer *ans
     free(text.block);
 }
 
-/* The line of a position counts the ends of lines before it. Its column counts the characters of the line before it,
- * where each of them is one column wide. */
+/* Fails unless the line counts line ends before a position, and the column counts the characters of its line, if all
+ * before it are one column wide. */
 static void expect_place(const struct input *input, size_t position, size_t line, size_t column)
 {
     const uint8_t *source = input->source;
@@ -794,7 +796,7 @@ static void expect_place(const struct input *input, size_t position, size_t line
         EXPECT(column == position - start + 1);
 }
 
-/* A position has a line and a column where the source is UTF-8, unless it is past the end or inside a character. */
+/* Fails unless each position in UTF-8 has a line and a column, if it isn't past the end or inside a character. */
 static void try_place(const struct input *input, const struct answer *answer)
 {
     const size_t positions[] = {answer->result == SUBST_REFUSED ? answer->fault.position : 0, input->buffer_len,
@@ -818,8 +820,8 @@ static void try_place(const struct input *input, const struct answer *answer)
 
 /* Inputs */
 
-/* Reads an input: first numbers of one byte, 0 where none is left, and then so many bytes for each word, or those that
- * are left. */
+/* Reads an input: numbers of one byte, 0 if none is left, and then this many bytes for each word, or as many as are
+ * left. */
 static struct input input_of(const uint8_t *data, size_t size, struct subst_pair *pairs)
 {
     struct input input;
@@ -847,7 +849,7 @@ static struct input input_of(const uint8_t *data, size_t size, struct subst_pair
     return input;
 }
 
-/* Fails where a call has changed what it borrows, and gives it back. The words end where the data do. */
+/* Fails if a call has changed what it borrows, and frees it. The words end at the end of the data. */
 static void end_input(struct input *input, const uint8_t *end)
 {
     size_t i;
@@ -863,7 +865,7 @@ static void end_input(struct input *input, const uint8_t *end)
     }
 }
 
-/* The library has no counters of its own, so answers of a new kind are reported to libFuzzer by these. */
+/* The library has no counters of its own, so these report answers of a new kind to libFuzzer. */
 #if defined(__clang__) && defined(__linux__) && !defined(STANDALONE)
 __attribute__((section("__libfuzzer_extra_counters")))
 #endif
@@ -904,6 +906,7 @@ int LLVMFuzzerTestOneInput(const uint8_t *data, size_t size)
     try_styles(&input);
     try_document(&call_json, &call_json_fault_text, &input);
     try_document(&call_toml, &call_toml_fault_text, &input);
+    try_document(&call_yaml, &call_yaml_fault_text, &input);
     free(answer.block);
     end_input(&input, data + size);
     return 0;

@@ -1,4 +1,4 @@
-"""Paths of the repository, and proving and building its programs."""
+"""Paths of the repository, and the proofs and builds of its programs."""
 import functools
 import pathlib
 import re
@@ -8,9 +8,9 @@ import sys
 
 TOP = pathlib.Path(__file__).resolve().parent.parent
 CRATES = TOP / 'crates'
-# The crates of the programs, by the names under which these are installed.
+# The crates of the programs, by their installed names.
 PROGRAMS = {'subst': 'subst_cli', 'subst_filter': 'subst_filter'}
-# Arguments with which a program does its work, where it needs some.
+# The arguments of a program's run, if it needs any.
 ARGUMENTS = {'subst_filter': ['bytes'], 'subst_vectors': ['data/variables.tsv']}
 
 
@@ -26,7 +26,7 @@ def path_of(crate):
 
 
 def newest_source():
-    """Returns the time of the last change of what the programs are built from."""
+    """Returns the time of the newest change to the sources of the programs."""
     files = [TOP / 'crates.txt']
     for part in ('src', 'specs', 'proofs'):
         files += CRATES.glob(f'*/{part}/**/*')
@@ -34,15 +34,15 @@ def newest_source():
 
 
 def builds_of(crate):
-    """Returns the paths of a program as each of the two compilers of `rt ci` builds it, or of the first alone, unless
-    the second's is newer than the sources."""
+    """Returns the paths of a program as the two compilers of `rt ci` build it, or only the first's, unless the second's
+    is newer than the sources."""
     other = path_of(crate).with_suffix('.by-rattle')
     has_other = other.exists() and other.stat().st_mtime >= newest_source()
     return [path_of(crate), other] if has_other else [path_of(crate)]
 
 
 def build(crate):
-    """Proves and builds the program of a crate, unless it is newer than the sources. Returns whether it is there."""
+    """Proves and builds the program of a crate, unless it is newer than the sources. Returns whether it exists."""
     path = path_of(crate)
     if path.exists() and path.stat().st_mtime >= newest_source():
         return True
@@ -55,7 +55,7 @@ def build(crate):
 
 
 def copy_library(folder):
-    """Copies the library's crates into a repository, without what `rt` keeps, and returns their lines of crates.txt."""
+    """Copies the library's crates into a repository, without the output of `rt`. Returns their lines of crates.txt."""
     lines = re.search(r'^subst_error:.*^subst:.*?\n', (TOP / 'crates.txt').read_text(encoding='utf-8'), re.M | re.S)[0]
     for crate in re.findall(r'^\w+', lines, re.MULTILINE):
         shutil.copytree(CRATES / crate, folder / 'crates' / crate, ignore=shutil.ignore_patterns('out'))

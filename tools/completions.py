@@ -1,6 +1,6 @@
 #!/usr/bin/env python3
-"""completions.py bash|zsh|fish   Prints what completes the arguments of subst in a shell, from the options in its
-source, crates/subst_cli/src/options/table.rt. The options of its library, -h and -V, are named here.
+"""completions.py bash|zsh|fish   Prints a shell's completion of the arguments of subst, from the options in its source,
+crates/subst_cli/src/options/table.rt. The options of its library, -h and -V, are added here.
 """
 import re
 import sys
@@ -10,13 +10,13 @@ sys.dont_write_bytecode = True
 from building import CRATES
 
 SOURCE = CRATES / 'subst_cli/src/options/table.rt'
-# A row of the table there, and its value.
+# A row of that table, and the value in it.
 ROW = re.compile(r'^    Row \{\n(.*?)^    \},', re.MULTILINE | re.DOTALL)
 TAKES = re.compile(r'takes: Some\(\("([^"]+)", ArgAction::(\w+)\)\)')
 
 
 class Option(NamedTuple):
-    """An option: its letter and its value are empty where it has none. A value may be all that it can be, as a|b."""
+    """An option. Its letter and its value are empty if it has none. A value may list all choices, as a|b."""
     letter: str
     name: str
     value: str
@@ -25,12 +25,12 @@ class Option(NamedTuple):
     repeats: bool = False
 
 
-# The options that the library handles.
+# The options that the command-line library handles.
 OF_LIBRARY = [Option('h', 'help', '', 'Print help'), Option('V', 'version', '', 'Print version')]
 
 
 def options():
-    """The options, in their order."""
+    """Returns the options, in order."""
     found = []
     for row in ROW.findall(SOURCE.read_text(encoding='utf-8')):
         name, text = (re.search(rf'{field}: "([^"]*)"', row)[1] for field in ('long', 'help'))
@@ -46,13 +46,13 @@ def words(some_options):
 
 
 def excluded(option):
-    """The options that are not offered after an option, since only one of them can be given."""
+    """Returns the words of the options that can't follow an option."""
     return words(it for it in options() if it.name in option.conflicts or option.name in it.conflicts
                  or it == option and not option.repeats)
 
 
 def quoted(text, quote=r"'\''"):
-    """A text in single quotes, with this in place of those in it."""
+    """Returns a text in single quotes, with each quote in it replaced."""
     return "'" + text.replace("'", quote) + "'"
 
 
@@ -104,7 +104,7 @@ def bash():
 
 
 def zsh_words(option):
-    """An option as zsh has it: what it can't be given with, its names, its help and what it takes."""
+    """Returns an option in zsh's form: the options that it excludes, its names, its help and its value."""
     others = '- *' if option in OF_LIBRARY else ' '.join(excluded(option))
     before = (f'({others})' if others else '') + '*' * option.repeats
     offered = {'FILE': '_files', 'FOLDER': '_files -/'}.get(option.value, ' ')

@@ -1,17 +1,17 @@
 #!/usr/bin/env python3
 """edits.py [--all] [CRATE | EDIT]..   Tries must-fail edits, many of them with one check.
 
-An edit, crates/X/must-fail/Y.edit.md, is a wrong program that the prover has to refuse; those that end in .edit are for
-`rt ci`. Without arguments all are tried, but those of a crate whose sum is in tests/data/edits-refused.tsv: that of its
-files and its line in crates.txt, of what it uses, and of the kit. A crate gets into that list once all its edits are
-refused. Twins, right programs of the same shape, have to be proved; they are tried with --all, or if their edit or
-crate is named.
+An edit, crates/X/must-fail/Y.edit.md, is a wrong program that the prover has to refuse; `rt ci` tries those that end in
+.edit. Without arguments, all are tried except those of a crate whose sum is in tests/data/edits-refused.tsv: the sum of
+its files without comments, of its line in crates.txt, of the crates that it uses, and of the kit. A crate enters that
+list when all its edits are refused. Twins, right programs of the same shape, have to be proved. They are tried with
+--all, or if their edit or crate is named.
 
-One whose old text isn't in its file once fails the run at once. Then the crates are proved; nothing else may run over
-the tree meanwhile. Edits of different functions are put into one copy of their crate, which is checked once. An edit is
-refused if the check refuses a function that it changes at something that it owes by its contract. One that isn't judged
-is tried again without those that are, and alone, where any function may be refused, once none is judged. The last line
-is 'N passed, M failed, K skipped': skipped are the edits of the crates in the list.
+If an edit's old text isn't in its file exactly once, the run fails at once. Then the crates are proved; nothing else
+may run over the tree meanwhile. Edits of different functions are put into one copy of their crate, which is checked
+once. An edit is refused if the check refuses a changed function for a duty of its contract. Edits without a verdict are
+tried again together. If none of them gets one, each is tried alone, and any function may then be refused. The last line
+is 'N passed, M failed, K skipped'; skipped are the edits of the crates in the list.
 """
 import argparse
 import collections
@@ -29,33 +29,35 @@ from building import CRATES, TOP
 from prove import LANES, PARTS, Wrong, copy_of, crates, end, prove_all, rt, with_those_below
 
 REFUSED = TOP / 'tests/data/edits-refused.tsv'
-# How many edits share a check at most.
+# The lines that the sum of a crate leaves out, by the suffix of the file: comments, empty lines, and twins.
+LEFT_OUT = {'.rt': rb'\s*(?://.*)?', '.antt': rb'\s*(?:--.*)?', '.md': rb'(?:twin:|#) .*'}
+# The most edits that share a check.
 TOGETHER = 32
 HEAD = '# Written by tools/edits.py alone: the crates whose edits were all refused, each with its sum.\n'
 
 FUNCTION = re.compile(r'^( *)(?:pub(?:\(\w+\))? )?(?:unsafe )?(?:extern "C" )?fn (\w+)', re.MULTILINE)
-# The head of an `impl` block: its parameters, a trait, if it has one, and a type.
+# The head of an `impl` block: its parameters, its trait, if it has one, and its type.
 IMPL = re.compile(r'^impl(<[^{]*?>)? (?:([^{]*?) for )?([^{]*?)(?:\s+where\s[^{]*)?\s\{$', re.MULTILINE)
-# A function that the check refuses, and for which goal, if its proof is found by search.
+# A refused function and its goal, if its proof is searched.
 SEARCHED = re.compile(r'^fn (\S+): no proof: .*`search` did not prove `([^`]+)`', re.MULTILINE)
 WRITTEN = re.compile(r'^((?:note: .*\n)*)fn (\S+): not proved', re.MULTILINE)
-# A goal that search didn't show, in the notes before the line of its function.
+# A goal that search didn't prove, in the notes before the line of its function.
 NOTED = re.compile(r'^note: src/\S+: it is not proved [^`]*\(`([^`]+)`\)', re.MULTILINE)
-# A goal that a written proof doesn't show, and the folder of the function.
+# A goal that a written proof doesn't prove, and the folder of the function.
 ERROR = re.compile(r'^(?:\./)?proofs/(\S+)/\w+\.antt:\d+:\d+: error: `([^`]+)`: (.*)', re.MULTILINE)
-# The last line of a check that isn't passed.
+# The last line of a check that failed.
 ENDED = re.compile('^(?:logic=not-proved|only=)', re.MULTILINE)
-# What reports an open goal, whatever function it is of.
+# An open goal of any function.
 TOLD = re.compile(r'^(?:note: src/\S+: it is not proved .*|(?:\./)?proofs/\S+: error: .*)', re.MULTILINE)
-# A proof that names what the edit took away says little of a contract.
+# A proof that fails for a name that the edit removed: it says little about a contract.
 ONLY_NAMES = re.compile('has no field|is not in scope|has no `|was not admitted')
-# What a function owes: what it returns and leaves, what holds in each turn of a loop, of a value that it makes, and
-# before a call. Other goals are of numbers that fit, and of indices that are in range.
+# The duties of a function: its result and its effects, its loop invariants, those of a value that it makes, and the
+# requirements of its calls. Other goals are about overflow and indices.
 OWED = re.compile('returns|loop|clause|invariant|requires')
 
 
 class Edit:
-    """An edit, by the lines `new`, or its twin, by the lines `twin`, with the functions that it changes."""
+    """An edit, from the lines `new`, or its twin, from the lines `twin`, with the functions that it changes."""
 
     def __init__(self, path, word='new'):
         self.path, self.crate, self.is_twin = path, path.parent.parent.name, word == 'twin'
@@ -73,7 +75,7 @@ class Edit:
         self.functions = {name for file, old, _ in self.pairs for name in self.functions_at(file, old)}
 
     def functions_at(self, file, old):
-        """The function that a text of a file is in, if it is in one, by its name, or the end of that."""
+        """Returns the name of the function around a text of a file, or the end of that name, or nothing."""
         path = self.path.parent.parent / file
         text = path.read_text(encoding='utf-8') if path.is_file() else ''
         at = text.find(old)
@@ -82,13 +84,13 @@ class Edit:
             return []
         block = block_around(IMPL, text, function.start(), 0)
         modules = [it for it in pathlib.PurePath(file).with_suffix('').parts[1:] if it not in ('lib', 'main', 'mod')]
-        # A method of no trait is named after the module of its type, which may be another one.
+        # A method without a trait is named after the module of its type, which may be another one.
         modules = modules if block is None or block[2] else []
         return ['::'.join([*modules, *([] if block is None else [name_of(block)]), function[2]])]
 
 
 def changed_by(edits):
-    """The files that edits of one crate change, with all that these change."""
+    """Returns the files that edits of one crate change, with their new texts."""
     texts = {}
     for edit in edits:
         for file, old, new in edit.pairs:
@@ -101,7 +103,7 @@ def changed_by(edits):
 
 
 def are_current(edits):
-    """Fails unless each edit can be applied."""
+    """Fails unless each edit applies."""
     stale = []
     for edit in edits:
         try:
@@ -113,7 +115,7 @@ def are_current(edits):
 
 
 def block_around(head, text, at, length):
-    """The last block with such a head around a position: each ends in a line of one brace, indented as its head."""
+    """Returns the last block with such a head around a position; it ends in a brace alone, indented as the head."""
     for found in reversed(list(head.finditer(text, 0, max(at + length, 0)))):
         indent = re.match(' *', found[0])[0]
         if at < text.find(f'\n{indent}}}\n', found.end()):
@@ -122,9 +124,9 @@ def block_around(head, text, at, length):
 
 
 def name_of(block):
-    """What an `impl` block adds to the names of its functions: its type, its trait and what these are given."""
+    """Returns the part of a function's name that its `impl` block adds: the type, the trait and their arguments."""
     parameters = re.findall(r'[<,]\s*([A-Z]\w*)', block[1] or '')
-    # What these are given is written after the module that it is of.
+    # An argument follows its module.
     given = (re.sub(r'(?<=[<, ])(?:\w+::)*(\w+)::(\w+)', r'\1\2', of) for of in (block[3], block[2] or ''))
     words = [word for of in given for word in re.findall(r"&|(?<!['\w])(?:\w+::)*(\w+)", of)]
     return ''.join(word[0].upper() + word[1:] if word else 'Ref' for word in words if word not in parameters)
@@ -134,8 +136,8 @@ def name_of(block):
 
 
 def check(edits, is_alone, uses):
-    """What `rt check` says of a crate with these edits, and whether it is proved. It is asked for the functions that
-    edits change alone, unless it knows one by another name, and for all with a twin or an edit that is tried alone."""
+    """Checks a crate with these edits. Returns the output, and whether it is proved. Only the changed functions are
+    checked, unless `rt` has one under another name; for a twin or an edit that is tried alone, all are."""
     names = [] if is_alone or edits[0].is_twin else sorted({name for edit in edits for name in edit.functions})
     with tempfile.TemporaryDirectory() as folder:
         crate = copy_of(edits[0].crate, pathlib.Path(folder), uses)
@@ -148,7 +150,7 @@ def check(edits, is_alone, uses):
 
 
 def goals_of(said):
-    """The functions that a check refuses, with something that each owes and that isn't shown."""
+    """Returns the functions that a check refuses, each with an open goal of its duties."""
     goals = dict(SEARCHED.findall(said))
     shown = {folder.replace('/', '::'): goal for folder, goal, why in ERROR.findall(said) if not ONLY_NAMES.search(why)}
     for notes, function in WRITTEN.findall(said):
@@ -158,7 +160,7 @@ def goals_of(said):
 
 
 def verdicts(edits, is_alone, uses):
-    """Of edits in one check: whether each is as it has to be, and why; None for one that isn't judged."""
+    """Returns a verdict for each edit of a check: whether it is right, and why; None if there is none yet."""
     said, is_proved = check(edits, is_alone, uses)
     if is_alone:
         return [verdict_alone(edits[0], said, is_proved)]
@@ -175,14 +177,14 @@ def verdict_alone(edit, said, is_proved):
         return is_proved, 'proved' if is_proved else f'NOT PROVED:\n{said[-3000:]}'
     if is_proved or not ENDED.search(said):
         return False, 'PROVED' if is_proved else f'NO VERDICT:\n{said[-3000:]}'
-    # Goals of functions that call one another are those of all of them.
+    # Functions that call one another share their goals.
     told = [f'{function}: {goal}' for function, goal in goals_of(said).items()]
     told += [line[:160] for line in TOLD.findall(said) if not ONLY_NAMES.search(line)]
     return (True, f'refused: {told[0]}') if told else (False, f'REFUSED, but not for what it does:\n{said[-3000:]}')
 
 
 def go_together(edits):
-    """Whether edits change functions of different names, and can be applied one after the other."""
+    """Returns whether edits change functions of different names, and apply one after the other."""
     names = [name for edit in edits for name in edit.functions]
     try:
         return len(set(names)) == len(names) and all(it.functions for it in edits) and changed_by(edits) is not None
@@ -191,7 +193,7 @@ def go_together(edits):
 
 
 def batches(edits, size):
-    """Edits of one crate in groups of at most this size."""
+    """Groups edits of one crate, at most this many in each."""
     made = []
     for edit in edits:
         group = next((it for it in made if len(it) < size and go_together([*it, edit])), None)
@@ -202,7 +204,7 @@ def batches(edits, size):
 
 
 def try_all(edits, uses):
-    """Tries edits until each is judged, and gives each its verdict."""
+    """Tries edits until each has a verdict. Returns the verdicts by their edits."""
     found, left, alone = {}, edits, set()
     with concurrent.futures.ThreadPoolExecutor(LANES) as lanes:
         while left:
@@ -227,18 +229,24 @@ def try_all(edits, uses):
 
 
 def sum_of(name, uses, kit):
-    """The sum of what the edits of a crate go by, without their twins."""
+    """Returns the sum of all that the edits of a crate depend on, without their twins."""
     lines, made = (TOP / 'crates.txt').read_text(encoding='utf-8'), hashlib.sha256(kit)
     for crate in with_those_below([name], uses):
         made.update(re.search(rf'^{crate}\b[^#\n]*', lines, re.MULTILINE)[0].encode())
         folders = [CRATES / crate / part for part in (*PARTS, *['must-fail'] * (crate == name))]
         for file in (it for folder in folders for it in sorted(folder.rglob('*')) if it.is_file()):
-            made.update(f'\n{file.relative_to(TOP)}\n'.encode() + re.sub(rb'(?m)^twin: .*\n', b'', file.read_bytes()))
+            made.update(f'\n{file.relative_to(TOP)}\n'.encode() + b''.join(lines_of(file)))
     return made.hexdigest()
 
 
+def lines_of(file):
+    """Returns the lines of a file that are part of the sum of its crate."""
+    left_out = re.compile(LEFT_OUT.get(file.suffix, b'(?!)'))
+    return (line for line in file.read_bytes().splitlines(keepends=True) if not left_out.fullmatch(line.rstrip(b'\n')))
+
+
 def read_list():
-    """The crates all of whose edits were refused, each with its sum."""
+    """Returns the crates all of whose edits were refused, each with its sum."""
     lines = REFUSED.read_text(encoding='ascii').splitlines() if REFUSED.is_file() else []
     return dict(line.split('\t') for line in lines if not line.startswith('#'))
 
@@ -248,7 +256,7 @@ def write_list(sums):
 
 
 def file_of(word):
-    """The file of an edit that is named."""
+    """Returns the path of a named edit."""
     path = pathlib.Path(word).resolve()
     if path.parent.name != 'must-fail' or not path.is_file():
         raise Wrong(f'{word} is neither a crate nor a must-fail edit')
@@ -256,7 +264,7 @@ def file_of(word):
 
 
 def run(options):
-    """Tries the edits that are asked for, keeps the list, and returns the words that they are counted under."""
+    """Tries the chosen edits, and updates the list. Returns 'passed', 'failed' or 'skipped' for each."""
     uses, before = crates(), read_list()
     kit = subprocess.run(['rt', 'version'], check=True, stdout=subprocess.PIPE).stdout
     every = {name: sorted((CRATES / name / 'must-fail').glob('*.edit*')) for name in uses}

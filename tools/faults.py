@@ -1,7 +1,7 @@
-"""faults.py --header   Prints what fuzz/subst.c includes of the texts of faults.
+"""faults.py --header   Prints the texts of faults that fuzz/subst.c includes.
 
-The texts of faults, as crates/subst_error/src/display.rt has them, so that tests name a fault by its kind. `texts()`
-has the pieces of each by the kind of its error; the other functions have whole texts.
+The texts of faults in crates/subst_error/src/display.rt, by which tests name a fault's kind. `texts()` returns the
+pieces of each by the name of its error; the other functions return whole texts.
 """
 import functools
 import json
@@ -15,7 +15,7 @@ from building import CRATES
 
 @functools.lru_cache(None)
 def texts():
-    """The pieces of text that each error of display.rt writes, in their order."""
+    """Returns the pieces of text that each error of display.rt writes, in order."""
     source = (CRATES / 'subst_error/src/display.rt').read_text(encoding='utf-8')
     blocks = re.findall(r'^impl fmt::Display for (\w+)(?:<\'_>)? \{\n(.*?)^\}', source, re.MULTILINE | re.DOTALL)
     return {kind: [piece.replace('\\\\', '\\') for piece in re.findall(r'write_str\(\s*"((?:[^"\\]|\\.)*)"', body)]
@@ -23,7 +23,7 @@ def texts():
 
 
 def expected_after_name():
-    """The words for what may come after a name in braces."""
+    """Returns the words for what may follow a name in braces."""
     source = (CRATES / 'subst_parse/src/halt.rt').read_text(encoding='utf-8')
     return re.search(r'"(a closing brace[^"]*colon[^"]*)"', source)[1]
 
@@ -41,19 +41,19 @@ def no_such_variable(name):
 
 
 def invalid_escape(character=None):
-    """Of the character after the backslash as it is shown, or of a backslash at the end."""
+    """Returns the text for a backslash before this character, as it is shown, or at the end of the source."""
     with_character, at_end = texts()['InvalidEscapeSequence']
     return at_end if character is None else with_character + character
 
 
 def unexpected(quoted, expected=None):
-    """Of a character in its quoted form, where a name in braces has ended, unless other words are given."""
+    """Returns the text for an unexpected character in its quoted form. By default it follows a name in braces."""
     before, between = texts()['UnexpectedCharacter']
     return before + quoted + between + (expected_after_name() if expected is None else expected)
 
 
 def header():
-    """The beginning of each text, by the kinds of subst.h."""
+    """Returns a table in C of the beginning of each text, by the kinds of subst.h."""
     beginnings = {
         'INVALID_ESCAPE_SEQUENCE': os.path.commonprefix([invalid_escape(), invalid_escape('')]),
         'MISSING_VARIABLE_NAME': missing_name(),

@@ -1,6 +1,6 @@
 #!/usr/bin/env python3
-"""filled.py FILE   Prints a page or the header with what its words @NAME@ stand for: the version, its three numbers,
-and texts of faults, as pages write them.
+"""filled.py FILE   Prints a page or the header with its words @NAME@ replaced: by the version, its three numbers, or
+texts of faults, in the escapes of pages.
 """
 import pathlib
 import re
@@ -10,12 +10,12 @@ sys.dont_write_bytecode = True
 import faults
 from building import version
 
-# What pages write for these characters.
+# The escapes of characters in pages.
 ROFF = {'\\': r'\e', "'": r'\(aq', '^': r'\(ha', '-': r'\-'}
 
 
 def filled(path):
-    """The text of a file with these words filled in; one that isn't known is a KeyError."""
+    """Returns the text of a file with its words replaced. Raises KeyError for an unknown word."""
     texts = {'MISSING_NAME': faults.missing_name(), 'MISSING_BRACE': faults.missing_brace(),
              'NO_SUCH_VARIABLE': faults.no_such_variable(''), 'INVALID_ESCAPE': faults.invalid_escape(''),
              'UNEXPECTED_CHARACTER': faults.texts()['UnexpectedCharacter'][0]}

@@ -1,10 +1,10 @@
 #!/usr/bin/env python3
-"""prove.py [CRATE]..   Proves crates over kept work, each once those that it uses are proved, and builds them.
+"""prove.py [CRATE]..   Proves crates over kept work, each after those that it uses, and builds them.
 
-`rt ci` keeps nothing of what it proves, so this is the one proof for all that comes after it. Without arguments it
-makes what is tested and installed: the library for C and the programs, of which those that `rt ci` built stay as they
-are. Each crate is proved by one process, several side by side; nothing else may run over the tree meanwhile. The last
-line is 'N passed, M failed, K skipped'.
+`rt ci` keeps no proofs, so everything after it is built over this one. Without arguments, the crates are those that are
+tested and installed: the library for C and the programs; programs that `rt ci` built stay as they are. Each crate is
+proved by one process, several side by side; nothing else may run over the tree meanwhile. The last line is 'N passed, M
+failed, K skipped'.
 """
 import concurrent.futures
 import os
@@ -23,17 +23,17 @@ LANES = int(os.environ.get('RT_JOBS') or len(os.sched_getaffinity(0)))
 
 
 class Wrong(Exception):
-    """What has to be proved isn't, or what has to be refused."""
+    """An unproved crate, or an edit that can't be tried."""
 
 
 def end(results):
-    """Prints how many of the words 'passed', 'failed' and 'skipped' there are, and ends."""
+    """Prints how often 'passed', 'failed' and 'skipped' occur, and exits: with status 1 if any failed."""
     print('{} passed, {} failed, {} skipped'.format(*map(results.count, ('passed', 'failed', 'skipped'))))
     sys.exit(1 if 'failed' in results else 0)
 
 
 def crates():
-    """The crates of crates.txt, each with those of them that it uses."""
+    """Returns the crates of crates.txt, each with those of them that it uses."""
     lines = [line.partition('#')[0] for line in (TOP / 'crates.txt').read_text(encoding='utf-8').splitlines()]
     rows = [(words[0].split()[0], words[2].split()) for line in lines if (words := line.partition(':'))[1]]
     names = {name for name, _ in rows}
@@ -41,7 +41,7 @@ def crates():
 
 
 def with_those_below(names, uses):
-    """These crates and all that they use, each after those that it uses."""
+    """Returns these crates and all that they use, each after those that it uses."""
     found = []
     for name in names:
         found += [it for it in [*with_those_below(uses[name], uses), name] if it not in found]
@@ -53,13 +53,13 @@ def is_library(name):
 
 
 def rt(crate, *words):
-    """Runs `rt` in the folder of a crate, by one process."""
+    """Runs `rt` in the folder of a crate, with one process."""
     return subprocess.run(['rt', *words, '--jobs=1'], cwd=crate, stdin=subprocess.DEVNULL, stdout=subprocess.PIPE,
                           stderr=subprocess.STDOUT, encoding='utf-8', errors='replace')
 
 
 def copy_of(name, folder, uses):
-    """A copy of a crate over its kept work, with links to the files that a check leaves as they are."""
+    """Copies a crate over its kept work, with links to files that a check doesn't change. Returns its path."""
     (folder / 'crates').mkdir()
     shutil.copy(TOP / 'crates.txt', folder)
     for other in uses:
@@ -77,8 +77,8 @@ def copy_of(name, folder, uses):
 
 
 def prove(name, uses):
-    """Proves a crate and builds it, if it is a library. It does so in a copy, since no two runs of `rt` work over one
-    library at a time, and puts the work in place of what was kept."""
+    """Proves a crate, and builds it if it is a library. Works in a copy, since no two runs of `rt` may work over one
+    library at a time, and then replaces the kept work."""
     with tempfile.TemporaryDirectory() as folder:
         crate, kept = copy_of(name, pathlib.Path(folder), uses), CRATES / name / 'out'
         ran = rt(crate, 'lib' if is_library(name) else 'check')
@@ -90,7 +90,7 @@ def prove(name, uses):
 
 
 def prove_all(names, uses):
-    """Proves crates, each once those that it uses are proved."""
+    """Proves crates, each after those that it uses."""
     wanted = with_those_below(names, uses)
     with concurrent.futures.ThreadPoolExecutor(LANES) as lanes:
         running, done = {}, set()

@@ -1,7 +1,7 @@
 #!/usr/bin/env python3
-"""proved.py   Prints what is proved of what callers can reach, file by file: public functions, and traits and
-implementations that state something, each with the first paragraph of its comment and its clauses, as they are in the
-source. tests/test_house.py asks for what isn't printed and should be, and for names of clauses.
+"""proved.py   Prints what is proved of the library's interface, file by file: public functions, and traits and
+implementations with contracts, each with the first paragraph of its comment and its clauses, as in the source.
+tests/test_house.py fails for an item that is missing here, and for a clause without a name.
 """
 import functools
 import re
@@ -15,8 +15,8 @@ from building import CRATES
 
 # The crates that callers depend on.
 DOORS = ('subst', 'subst_filter_lib', 'subst_cli', 'subst_c')
-# Files that aren't printed, since callers don't reach their functions, and why; the longest beginning of a path counts,
-# and one without a reason is printed.
+# Files that aren't printed, as callers don't reach their functions, and why. The longest matching prefix wins; with an
+# empty reason the file is printed.
 HIDDEN = {
     'subst_language/src/counter.rt': 'it is there for the crates above',
     'subst_language/src/part.rt': 'it is there for the crates above',
@@ -33,13 +33,14 @@ HIDDEN = {
     'subst_c/src/style.rt': '',
     'subst_c/src/lib.rt': '',
     'subst_cli/': 'most of its modules are private',
-    'subst_cli/src/filling.rt': '',
+    'subst_cli/src/expansion.rt': '',
+    'subst_cli/src/format_rule.rt': '',
     'subst_cli/src/layers.rt': '',
     'subst_cli/src/options.rt': '',
     'subst_cli/src/process.rt': '',
     'subst_cli/src/values_file.rt': '',
 }
-# How an item begins: its margin, whether it is public, what it is, and its name.
+# The beginning of an item: its margin, its visibility, its kind, and its name.
 BEGIN = re.compile(r'(|    )(pub(?:\([^)]*\))? )?(?:unsafe |extern "C" )*(fn|trait|impl|type|ghost(?! use))\b ?(\w*)')
 CLAUSE = re.compile(r' *(?:requires|ensures|ghost) ')
 PRIVATE = re.compile(r'^(?:pub\([^)]*\) )?(?:struct|enum|trait) (\w+)', re.MULTILINE)
@@ -69,8 +70,8 @@ class Item(NamedTuple):
         return any(map(CLAUSE.match, self.head))
 
     def shown(self):
-        """The members that are printed: all of a trait, of its implementation types and what states something, and of
-        other blocks public functions."""
+        """Returns the printed members: all of a trait, the types and contracts of its implementation, and the public
+        functions of other blocks."""
         if self.kind == 'trait':
             return self.members
         if ' for ' in self.name:
@@ -84,7 +85,7 @@ def first_paragraph(comment):
 
 
 def comment_above(lines):
-    """The first paragraph of the comment that these lines end with, which attributes may follow."""
+    """Returns the first paragraph of the comment at the end of these lines, before attributes."""
     at = len(lines)
     while at and re.match(r' *(//|#\[)', lines[at - 1]):
         at -= 1
@@ -92,7 +93,7 @@ def comment_above(lines):
 
 
 def head_of(lines, margin, kind):
-    """The lines from the one in which an item begins to the end of its clauses, without the brace of its body."""
+    """Returns the lines of an item up to the end of its clauses, without the brace of its body."""
     body = re.compile(rf'{margin}(\S.* )?\{{\}}?$')
     for at, line in enumerate(lines):
         if line.endswith(';'):
@@ -103,7 +104,7 @@ def head_of(lines, margin, kind):
 
 
 def items_of(text):
-    """The items at the margin of a file, in their order."""
+    """Returns the items at the margin of a file, in order."""
     found, is_in_block, lines = [], False, text.splitlines()
     for at, line in enumerate(lines):
         begin = BEGIN.match(line)
@@ -118,7 +119,7 @@ def items_of(text):
 
 
 def printed_of(text):
-    """The items of a file that are printed: none of private types and traits."""
+    """Yields the items of a file that are printed: none of private types and traits."""
     private = set(PRIVATE.findall(text))
     for item in items_of(text):
         says = item.is_public if item.kind == 'fn' else any(it.kind == 'fn' or it.states() for it in item.shown())
@@ -132,14 +133,14 @@ def is_hidden(path):
 
 @functools.lru_cache(None)
 def files():
-    """The text of each file of the crates that callers depend on, by its path below crates/."""
+    """Returns the text of each file of the crates that callers depend on, by its path below crates/."""
     below = with_those_below(DOORS, crates())
     paths = [path for crate in below for path in sorted((CRATES / crate).glob('src/**/*.rt'))]
     return {str(path.relative_to(CRATES)): path.read_text(encoding='utf-8') for path in paths}
 
 
 def wrong_in(path, text):
-    """The public functions of a file that aren't printed, by a plain search, and what has a clause without a name."""
+    """Yields public functions that aren't printed, by a plain search, and items with a clause without a name."""
     printed = {it.line: it for item in printed_of(text) for it in (item, *item.shown())}
     for number, line in enumerate(text.splitlines(), 1):
         if re.match(r' *pub .*\bfn \w', line) and number not in printed:
@@ -149,7 +150,7 @@ def wrong_in(path, text):
 
 
 def reached(path, text):
-    """What other crates have of a hidden file, or its own where callers depend on it: crate, module, function, type."""
+    """Yields the exported names of a hidden file: of its crate, its module, its functions and its types."""
     crate, module = path.split('/')[0], path.split('/')[-1].removesuffix('.rt')
     exports = [export for other, of_other in files().items() for export in EXPORT.findall(of_other)
                if re.match(rf'{crate}\b', export) or crate in DOORS and other.startswith(f'{crate}/')]
@@ -160,7 +161,7 @@ def reached(path, text):
 
 
 def wrongs():
-    """What isn't printed and should be, and clauses without a name."""
+    """Yields all items that are missing, and clauses without a name."""
     for path, text in files().items():
         yield from (reached if is_hidden(path) else wrong_in)(path, text)
 
