@@ -24,13 +24,13 @@ Variables:
   -s, --set <NAME=VALUE>      Set NAME to VALUE; the last one wins
       --set-file <NAME=FILE>  Set NAME to the contents of FILE, without its last line end
   -f, --values <FILE>         Read NAME=VALUE lines (as docker run --env-file), or a directory with a file per name
-      --keep-line-end         Keep the last line end of a file that is a value
+      --keep-line-end         Keep the last line end of a file whose contents are a value
   -e, --env                   Use the environment's variables
       --dotenv <FILE>         Read a .env file, with quotes, 'export', comments, and variables as with --shell
       --default <NAME=VALUE>  Set NAME to VALUE if no option above sets it
-      --defaults <FILE>       Read values from FILE, as --values, for names that no option above sets
+      --defaults <FILE>       Read FILE as --values does, for names that no option above sets
       --no-empty              Treat empty values as unset
-      --escape <json|sh>      Escape values for json (in YAML only between double quotes; see --yaml) or sh
+      --escape <json|sh>      Escape values for sh or json; in YAML, json is right only between double quotes (see --yaml)
 
 Formats:
       --format <%s>
@@ -44,7 +44,7 @@ Formats:
       --bytes
           Accept any bytes; by default input must be UTF-8
       --auto
-          Choose the format of each file by its ending: .json, .toml, .yaml or .yml; else text
+          Choose the format of each file by its ending: .json, .toml, .yaml or .yml; other files are text
 
 Reading:
       --only <NAMES>  Expand only these variables (NAME or APP_*); leave all other text as it is
@@ -52,13 +52,13 @@ Reading:
       --known         Expand only variables that are set; leave all other text as it is
       --shell         Expand ${NAME:-default} and the other forms of Docker Compose
       --compose       Same as --shell
-      --strict        With --shell, report unset variables; with --check, defaults in another option's form
+      --strict        With --shell, report unset variables; with --check, report defaults in another option's form
       --optional      Expand unset variables to nothing, with --envsubst, --shell, --only or --known
 
 Writing:
   -o, --output <FILE>           Write the output to FILE, whole or not at all
   -O, --output-folder <FOLDER>  Write each file's output into FOLDER; directories are read recursively
-      --strip <SUFFIX>          In directories, process only files whose names end in SUFFIX; -O removes it from output names
+      --strip <SUFFIX>          In directories, process only files whose names end in SUFFIX; with -O, remove it from output names
   -i, --in-place                Replace each file by its output, whole or not at all; directories are read recursively
 
 Asking:

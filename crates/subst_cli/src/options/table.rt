@@ -71,7 +71,7 @@ pub(super) static OPTIONS: [Row; 29] = [
         long: "keep-line-end",
         short: None,
         takes: None,
-        help: "Keep the last line end of a file that is a value",
+        help: "Keep the last line end of a file whose contents are a value",
         conflicts: &[],
     },
     Row {
@@ -103,7 +103,7 @@ pub(super) static OPTIONS: [Row; 29] = [
         long: "defaults",
         short: None,
         takes: Some(("FILE", ArgAction::Append)),
-        help: "Read values from FILE, as --values, for names that no option above sets",
+        help: "Read FILE as --values does, for names that no option above sets",
         conflicts: &[],
     },
     Row {
@@ -119,7 +119,7 @@ pub(super) static OPTIONS: [Row; 29] = [
         long: "escape",
         short: None,
         takes: Some(("json|sh", ArgAction::Set)),
-        help: "Escape values for json (in YAML only between double quotes; see --yaml) or sh",
+        help: "Escape values for sh or json; in YAML, json is right only between double quotes (see --yaml)",
         conflicts: &[],
     },
     Row {
@@ -167,7 +167,7 @@ pub(super) static OPTIONS: [Row; 29] = [
         long: "auto",
         short: None,
         takes: None,
-        help: "Choose the format of each file by its ending: .json, .toml, .yaml or .yml; else text",
+        help: "Choose the format of each file by its ending: .json, .toml, .yaml or .yml; other files are text",
         conflicts: &[],
     },
     Row {
@@ -215,7 +215,7 @@ pub(super) static OPTIONS: [Row; 29] = [
         long: "strict",
         short: None,
         takes: None,
-        help: "With --shell, report unset variables; with --check, defaults in another option's form",
+        help: "With --shell, report unset variables; with --check, report defaults in another option's form",
         conflicts: &[],
     },
     Row {
@@ -247,7 +247,7 @@ pub(super) static OPTIONS: [Row; 29] = [
         long: "strip",
         short: None,
         takes: Some(("SUFFIX", ArgAction::Set)),
-        help: "In directories, process only files whose names end in SUFFIX; -O removes it from output names",
+        help: "In directories, process only files whose names end in SUFFIX; with -O, remove it from output names",
         conflicts: &["output"],
     },
     Row {
